@@ -44,7 +44,7 @@ module _ (w : Network) (R : Root → Type 0) (H : ℕ → Device → ℕ → Typ
       among_any (λ (other : Root). eqb other.net root.net && first other) (roots_of w) root (root_among w root r)
       (and_from (eqb root.net root.net) (first root) (eq-eqb root.net root.net refl) ((first_ok root).1 k))
 
-  found_marked : (i : ℕ) → IsMarked w R H (found w first fits i)
+  pub found_marked : (i : ℕ) → IsMarked w R H (found w first fits i)
   found_marked zero n e = starts_marked n e
   found_marked (suc i) n e =
       elim (or_cases (found w first fits i n) (list_any (leads w.reading fits (found w first fits i) n) w.devices) e) [
