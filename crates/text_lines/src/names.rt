@@ -8,7 +8,7 @@ ghost use Rattle.text_lines.specs.Shown.{shown};
 use indexmap::IndexSet;
 use std::alloc::Global;
 use std::marker::Model;
-use vrt_model::NoMemory;
+use vrt_model::{NoMemory, Seq, Text};
 
 // Whether the set has a name.
 fn has_key(set: &IndexSet<Vec<u8>>, name: &[u8]) -> bool
@@ -41,6 +41,27 @@ fn count_of_keys(set: &IndexSet<Vec<u8>>) -> usize
     ensures { result ≡ length (shown set.now.keys) }
 {
     set.len()
+}
+
+// Copies of the keys, in their order.
+fn copies_of_keys(alloc: Global, keys: &[Vec<u8>]) -> Result<Seq<Text>, NoMemory>
+    ensures { IfOk result (λ texts. texts ≡ shown keys.now) }
+{
+    let mut texts = Seq::new(alloc);
+    for key in keys {
+        let text = Text::from_bytes(alloc, key.as_slice())?;
+        if texts.push(text).is_err() {
+            return Err(NoMemory);
+        }
+    }
+    Ok(texts)
+}
+
+// Copies of the names of a set, in their order.
+fn copies_of_names(alloc: Global, set: &IndexSet<Vec<u8>>) -> Result<Seq<Text>, NoMemory>
+    ensures { IfOk result (λ texts. texts ≡ shown set.now.keys) }
+{
+    copies_of_keys(alloc, set.as_slice())
 }
 
 /// Names without repetition, in the order in which they were first seen and numbered in it from 0. A name is found by
@@ -110,5 +131,11 @@ impl Names {
             return Err(NoMemory);
         };
         add_key(&mut self.set, key)
+    }
+    /// Copies of the names, in their order.
+    pub fn to_texts(&self, alloc: Global) -> Result<Seq<Text>, NoMemory>
+        ensures { IfOk result (λ texts. texts ≡ self.now) }
+    {
+        copies_of_names(alloc, &self.set)
     }
 }
