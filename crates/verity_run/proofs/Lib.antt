@@ -1,0 +1,11 @@
+pub mod Ends
+pub mod Fours
+pub mod Items
+pub mod NetNumbers
+pub mod Passing
+pub mod Rounds
+pub mod Spaces
+pub mod Spreads
+pub mod Table
+pub mod Turns
+pub mod Written

@@ -1,0 +1,14 @@
+pub mod BlifForm
+pub mod CellCircuits
+pub mod Channels
+pub mod FlatCircuits
+pub mod Forms
+pub mod Marks
+pub mod Messages
+pub mod Reads
+pub mod Reports
+pub mod Runs
+pub mod Responses
+pub mod RulesForm
+pub mod Tables
+pub mod Words

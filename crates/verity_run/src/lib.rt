@@ -1,0 +1,21 @@
+//! The run of the checker, from its words and files to what it writes.
+#![tactic(auto)]
+
+mod blif_form;
+mod cell_circuit;
+mod form_lines;
+mod messages;
+mod outcome;
+mod places;
+mod plain_paths;
+mod reads;
+mod rules_form;
+mod search;
+mod status;
+mod top;
+mod unbuilt;
+mod verdict_text;
+mod words;
+
+pub use status::Status;
+pub use top::run;

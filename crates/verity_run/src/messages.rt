@@ -1,0 +1,134 @@
+//! The lines that a run writes beside the verdicts.
+
+ghost use Rattle.std.specs.Prelude.{◌≡◌, ◌≢◌, ◌∷◌, [], codes, map, IfOk, string_bytes};
+ghost use Rattle.std.specs.Fmt.{decimal};
+ghost use Rattle.verity_run.specs.Messages.{joined, read_failed_line, too_long_line, unbuilt_line, refusal_line, usage_line, spice_line};
+
+use spice_reader::SpiceFault;
+use std::alloc::Global;
+use vrt_model::{NoMemory, Text};
+
+/// The line for words that are not understood.
+pub fn usage() -> &'static [u8]
+    ensures { result.now ≡ usage_line }
+{
+    b"verity: usage: verity [--do MODE] [--cell C] [--phase P] [--at LIST] [--budget N] [--size N] [SPICE BLIF RULES]\n"
+}
+
+/// Pieces, one behind the other.
+pub fn join(alloc: Global, pieces: &[&[u8]]) -> Result<Text, NoMemory>
+    ensures { IfOk result (λ text. text ≡ joined (map (λ x. x.now) pieces.now)) }
+{
+    let mut text = Text::new(alloc);
+    for piece in pieces {
+        text.extend(piece)?;
+    }
+    Ok(text)
+}
+
+/// A number in decimal.
+pub fn digits(alloc: Global, number: u32) -> Result<Text, NoMemory>
+    ensures { IfOk result (λ text. text ≡ decimal number) }
+{
+    match format!(in alloc; "{number}") {
+        Ok(text) => Text::from_bytes(alloc, text.as_bytes()),
+        Err(_) => Err(NoMemory),
+    }
+}
+
+/// The line for a file that was not read.
+pub fn read_failed(alloc: Global, file: &[u8]) -> Result<Text, NoMemory>
+    ensures { IfOk result (λ text. text ≡ read_failed_line file.now) }
+{
+    join(
+        alloc,
+        &[b"verity: ".as_slice(), file, b": read failed\n".as_slice()],
+    )
+}
+
+/// A refusal with its line number in decimal.
+fn refusal_with<'a>(
+    alloc: Global,
+    file: &'a [u8],
+    number: &'a [u8],
+    cause: &'a [u8],
+    name: &'a [u8],
+) -> Result<Text, NoMemory>
+    ensures { IfOk result (λ text. text ≡ joined (codes "verity: " ∷ file.entry.now ∷ codes " line " ∷ number.entry.now ∷ codes ": " ∷ cause.entry.now ∷ name.entry.now ∷ codes "\n" ∷ [])) }
+{
+    let pieces = [
+        b"verity: ".as_slice(),
+        file,
+        b" line ".as_slice(),
+        number,
+        b": ".as_slice(),
+        cause,
+        name,
+        b"\n".as_slice(),
+    ];
+    join(alloc, &pieces)
+}
+
+/// The line for a refusal: the file, the line, and the text of the cause in two pieces.
+pub fn refusal(
+    alloc: Global,
+    file: &[u8],
+    line: u32,
+    cause: &[u8],
+    name: &[u8],
+) -> Result<Text, NoMemory>
+    ensures { IfOk result (λ text. text ≡ refusal_line file.now line cause.now name.now) }
+{
+    let number = digits(alloc, line)?;
+    refusal_with(alloc, file, number.as_bytes(), cause, name)
+}
+
+/// The line for a file that has too many bytes.
+pub fn too_long(alloc: Global, file: &[u8]) -> Result<Text, NoMemory>
+    ensures { IfOk result (λ text. text ≡ too_long_line file.now) }
+{
+    refusal(alloc, file, 0, b"longer than 16777216 bytes", b"")
+}
+
+/// The line for what is not built yet.
+pub fn unbuilt(alloc: Global, file: &[u8], line: u32) -> Result<Text, NoMemory>
+    ensures { IfOk result (λ text. text ≡ unbuilt_line file.now line) }
+{
+    refusal(alloc, file, line, b"not built yet", b"")
+}
+
+/// The line for a fault of the netlist that is not want of memory.
+pub fn spice_refusal(alloc: Global, file: &[u8], fault: &SpiceFault) -> Result<Text, NoMemory>
+    requires { fault.now ≢ SpiceFault.NoMemory }
+    ensures { IfOk result (λ text. text ≡ spice_line file.now fault.now) }
+{
+    match fault {
+        SpiceFault::NotText { line } => {
+            refusal(alloc, file, *line, b"byte that is not text", b"")
+        }
+        SpiceFault::Continuation { line } => {
+            refusal(alloc, file, *line, b"nothing to continue", b"")
+        }
+        SpiceFault::Unsupported { line, word } => {
+            refusal(alloc, file, *line, b"card not supported: ", word.as_bytes())
+        }
+        SpiceFault::Short { line } => refusal(alloc, file, *line, b"too few words", b""),
+        SpiceFault::Nested { line } => refusal(alloc, file, *line, b"cell within a cell", b""),
+        SpiceFault::NotOpen { line } => refusal(alloc, file, *line, b".ends outside a cell", b""),
+        SpiceFault::EndsName { line } => {
+            refusal(alloc, file, *line, b".ends names another cell", b"")
+        }
+        SpiceFault::Unfinished { line } => refusal(alloc, file, *line, b"cell not ended", b""),
+        SpiceFault::CellTwice { line, name } => {
+            refusal(alloc, file, *line, b"cell twice: ", name.as_bytes())
+        }
+        SpiceFault::ElementTwice { line, name } => {
+            refusal(alloc, file, *line, b"element twice: ", name.as_bytes())
+        }
+        SpiceFault::PortTwice { line, name } => {
+            refusal(alloc, file, *line, b"port twice: ", name.as_bytes())
+        }
+        SpiceFault::Limit { line } => refusal(alloc, file, *line, b"limit passed", b""),
+        SpiceFault::NoMemory => Err(NoMemory),
+    }
+}

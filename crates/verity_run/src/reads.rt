@@ -1,0 +1,79 @@
+//! The three loads.
+
+ghost use Rattle.std.specs.Prelude.{◌≡◌, ◌<◌, ◌≤◌, length, vec_len, List, ℕ, IfOk, IfErr, IfSome};
+ghost use Rattle.verity_run.specs.Reads.{StopHasCause, StopsBy, AreTold, AreShort};
+
+use crate::words::FileWords;
+use std::alloc::Global;
+use vrt_io::{Files, Loaded};
+
+/// Why a file was not read.
+#[derive(Clone, Copy, Debug, PartialEq, Eq)]
+pub enum Stop {
+    Failed,
+    TooLong,
+    NoMemory,
+}
+
+/// The file that was not read, and why.
+#[derive(Clone, Copy)]
+pub struct Stopped<'a> {
+    pub name: &'a str,
+    pub stop: Stop,
+}
+
+/// The bytes of the three files.
+#[derive(Drop)]
+pub struct Texts {
+    pub spice: Vec<u8>,
+    pub blif: Vec<u8>,
+    pub rules: Vec<u8>,
+}
+
+/// Reads a file.
+fn read_file<'a, F: Files>(
+    alloc: Global,
+    files: &mut F,
+    name: &'a str,
+) -> Result<Vec<u8>, Stopped<'a>>
+    ensures ok { IfOk result (λ v. IfSome (F.told files.old name.now) (λ bytes. (v.items ≡ bytes) × (length bytes ≤ 16777216))) }
+    ensures err { IfErr result (λ s. (s.name.now ≡ name.now)
+        × StopHasCause s.stop (F.told files.old name.now) (F.faults files.old) (F.faults files.new)) }
+    ensures short { IfOk result (λ v. vec_len v ≤ 16777216) }
+    ensures same { (n : List ℕ) → F.told files.new n ≡ F.told files.old n }
+    ensures later { F.faults files.old ≤ F.faults files.new }
+{
+    let mut bytes = Vec::new(alloc);
+    match files.load(alloc, name, &mut bytes) {
+        Loaded::Done => Ok(bytes),
+        Loaded::Failed => Err(Stopped {
+            name,
+            stop: Stop::Failed,
+        }),
+        Loaded::TooLong { .. } => Err(Stopped {
+            name,
+            stop: Stop::TooLong,
+        }),
+        Loaded::NoMemory => Err(Stopped {
+            name,
+            stop: Stop::NoMemory,
+        }),
+    }
+}
+
+/// Reads the three files in order, up to the first that is not read.
+pub fn read_files<'a, F: Files>(
+    alloc: Global,
+    files: &mut F,
+    words: &FileWords<'a>,
+) -> Result<Texts, Stopped<'a>>
+    ensures ok { IfOk result (λ t. AreTold (F.told files.old) words.now.spice.now words.now.blif.now words.now.rules.now t.spice.items t.blif.items t.rules.items) }
+    ensures err { IfErr result (λ s. StopsBy s.stop s.name.now (F.told files.old) words.now.spice.now words.now.blif.now words.now.rules.now (F.faults files.old) (F.faults files.new)) }
+    ensures short { IfOk result AreShort }
+    ensures later { F.faults files.old ≤ F.faults files.new }
+{
+    let spice = read_file(alloc, files, words.spice)?;
+    let blif = read_file(alloc, files, words.blif)?;
+    let rules = read_file(alloc, files, words.rules)?;
+    Ok(Texts { spice, blif, rules })
+}
