@@ -1,0 +1,6 @@
+//! The check of cells: circuits against models, under rules.
+#![tactic(auto)]
+
+mod plain_paths;
+
+pub use plain_paths::{Response, Signals, is_flat, signals_at};
