@@ -1,5 +1,6 @@
 pub mod Channels
 pub mod FlatCircuits
 pub mod Marks
+pub mod Parts
 pub mod Responses
 pub mod Tables

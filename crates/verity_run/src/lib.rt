@@ -1,6 +1,8 @@
 //! The check of cells: circuits against models, under rules.
 #![tactic(auto)]
 
+mod parts;
 mod plain_paths;
 
+pub use parts::least_nets;
 pub use plain_paths::{Response, Signals, is_flat, signals_at};
