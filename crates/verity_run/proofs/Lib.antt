@@ -1,6 +1,7 @@
 pub mod Ends
 pub mod Fours
 pub mod Items
+pub mod Labels
 pub mod NetNumbers
 pub mod Passing
 pub mod Rounds

@@ -26,7 +26,7 @@ none_too_long : (spice blif rules a b c : List ℕ) → length a ≤ 16777216 �
     → first_too_long spice blif rules a b c ≡ None
 none_too_long spice blif rules a b c p q r =
     chosen (nat_lt 16777216 (length a)) (nat_lt 16777216 (length b)) (nat_lt 16777216 (length c)) spice blif rules
-      (not_longer (length a) p) (not_longer (length b) q) (not_longer (length c) r)
+    (not_longer (length a) p) (not_longer (length b) q) (not_longer (length c) r)
 
 short_report : (spice blif rules a b c : List ℕ) (status : Status) (text : List ℕ) → length a ≤ 16777216 → length b ≤ 16777216 → length c ≤ 16777216
     → IsReportBy spice blif rules a b c status text → IsReport spice blif rules a b c status text

@@ -5,10 +5,11 @@ pub mod FlatCircuits
 pub mod Forms
 pub mod Marks
 pub mod Messages
+pub mod Parts
 pub mod Reads
 pub mod Reports
-pub mod Runs
 pub mod Responses
 pub mod RulesForm
+pub mod Runs
 pub mod Tables
 pub mod Words

@@ -6,6 +6,7 @@ mod cell_circuit;
 mod form_lines;
 mod messages;
 mod outcome;
+mod parts;
 mod places;
 mod plain_paths;
 mod reads;
@@ -17,5 +18,10 @@ mod unbuilt;
 mod verdict_text;
 mod words;
 
+pub use parts::least_nets;
+pub use plain_paths::{Response, Signals, is_flat, signals_at};
 pub use status::Status;
 pub use top::run;
+
+#[cfg(test)]
+mod tests;

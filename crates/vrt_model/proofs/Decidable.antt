@@ -1,5 +1,5 @@
 -- Whether a path of some kind ends at a net is found by a finite search. So each net has a strength, and one response.
-use Rattle.std.proofs.Common.{◌≡◌, ℕ, zero, suc, ◌≤◌, ◌<◌, min, ◌||◌, ◌&&◌, ◌⊎◌, Bool, true, false, List, [], ◌∷◌, length, eqb, leb, arith, add-one, subst, sym, refl, ◌∙◌, inl, inr}
+use Rattle.std.proofs.Common.{◌≡◌, ℕ, zero, suc, ◌≤◌, ◌<◌, min, ◌||◌, ◌&&◌, ◌⊎◌, Bool, true, false, List, [], ◌∷◌, eqb, leb, arith, add-one, subst, sym, refl, ◌∙◌, inl, inr}
 use Rattle.std.specs.Prelude.{◌↔◌}
 use Rattle.std.specs.List.{list_any}
 use Rattle.std.proofs.lemmas.Bool.{or_cases, or_left, or_right, and_parts, and_from, eqb-true, eq-eqb, leb-true, leb-false, le-leb, false≢true, cases_Bool}
@@ -10,8 +10,7 @@ use Rattle.vrt_model.proofs.PathKinds.{Arrives, arrives_on, arrives_root}
 use Rattle.vrt_model.proofs.Roots.{among_root, root_among, roots_of}
 use Rattle.vrt_model.proofs.ShortPaths.{HasBound, path_short}
 use Rattle.vrt_model.proofs.Strength.{AtLeast, HopHas, RootHas, keeps-level, level-keeps}
-use Rattle.vrt_model.specs.Lists.{Among}
-use Rattle.vrt_model.specs.Path.{Hop, IsOn, IsPath, IsRoot, Joins, Network, Root, end_of, level_of}
+use Rattle.vrt_model.specs.Path.{Hop, IsOn, IsPath, IsRoot, Network, Root, end_of, level_of}
 use Rattle.vrt_model.specs.Reading.{conducts}
 use Rattle.vrt_model.specs.Response.{Fight, Float, IsResponse, IsStrength, Reaches, Response, Shows}
 use Rattle.vrt_model.specs.declared.circuit.Device.{Device}

@@ -4,7 +4,7 @@ use Rattle.std.proofs.Common.{◌≡◌, ℕ, ◌≤◌, ◌<◌, min, ◌⊎◌
 use Rattle.vrt_model.specs.Path.{Network, Root, Hop, IsRoot, IsOn, Joins, IsPath, Avoids, end_of, level_of}
 use Rattle.vrt_model.specs.Response.{IsStrength, IsClear, Reaches, Response, Fight, Float, Shows, IsResponse}
 use Rattle.vrt_model.specs.declared.circuit.Device.{Device}
-use Rattle.vrt_model.proofs.Laws.{avoids_end, one_strength}
+use Rattle.vrt_model.proofs.Laws.{one_strength}
 use Rattle.vrt_model.proofs.PathKinds.{arrives_root}
 use Rattle.vrt_model.proofs.Strength.{AtLeast, RootHas, HopHas, at_least_on, at_least_weaker, at_least-strength, level-keeps}
 

@@ -1,7 +1,7 @@
 -- The networks of a well-formed circuit: their nets are in range, given nets have the greatest level, and so each net
 -- has one strength and one response.
-use Rattle.std.proofs.Common.{◌≡◌, ℕ, ◌≤◌, ◌<◌, Bool, true, List, length, map, arith, subst, sym, refl, ◌∙◌, ap, inl, inr}
-use Rattle.std.specs.List.{flat_map}
+use Rattle.std.proofs.Common.{◌≡◌, ℕ, ◌≤◌, ◌<◌, Bool, true, length, map, arith, subst, sym, refl, ◌∙◌, ap, inl, inr}
+use Rattle.std.specs.Prelude.{All}
 use Rattle.std.proofs.lemmas.Option.{slice_get_within}
 use Rattle.vrt_model.proofs.Decidable.{IsFinite}
 use Rattle.vrt_model.proofs.Filtered.{device_among}
@@ -10,7 +10,7 @@ use Rattle.vrt_model.proofs.Members.{all_among, among_flat_map, among_map}
 use Rattle.vrt_model.proofs.ShortPaths.{HasBound}
 use Rattle.vrt_model.specs.Circuits.{IsCircuit, IsDevice, IsDrive, IsHold, IsNet, IsWhole}
 use Rattle.vrt_model.specs.Lists.{At, Among}
-use Rattle.vrt_model.specs.Path.{IsOn, IsRoot, Joins, Network, Root, level_of_drive}
+use Rattle.vrt_model.specs.Path.{IsOn, IsRoot, Root, level_of_drive}
 use Rattle.vrt_model.specs.Reading.{is_given}
 use Rattle.vrt_model.specs.State.{OutputPin, State, network_of, output_pins}
 use Rattle.vrt_model.specs.declared.circuit.Circuit.{Circuit}
@@ -25,7 +25,16 @@ drive_most : (c : Circuit) (drive : Drive) → IsDrive c drive → level_of_driv
 drive_most c Soft fits = omega arith
 drive_most c (Level level) fits = let le = fits.1 in omega (arith, le)
 
-module _ (c : Circuit) (bare : Bool) (held : ℕ → Bool) (s : State) (good : IsCircuit c) where
+-- what is asked of a circuit: the numbers of nets are in range, and levels and sizes are
+pub record HasRanges (c : Circuit) : Type 0 where
+  pub devices : All (IsDevice c) c.devices
+  pub holds : All (IsHold c) c.holds
+  pub wholes : All (IsWhole c) c.wholes
+
+pub circuit_ranges : (c : Circuit) → IsCircuit c → HasRanges c
+circuit_ranges c good = record { devices = good.devices; holds = good.holds; wholes = good.wholes }
+
+module _ (c : Circuit) (bare : Bool) (held : ℕ → Bool) (s : State) (good : HasRanges c) where
   device_is : (d : Device) → IsOn (network_of c bare held s) d → IsDevice c d
   device_is d on = all_among (IsDevice c) c.devices d good.devices (device_among bare c d on.0).0
 

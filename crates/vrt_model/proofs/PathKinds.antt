@@ -1,6 +1,6 @@
 -- Paths of one kind: what is reached goes on over each device of the kind, and what holds at the roots and goes on over
 -- the devices holds wherever such a path ends.
-use Rattle.std.proofs.Common.{◌≡◌, ℕ, suc, ◌⊎◌, List, [], ◌∷◌, length, sym, subst, refl, inl, inr}
+use Rattle.std.proofs.Common.{◌≡◌, ℕ, ◌⊎◌, List, [], ◌∷◌, sym, subst, refl, inl, inr}
 use Rattle.std.proofs.lemmas.Bool.{cases_eq}
 use Rattle.vrt_model.specs.Path.{Network, Root, Hop, IsRoot, IsOn, Joins, IsPath, Avoids, end_of}
 use Rattle.vrt_model.specs.declared.circuit.Device.{Device}

@@ -1,10 +1,9 @@
 -- The roots of a network as a list.
 use Rattle.std.proofs.Common.{◌≡◌, ℕ, zero, suc, ◌+◌, Bool, true, false, cond, List, [], ◌∷◌, ◌++◌, Some, arith, refl, sym, subst, ◌∙◌, ap, inl, inr}
-use Rattle.std.proofs.lemmas.Bool.{cases_Bool, cond-true, cond-false, false≢true}
 use Rattle.std.proofs.lemmas.Option.{none-some, same_Some}
-use Rattle.vrt_model.proofs.Members.{among_either, among_later, among_left, among_right}
+use Rattle.vrt_model.proofs.Members.{among_either, among_left, among_right}
 use Rattle.vrt_model.specs.Lists.{At, Among}
-use Rattle.vrt_model.specs.Path.{IsGivenRoot, IsHoldRoot, IsOutputRoot, IsRoot, Network, Root, level_of_drive}
+use Rattle.vrt_model.specs.Path.{IsRoot, Network, Root, level_of_drive}
 use Rattle.vrt_model.specs.Reading.{is_given}
 use Rattle.vrt_model.specs.declared.circuit.FlatNet.{FlatNet}
 use Rattle.vrt_model.specs.declared.circuit.Hold.{Hold}

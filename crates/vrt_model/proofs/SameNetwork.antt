@@ -1,5 +1,5 @@
 -- Two networks with the same roots and the same conducting devices have the same paths, strengths and responses.
-use Rattle.std.proofs.Common.{◌≡◌, ℕ, Bool, true, false, List, [], ◌∷◌, inl, inr}
+use Rattle.std.proofs.Common.{ℕ, Bool, true, false, List, [], ◌∷◌, inl, inr}
 use Rattle.vrt_model.specs.Path.{Network, Root, Hop, IsRoot, IsOn, IsPath, level_of}
 use Rattle.vrt_model.specs.Response.{IsStrength, IsClear, Reaches, Response, Fight, Float, Shows, IsResponse}
 use Rattle.vrt_model.specs.declared.circuit.Device.{Device}

@@ -1,9 +1,9 @@
 -- Small circuits with the strengths and responses of their nets worked out by hand.
-use Rattle.std.proofs.Common.{◌≡◌, ℕ, Bool, true, false, not, List, [], ◌∷◌, refl}
+use Rattle.std.proofs.Common.{ℕ, Bool, true, false, List, [], ◌∷◌, refl}
 use Rattle.vrt_model.proofs.Tables.{are_signals, signal_response}
 use Rattle.vrt_model.specs.Lists.{bit_at}
 use Rattle.vrt_model.specs.Path.{Network}
-use Rattle.vrt_model.specs.Response.{Fight, Float, IsResponse, IsStrength, Shows}
+use Rattle.vrt_model.specs.Response.{Fight, Float, IsResponse, Shows}
 use Rattle.vrt_model.specs.Signals.{AreSignals}
 use Rattle.vrt_model.specs.State.{network_of}
 use Rattle.vrt_model.specs.declared.circuit.Circuit.{Circuit}

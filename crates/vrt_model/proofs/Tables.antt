@@ -1,19 +1,18 @@
 -- Tables of the signals of a small network are right where a test that computes says so.
-use Rattle.std.proofs.Common.{◌≡◌, ℕ, zero, suc, ◌≤◌, ◌<◌, min, ◌||◌, ◌&&◌, ◌⊎◌, Bool, true, false, not, List, [], ◌∷◌, length, eqb, leb, arith, subst, sym, refl, ◌∙◌, ap, inl, inr, slice_index}
-use Rattle.std.specs.Prelude.{◌↔◌, slice_get, unwrap_or}
+use Rattle.std.proofs.Common.{◌≡◌, ℕ, zero, suc, ◌≤◌, ◌<◌, min, ◌||◌, ◌&&◌, ◌⊎◌, Bool, true, false, List, length, eqb, leb, arith, subst, sym, refl, ◌∙◌, ap, inl, inr, slice_index}
+use Rattle.std.specs.Prelude.{◌↔◌, unwrap_or}
 use Rattle.std.specs.List.{list_all}
-use Rattle.std.proofs.lemmas.Bool.{and_parts, or_cases, not-true, eqb-true, eq-eqb, leb-true, le-leb, false≢true, cases_Bool, cases_lt}
+use Rattle.std.proofs.lemmas.Bool.{and_parts, or_cases, eqb-true, eq-eqb, leb-true, le-leb, false≢true, cases_lt}
 use Rattle.std.proofs.lemmas.List.{get_or_past}
 use Rattle.std.proofs.lemmas.Option.{slice_get_past}
 use Rattle.vrt_model.proofs.Clear.{HopFits, RootFits, arrives-reaches, reaches-arrives}
 use Rattle.vrt_model.proofs.Decidable.{found, found_marked, same_bit, same_bit_is}
 use Rattle.vrt_model.proofs.Marks.{HasRootMarks, HasSpread, marks_closed}
 use Rattle.vrt_model.proofs.Members.{at_all}
-use Rattle.vrt_model.proofs.PathKinds.{Arrives}
 use Rattle.vrt_model.proofs.Roots.{root_among, roots_of}
 use Rattle.vrt_model.proofs.Strength.{AtLeast, HopHas, RootHas, level_le, strength_of}
 use Rattle.vrt_model.specs.Lists.{Among, bit_at}
-use Rattle.vrt_model.specs.Path.{Hop, IsOn, IsPath, IsRoot, Joins, Network, Root, end_of, level_of}
+use Rattle.vrt_model.specs.Path.{Hop, IsPath, Joins, Network, Root, end_of, level_of}
 use Rattle.vrt_model.specs.Reading.{conducts}
 use Rattle.vrt_model.specs.Response.{IsResponse, IsStrength, Reaches}
 use Rattle.vrt_model.specs.Signals.{AreSignals, response_by}
