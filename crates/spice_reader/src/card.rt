@@ -4,7 +4,7 @@ ghost use Rattle.std.specs.Prelude.{ℕ, List, Some, None, ◌≡◌, ◌<◌, �
 ghost use Rattle.std.specs.List.{position};
 ghost use Rattle.spice_reader.specs.Cards.{joined_at_equals, trimmed, card_words, card_from};
 
-use crate::line::{lower, without_end, without_front};
+use crate::line::{add_lowered, without_end, without_front};
 use std::alloc::Global;
 use text_lines::{cut_words, is_text_line};
 use vrt_model::{NoMemory, Seq, Text};
@@ -57,13 +57,13 @@ fn add_joined(out: &mut Text, text: &[u8]) -> Result<(), NoMemory>
 {
     let mut rest = text;
     'cuts: while let Some((part, behind)) = cut_equals(rest) {
-        add_bytes(out, without_blanks_around(part))?;
+        out.extend(without_blanks_around(part))?;
         if out.push(b'=').is_err() {
             return Err(NoMemory);
         }
         rest = behind;
     }
-    add_bytes(out, without_blanks_around(rest))
+    out.extend(without_blanks_around(rest))
 }
 
 // The texts of words.
@@ -72,8 +72,7 @@ fn texts_of(alloc: Global, words: &[&[u8]]) -> Result<Seq<Text>, NoMemory>
 {
     let mut texts = Seq::new(alloc);
     for word in words {
-        let mut text = Text::new(alloc);
-        add_bytes(&mut text, word)?;
+        let text = Text::from_bytes(alloc, word)?;
         if texts.push(text).is_err() {
             return Err(NoMemory);
         }
@@ -94,8 +93,8 @@ fn words_of_card(alloc: Global, bytes: &[u8]) -> Result<Seq<Text>, NoMemory>
     texts_of(alloc, words.as_slice())
 }
 
-// The card of a line and of the bytes of all its lines.
-fn card_of_bytes(alloc: Global, line: u32, bytes: &[u8]) -> Result<Card, NoMemory>
+/// The card of a line, from the bytes of all its lines.
+pub fn card_of_bytes(alloc: Global, line: u32, bytes: &[u8]) -> Result<Card, NoMemory>
     ensures { IfOk result (λ card. card ≡ card_from line bytes.now) }
 {
     let words = words_of_card(alloc, bytes)?;
@@ -106,4 +105,3 @@ fn card_of_bytes(alloc: Global, line: u32, bytes: &[u8]) -> Result<Card, NoMemor
         words,
     })
 }
-
