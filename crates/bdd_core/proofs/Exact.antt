@@ -1,8 +1,8 @@
 -- `Spent` comes exactly where more nodes are missing than the budget leaves room for.
-use Rattle.std.proofs.Common.{◌≡◌, ℕ, zero, suc, ◌+◌, ◌-◌, ◌<◌, ◌≤◌, Bool, true, false, cond, ltb, List, length, sym, ap, refl, ◌∙◌, inl, inr, arith}
-use Rattle.std.proofs.lemmas.Bool.{cases_eq, cases_lt}
+use Rattle.std.proofs.Common.{◌≡◌, ℕ, zero, suc, ◌+◌, ◌-◌, ◌<◌, ◌≤◌, Bool, true, false, cond, ltb, List, length, sym, subst, ap, refl, ◌∙◌, inl, inr, arith}
+use Rattle.std.proofs.lemmas.Bool.{cases_lt, lt-ltb, le-ltb}
 use Rattle.node_pool.specs.declared.region.Node.{Node}
-use Rattle.bdd_core.specs.Diagram.{Function, Valuation, IsSame, IsReduced, IsSubfunction, Grows, Lacks, MissesMore, meaning, node_at, top, splice}
+use Rattle.bdd_core.specs.Diagram.{Function, Valuation, IsSame, IsReduced, IsSubfunction, Grows, Lacks, MissesMore, MissesMoreOf, meaning, node_at, top, splice}
 use Rattle.bdd_core.proofs.Canonical.{canonical, independent, proper_node, ends_same}
 use Rattle.bdd_core.proofs.Growth.{grows_keeps, grows_length}
 use Rattle.bdd_core.proofs.Pigeon.{pigeon}
@@ -42,45 +42,48 @@ sub_there vars ns i g f r within is sub =
     let t = there_below vars ns r (suc i) i sub.first sub.fixed (omega arith) within in
     (t.0, t.1, λ v. t.2 v ∙ is (splice sub.first sub.fixed v) ∙ sym (sub.is v))
 
--- where it fails, more are missing
-pub spent_misses : (vars : ℕ) (old new : List Node) (f : Function) (budget : ℕ) → IsReduced vars new → Grows old new f → length new ≡ budget → Lacks new f → MissesMore old f (budget - length old)
-spent_misses vars old new f budget r g full lacks =
-    let more = grows_length old new f g in
+-- Where nodes of some diagrams alone were added up to the budget, and one is still missing, more were missing than the
+-- budget had left.
+pub spent_misses_of : (vars : ℕ) (old new : List Node) (IsOf : Function → Type 0) (budget : ℕ) → IsReduced vars new → length old ≤ length new →
+    ((i : ℕ) → i < length old → IsSame (meaning new i) (meaning old i)) → ((i : ℕ) → length old ≤ i → i < length new → IsOf (meaning new i)) →
+    length new ≡ budget → (sub : Function) → IsOf sub → ((i : ℕ) → i < length new → IsSame (meaning new i) sub → ⊥) → MissesMoreOf old IsOf (budget - length old)
+spent_misses_of vars old new IsOf budget r more keeps added full sub of absent =
     -- the added nodes, and last the one that is missing still
     let at : ℕ → ℕ = λ i. length old + i in
-    let subs : ℕ → Function = λ i. cond (ltb (at i) (length new)) (meaning new (at i)) lacks.sub in
-    let added : (i : ℕ) → at i < length new → subs i ≡ meaning new (at i) = λ i low. rw (Rattle.std.proofs.lemmas.Bool.lt-ltb (at i) (length new) low) refl in
-    let last : (i : ℕ) → length new ≤ at i → subs i ≡ lacks.sub = λ i high. rw (Rattle.std.proofs.lemmas.Bool.le-ltb (at i) (length new) high) refl in
+    let subs : ℕ → Function = λ i. cond (ltb (at i) (length new)) (meaning new (at i)) sub in
+    let first : (i : ℕ) → at i < length new → subs i ≡ meaning new (at i) = λ i low. rw (lt-ltb (at i) (length new) low) refl in
+    let last : (i : ℕ) → length new ≤ at i → subs i ≡ sub = λ i high. rw (le-ltb (at i) (length new) high) refl in
     record {
       subs = subs;
       of = λ i le. elim (cases_lt (at i) (length new)) [
-        | inl low ↦ rw (added i low) (g.added (at i) (omega arith) low)
-        | inr high ↦ rw (last i high) lacks.of
+        | inl low ↦ subst IsOf (sym (first i low)) (added (at i) (omega arith) low)
+        | inr high ↦ subst IsOf (sym (last i high)) of
       ];
       absent = λ i le j in_j same. elim (cases_lt (at i) (length new)) [
-        | inl low ↦ omega (arith, in_j, canonical vars new r j (at i) (omega arith) low (λ v. grows_keeps old new f g j in_j v ∙ same v ∙ ap (λ h. h v) (added i low)))
-        | inr high ↦ lacks.absent j (omega arith) (λ v. grows_keeps old new f g j in_j v ∙ same v ∙ ap (λ h. h v) (last i high))
+        | inl low ↦ omega (arith, in_j, canonical vars new r j (at i) (omega arith) low (λ v. keeps j in_j v ∙ same v ∙ ap (λ h. h v) (first i low)))
+        | inr high ↦ absent j (omega arith) (λ v. keeps j in_j v ∙ same v ∙ ap (λ h. h v) (last i high))
       ];
       differ = λ i j i_le j_le same. elim (cases_lt (at i) (length new)) [
         | inl low ↦ elim (cases_lt (at j) (length new)) [
-          | inl low' ↦ omega (arith, canonical vars new r (at i) (at j) low low' (λ v. ap (λ h. h v) (sym (added i low)) ∙ same v ∙ ap (λ h. h v) (added j low')))
-          | inr high' ↦ absurd (lacks.absent (at i) low (λ v. ap (λ h. h v) (sym (added i low)) ∙ same v ∙ ap (λ h. h v) (last j high')))
+          | inl low' ↦ omega (arith, canonical vars new r (at i) (at j) low low' (λ v. ap (λ h. h v) (sym (first i low)) ∙ same v ∙ ap (λ h. h v) (first j low')))
+          | inr high' ↦ absurd (absent (at i) low (λ v. ap (λ h. h v) (sym (first i low)) ∙ same v ∙ ap (λ h. h v) (last j high')))
         ]
         | inr high ↦ elim (cases_lt (at j) (length new)) [
-          | inl low' ↦ absurd (lacks.absent (at j) low' (λ v. ap (λ h. h v) (sym (added j low')) ∙ sym (same v) ∙ ap (λ h. h v) (last i high)))
+          | inl low' ↦ absurd (absent (at j) low' (λ v. ap (λ h. h v) (sym (first j low')) ∙ sym (same v) ∙ ap (λ h. h v) (last i high)))
           | inr high' ↦ omega arith
         ]
       ];
     }
 
--- where it succeeds, no more are missing
-pub ok_misses_none : (vars : ℕ) (old new : List Node) (f : Function) (budget i : ℕ) → IsReduced vars new → Grows old new f → length new ≤ budget → i < length new → IsSame (meaning new i) f → MissesMore old f (budget - length old) → ⊥
-ok_misses_none vars old new f budget i r g fits within is m =
-    let more = grows_length old new f g in
+-- Where all of some diagrams is there within the budget, no more were missing than it had left.
+pub ok_misses_none_of : (vars : ℕ) (old new : List Node) (IsOf : Function → Type 0) (budget : ℕ) → IsReduced vars new → length old ≤ length new →
+    ((i : ℕ) → i < length old → IsSame (meaning new i) (meaning old i)) → ((g : Function) → IsOf g → (j : ℕ) × (j < length new) × IsSame (meaning new j) g) →
+    length new ≤ budget → MissesMoreOf old IsOf (budget - length old) → ⊥
+ok_misses_none_of vars old new IsOf budget r more keeps has fits m =
     let n : ℕ = budget - length old in
-    let place : (k : ℕ) → k ≤ n → (j : ℕ) × (j < length new) × IsSame (meaning new j) (m.subs k) = λ k le. sub_there vars new i (m.subs k) f r within is (m.of k le) in
+    let place : (k : ℕ) → k ≤ n → (j : ℕ) × (j < length new) × IsSame (meaning new j) (m.subs k) = λ k le. has (m.subs k) (m.of k le) in
     let later : (k : ℕ) → (le : k ≤ n) → length old ≤ (place k le).0 = λ k le. elim (cases_lt (place k le).0 (length old)) [
-      | inl low ↦ absurd (m.absent k le (place k le).0 low (λ v. sym (grows_keeps old new f g (place k le).0 low v) ∙ (place k le).2 v))
+      | inl low ↦ absurd (m.absent k le (place k le).0 low (λ v. sym (keeps (place k le).0 low v) ∙ (place k le).2 v))
       | inr high ↦ high
     ] in
     let found : (k : ℕ) → (j : ℕ) × (k ≤ n → (length old ≤ j) × (j < length new) × IsSame (meaning new j) (m.subs k)) = λ k. elim (cases_lt n k) [
@@ -95,3 +98,12 @@ ok_misses_none vars old new f budget i r g fits within is m =
     let one : (found k).0 ≡ (found l).0 = omega (arith, p.0, q.0, same) in
     m.differ k l (omega (arith, low)) (omega (arith, low')) (λ v. sym (p.2 v) ∙ ap (λ j. meaning new j v) one ∙ q.2 v)) in
     omega (arith, many, fits, more)
+
+-- The two for one diagram.
+pub spent_misses : (vars : ℕ) (old new : List Node) (f : Function) (budget : ℕ) → IsReduced vars new → Grows old new f → length new ≡ budget → Lacks new f → MissesMore old f (budget - length old)
+spent_misses vars old new f budget r g full lacks =
+    spent_misses_of vars old new (λ h. IsSubfunction h f) budget r (grows_length old new f g) (grows_keeps old new f g) g.added full lacks.sub lacks.of lacks.absent
+
+pub ok_misses_none : (vars : ℕ) (old new : List Node) (f : Function) (budget i : ℕ) → IsReduced vars new → Grows old new f → length new ≤ budget → i < length new → IsSame (meaning new i) f → MissesMore old f (budget - length old) → ⊥
+ok_misses_none vars old new f budget i r g fits within is m =
+    ok_misses_none_of vars old new (λ h. IsSubfunction h f) budget r (grows_length old new f g) (grows_keeps old new f g) (λ h sub. sub_there vars new i h f r within is sub) fits m

@@ -99,9 +99,13 @@ with_bit v x b = λ y. cond (eqb y x) b (v y)
 abbrev pub fixed : Function → ℕ → Bool → Function
 fixed f x b = λ v. f (with_bit v x b)
 
--- more than m nodes of the diagram of f are not there: so many different subfunctions have no place
-pub record MissesMore (nodes : List Node) (f : Function) (m : ℕ) : Type 0 where
+-- more than m nodes of some diagrams are not there: so many different functions of them have no place
+pub record MissesMoreOf (nodes : List Node) (IsOf : Function → Type 0) (m : ℕ) : Type 0 where
   pub subs : ℕ → Function
-  pub of : (i : ℕ) → i ≤ m → IsSubfunction (subs i) f
+  pub of : (i : ℕ) → i ≤ m → IsOf (subs i)
   pub absent : (i : ℕ) → i ≤ m → (j : ℕ) → j < length nodes → IsSame (meaning nodes j) (subs i) → ⊥
   pub differ : (i j : ℕ) → i ≤ m → j ≤ m → IsSame (subs i) (subs j) → i ≡ j
+
+-- more than m nodes of the diagram of f are not there
+abbrev pub MissesMore : List Node → Function → ℕ → Type 0
+MissesMore nodes f m = MissesMoreOf nodes (λ g. IsSubfunction g f) m

@@ -19,3 +19,6 @@ mod store;
 
 pub use handle::{H, ONE, Spent, ZERO};
 pub use store::Store;
+
+#[cfg(test)]
+mod tests;

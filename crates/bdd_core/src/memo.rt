@@ -47,14 +47,15 @@ impl Model for Memo {
     ghost invariant = { IsTable };
 }
 
-// The place of what was asked, among `mask` and one more: its three numbers times odd constants, mixed.
+// The place of what was asked, among `mask` and one more. What differs by one in the first number has the next place:
+// answers that are asked one after another then lie near each other, which caches serve well.
 fn slot_at(mask: u32, f: u32, g: u32, h: u32) -> u32
     ensures { result ≤ mask }
 {
-    let mixed = (f as u64).wrapping_mul(0x9e37_79b9_7f4a_7c15)
-        ^ (g as u64).wrapping_mul(0xc2b2_ae3d_27d4_eb4f)
-        ^ (h as u64).wrapping_mul(0x1656_67b1_9e37_79f9);
-    ((mixed >> 32) & 0xffff_ffff) as u32 & mask
+    let mixed = f
+        .wrapping_add(g.wrapping_mul(0x9e37_79b1))
+        .wrapping_add(h.wrapping_mul(12_582_917));
+    mixed & mask
 }
 
 // Appends empty entries, for which there is room.

@@ -55,7 +55,8 @@ impl Store {
     /// With the two constants, so with the count 2, a budget of so many nodes with these, so many words left, and so
     /// many variables. No other call of a store takes memory.
     ///
-    /// At opening 40 KB are written, whatever the budget is.
+    /// At opening 20 KB are written, whatever the budget is: the first heads of the pool's chains and the first entries
+    /// of the memo. Both grow by 4 as the count of nodes reaches theirs, and the memo up to a sixteenth of the budget.
     pub fn with_budget(alloc: Global, budget: u32, words: u32, vars: u32) -> Result<Store, NoMemory>
         requires budget { (2 ≤ budget) × (budget ≤ 64000000) }
         requires vars { vars ≤ 1000 }
@@ -77,7 +78,7 @@ impl Store {
         };
         add_end(&mut pool, zero);
         add_end(&mut pool, one);
-        let Ok(memo) = Memo::open(alloc, budget / 4) else {
+        let Ok(memo) = Memo::open(alloc, budget / 16) else {
             return Err(NoMemory);
         };
         Ok(Store {
@@ -104,6 +105,14 @@ impl Store {
         ensures { result ≡ self.now.vars }
     {
         self.vars
+    }
+
+    /// How many words the store took for itself at opening. A mark that `leave` takes is not below them.
+    pub fn own_words(&self) -> u32
+        ensures { result ≡ self.now.own }
+    {
+        let _known = &self.pool;
+        0
     }
 
     /// The variable that a live handle tests, and the numbers of its branches where that variable is 0 and where it is

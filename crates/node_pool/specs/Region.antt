@@ -1,5 +1,5 @@
 -- A region of nodes and words, and the chains through its nodes.
-use Rattle.std.specs.Prelude.{ℕ, ◌+◌, ◌*◌, ◌%◌, ◌/◌, ◌^◌, ◌≤◌, suc, zero, List, cond, eqb, length, slice_index_or, bit_and, bit_xor}
+use Rattle.std.specs.Prelude.{ℕ, ◌+◌, ◌*◌, ◌%◌, ◌^◌, ◌≤◌, suc, zero, List, cond, eqb, length, slice_index_or, bit_and}
 use Rattle.node_pool.specs.declared.region.Node.{Node}
 use Rattle.node_pool.specs.declared.region.Span.{Span}
 use Rattle.node_pool.specs.declared.region.Mark.{Mark}
@@ -28,11 +28,11 @@ no_node = record { var = 0; lo = 0; hi = 0 }
 
 -- the three numbers of a node, mixed
 unfoldable pub mixed : Node → ℕ
-mixed node = bit_xor (bit_xor (node.var * 11400714819323198485 % 2 ^ 64) (node.lo * 14029467366897019727 % 2 ^ 64)) (node.hi * 1609587929392839161 % 2 ^ 64)
+mixed node = ((node.lo + node.hi * 12582917 % 2 ^ 32) % 2 ^ 32 + node.var * 4256249 % 2 ^ 32) % 2 ^ 32
 
 -- the chain of a node, where there are mask + 1 of them
 unfoldable pub chain_of : ℕ → Node → ℕ
-chain_of mask node = bit_and (mixed node / 2 ^ 32) mask
+chain_of mask node = bit_and (mixed node) mask
 
 -- one more than the place of the newest of the first n nodes on the chain b, and 0 where there is none
 abbrev pub newest : ℕ → List Node → ℕ → ℕ → ℕ
