@@ -4,7 +4,7 @@ use Rattle.node_pool.specs.declared.region.Node.{Node}
 use Rattle.bdd_core.specs.declared.handle.H.{H}
 use Rattle.bdd_core.specs.declared.handle.Spent.{Spent}
 use Rattle.bdd_core.specs.Diagram.{choice, bit_of, Function, IsSame, IsSubfunction, IsReduced, meaning, top}
-use Rattle.bdd_core.specs.Store.{Diagrams, Means, IsSpent, IsCanonical, Makes, IsExact}
+use Rattle.bdd_core.specs.Store.{IsLive, function_of, Diagrams, Means, IsSpent, IsCanonical, Makes, IsExact}
 use Rattle.bdd_core.proofs.Canonical.{canonical}
 use Rattle.bdd_core.proofs.Halves.{IsHalf, half_sub, half_later, join_is}
 use Rattle.bdd_core.proofs.Growth.{IsFrom, grows_keeps, grows_length, grows_none, grows_sub, grows_then, sub_same, lacks_sub}
@@ -64,6 +64,10 @@ makes_then old mid new g f p r sub first second = record {
   spent = second.spent;
 }
 
+-- what was there keeps its function
+kept_of : (old new : Diagrams) (f : Function) (result : Result H Spent) → Makes old new f result → (h : H) → IsLive old h → IsLive new h × IsSame (function_of new h) (function_of old h)
+kept_of old new f result m h live = (omega (arith, live, grows_length old.nodes new.nodes f m.grows), grows_keeps old.nodes new.nodes f m.grows h.0 live)
+
 -- the refusal comes exactly by the count of the nodes that are missing
 pub exact_of : (old new : Diagrams) (f : Function) (result : Result H Spent) → 2 ≤ length old.nodes → Makes old new f result → IsExact old new f result
 exact_of old new f (Ok r) two m =
@@ -71,6 +75,7 @@ exact_of old new f (Ok r) two m =
     record {
       refused = ((λ e. cc), (λ missing. absurd (ok_misses_none new.vars old.nodes new.nodes f old.budget r.0 m.sound m.grows (omega (arith, m.within, budget)) m.ok.live m.ok.same missing)));
       whole = λ g sub. sub_there new.vars new.nodes r.0 g f m.sound m.ok.live m.ok.same sub;
+      kept = kept_of old new f (Ok r) m;
       few = λ u reads. grows_at_most new.vars u old.nodes new.nodes f m.sound two reads m.grows;
       early = λ u reads. grows_within new.vars u old.nodes new.nodes f m.sound two reads m.grows;
     }
@@ -79,6 +84,7 @@ exact_of old new f (Err s) two m =
     record {
       refused = ((λ _. spent_misses new.vars old.nodes new.nodes f old.budget m.sound m.grows (m.spent.full ∙ budget) m.spent.lacks), (λ _. refl));
       whole = tt;
+      kept = kept_of old new f (Err s) m;
       few = λ u reads. grows_at_most new.vars u old.nodes new.nodes f m.sound two reads m.grows;
       early = λ u reads. grows_within new.vars u old.nodes new.nodes f m.sound two reads m.grows;
     }

@@ -61,9 +61,11 @@ pub record Makes (old new : Diagrams) (f : Function) (result : Result H Spent) :
   pub spent : IfErr result (IsSpent new f)
 
 -- the refusal comes exactly where more nodes of the diagram of f are missing than the budget has left; else the whole
--- diagram is there; and where f reads only the first u variables, fewer than 2 ^ u nodes are added, which test these
+-- diagram is there; either way the handles from before keep their functions; and where f reads only the first u
+-- variables, fewer than 2 ^ u nodes are added, which test these
 pub record IsExact (old new : Diagrams) (f : Function) (result : Result H Spent) : Type 0 where
   pub refused : IsErr result ↔ MissesMore old.nodes f (old.budget - length old.nodes)
   pub whole : IfOk result (λ _. HasWhole new.nodes f)
+  pub kept : (h : H) → IsLive old h → IsLive new h × IsSame (function_of new h) (function_of old h)
   pub few : (u : ℕ) → IsWithin u f → length new.nodes ≤ length old.nodes + (2 ^ u - 1)
   pub early : (u : ℕ) → IsWithin u f → (i : ℕ) → length old.nodes ≤ i → i < length new.nodes → top new.nodes i < u

@@ -1,10 +1,10 @@
 -- Boolean operations on functions, and what the calls of this crate say.
-use Rattle.std.specs.Prelude.{◌≡◌, ℕ, ◌+◌, ◌<◌, ◌≤◌, ◌≢◌, Bool, true, false, cond, eqb, not, ◌&&◌, ◌||◌, ◌⊎◌, ◌++◌, List, length, slice_index, slice_index_or, Result, IfOk, IfErr}
+use Rattle.std.specs.Prelude.{◌≡◌, ℕ, ◌+◌, ◌-◌, ◌*◌, ◌^◌, ◌<◌, ◌≤◌, ◌≢◌, Bool, true, false, cond, eqb, not, ◌&&◌, ◌||◌, ◌⊎◌, ◌++◌, List, length, slice_index, slice_index_or, ◌↔◌, Result, IfOk, IfErr, IsErr}
 use Rattle.node_pool.specs.declared.region.Node.{Node}
 use Rattle.bdd_core.specs.declared.handle.H.{H}
 use Rattle.bdd_core.specs.declared.handle.Spent.{Spent}
-use Rattle.bdd_core.specs.Diagram.{Valuation, Function, IsReduced, IsSubfunction, meaning, top}
-use Rattle.bdd_core.specs.Store.{Diagrams, Means, IsSpent, IsCanonical}
+use Rattle.bdd_core.specs.Diagram.{Valuation, Function, IsSame, IsReduced, IsSubfunction, IsWithin, HasWhole, MissesMoreOf, meaning, top}
+use Rattle.bdd_core.specs.Store.{Diagrams, IsLive, function_of, Means, IsSpent, IsCanonical}
 
 abbrev pub and_of : Function → Function → Function
 and_of f g = λ v. f v && g v
@@ -34,6 +34,16 @@ pub record MakesBoth (old new : Diagrams) (first f : Function) (result : Result 
   pub ok : IfOk result (λ r. Means new r f)
   pub both : IfOk result (λ _. (n : H) × Means new n first)
   pub spent : IfErr result (λ s. IsSpent new first s ⊎ IsSpent new f s)
+
+-- the refusal comes exactly where more nodes of the two diagrams, counted together, are missing than the budget has
+-- left; else both are there whole; either way the handles from before keep their functions; and where both functions
+-- read only the first u variables, each of the two adds fewer than 2 ^ u nodes, which test these
+pub record IsExactBoth (old new : Diagrams) (first f : Function) (result : Result H Spent) : Type 0 where
+  pub refused : IsErr result ↔ MissesMoreOf old.nodes (λ g. IsSubfunction g first ⊎ IsSubfunction g f) (old.budget - length old.nodes)
+  pub whole : IfOk result (λ _. HasWhole new.nodes first × HasWhole new.nodes f)
+  pub kept : (h : H) → IsLive old h → IsLive new h × IsSame (function_of new h) (function_of old h)
+  pub few : (u : ℕ) → IsWithin u first → IsWithin u f → length new.nodes ≤ length old.nodes + 2 * (2 ^ u - 1)
+  pub early : (u : ℕ) → IsWithin u first → IsWithin u f → (i : ℕ) → length old.nodes ≤ i → i < length new.nodes → top new.nodes i < u
 
 -- a bit for each variable, from a list
 abbrev pub bits_of : List Bool → Valuation

@@ -3,7 +3,7 @@
 ghost use Rattle.std.specs.Prelude.{◌≡◌, ◌<◌, ◌-◌, length};
 ghost use Rattle.bdd_core.specs.Diagram.{fixed};
 ghost use Rattle.bdd_core.specs.Store.{IsLive, Makes, IsExact, function_of};
-ghost use Rattle.bdd_ops.specs.Ops.{MakesBoth, and_of, or_of, not_of, implies_of, xor_of};
+ghost use Rattle.bdd_ops.specs.Ops.{MakesBoth, IsExactBoth, and_of, or_of, not_of, implies_of, xor_of};
 
 use bdd_core::{H, ONE, Spent, Store, ZERO};
 use vrt_model::Var;
@@ -52,8 +52,10 @@ pub fn not(store: &mut Store, f: H) -> Result<H, Spent>
 /// two count together.
 pub fn xor(store: &mut Store, f: H, g: H) -> Result<H, Spent>
     requires { IsLive store.old f × IsLive store.old g }
-    ensures { MakesBoth store.old store.new (not_of (function_of store.old g)) (xor_of (function_of store.old f) (function_of store.old g)) result }
+    ensures makes { MakesBoth store.old store.new (not_of (function_of store.old g)) (xor_of (function_of store.old f) (function_of store.old g)) result }
+    ensures exact { IsExactBoth store.old store.new (not_of (function_of store.old g)) (xor_of (function_of store.old f) (function_of store.old g)) result }
 {
+    let _ends = store.node_count();
     let other = match not(store, g) {
         Ok(other) => other,
         Err(spent) => return Err(spent),

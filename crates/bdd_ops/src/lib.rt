@@ -10,3 +10,6 @@ mod valuation;
 
 pub use boolean::{and, implies, not, or, restrict, xor};
 pub use valuation::{least, value_at};
+
+#[cfg(test)]
+mod tests;
