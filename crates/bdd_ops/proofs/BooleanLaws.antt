@@ -1,10 +1,10 @@
 -- Boolean operations as choices, and two diagrams that are made one after the other.
-use Rattle.std.proofs.Common.{◌≡◌, ℕ, ◌+◌, ◌-◌, ◌*◌, ◌^◌, ◌<◌, ◌≤◌, ◌↔◌, IsErr, length-append, Bool, true, false, cond, not, ◌&&◌, ◌||◌, Result, Ok, Err, refl, ap, ◌∙◌, ◌⊎◌, ◌++◌, inl, inr, List, length, arith, append_assoc}
+use Rattle.std.proofs.Common.{◌≡◌, ℕ, ◌+◌, ◌-◌, ◌*◌, ◌^◌, ◌<◌, ◌≤◌, length-append, Bool, true, false, cond, not, ◌&&◌, ◌||◌, Result, Ok, Err, refl, ap, ◌∙◌, ◌⊎◌, ◌++◌, inl, inr, List, length, arith, append_assoc}
 use Rattle.std.proofs.lemmas.Bool.{cases_lt}
 use Rattle.node_pool.specs.declared.region.Node.{Node}
 use Rattle.bdd_core.specs.declared.handle.H.{H}
 use Rattle.bdd_core.specs.declared.handle.Spent.{Spent}
-use Rattle.bdd_core.specs.Diagram.{Function, IsSame, IsSubfunction, IsWithin, HasWhole, MissesMoreOf, meaning, top}
+use Rattle.bdd_core.specs.Diagram.{Function, IsSame, IsSubfunction, IsWithin, MissesMoreOf, meaning, top}
 use Rattle.bdd_core.specs.Store.{Diagrams, IsLive, function_of, Means, IsSpent, Makes}
 use Rattle.bdd_core.proofs.Growth.{grows_keeps, grows_length, sub_same, sub_trans}
 use Rattle.bdd_core.proofs.Meaning.{meaning-append}
