@@ -1,0 +1,41 @@
+-- A memo: each entry is empty, or a right answer to `ite` or to `restrict`.
+use Rattle.std.specs.Prelude.{◌≡◌, ℕ, ◌<◌, ◌⊎◌, Bool, cond, List, length, slice_index_or}
+use Rattle.node_pool.specs.declared.region.Node.{Node}
+use Rattle.bdd_core.specs.declared.memo.Entry.{Entry}
+use Rattle.bdd_core.specs.Diagram.{IsSame, meaning, choice, fixed}
+
+unfoldable pub no_entry : Entry
+no_entry = record { f = 0; g = 0; h = 0; r = 0 }
+
+abbrev pub entry_at : List Entry → ℕ → Entry
+entry_at memo k = slice_index_or memo k no_entry
+
+-- every entry is empty
+abbrev pub IsEmpty : List Entry → Type 0
+IsEmpty memo = (k : ℕ) → k < length memo → (entry_at memo k).f ≡ 0
+
+-- in the place of h, the mark of an answer of `restrict`; no node has a place so high
+abbrev pub fixed_mark : Bool → ℕ
+fixed_mark b = cond b 4294967295 4294967294
+
+-- r is `ite` of f, g and h
+pub record Recalls (nodes : List Node) (e : Entry) : Type 0 where
+  pub f_in : e.f < length nodes
+  pub g_in : e.g < length nodes
+  pub h_in : e.h < length nodes
+  pub r_in : e.r < length nodes
+  pub is : IsSame (meaning nodes e.r) (choice (meaning nodes e.f) (meaning nodes e.g) (meaning nodes e.h))
+
+-- r is f with a bit at the variable g, by the mark h
+pub record RecallsFixed (nodes : List Node) (e : Entry) : Type 0 where
+  pub f_in : e.f < length nodes
+  pub r_in : e.r < length nodes
+  pub bit : Bool
+  pub mark : e.h ≡ fixed_mark bit
+  pub is : IsSame (meaning nodes e.r) (fixed (meaning nodes e.f) e.g bit)
+
+abbrev pub IsRight : List Node → Entry → Type 0
+IsRight nodes e = (e.f ≡ 0) ⊎ Recalls nodes e ⊎ RecallsFixed nodes e
+
+abbrev pub Remembers : List Node → List Entry → Type 0
+Remembers nodes memo = (k : ℕ) → k < length memo → IsRight nodes (entry_at memo k)
