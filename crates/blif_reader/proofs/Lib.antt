@@ -1,0 +1,5 @@
+pub mod CardLaws
+pub mod KnownLaws
+pub mod CheckLaws
+pub mod BuildLaws
+pub mod Examples
