@@ -78,7 +78,7 @@ inside_more before card false false h k =
 
 -- ---- the open cover
 
-cover_has_dot : (card : Card) → is_cover card ≡ true → is_dotted card ≡ true
+pub cover_has_dot : (card : Card) → is_cover card ≡ true → is_dotted card ≡ true
 cover_has_dot card e = ap (λ w. starts 46 w) ((bytes_eq-Decides (first_word card) (codes ".names")).0 e)
 
 first_more : (rows : List Card) (row : Card) → first_output (rows ++ row ∷ []) ≡ Some (unwrap_or (first_output rows) (is_on row))

@@ -2,6 +2,7 @@
 
 ghost use Rattle.std.specs.Prelude.{◌≡◌, ◌≤◌, ◌⊎◌, length, IfOk, IfErr};
 ghost use Rattle.text_lines.specs.Faults.{IsClean, IsFirst};
+ghost use Rattle.vrt_model.specs.Inputs.{IsBlif};
 ghost use Rattle.blif_reader.specs.Cards.{cards_of};
 ghost use Rattle.blif_reader.specs.Models.{blif_of};
 ghost use Rattle.blif_reader.specs.Refused.{fault_of};
@@ -19,6 +20,8 @@ pub fn read_blif(alloc: Global, text: &[u8]) -> Result<Blif, BlifFault>
     requires { length text.now ≤ 16777216 }
     // Taken only where no fault stands, and then these are the models of the cards.
     ensures ok { IfOk result (λ blif. IsClean fault_of (cards_of text.now) × (blif ≡ blif_of (cards_of text.now))) }
+    // The models are then such as the calls above take: names that differ, rows that fit, and the limits.
+    ensures fit { IfOk result IsBlif }
     // Refused only with the first fault, or for want of memory.
     ensures err { IfErr result (λ fault. (fault ≡ BlifFault.NoMemory) ⊎ IsFirst fault_of (cards_of text.now) fault) }
 {
