@@ -1,10 +1,10 @@
 -- Names as the keys of a set.
-use Rattle.std.proofs.Common.{◌≡◌, ◌∷◌, ◌++◌, [], ℕ, suc, not, ◌+◌, List, Bool, true, false, nat_lt, length, None, Vec, Global, ap, ap₂, refl, ◌∙◌, ◌||◌, cond, option_map, Some, sym}
+use Rattle.std.proofs.Common.{◌≡◌, ◌∷◌, ◌++◌, [], ℕ, suc, not, ◌+◌, List, Bool, true, false, nat_lt, length, None, Vec, Global, ap, ap₂, append-nil, append_assoc, refl, ◌∙◌, ◌||◌, cond, option_map, Some, sym}
 use Rattle.std.specs.List.{list_any, position, position_or_len, slice_get}
 use Rattle.std.specs.Str.{bytes_eq}
 use Rattle.std.proofs.lemmas.Option.{slice_get-map}
 use Rattle.std.proofs.lemmas.Slice.Eq.{bytes_eq-Decides}
-use Rattle.text_lines.specs.Names.{is_among, with_name}
+use Rattle.text_lines.specs.Names.{distinct, distinct_from, is_among, with_name, with_names}
 use Rattle.text_lines.specs.Shown.{shown}
 
 pub any_shown : (name : List ℕ) (ks : List (Vec ℕ Global)) → list_any (λ k. bytes_eq name k.items) ks ≡ is_among (shown ks) name
@@ -43,3 +43,22 @@ count_shown (k ∷ ks) = ap suc (count_shown ks)
 -- a key has the place of its name
 pub position_shown : (p : List ℕ → Bool) (ks : List (Vec ℕ Global)) → position (λ k. p k.items) ks ≡ position p (shown ks)
 position_shown p ks = ap₂ (λ n count. cond (nat_lt n count) (Some n) None) (count_before p ks) (count_shown ks)
+
+-- more names, and more behind them
+pub with_names-append : (names xs ys : List (List ℕ)) → with_names names (xs ++ ys) ≡ with_names (with_names names xs) ys
+with_names-append names [] ys = refl
+with_names-append names (x ∷ xs) ys = with_names-append (with_name names x) xs ys
+
+-- more names are those that are not there
+pub with_names_are : (names xs : List (List ℕ)) → with_names names xs ≡ names ++ distinct_from (λ name. name) names xs
+with_names_are names [] = sym (append-nil names)
+with_names_are names (x ∷ xs) =
+    with_names_are (with_name names x) xs ∙ by_test (is_among names x) where
+      by_test : (b : Bool) → (cond b names (names ++ x ∷ [])) ++ distinct_from (λ name. name) (cond b names (names ++ x ∷ [])) xs
+          ≡ names ++ cond b (distinct_from (λ name. name) names xs) (x ∷ distinct_from (λ name. name) (names ++ x ∷ []) xs)
+      by_test true = refl
+      by_test false = append_assoc names (x ∷ []) (distinct_from (λ name. name) (names ++ x ∷ []) xs)
+
+-- each name once
+pub names_once : (xs : List (List ℕ)) → with_names [] xs ≡ distinct xs
+names_once xs = with_names_are [] xs

@@ -2,7 +2,7 @@
 
 ghost use Rattle.std.specs.Prelude.{◌≡◌, ◌==◌, ◌<◌, ◌∷◌, ◌++◌, ℕ, List, [], Some, true, length, slice_get, map, bytes_eq, IfOk, OnOk, OnErr};
 ghost use Rattle.std.specs.List.{position};
-ghost use Rattle.text_lines.specs.Names.{is_among, with_name};
+ghost use Rattle.text_lines.specs.Names.{is_among, with_name, with_names};
 ghost use Rattle.text_lines.specs.Shown.{shown};
 
 use indexmap::IndexSet;
@@ -132,6 +132,16 @@ impl Names {
         };
         add_key(&mut self.set, key)
     }
+    /// Adds those of some names that are not there, in their order.
+    pub fn add_all(&mut self, names: &[Text]) -> Result<(), NoMemory>
+        ensures { OnOk result (self.new ≡ with_names self.old names.now) }
+    {
+        for name in names {
+            self.number(name.as_bytes())?;
+        }
+        Ok(())
+    }
+
     /// Copies of the names, in their order.
     pub fn to_texts(&self, alloc: Global) -> Result<Seq<Text>, NoMemory>
         ensures { IfOk result (λ texts. texts ≡ self.now) }

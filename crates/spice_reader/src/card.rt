@@ -1,0 +1,107 @@
+//! A card, and what the bytes of its lines are.
+
+ghost use Rattle.std.specs.Prelude.{ℕ, List, Some, None, ◌≡◌, ◌<◌, ◌+◌, ◌^◌, ◌++◌, ◌∷◌, [], length, map, IfOk, IfSome, IfNone, OnOk, ◌==◌};
+ghost use Rattle.std.specs.List.{position};
+ghost use Rattle.spice_reader.specs.Cards.{joined_at_equals, trimmed, card_words, card_from};
+
+use crate::line::{add_lowered, without_end, without_front};
+use std::alloc::Global;
+use text_lines::{cut_words, is_text_line};
+use vrt_model::{NoMemory, Seq, Text};
+
+/// A card: the number of its first line, whether it continues nothing, whether its bytes are text, and its words.
+#[derive(Drop)]
+pub struct Card {
+    pub line: u32,
+    pub is_orphan: bool,
+    pub is_all_text: bool,
+    pub words: Seq<Text>,
+}
+
+/// A card that may go on: the number of its first line, and the bytes of its lines.
+#[derive(Drop)]
+pub struct Open {
+    pub line: u32,
+    pub bytes: Text,
+}
+
+// The place of the first `=`.
+fn first_equals(text: &[u8]) -> Option<usize>
+    ensures place { result ≡ position (λ b. b == 61) text.now }
+    ensures fits { IfSome result (λ n. n + 1 < 2 ^ 64) }
+{
+    text.iter().position(|b| *b == b'=')
+}
+
+// What stands before and behind the first `=`.
+fn cut_equals(text: &[u8]) -> Option<(&[u8], &[u8])>
+    ensures cut { IfSome result (λ p. (length p.1.now < length text.now) × (joined_at_equals text.now ≡ trimmed p.0.now ++ 61 ∷ joined_at_equals p.1.now)) }
+    ensures last { IfNone result (joined_at_equals text.now ≡ trimmed text.now) }
+{
+    match first_equals(text) {
+        Some(count) => Some((&text[..count], &text[count + 1..])),
+        None => None,
+    }
+}
+
+// A part without blanks at both ends.
+fn without_blanks_around(part: &[u8]) -> &[u8]
+    ensures { result.now ≡ trimmed part.now }
+{
+    without_end(without_front(part))
+}
+
+// Adds bytes without the blanks on both sides of `=`.
+fn add_joined(out: &mut Text, text: &[u8]) -> Result<(), NoMemory>
+    ensures { OnOk result (out.new ≡ out.old ++ joined_at_equals text.now) }
+{
+    let mut rest = text;
+    'cuts: while let Some((part, behind)) = cut_equals(rest) {
+        out.extend(without_blanks_around(part))?;
+        if out.push(b'=').is_err() {
+            return Err(NoMemory);
+        }
+        rest = behind;
+    }
+    out.extend(without_blanks_around(rest))
+}
+
+// The texts of words.
+fn texts_of(alloc: Global, words: &[&[u8]]) -> Result<Seq<Text>, NoMemory>
+    ensures { IfOk result (λ s. s ≡ map (λ x. x.now) words.now) }
+{
+    let mut texts = Seq::new(alloc);
+    for word in words {
+        let text = Text::from_bytes(alloc, word)?;
+        if texts.push(text).is_err() {
+            return Err(NoMemory);
+        }
+    }
+    Ok(texts)
+}
+
+// The words of the bytes of a card.
+#[tactic(auto, unfolding(crate::specs::Cards::card_words))]
+fn words_of_card(alloc: Global, bytes: &[u8]) -> Result<Seq<Text>, NoMemory>
+    ensures { IfOk result (λ words. words ≡ card_words bytes.now) }
+{
+    let mut lower = Text::new(alloc);
+    add_lowered(&mut lower, bytes)?;
+    let mut joined = Text::new(alloc);
+    add_joined(&mut joined, lower.as_bytes())?;
+    let words = cut_words(alloc, joined.as_bytes())?;
+    texts_of(alloc, words.as_slice())
+}
+
+/// The card of a line, from the bytes of all its lines.
+pub fn card_of_bytes(alloc: Global, line: u32, bytes: &[u8]) -> Result<Card, NoMemory>
+    ensures { IfOk result (λ card. card ≡ card_from line bytes.now) }
+{
+    let words = words_of_card(alloc, bytes)?;
+    Ok(Card {
+        line,
+        is_orphan: false,
+        is_all_text: is_text_line(bytes),
+        words,
+    })
+}

@@ -1,0 +1,139 @@
+//! The transistors and instances of a cell.
+
+ghost use Rattle.std.specs.Prelude.{◌≡◌, ◌++◌, ◌∷◌, [], map, filter, OnOk, IfOk};
+ghost use Rattle.text_lines.specs.Names.{but_last, last_word};
+ghost use Rattle.spice_reader.specs.Netlist.{is_device, is_instance, device_of, instance_of, without_slash, tied_words};
+
+use crate::card::Card;
+use crate::words::{first, has_letter, plain, tail, word};
+use std::alloc::Global;
+use vrt_model::{DeviceCard, InstanceCard, NoMemory, Seq, Text};
+
+// The transistor of a card.
+fn device(alloc: Global, card: &Card) -> Result<DeviceCard, NoMemory>
+    ensures { IfOk result (λ d. d ≡ device_of card.now) }
+{
+    Ok(DeviceCard {
+        line: card.line,
+        name: Text::from_bytes(alloc, first(card))?,
+        drain: Text::from_bytes(alloc, word(&card.words, 1))?,
+        gate: Text::from_bytes(alloc, word(&card.words, 2))?,
+        source: Text::from_bytes(alloc, word(&card.words, 3))?,
+        bulk: Text::from_bytes(alloc, word(&card.words, 4))?,
+        model: Text::from_bytes(alloc, word(&card.words, 5))?,
+    })
+}
+
+// Adds the transistor of a card, if it is one.
+fn add_device(alloc: Global, found: &mut Seq<DeviceCard>, card: &Card) -> Result<(), NoMemory>
+    ensures { OnOk result (found.new ≡ found.old ++ map device_of (filter is_device (card.now ∷ []))) }
+{
+    if !has_letter(card, b'm') {
+        return Ok(());
+    }
+    let one = device(alloc, card)?;
+    match found.push(one) {
+        Ok(()) => Ok(()),
+        Err(_) => Err(NoMemory),
+    }
+}
+
+/// The transistors of the cards of a cell.
+pub fn devices(alloc: Global, body: &[Card]) -> Result<Seq<DeviceCard>, NoMemory>
+    ensures { IfOk result (λ ds. ds ≡ map device_of (filter is_device body.now)) }
+{
+    let mut found = Seq::new(alloc);
+    for card in body {
+        add_device(alloc, &mut found, card)?;
+    }
+    Ok(found)
+}
+
+/// Copies of words.
+pub fn copies(alloc: Global, words: &[Text]) -> Result<Seq<Text>, NoMemory>
+    ensures { IfOk result (λ texts. texts ≡ words.now) }
+{
+    let mut texts = Seq::new(alloc);
+    for word in words {
+        let text = Text::from_bytes(alloc, word.as_bytes())?;
+        if texts.push(text).is_err() {
+            return Err(NoMemory);
+        }
+    }
+    Ok(texts)
+}
+
+// The words but the last.
+fn front(words: &[Text]) -> &[Text]
+    ensures { result.now ≡ but_last words.now }
+{
+    match words.split_last() {
+        Some((_, before)) => before,
+        None => words,
+    }
+}
+
+// The last word, empty where there is none.
+fn end(words: &[Text]) -> &[u8]
+    ensures { result.now ≡ last_word words.now }
+{
+    match words.split_last() {
+        Some((last, _)) => last.as_bytes(),
+        None => &[],
+    }
+}
+
+// Nets without a lone slash behind them.
+fn nets_alone(nets: &[Text]) -> &[Text]
+    ensures { result.now ≡ without_slash nets.now }
+{
+    if end(nets) == b"/".as_slice() {
+        front(nets)
+    } else {
+        nets
+    }
+}
+
+// The words of an instance card behind its name.
+fn tied(card: &Card) -> &[Text]
+    ensures { result.now ≡ tied_words card.now }
+{
+    tail(plain(card.words.as_slice()))
+}
+
+// The instance of a card.
+fn instance(alloc: Global, card: &Card) -> Result<InstanceCard, NoMemory>
+    ensures { IfOk result (λ i. i ≡ instance_of card.now) }
+{
+    Ok(InstanceCard {
+        line: card.line,
+        name: Text::from_bytes(alloc, first(card))?,
+        nets: copies(alloc, nets_alone(front(tied(card))))?,
+        cell: Text::from_bytes(alloc, end(tied(card)))?,
+    })
+}
+
+// Adds the instance of a card, if it is one.
+fn add_instance(alloc: Global, found: &mut Seq<InstanceCard>, card: &Card) -> Result<(), NoMemory>
+    ensures { OnOk result (found.new ≡ found.old ++ map instance_of (filter is_instance (card.now ∷ []))) }
+{
+    if !has_letter(card, b'x') {
+        return Ok(());
+    }
+    let one = instance(alloc, card)?;
+    match found.push(one) {
+        Ok(()) => Ok(()),
+        Err(_) => Err(NoMemory),
+    }
+}
+
+/// The instances of the cards of a cell.
+pub fn instances(alloc: Global, body: &[Card]) -> Result<Seq<InstanceCard>, NoMemory>
+    ensures { IfOk result (λ found. found ≡ map instance_of (filter is_instance body.now)) }
+{
+    let mut found = Seq::new(alloc);
+    for card in body {
+        add_instance(alloc, &mut found, card)?;
+    }
+    Ok(found)
+}
