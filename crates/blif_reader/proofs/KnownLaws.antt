@@ -4,8 +4,9 @@ use Rattle.std.specs.Prelude.{filter}
 use Rattle.std.proofs.lemmas.Slice.Eq.{bytes_eq-Decides}
 use Rattle.text_lines.specs.Bytes.{starts}
 use Rattle.text_lines.specs.Groups.{open_group}
-use Rattle.text_lines.specs.Names.{distinct, distinct_from, is_among, with_name}
+use Rattle.text_lines.specs.Names.{distinct, with_name, with_names}
 use Rattle.text_lines.proofs.GroupLaws.{open_anew, open_goes_on, open_shuts, with_end}
+use Rattle.text_lines.proofs.NameLaws.{names_once}
 use Rattle.blif_reader.specs.Cards.{first_word, has_first}
 use Rattle.blif_reader.specs.Learned.{cover_behind, inside_behind, learned, models_behind, with_row}
 use Rattle.blif_reader.specs.Models.{begins_model, cover_inputs, ends_model, first_output, is_cover, is_dotted, is_on, model_name}
@@ -16,28 +17,13 @@ use Rattle.blif_reader.specs.declared.known.OpenCover.{OpenCover}
 
 -- ---- the names of models
 
--- names one by one
-abbrev with_names : List (List ℕ) → List (List ℕ) → List (List ℕ)
-with_names known [] = known
-with_names known (n ∷ ns) = with_names (with_name known n) ns
-
-names_are : (known ns : List (List ℕ)) → with_names known ns ≡ known ++ distinct_from (λ name. name) known ns
-names_are known [] = sym (append-nil known)
-names_are known (n ∷ ns) =
-    by_test (is_among known n) known n ns (names_are known ns) (names_are (known ++ n ∷ []) ns) where
-      by_test : (b : Bool) (known : List (List ℕ)) (n : List ℕ) (ns : List (List ℕ)) → with_names known ns ≡ known ++ distinct_from (λ name. name) known ns
-          → with_names (known ++ n ∷ []) ns ≡ (known ++ n ∷ []) ++ distinct_from (λ name. name) (known ++ n ∷ []) ns
-          → with_names (cond b known (known ++ n ∷ [])) ns ≡ known ++ cond b (distinct_from (λ name. name) known ns) (n ∷ distinct_from (λ name. name) (known ++ n ∷ []) ns)
-      by_test true known n ns old new = old
-      by_test false known n ns old new = new ∙ append_assoc known (n ∷ []) (distinct_from (λ name. name) (known ++ n ∷ []) ns)
-
 names_end : (known ns : List (List ℕ)) (n : List ℕ) → with_names known (ns ++ n ∷ []) ≡ with_name (with_names known ns) n
 names_end known [] n = refl
 names_end known (m ∷ ns) n = names_end (with_name known m) ns n
 
 -- each name once, with one name more
 pub distinct_more : (ns : List (List ℕ)) (n : List ℕ) → distinct (ns ++ n ∷ []) ≡ with_name (distinct ns) n
-distinct_more ns n = sym (names_are [] (ns ++ n ∷ [])) ∙ names_end [] ns n ∙ ap (λ known. with_name known n) (names_are [] ns)
+distinct_more ns n = sym (names_once (ns ++ n ∷ [])) ∙ names_end [] ns n ∙ ap (λ known. with_name known n) (names_once ns)
 
 -- names of the items that pass, with one item more
 names_more : (test : Card → Bool) (name : Card → List ℕ) (xs : List Card) (x : Card) → map name (filter test (xs ++ x ∷ [])) ≡ map name (filter test xs) ++ map name (filter test (x ∷ []))
