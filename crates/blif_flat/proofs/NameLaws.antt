@@ -165,13 +165,13 @@ got [] n lt e = absurd (omega arith)
 got (x ∷ xs) zero lt e = cc
 got (x ∷ xs) (suc n) lt e = got xs n (omega arith) e
 
-abbrev place_in : Blif → List ℕ → Option ℕ
+abbrev pub place_in : Blif → List ℕ → Option ℕ
 place_in blif name = position (λ (m : BlifModel). bytes_eq m.name name) blif.models
 
-place_is : (blif : Blif) (tables : Tables) (name : List ℕ) → AreTables blif tables → position (bytes_eq name) tables.names ≡ place_in blif name
+pub place_is : (blif : Blif) (tables : Tables) (name : List ℕ) → AreTables blif tables → position (bytes_eq name) tables.names ≡ place_in blif name
 place_is blif tables name are = ap (position (bytes_eq name)) are.names ∙ position_same name blif.models
 
-within : (blif : Blif) (name : List ℕ) (n : ℕ) → place_in blif name ≡ Some n → n < length blif.models
+pub within : (blif : Blif) (name : List ℕ) (n : ℕ) → place_in blif name ≡ Some n → n < length blif.models
 within blif name n e = at blif.models n e where
   at : (ms : List BlifModel) (n : ℕ) → position (λ (m : BlifModel). bytes_eq m.name name) ms ≡ Some n → n < length ms
   at [] n e = cc
@@ -191,7 +191,7 @@ some_interface blif tables name n are e none =
     let lt : n < length blif.models = within blif name n (sym (place_is blif tables name are) ∙ e) in
     got tables.interfaces n (omega (arith, ap length are.interfaces, length-map blif.models (λ (m : BlifModel). distinct (interface_of m)))) none
 
-model_there : (blif : Blif) (n : ℕ) (m : BlifModel) → slice_get blif.models n ≡ Some m → m ≡ model_at blif n
+pub model_there : (blif : Blif) (n : ℕ) (m : BlifModel) → slice_get blif.models n ≡ Some m → m ≡ model_at blif n
 model_there blif n m e =
     sym (ap (λ o. unwrap_or o (record { line = 0; name = []; inputs = []; input_lines = []; clocks = []; clock_lines = []; outputs = []; output_lines = []; covers = []; latches = []; subs = [] })) e)
 

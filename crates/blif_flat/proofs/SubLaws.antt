@@ -1,22 +1,23 @@
 -- The formals of ties, one by one, and the sub-models.
-use Rattle.std.proofs.Common.{◌≡◌, ◌++◌, ◌∷◌, ◌||◌, ◌<◌, ◌+◌, not, [], ℕ, List, Bool, true, false, cond, map, flat_map, length, drop, take, Option, Some, None, option_map, refl, ap, ap₂, sym, ◌∙◌}
+use Rattle.std.proofs.Common.{arith, ◌≤◌, ◌≡◌, ◌++◌, ◌∷◌, ◌||◌, ◌<◌, ◌+◌, not, [], ℕ, List, Bool, true, false, cond, map, flat_map, length, drop, take, Option, Some, None, option_map, refl, ap, ap₂, sym, ◌∙◌}
 use Rattle.std.specs.Prelude.{bytes_eq, slice_get}
+use Rattle.std.specs.Prelude.{find, is_none}
 use Rattle.std.specs.Option.{option_or}
-use Rattle.std.proofs.lemmas.List.{drop_more, take_more}
+use Rattle.std.proofs.lemmas.List.{drop_all, drop_more, take_more}
 use Rattle.std.proofs.lemmas.List.Folds.{find-append, list_any-append}
 use Rattle.std.proofs.lemmas.Option.{get_or_from_slice_get}
 use Rattle.text_lines.specs.Faults.{first_of, when}
 use Rattle.text_lines.specs.Names.{distinct, first_missing, is_among, with_name}
-use Rattle.vrt_model.specs.Models.{bad_formal_after, interface_of}
+use Rattle.vrt_model.specs.Models.{bad_formal, bad_formal_after, bad_sub, interface_of, is_bad_sub, is_model}
 use Rattle.vrt_model.specs.declared.blif.BlifModel.{BlifModel}
-use Rattle.text_lines.proofs.FaultLaws.{when_no}
+use Rattle.text_lines.proofs.FaultLaws.{none_cons, when_no}
 use Rattle.vrt_model.specs.FlatBlif.{formals}
 use Rattle.vrt_model.specs.declared.blif.Blif.{Blif}
 use Rattle.vrt_model.specs.declared.blif.SubLine.{SubLine}
 use Rattle.vrt_model.specs.declared.blif.Tie.{Tie}
 use Rattle.blif_flat.specs.declared.faults.ModelFault.{ModelFault}
-use Rattle.blif_flat.specs.declared.faults.ModelFault.TheVariants.{Formals}
-use Rattle.blif_flat.specs.Subs.{bad_formal_in, is_bad_formal, sub_fault}
+use Rattle.blif_flat.specs.declared.faults.ModelFault.TheVariants.{Formals, UnknownModel}
+use Rattle.blif_flat.specs.Subs.{bad_formal_in, is_bad_formal, sub_fault, subs_fault}
 use Rattle.blif_flat.proofs.NameLaws.{HaveSame, once_has_same, with_front}
 
 -- what ties refuse depends on the names alone
@@ -191,3 +192,27 @@ group_none blif models subs i m all same lt here so_far is e =
     ap (λ ms. first_of (map (sub_fault blif) (flat_map (λ (m : BlifModel). m.subs) (drop (i + 1) ms)))) (sym same)
     ∙ none_in (sub_fault blif) (λ (m : BlifModel). m.subs) models i m all lt here
     (ap (λ ms. first_of (map (sub_fault blif) (flat_map (λ (m : BlifModel). m.subs) (drop i ms)))) same ∙ so_far) (ap (λ ss. first_of (map (sub_fault blif) ss)) (sym is) ∙ e)
+
+-- ---- sub-models that fit
+
+not_bad : (blif : Blif) (s : SubLine) (b : Bool) (o : Option (List ℕ)) → is_model blif s.model ≡ b → bad_formal blif s ≡ o → cond b (option_map (Formals s.line) o) (Some (UnknownModel s.line s.model)) ≡ None
+    → is_bad_sub blif s ≡ false
+not_bad blif s true None m f e = ap₂ (λ p q. not p || not (is_none q)) m f
+not_bad blif s true (Some name) m f e = cc
+not_bad blif s false o m f e = cc
+
+-- where no sub-model has a fault, none is bad
+pub none_bad : (blif : Blif) (subs : List SubLine) → first_of (map (sub_fault blif) subs) ≡ None → find (is_bad_sub blif) subs ≡ None
+none_bad blif [] e = refl
+none_bad blif (s ∷ subs) e =
+    let both = none_cons (sub_fault blif s) (map (sub_fault blif) subs) e in
+    ap (λ b. cond b (Some s) (find (is_bad_sub blif) subs)) (not_bad blif s (is_model blif s.model) (bad_formal blif s) refl refl both.0) ∙ none_bad blif subs both.1
+
+pub subs_fit : (blif : Blif) → subs_fault blif ≡ None → bad_sub blif ≡ None
+subs_fit blif e = none_bad blif (flat_map (λ (m : BlifModel). m.subs) blif.models) e
+
+-- no model is left
+pub subs_done : (blif : Blif) (models : List BlifModel) (i : ℕ) → models ≡ blif.models → length models ≤ i
+    → first_of (map (sub_fault blif) (flat_map (λ (m : BlifModel). m.subs) (drop i blif.models))) ≡ subs_fault blif → bad_sub blif ≡ None
+subs_done blif models i same past e =
+    subs_fit blif (sym e ∙ ap (λ ms. first_of (map (sub_fault blif) (flat_map (λ (m : BlifModel). m.subs) ms))) (drop_all i blif.models (omega (arith, ap length same))))

@@ -1,10 +1,10 @@
 //! The first sub-model that does not fit.
 
-ghost use Rattle.std.specs.Prelude.{◌≡◌, ◌⊎◌, [], ℕ, List, Bool, true, false, map, option_map, IfSome, IfNone, OnOk};
+ghost use Rattle.std.specs.Prelude.{◌≡◌, ◌⊎◌, [], None, ℕ, List, Bool, true, false, map, option_map, IfSome, IfNone, OnOk};
 ghost use Rattle.text_lines.specs.Names.{distinct, first_missing, is_among, with_name};
 ghost use Rattle.text_lines.specs.Faults.{first_of, when};
 ghost use Rattle.vrt_model.specs.FlatBlif.{formals, model_at, model_numbered};
-ghost use Rattle.vrt_model.specs.Models.{bad_formal_after, interface_of, is_model};
+ghost use Rattle.vrt_model.specs.Models.{bad_formal_after, bad_sub, interface_of, is_model};
 ghost use Rattle.blif_flat.specs.Judged.{Judges};
 ghost use Rattle.blif_flat.specs.Subs.{bad_formal_in, is_bad_formal, sub_fault, subs_fault};
 ghost use Rattle.blif_flat.specs.Tables.{AreTables};
@@ -152,7 +152,9 @@ fn judge_subs(
 /// formal that does not fit, else the first input or clock that is left out. It takes time in proportion to the ties.
 pub fn check_subs(alloc: Global, blif: &Blif, tables: &Tables) -> Result<(), ModelFault>
     requires { AreTables blif.now tables.now }
-    ensures { Judges result (subs_fault blif.now) }
+    ensures fault { Judges result (subs_fault blif.now) }
+    // Where it takes them, each sub-model is there and is tied as its interface asks.
+    ensures fit { OnOk result (bad_sub blif.now ≡ None) }
 {
     for model in blif.models.as_slice() {
         judge_subs(alloc, blif, tables, model.subs.as_slice())?;
