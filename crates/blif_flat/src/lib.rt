@@ -11,3 +11,6 @@ pub use depths::are_shallow;
 pub use faults::ModelFault;
 pub use subs::check_subs;
 pub use tables::{Tables, tables_of};
+
+#[cfg(test)]
+mod tests;
