@@ -1,0 +1,4 @@
+pub mod Tables
+pub mod Subs
+pub mod Judged
+pub mod Depths

@@ -1,0 +1,105 @@
+-- What one card more changes of what is known.
+use Rattle.std.proofs.Common.{sym, ◌||◌, codes, is_some, length, unwrap_or, ◌≡◌, ◌++◌, ◌∷◌, [], ℕ, List, Bool, true, false, cond, map, Option, Some, None, option_map, refl, ap, ap₂, ◌∙◌, append-nil, append_assoc}
+use Rattle.std.specs.Prelude.{filter}
+use Rattle.std.proofs.lemmas.Slice.Eq.{bytes_eq-Decides}
+use Rattle.text_lines.specs.Bytes.{starts}
+use Rattle.text_lines.specs.Groups.{open_group}
+use Rattle.text_lines.specs.Names.{distinct, with_name, with_names}
+use Rattle.text_lines.proofs.GroupLaws.{open_anew, open_goes_on, open_shuts, with_end}
+use Rattle.text_lines.proofs.NameLaws.{names_once}
+use Rattle.blif_reader.specs.Cards.{first_word, has_first}
+use Rattle.blif_reader.specs.Learned.{cover_behind, inside_behind, learned, models_behind, with_row}
+use Rattle.blif_reader.specs.Models.{begins_model, cover_inputs, ends_model, first_output, is_cover, is_dotted, is_on, model_name}
+use Rattle.blif_reader.specs.Refused.{known_by, open_cover, told_of}
+use Rattle.blif_reader.specs.declared.cards.Card.{Card}
+use Rattle.blif_reader.specs.declared.known.Known.{Known}
+use Rattle.blif_reader.specs.declared.known.OpenCover.{OpenCover}
+
+-- ---- the names of models
+
+names_end : (known ns : List (List ℕ)) (n : List ℕ) → with_names known (ns ++ n ∷ []) ≡ with_name (with_names known ns) n
+names_end known [] n = refl
+names_end known (m ∷ ns) n = names_end (with_name known m) ns n
+
+-- each name once, with one name more
+pub distinct_more : (ns : List (List ℕ)) (n : List ℕ) → distinct (ns ++ n ∷ []) ≡ with_name (distinct ns) n
+distinct_more ns n = sym (names_once (ns ++ n ∷ [])) ∙ names_end [] ns n ∙ ap (λ known. with_name known n) (names_once ns)
+
+-- names of the items that pass, with one item more
+names_more : (test : Card → Bool) (name : Card → List ℕ) (xs : List Card) (x : Card) → map name (filter test (xs ++ x ∷ [])) ≡ map name (filter test xs) ++ map name (filter test (x ∷ []))
+names_more test name [] x = refl
+names_more test name (y ∷ ys) x =
+    chosen (test y) (name y) (filter test ys) (filter test (ys ++ x ∷ [])) y refl (names_more test name ys x) where
+      chosen : (b : Bool) (n : List ℕ) (old new : List Card) (y : Card) → n ≡ name y → map name new ≡ map name old ++ map name (filter test (x ∷ []))
+          → map name (cond b (y ∷ new) new) ≡ map name (cond b (y ∷ old) old) ++ map name (filter test (x ∷ []))
+      chosen true n old new y e h = ap (λ ns. name y ∷ ns) h
+      chosen false n old new y e h = h
+
+models_more : (before : List Card) (card : Card)
+    → distinct (map model_name (filter begins_model (before ++ card ∷ []))) ≡ models_behind (distinct (map model_name (filter begins_model before))) card
+models_more before card = ap distinct (names_more begins_model model_name before card) ∙ by_test (begins_model card) (map model_name (filter begins_model before)) card where
+  by_test : (b : Bool) (ns : List (List ℕ)) (card : Card) → distinct (ns ++ map model_name (cond b (card ∷ []) [])) ≡ cond b (with_name (distinct ns) (model_name card)) (distinct ns)
+  by_test true ns card = distinct_more ns (model_name card)
+  by_test false ns card = ap distinct (append-nil ns)
+
+-- ---- the open model
+
+still_open : {X : Type 0} (x : X) (o : Option (X × List X)) → is_some (option_map (with_end x) o) ≡ is_some o
+still_open x None = refl
+still_open x (Some g) = refl
+
+inside_more : (before : List Card) (card : Card) (b e : Bool) → begins_model card ≡ b → ends_model card ≡ e
+    → is_some (open_group begins_model ends_model (before ++ card ∷ [])) ≡ inside_behind (is_some (open_group begins_model ends_model before)) card
+inside_more before card true e h k =
+    let inside = is_some (open_group begins_model ends_model before) in
+    ap is_some (open_anew begins_model ends_model before card h (ap (λ b. b || has_first (codes ".end") card) h))
+    ∙ ap (λ b. cond b true (cond (ends_model card) false inside)) (sym h)
+inside_more before card false true h k =
+    let inside = is_some (open_group begins_model ends_model before) in
+    ap is_some (open_shuts begins_model ends_model before card h k) ∙ ap₂ (λ b e. cond b true (cond e false inside)) (sym h) (sym k)
+inside_more before card false false h k =
+    let inside = is_some (open_group begins_model ends_model before) in
+    ap is_some (open_goes_on begins_model ends_model before card h k) ∙ still_open card (open_group begins_model ends_model before)
+    ∙ ap₂ (λ b e. cond b true (cond e false inside)) (sym h) (sym k)
+
+-- ---- the open cover
+
+pub cover_has_dot : (card : Card) → is_cover card ≡ true → is_dotted card ≡ true
+cover_has_dot card e = ap (λ w. starts 46 w) ((bytes_eq-Decides (first_word card) (codes ".names")).0 e)
+
+first_more : (rows : List Card) (row : Card) → first_output (rows ++ row ∷ []) ≡ Some (unwrap_or (first_output rows) (is_on row))
+first_more [] row = refl
+first_more (first ∷ rows) row = refl
+
+row_more : (row : Card) (o : Option (Card × List Card)) → option_map told_of (option_map (with_end row) o) ≡ option_map (with_row row) (option_map told_of o)
+row_more row None = refl
+row_more row (Some g) = ap (λ first. let c : OpenCover = record { width = length (cover_inputs g.0); first = first } in Some c) (first_more g.1 row)
+
+abbrev begun : Card → OpenCover
+begun card = record { width = length (cover_inputs card); first = None }
+
+cover_more : (before : List Card) (card : Card) (b e : Bool) → is_cover card ≡ b → is_dotted card ≡ e
+    → option_map told_of (open_cover (before ++ card ∷ [])) ≡ cover_behind (option_map told_of (open_cover before)) card
+cover_more before card true e h k =
+    let old = option_map (with_row card) (option_map told_of (open_cover before)) in
+    ap (option_map told_of) (open_anew is_cover is_dotted before card h (cover_has_dot card h)) ∙ ap (λ b. cond b (Some (begun card)) (cond (is_dotted card) None old)) (sym h)
+cover_more before card false true h k =
+    let old = option_map (with_row card) (option_map told_of (open_cover before)) in
+    ap (option_map told_of) (open_shuts is_cover is_dotted before card h k) ∙ ap₂ (λ b e. cond b (Some (begun card)) (cond e None old)) (sym h) (sym k)
+cover_more before card false false h k =
+    let old = option_map (with_row card) (option_map told_of (open_cover before)) in
+    ap (option_map told_of) (open_goes_on is_cover is_dotted before card h k) ∙ row_more card (open_cover before)
+    ∙ ap₂ (λ b e. cond b (Some (begun card)) (cond e None old)) (sym h) (sym k)
+
+-- behind one card more
+pub known_more : (before : List Card) (card : Card) → known_by (before ++ card ∷ []) ≡ learned (known_by before) card
+unfolding known_by
+known_more before card =
+    let a = models_more before card in
+    let b = inside_more before card (begins_model card) (ends_model card) refl refl in
+    let c = cover_more before card (is_cover card) (is_dotted card) refl refl in
+    joined_by a b c where
+      joined_by : {m n : List (List ℕ)} {i j : Bool} {o p : Option OpenCover} → m ≡ n → i ≡ j → o ≡ p
+          → (let k : Known = record { models = m; is_inside = i; cover = o } in k) ≡ (let k : Known = record { models = n; is_inside = j; cover = p } in k)
+      joined_by {m} {n} {i} {j} {o} {p} a b c =
+          ap (λ x. let k : Known = record { models = x; is_inside = i; cover = o } in k) a ∙ ap₂ (λ x y. let k : Known = record { models = n; is_inside = x; cover = y } in k) b c

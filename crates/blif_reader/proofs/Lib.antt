@@ -1,0 +1,7 @@
+pub mod CardLaws
+pub mod KnownLaws
+pub mod CheckLaws
+pub mod BuildLaws
+pub mod Examples
+pub mod Apart
+pub mod Fits

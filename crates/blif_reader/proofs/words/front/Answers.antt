@@ -1,0 +1,7 @@
+use Rattle.std.proofs.Common.{sym, ap, ◌∙◌}
+use Rattle.text_lines.specs.Names.{but_last}
+use Rattle.blif_reader.proofs.CardLaws.{but_last_end}
+use Rattle.blif_reader.proofs.words.front.Goals as goal
+
+pub returns-in-Some : goal.returns-in-Some
+returns-in-Some c = sym (ap but_last c.in-Some.ensures.cases.0 ∙ but_last_end c.in-Some.before.now _)

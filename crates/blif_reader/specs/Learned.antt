@@ -1,0 +1,29 @@
+-- What is known behind one card more.
+use Rattle.std.specs.Prelude.{List, ℕ, Bool, true, false, if◌then◌else◌, length, Option, Some, None, option_map, unwrap_or}
+use Rattle.text_lines.specs.Names.{with_name}
+use Rattle.blif_reader.specs.Models.{begins_model, cover_inputs, ends_model, is_cover, is_dotted, is_on, model_name}
+use Rattle.blif_reader.specs.declared.cards.Card.{Card}
+use Rattle.blif_reader.specs.declared.known.Known.{Known}
+use Rattle.blif_reader.specs.declared.known.OpenCover.{OpenCover}
+
+abbrev pub models_behind : List (List ℕ) → Card → List (List ℕ)
+models_behind models card = if begins_model card then with_name models (model_name card) else models
+
+abbrev pub inside_behind : Bool → Card → Bool
+inside_behind is_inside card = if begins_model card then true else (if ends_model card then false else is_inside)
+
+-- the output of the first row, or of this one if it is the first
+abbrev pub with_row : Card → OpenCover → OpenCover
+with_row row cover = record { width = cover.width; first = Some (unwrap_or cover.first (is_on row)) }
+
+abbrev pub cover_behind : Option OpenCover → Card → Option OpenCover
+cover_behind cover card =
+    if is_cover card then Some (record { width = length (cover_inputs card); first = None })
+    else (if is_dotted card then None else option_map (with_row card) cover)
+
+abbrev pub learned : Known → Card → Known
+learned known card = record {
+  models = models_behind known.models card;
+  is_inside = inside_behind known.is_inside card;
+  cover = cover_behind known.cover card;
+}

@@ -1,0 +1,188 @@
+//! The cards of a text.
+
+ghost use Rattle.std.specs.Prelude.{ℕ, List, Some, None, ◌≡◌, ◌≤◌, ◌++◌, ◌∷◌, [], length, map, filter, IfOk, IfSome, IfNone, OnOk, ◌==◌, false, true};
+ghost use Rattle.text_lines.specs.Groups.{up_to};
+ghost use Rattle.text_lines.specs.Names.{but_last};
+ghost use Rattle.blif_reader.specs.Cards.{card_of, cards_of, ends_with_backslash, has_words, is_hash, uncommented};
+ghost use Rattle.blif_reader.specs.Opened.{cards_behind, numbered, with_line};
+
+use std::alloc::Global;
+use text_lines::{cut_lines, cut_words, is_text_line};
+use vrt_model::{NoMemory, Seq, Text};
+
+/// A card: the number of its first line, from 1, whether all its bytes are text, and its words.
+#[derive(Drop)]
+pub struct Card {
+    pub line: u32,
+    pub is_all_text: bool,
+    pub words: Seq<Text>,
+}
+
+/// Lines that are to be joined with the next: the number of the first, and their bytes.
+#[derive(Drop)]
+pub struct Open {
+    pub line: u32,
+    pub bytes: Text,
+}
+
+// A line without its comment.
+fn without_comment(line: &[u8]) -> &[u8]
+    ensures { result.now ≡ uncommented line.now }
+{
+    let mut at = 0;
+    'bytes: while at < line.len() {
+        if line[at] == b'#' {
+            return &line[..at];
+        }
+        at += 1;
+    }
+    line
+}
+
+// What stands before the `\` at the end, none where there is no such byte.
+fn before_backslash(bytes: &[u8]) -> Option<&[u8]>
+    ensures joins { IfSome result (λ front. (ends_with_backslash bytes.now ≡ true) × (front.now ≡ but_last bytes.now)) }
+    ensures ends { IfNone result (ends_with_backslash bytes.now ≡ false) }
+{
+    match bytes.split_last() {
+        Some((last, front)) => { if *last == b'\\' { Some(front) } else { None } }
+        None => None,
+    }
+}
+
+// The texts of words.
+fn texts_of(alloc: Global, words: &[&[u8]]) -> Result<Seq<Text>, NoMemory>
+    ensures { IfOk result (λ s. s ≡ map (λ x. x.now) words.now) }
+{
+    let mut texts = Seq::new(alloc);
+    for word in words {
+        let text = Text::from_bytes(alloc, word)?;
+        if texts.push(text).is_err() {
+            return Err(NoMemory);
+        }
+    }
+    Ok(texts)
+}
+
+// The card of a line, or of several that are joined.
+fn card_of_bytes(alloc: Global, line: u32, bytes: &[u8]) -> Result<Card, NoMemory>
+    ensures { IfOk result (λ card. card ≡ card_of (line, bytes.now)) }
+{
+    let words = cut_words(alloc, bytes)?;
+    Ok(Card {
+        line,
+        is_all_text: is_text_line(bytes),
+        words: texts_of(alloc, words.as_slice())?,
+    })
+}
+
+// Adds a card, unless it is blank.
+fn add_card(alloc: Global, cards: &mut Seq<Card>, line: u32, bytes: &[u8]) -> Result<(), NoMemory>
+    ensures { OnOk result (cards.new ≡ cards.old ++ filter has_words (card_of (line, bytes.now) ∷ [])) }
+{
+    let card = card_of_bytes(alloc, line, bytes)?;
+    if card.words.is_empty() {
+        return Ok(());
+    }
+    match cards.push(card) {
+        Ok(()) => Ok(()),
+        Err(_) => Err(NoMemory),
+    }
+}
+
+// The lines so far, with a line more.
+fn add_line(
+    alloc: Global,
+    number: u32,
+    bytes: &[u8],
+    opened: Option<Open>,
+) -> Result<Open, NoMemory>
+    ensures { IfOk result (λ now. now ≡ with_line opened number bytes.now) }
+{
+    match opened {
+        None => Ok(Open {
+            line: number,
+            bytes: Text::from_bytes(alloc, bytes)?,
+        }),
+        Some(first) => go_on(first.line, first.bytes, bytes),
+    }
+}
+
+// The lines so far, with the bytes of a line more.
+fn go_on(first: u32, so_far: Text, line: &[u8]) -> Result<Open, NoMemory>
+    ensures { IfOk result (λ now. now ≡ record { line = first; bytes = so_far ++ line.now }) }
+{
+    let mut bytes = so_far;
+    bytes.extend(line)?;
+    Ok(Open { line: first, bytes })
+}
+
+// Takes a line that ends a card.
+fn take_last(
+    alloc: Global,
+    number: u32,
+    bytes: &[u8],
+    cards: &mut Seq<Card>,
+    opened: Option<Open>,
+) -> Result<(), NoMemory>
+    ensures { OnOk result (cards.new ≡ cards.old ++ filter has_words (card_of (numbered (with_line opened number bytes.now)) ∷ [])) }
+{
+    match opened {
+        None => add_card(alloc, cards, number, bytes),
+        Some(first) => {
+            let all = go_on(first.line, first.bytes, bytes)?;
+            add_card(alloc, cards, all.line, all.bytes.as_bytes())
+        }
+    }
+}
+
+// Takes a line.
+fn take_line(
+    alloc: Global,
+    number: u32,
+    line: &[u8],
+    cards: &mut Seq<Card>,
+    opened: Option<Open>,
+) -> Result<Option<Open>, NoMemory>
+    ensures { IfOk result (λ now. (rest : List (ℕ × List ℕ)) → cards.new ++ cards_behind now rest ≡ cards.old ++ cards_behind opened ((number, line.now) ∷ rest)) }
+{
+    let bytes = without_comment(line);
+    match before_backslash(bytes) {
+        Some(front) => {
+            let now = add_line(alloc, number, front, opened)?;
+            Ok(Some(now))
+        }
+        None => {
+            take_last(alloc, number, bytes, cards, opened)?;
+            Ok(None)
+        }
+    }
+}
+
+// Ends the card whose last line ends in `\`, if there is one.
+#[tactic(auto, unfolding(crate::specs::Opened::cards_behind))]
+fn end_last(alloc: Global, cards: &mut Seq<Card>, opened: Option<Open>) -> Result<(), NoMemory>
+    ensures { OnOk result (cards.new ≡ cards.old ++ cards_behind opened []) }
+{
+    match opened {
+        None => Ok(()),
+        Some(first) => add_card(alloc, cards, first.line, first.bytes.as_bytes()),
+    }
+}
+
+/// The cards of a text, blank ones left out.
+pub fn read_cards(alloc: Global, text: &[u8]) -> Result<Seq<Card>, NoMemory>
+    requires { length text.now ≤ 16777216 }
+    ensures { IfOk result (λ cards. cards ≡ cards_of text.now) }
+{
+    let lines = cut_lines(alloc, text)?;
+    let mut cards = Seq::new(alloc);
+    let mut opened = None;
+    let mut number = 0u32;
+    for line in &lines {
+        number += 1;
+        opened = take_line(alloc, number, line, &mut cards, opened)?;
+    }
+    end_last(alloc, &mut cards, opened)?;
+    Ok(cards)
+}

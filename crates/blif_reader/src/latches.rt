@@ -1,0 +1,177 @@
+//! The latches of a model.
+
+ghost use Rattle.std.specs.Prelude.{◌≡◌, ◌++◌, ◌∷◌, [], None, flat_map, is_some, IfOk, OnOk};
+ghost use Rattle.blif_reader.specs.Models.{control_of, end_of, init_of, is_latch, latch_end, latch_kind, latch_of, latches_in, with_kind};
+
+use crate::cards::Card;
+use crate::words::{is_latch_card, word, words_from};
+use std::alloc::Global;
+use vrt_model::{LatchKind, LatchLine, NoMemory, Seq, Text};
+
+/// What is behind the input and the output of a latch: its type, its control and its initial value.
+#[derive(Drop)]
+pub struct LatchEnd {
+    pub kind: Option<LatchKind>,
+    pub control: Option<Text>,
+    pub init: u8,
+}
+
+// The type of a latch.
+fn kind_of(word: &[u8]) -> Option<LatchKind>
+    ensures { result ≡ latch_kind word.now }
+{
+    if word == b"re".as_slice() {
+        return Some(LatchKind::Re);
+    }
+    if word == b"fe".as_slice() {
+        return Some(LatchKind::Fe);
+    }
+    if word == b"ah".as_slice() {
+        return Some(LatchKind::Ah);
+    }
+    if word == b"al".as_slice() {
+        return Some(LatchKind::Al);
+    }
+    None
+}
+
+// The initial value of a latch.
+fn read_init(word: &[u8]) -> Option<u8>
+    ensures { result ≡ init_of word.now }
+{
+    match word {
+        [b] => {
+            if *b == b'0' || *b == b'1' || *b == b'2' || *b == b'3' {
+                Some(*b - b'0')
+            } else {
+                None
+            }
+        }
+        _ => None,
+    }
+}
+
+/// Whether the words behind the output are `[TYPE CONTROL] [INIT]`.
+pub fn has_latch_form(words: &[Text]) -> bool
+    ensures { result ≡ is_some (latch_end words.now) }
+{
+    match words {
+        [] => true,
+        [init] => read_init(init.as_bytes()).is_some(),
+        [kind, _] => kind_of(kind.as_bytes()).is_some(),
+        [kind, _, init] => {
+            kind_of(kind.as_bytes()).is_some() && read_init(init.as_bytes()).is_some()
+        }
+        _ => false,
+    }
+}
+
+// The control of a latch.
+fn read_control(alloc: Global, word: &[u8]) -> Result<Option<Text>, NoMemory>
+    ensures { IfOk result (λ control. control ≡ control_of word.now) }
+{
+    if word == b"NIL".as_slice() {
+        return Ok(None);
+    }
+    let text = Text::from_bytes(alloc, word)?;
+    Ok(Some(text))
+}
+
+// The end of a latch with a type.
+fn read_typed(
+    alloc: Global,
+    kind: &[u8],
+    control: &[u8],
+    init: Option<u8>,
+) -> Result<Option<LatchEnd>, NoMemory>
+    ensures { IfOk result (λ found. found ≡ with_kind (latch_kind kind.now) control.now init) }
+{
+    let Some(kind) = kind_of(kind) else {
+        return Ok(None);
+    };
+    let Some(init) = init else {
+        return Ok(None);
+    };
+    let control = read_control(alloc, control)?;
+    Ok(Some(LatchEnd {
+        kind: Some(kind),
+        control,
+        init,
+    }))
+}
+
+// The end of a latch without a type.
+fn untyped(init: u8) -> LatchEnd
+    ensures { result ≡ record { kind = None; control = None; init = init } }
+{
+    LatchEnd {
+        kind: None,
+        control: None,
+        init,
+    }
+}
+
+// The end of a latch, none where the words have another form.
+fn read_end(alloc: Global, words: &[Text]) -> Result<Option<LatchEnd>, NoMemory>
+    ensures { IfOk result (λ found. found ≡ latch_end words.now) }
+{
+    match words {
+        [] => Ok(Some(untyped(3))),
+        [init] => match read_init(init.as_bytes()) {
+            Some(init) => Ok(Some(untyped(init))),
+            None => Ok(None),
+        },
+        [kind, control] => read_typed(alloc, kind.as_bytes(), control.as_bytes(), Some(3)),
+        [kind, control, init] => read_typed(
+            alloc,
+            kind.as_bytes(),
+            control.as_bytes(),
+            read_init(init.as_bytes()),
+        ),
+        _ => Ok(None),
+    }
+}
+
+// The latch of a card and of its end.
+fn latch(alloc: Global, card: &Card, end: LatchEnd) -> Result<LatchLine, NoMemory>
+    ensures { IfOk result (λ found. found ≡ latch_of card.now end) }
+{
+    let input = Text::from_bytes(alloc, word(card, 1))?;
+    let output = Text::from_bytes(alloc, word(card, 2))?;
+    Ok(LatchLine {
+        line: card.line,
+        input,
+        output,
+        kind: end.kind,
+        control: end.control,
+        init: end.init,
+    })
+}
+
+// Adds the latch of a card, if it is one.
+fn add_latch(alloc: Global, found: &mut Seq<LatchLine>, card: &Card) -> Result<(), NoMemory>
+    ensures { OnOk result (found.new ≡ found.old ++ latches_in card.now) }
+{
+    if !is_latch_card(card) {
+        return Ok(());
+    }
+    let Some(end) = read_end(alloc, words_from(card, 3))? else {
+        return Ok(());
+    };
+    let one = latch(alloc, card, end)?;
+    match found.push(one) {
+        Ok(()) => Ok(()),
+        Err(_) => Err(NoMemory),
+    }
+}
+
+/// The latches of the cards of a model.
+pub fn latches_of(alloc: Global, body: &[Card]) -> Result<Seq<LatchLine>, NoMemory>
+    ensures { IfOk result (λ found. found ≡ flat_map latches_in body.now) }
+{
+    let mut found = Seq::new(alloc);
+    for card in body {
+        add_latch(alloc, &mut found, card)?;
+    }
+    Ok(found)
+}
