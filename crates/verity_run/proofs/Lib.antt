@@ -1,5 +1,8 @@
+pub mod FirstOfList
 pub mod Items
 pub mod Labels
 pub mod Passing
+pub mod PlaceFacts
+pub mod PlaceOrder
 pub mod Rounds
 pub mod Spreads

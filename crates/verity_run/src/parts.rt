@@ -24,7 +24,7 @@ fn has_given_value(net: &FlatNet) -> bool
 }
 
 /// Whether a net is there and has no given value.
-fn is_plain(circuit: &Circuit, net: usize) -> bool
+pub(crate) fn is_plain(circuit: &Circuit, net: usize) -> bool
     ensures { result ≡ is_plain_at circuit.now net }
 {
     match circuit.nets.get(net) {
