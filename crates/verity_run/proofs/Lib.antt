@@ -1,9 +1,13 @@
 pub mod Ends
+pub mod Findings
+pub mod FirstOfList
 pub mod Fours
 pub mod Items
 pub mod Labels
 pub mod NetNumbers
 pub mod Passing
+pub mod PlaceFacts
+pub mod PlaceOrder
 pub mod Rounds
 pub mod Spaces
 pub mod Spreads

@@ -6,6 +6,7 @@ pub mod Forms
 pub mod Marks
 pub mod Messages
 pub mod Parts
+pub mod PlaceLists
 pub mod Reads
 pub mod Reports
 pub mod Responses

@@ -19,6 +19,7 @@ mod verdict_text;
 mod words;
 
 pub use parts::least_nets;
+pub use places::{Place, ordered_places};
 pub use plain_paths::{Response, Signals, is_flat, signals_at};
 pub use status::Status;
 pub use top::run;

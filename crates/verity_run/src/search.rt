@@ -6,7 +6,7 @@ ghost use Rattle.verity_run.specs.Reports.{IsDecided};
 
 use crate::cell_circuit::{Flattened, flatten};
 use crate::form_lines::append;
-use crate::places::{Place, places};
+use crate::places::{Place, ordered_places};
 use crate::plain_paths::{Response, Signals, signals_at};
 use std::alloc::Global;
 use vrt_model::{
@@ -256,7 +256,7 @@ fn decide(alloc: Global, circuit: &Circuit, model: &BlifModel) -> Result<Verdict
     requires inputs { length model.now.inputs ≤ 12 }
     ensures { IfOk result IsDecided }
 {
-    let places = places(alloc, circuit, output_net(circuit, model))?;
+    let places = ordered_places(alloc, circuit, output_net(circuit, model))?;
     match first_fault(alloc, circuit, places.as_slice(), model)? {
         Some(found) => Ok(Verdict::Fault(fault(alloc, circuit, found)?)),
         None => Ok(Verdict::Equal),

@@ -1,10 +1,13 @@
-//! Circuits whose signals are worked out by hand. Nets 0 and 1 are the supplies.
+//! Circuits whose signals and places are worked out by hand. Nets 0 and 1 are the supplies.
 
+use crate::places::{Place, ordered_places};
 use crate::plain_paths::{Response, is_flat, signals_at};
 use std::alloc::Global;
 use std::process::Abort;
 use std::test::Fail;
-use vrt_model::{Circuit, Device, FlatNet, Hold, HoldEnd, Kind, Net, NetKind, NoMemory, Seq, Text};
+use vrt_model::{
+    Circuit, Device, FaultKind, FlatNet, Hold, HoldEnd, Kind, Net, NetKind, NoMemory, Seq, Text,
+};
 
 fn empty(alloc: Global) -> Circuit {
     Circuit {
@@ -208,4 +211,31 @@ fn chain(rt: &impl Abort, alloc: Global) -> Result<(), NoMemory> {
     levels[1] = 8;
     let high = Response::Bit(true);
     shows(rt, alloc, &circuit, &[false, true], &levels, 61, high)
+}
+
+#[test]
+fn places_stand_part_by_part(rt: HostRuntime) -> Result<(), Fail> {
+    let outcome = two_parts(&rt, rt.alloc());
+    assert!(rt; outcome.is_ok());
+    Ok(())
+}
+
+// Nets 2 to 5 in two parts, 2 with 4 and 3 with 5; the output is 4.
+fn two_parts(rt: &impl Abort, alloc: Global) -> Result<(), NoMemory> {
+    let mut circuit = with_nets(alloc, &[NetKind::Plain; 4])?;
+    add_device(alloc, &mut circuit, Kind::N, 6, [5, 1, 3])?;
+    add_device(alloc, &mut circuit, Kind::N, 6, [4, 1, 2])?;
+    assert!(rt; is_flat(&circuit));
+    let places = ordered_places(alloc, &circuit, 4)?;
+    let at = |kind: FaultKind, net: usize| Place { kind, net };
+    let expected = [
+        at(FaultKind::Fight, 2),
+        at(FaultKind::Fight, 4),
+        at(FaultKind::Float, 4),
+        at(FaultKind::Fight, 3),
+        at(FaultKind::Fight, 5),
+        at(FaultKind::Differs, 4),
+    ];
+    assert_eq!(rt; places.as_slice(), expected.as_slice());
+    Ok(())
 }
