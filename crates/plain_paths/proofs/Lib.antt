@@ -1,0 +1,4 @@
+pub mod Items
+pub mod Passing
+pub mod Rounds
+pub mod Spreads

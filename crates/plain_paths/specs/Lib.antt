@@ -1,0 +1,5 @@
+pub mod Channels
+pub mod FlatCircuits
+pub mod Marks
+pub mod Responses
+pub mod Tables

@@ -1,0 +1,76 @@
+//! The strength of each net, and which values reach it.
+
+ghost use Rattle.std.specs.Prelude.{◌≡◌, ℕ, ◌<◌, Bool, length, vec_len, IfOk};
+ghost use Rattle.plain_paths.specs.FlatCircuits.{IsFlat};
+ghost use Rattle.plain_paths.specs.Responses.{meaning_of};
+ghost use Rattle.vrt_model.specs.Lists.{bit_at};
+ghost use Rattle.vrt_model.specs.Signals.{AreSignals, response_by};
+ghost use Rattle.vrt_model.specs.State.{network_of};
+
+use crate::channels::channels;
+use crate::marks::reached;
+use crate::strengths::strengths;
+use std::alloc::Global;
+use vrt_model::{Circuit, NoMemory};
+
+/// What a net shows: both values reach it, neither does, or the one that does.
+#[derive(Clone, Copy, Debug, PartialEq, Eq)]
+pub enum Response {
+    Fight,
+    Float,
+    Bit(bool),
+}
+
+/// The signals of a circuit at one valuation, by the numbers of the nets: the strength of each net, from 0 to 8, and
+/// whether a clear path from a root of value 0, and of value 1, ends there.
+#[derive(Debug, Drop)]
+pub struct Signals {
+    pub strengths: Vec<u8>,
+    pub zeros: Vec<bool>,
+    pub ones: Vec<bool>,
+}
+
+impl Signals {
+    /// What a net shows.
+    pub fn response(&self, net: usize) -> Response
+        requires zeros { net < vec_len self.now.zeros }
+        requires ones { net < vec_len self.now.ones }
+        ensures { meaning_of result ≡ response_by (bit_at self.now.zeros.items net) (bit_at self.now.ones.items net) }
+    {
+        match (self.zeros[net], self.ones[net]) {
+            (true, true) => Response::Fight,
+            (true, false) => Response::Bit(false),
+            (false, true) => Response::Bit(true),
+            (false, false) => Response::Float,
+        }
+    }
+}
+
+/// The signals of the bare or the kept circuit at one valuation: at a reading, which has the bits of the gates and of
+/// the nets with given values, by net, and at the bits of the holds, by their places. A net or a hold past the end of
+/// its list has the bit 0. Nothing but want of memory refuses.
+pub fn signals_at(
+    alloc: Global,
+    circuit: &Circuit,
+    bare: bool,
+    reading: &[bool],
+    held: &[bool],
+) -> Result<Signals, NoMemory>
+    requires { IsFlat circuit.now }
+    ensures strengths { IfOk result (λ t. vec_len t.strengths ≡ length circuit.now.nets) }
+    ensures zeros { IfOk result (λ t. vec_len t.zeros ≡ length circuit.now.nets) }
+    ensures ones { IfOk result (λ t. vec_len t.ones ≡ length circuit.now.nets) }
+    ensures signals { IfOk result (λ t. (driven : ℕ → Bool) → AreSignals (network_of circuit.now bare (bit_at held.now) (record { reading = bit_at reading.now; driven = driven })) t.strengths.items t.zeros.items t.ones.items) }
+{
+    let passing = channels(alloc, circuit, bare, reading)?;
+    let passing = passing.as_slice();
+    let levels = strengths(alloc, circuit, passing)?;
+    let level_at = levels.as_slice();
+    let zeros = reached(alloc, circuit, passing, reading, held, level_at, false)?;
+    let ones = reached(alloc, circuit, passing, reading, held, level_at, true)?;
+    Ok(Signals {
+        strengths: levels,
+        zeros,
+        ones,
+    })
+}
