@@ -1,6 +1,6 @@
 -- The findings of a cell without instances and holds whose gates are nets with given values, by the responses of its nets.
-use Rattle.std.proofs.Common.{◌≡◌, ℕ, ◌<◌, ◌⊎◌, Bool, true, false, List, [], ◌∷◌, Option, Some, None, length, ap, subst, sym, refl, ◌∙◌, inl, inr}
-use Rattle.std.specs.Prelude.{◌↔◌, ◌≢◌}
+use Rattle.std.proofs.Common.{◌≡◌, ℕ, ◌<◌, Bool, true, false, List, Option, Some, length, ap, subst, sym, refl, ◌∙◌, inl, inr}
+use Rattle.std.specs.Prelude.{◌↔◌}
 use Rattle.std.proofs.lemmas.Option.{same_Some}
 use Rattle.vrt_model.proofs.Assignments.{one_signal, the_assignment, the_assignment_is}
 use Rattle.vrt_model.proofs.FirstFinding.{IsCovered, IsOpen, first_in_phase, found}
@@ -10,15 +10,15 @@ use Rattle.vrt_model.specs.Assignment.{Assignment}
 use Rattle.vrt_model.specs.CellRules.{is_observed_port}
 use Rattle.vrt_model.specs.Comparison.{CellPort, Comparison, cell_at, is_observed, output_signal, phase_at, ports_of}
 use Rattle.vrt_model.specs.Constraints.{Meets}
-use Rattle.vrt_model.specs.Equal.{Agree, IsPhaseEqual}
+use Rattle.vrt_model.specs.Equal.{IsPhaseEqual}
 use Rattle.vrt_model.specs.Faults.{Assigns, Solves, Stands, surroundings_of}
 use Rattle.vrt_model.specs.Held.{setting_of}
 use Rattle.vrt_model.specs.Known.{IsPlain}
-use Rattle.vrt_model.specs.Lists.{At, Among}
+use Rattle.vrt_model.specs.Lists.{At}
 use Rattle.vrt_model.specs.Path.{Network}
-use Rattle.vrt_model.specs.Places.{Finding, IsFinding, IsFirstInPhase, IsOrder, comes_before, standing}
-use Rattle.vrt_model.specs.Response.{Fight, Float, IsResponse, Response, Shows}
-use Rattle.vrt_model.specs.State.{IsState, Setting, State, network_of}
+use Rattle.vrt_model.specs.Places.{IsFinding, IsFirstInPhase, IsOrder, comes_before, standing}
+use Rattle.vrt_model.specs.Response.{Fight, Float, IsResponse, Shows}
+use Rattle.vrt_model.specs.State.{IsState, State, network_of}
 use Rattle.vrt_model.specs.Variables.{is_less}
 use Rattle.vrt_model.specs.declared.verdict.FaultKind.{FaultKind}
 use Rattle.vrt_model.specs.declared.verdict.FaultKind.TheVariants.{Fight as FightFault, FightKept, Float as FloatFault, Unsettled, Constraint, Differs, Next, Apart, Enter}
@@ -98,7 +98,7 @@ module _ (k : Comparison) (phase : ℕ) (in_range : phase < length k.rules.phase
   )
 
   -- the model gives the bit in each assignment
-  model_bit_is : (bits : List Bool) (g : Assignment) → Assigns k phase (setting_of k phase bits) g → (signal : ℕ) → signal < length k.model.signals → g.signal signal ≡ model_bit bits signal
+  pub model_bit_is : (bits : List Bool) (g : Assignment) → Assigns k phase (setting_of k phase bits) g → (signal : ℕ) → signal < length k.model.signals → g.signal signal ≡ model_bit bits signal
   unfolding model_bit assigned
   model_bit_is bits g assigns signal lt =
       one_signal k.model (surroundings_of k phase (setting_of k phase bits)) (cell.logic (setting_of k phase bits)) g (assigned bits).0 assigns (assigned bits).1 signal lt

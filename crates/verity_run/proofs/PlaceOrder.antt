@@ -1,7 +1,7 @@
 -- The plain nets in the order of places.
-use Rattle.std.proofs.Common.{◌≡◌, ℕ, zero, suc, ◌+◌, ◌<◌, ◌≤◌, ◌⊎◌, Bool, true, false, cond, eqb, List, [], ◌∷◌, ◌++◌, length, take, map, get_or, slice_index, Some, arith, ap, subst, sym, refl, ◌∙◌, inl, inr}
+use Rattle.std.proofs.Common.{◌≡◌, ℕ, zero, suc, ◌+◌, ◌<◌, Bool, true, false, cond, List, [], ◌∷◌, ◌++◌, length, take, map, get_or, slice_index, Some, arith, ap, subst, sym, ◌∙◌, inl, inr}
 use Rattle.std.specs.Prelude.{filter, flat_map, Contains, option_map}
-use Rattle.std.specs.List.{IsDistinct, enumerate_from, list_any, AllByRecursion}
+use Rattle.std.specs.List.{IsDistinct, enumerate_from, AllByRecursion}
 use Rattle.std.specs.List.Sorted.{IsPermutation, IsSorted}
 use Rattle.std.proofs.lemmas.Bool.{cases_eq, eq-eqb, ne_eqb}
 use Rattle.std.proofs.lemmas.Grind.{flat_map-append}
@@ -16,7 +16,7 @@ use Rattle.vrt_model.specs.Lists.{At, Among}
 use Rattle.vrt_model.specs.declared.circuit.Circuit.{Circuit}
 use Rattle.verity_run.proofs.Labels.{plain_from, plain_test}
 use Rattle.verity_run.specs.Parts.{is_plain_at}
-use Rattle.verity_run.specs.PlaceLists.{AreOrderedNets, pair_cmp, place_list, places_at, plain_pairs_of, same_net}
+use Rattle.verity_run.specs.PlaceLists.{AreOrderedNets, pair_cmp, places_at, plain_pairs_of, same_net}
 use Rattle.verity_run.specs.declared.places.Place.{Place}
 
 -- ---- a list with its places

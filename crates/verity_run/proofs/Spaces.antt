@@ -1,5 +1,5 @@
 -- Words with spaces between them.
-use Rattle.std.proofs.Common.{◌≡◌, ◌∷◌, ◌++◌, [], ℕ, List, refl, ap, sym, ◌∙◌, append-nil, ◌≤◌, length, drop}
+use Rattle.std.proofs.Common.{◌≡◌, ◌∷◌, ◌++◌, [], ℕ, List, ap, sym, ◌∙◌, append-nil, ◌≤◌, length, drop}
 use Rattle.std.proofs.lemmas.List.{drop_all}
 use Rattle.vrt_model.specs.VerdictText.{spaced}
 

@@ -1,9 +1,8 @@
 -- The table of what is not built yet, where nothing but the pairing is left to test.
-use Rattle.std.proofs.Common.{◌≡◌, ◌∷◌, [], ℕ, List, Option, Some, None, option_map, refl, ap, ◌∙◌, subst, sym}
-use Rattle.std.specs.Prelude.{Result, Ok, Err, IfOk, MatchOption}
+use Rattle.std.proofs.Common.{◌≡◌, ◌∷◌, [], ℕ, Option, Some, None, option_map, refl, ap, ◌∙◌, sym}
+use Rattle.std.specs.Prelude.{Result, Ok}
 use Rattle.text_lines.specs.Faults.{first_of}
-use Rattle.verity_run.specs.Reports.{unbuilt_in, pair_unbuilt, pairing_unbuilt, netlist_unbuilt, misfit_of, IsChecked, IsRefused, unbuilt_text}
-use Rattle.verity_run.specs.declared.status.Status.{Status}
+use Rattle.verity_run.specs.Reports.{unbuilt_in, pair_unbuilt, pairing_unbuilt, netlist_unbuilt, misfit_of}
 use Rattle.verity_run.specs.declared.unbuilt.Unbuilt.{Unbuilt}
 use Rattle.verity_run.specs.declared.unbuilt.Unbuilt.TheVariants.{Netlist, Model, Rules}
 use Rattle.vrt_model.specs.Comparison.{cell_at}

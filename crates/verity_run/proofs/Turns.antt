@@ -1,6 +1,6 @@
 -- One line more of a form.
-use Rattle.std.proofs.Common.{◌≡◌, ℕ, suc, ◌∷◌, List, Bool, true, false, cond, sym, ap, ap₂, ◌∙◌, refl, arith}
-use Rattle.std.specs.Prelude.{Result, Ok, Err}
+use Rattle.std.proofs.Common.{◌≡◌, ℕ, suc, ◌∷◌, List, true, false, cond, sym, ap, ap₂, ◌∙◌}
+use Rattle.std.specs.Prelude.{Ok, Err}
 use Rattle.text_lines.specs.Names.{is_empty}
 use Rattle.verity_run.specs.BlifForm.{rows_form, is_last, fits_cover, with_row}
 use Rattle.vrt_model.specs.declared.blif.CoverLine.{CoverLine}

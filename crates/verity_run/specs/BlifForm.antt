@@ -1,5 +1,5 @@
 -- The form of model that is read: one model with one output, given by one cover over its inputs.
-use Rattle.std.specs.Prelude.{ℕ, zero, suc, List, [], ◌∷◌, ◌++◌, Bool, true, false, not, ◌&&◌, ◌||◌, ◌==◌, nat_lt, nat_eq, drop, length, codes, map, if◌then◌else◌, Result, Ok, Err, Option, Some, None, bytes_eq, replicate}
+use Rattle.std.specs.Prelude.{ℕ, suc, List, [], ◌∷◌, ◌++◌, Bool, true, false, not, ◌&&◌, ◌||◌, ◌==◌, nat_lt, drop, length, codes, if◌then◌else◌, Result, Ok, Err, bytes_eq, replicate}
 use Rattle.std.specs.List.{list_all}
 use Rattle.text_lines.specs.Bytes.{is_word}
 use Rattle.text_lines.specs.Names.{is_among, is_empty, word_at, but_last, last_word}

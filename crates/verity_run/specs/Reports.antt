@@ -1,5 +1,5 @@
 -- What is answered and written for three files that were read.
-use Rattle.std.specs.Prelude.{◌≡◌, ◌≢◌, ℕ, List, [], ◌∷◌, ◌++◌, ◌⊎◌, Bool, true, false, not, ◌&&◌, ◌||◌, nat_lt, length, find, Option, Some, None, option_map, slice_get, MatchOption, bytes_eq, codes, is_some, Result, Ok, Err}
+use Rattle.std.specs.Prelude.{◌≡◌, ◌≢◌, ℕ, List, [], ◌∷◌, ◌++◌, ◌⊎◌, Bool, not, ◌&&◌, ◌||◌, nat_lt, length, find, Option, Some, None, option_map, slice_get, MatchOption, bytes_eq, codes, is_some, Result, Ok, Err}
 use Rattle.std.specs.List.{list_all}
 use Rattle.spice_reader.specs.Cards.{cards_of}
 use Rattle.spice_reader.specs.Netlist.{design_of}
@@ -7,7 +7,7 @@ use Rattle.spice_reader.specs.Refused.{IsFaultOf, IsNetlist}
 use Rattle.spice_reader.specs.declared.faults.SpiceFault.{SpiceFault}
 use Rattle.text_lines.specs.Bytes.{is_word}
 use Rattle.text_lines.specs.Faults.{first_of, when}
-use Rattle.text_lines.specs.Names.{is_among, is_empty}
+use Rattle.text_lines.specs.Names.{is_among}
 use Rattle.verity_run.specs.BlifForm.{blif_form}
 use Rattle.verity_run.specs.CellCircuits.{supply_value}
 use Rattle.verity_run.specs.Forms.{words_by_line}
@@ -19,7 +19,10 @@ use Rattle.verity_run.specs.declared.unbuilt.Unbuilt.TheVariants.{Netlist, Model
 use Rattle.verity_run.specs.declared.status.Status.{Status}
 use Rattle.verity_run.specs.declared.status.Status.TheVariants.{AllEqual, SomeFault, Usage, InputRefused, Undecided, ReadFault, WriteFault, NoMemory}
 use Rattle.vrt_model.specs.Comparison.{cell_at}
+use Rattle.vrt_model.specs.Inputs.{IsDesign}
 use Rattle.vrt_model.specs.VerdictText.{verdict_line}
+use Rattle.vrt_model.specs.Verdicts.{IsVerdict, report}
+use Rattle.vrt_model.specs.declared.blif.Blif.{Blif}
 use Rattle.vrt_model.specs.declared.blif.BlifModel.{BlifModel}
 use Rattle.vrt_model.specs.declared.design.Cell.{Cell}
 use Rattle.vrt_model.specs.declared.design.Design.{Design}
@@ -50,6 +53,12 @@ cells_unbuilt (cell ∷ second ∷ cells) = Some second.line
 
 abbrev pub netlist_unbuilt : Design → Option ℕ
 netlist_unbuilt design = cells_unbuilt design.cells
+
+-- the one cell of a design that was read, where nothing of it is not built
+pub record IsSole (design : Design) (cell : Cell) : Type 0 where
+  pub read : IsDesign design
+  pub cells : design.cells ≡ cell ∷ []
+  pub built : cell_unbuilt cell ≡ None
 
 -- a port is a supply, an input or the output
 abbrev pub is_paired_port : BlifModel → List ℕ → Bool
@@ -117,9 +126,9 @@ pub record IsEnded (status : Status) : Type 0 where
   pub read : status ≢ ReadFault
   pub understood : status ≢ Usage
 
--- the causes that come so far
+-- the causes that come here
 abbrev pub IsPlainWhy : Why → Type 0
-IsPlainWhy NoModel = Unit {0}
+IsPlainWhy NoModel = ⊥
 IsPlainWhy (TooLarge count) = Unit {0}
 IsPlainWhy (Ports name) = ⊥
 IsPlainWhy (Cycle phase nets) = ⊥
@@ -131,7 +140,7 @@ IsPlainWhy (OutputIsInput signal) = ⊥
 IsPlainWhy (TooManyVars count) = ⊥
 IsPlainWhy (NoClock latch) = ⊥
 
--- the verdicts that come so far
+-- the verdicts that come here
 abbrev pub IsDecided : Verdict → Type 0
 IsDecided Equal = Unit {0}
 IsDecided (Fault fault) = Unit {0}
@@ -144,9 +153,24 @@ IsDecided (Budget nodes phase) = ⊥
 abbrev pub report_line : Cell → Verdict → List ℕ
 report_line cell verdict = verdict_line cell.name verdict rules_read None None ++ 10 ∷ []
 
--- a verdict on the cell and its line
-abbrev pub IsChecked : Cell → Status → List ℕ → Type 0
-IsChecked cell status text = (verdict : Verdict) × IsDecided verdict × (status ≡ status_of verdict) × (text ≡ report_line cell verdict)
+-- a model that its file gives
+abbrev pub IsFormed : BlifModel → Type 0
+IsFormed model = (lines : List (List (List ℕ))) × (blif_form lines ≡ Ok model)
+
+-- the file of one model
+abbrev pub blif_with : BlifModel → Blif
+blif_with model = record { models = model ∷ [] }
+
+-- the verdict of the definitions on the one cell against the one model, whatever the budget of nodes, and the report of it
+abbrev pub IsChecked : Design → BlifModel → Status → List ℕ → Type 0
+IsChecked design model status text =
+    (verdict : Verdict) × ((budget : ℕ) → IsVerdict design (blif_with model) rules_read budget 0 verdict) × (status ≡ status_of verdict)
+    × (text ≡ report design (blif_with model) rules_read (record { cell = 0; verdict = verdict } ∷ []))
+
+-- the same, against the model that was read
+abbrev pub IsCheckedAs : Design → Result BlifModel ℕ → Status → List ℕ → Type 0
+IsCheckedAs design (Ok model) status text = IsChecked design model status text
+IsCheckedAs design (Err line) status text = ⊥
 
 -- a refusal and its line
 abbrev pub IsRefused : List ℕ → Status → List ℕ → Type 0
@@ -156,7 +180,7 @@ IsRefused line status text = (status ≡ InputRefused) × (text ≡ line)
 abbrev pub IsReportOf : List ℕ → List ℕ → List ℕ → Design → List ℕ → List ℕ → Status → List ℕ → Type 0
 IsReportOf spice blif rules design b c status text =
     MatchOption (unbuilt_in design (blif_form (words_by_line b)) (rules_misfit (words_by_line c)))
-    (IsChecked (cell_at design 0) status text)
+    (IsCheckedAs design (blif_form (words_by_line b)) status text)
     (λ unbuilt. IsRefused (unbuilt_text spice blif rules unbuilt) status text)
 
 -- for a netlist: its first fault, else the report of its design

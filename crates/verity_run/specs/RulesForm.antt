@@ -2,12 +2,8 @@
 use Rattle.std.specs.Prelude.{ℕ, List, [], ◌∷◌, Bool, true, false, not, ◌&&◌, Option, Some, None, codes, if◌then◌else◌, bytes_eq, nat_lt, length, ◌==◌}
 use Rattle.text_lines.specs.Names.{word_at}
 use Rattle.verity_run.specs.Forms.{line_at}
-use Rattle.vrt_model.specs.declared.design.Kind.{Kind}
 use Rattle.vrt_model.specs.declared.design.Kind.TheVariants.{N, P}
-use Rattle.vrt_model.specs.declared.rules.DeviceRule.{DeviceRule}
-use Rattle.vrt_model.specs.declared.rules.Phase.{Phase}
 use Rattle.vrt_model.specs.declared.rules.Rules.{Rules}
-use Rattle.vrt_model.specs.declared.rules.SupplyRule.{SupplyRule}
 
 -- a line of these three words
 abbrev pub is_line : List ℕ → List ℕ → List ℕ → List (List ℕ) → Bool

@@ -4,7 +4,7 @@ use Rattle.std.specs.declared.option.Option.{Option}
 use Rattle.std.specs.Io.KnownBytes.{Appends, Keeps}
 use Rattle.vrt_io.specs.Causes.{Rose}
 use Rattle.verity_run.specs.declared.status.Status.{Status}
-use Rattle.verity_run.specs.declared.status.Status.TheVariants.{AllEqual, SomeFault, Usage, InputRefused, Undecided, ReadFault, WriteFault, NoMemory}
+use Rattle.verity_run.specs.declared.status.Status.TheVariants.{Usage, ReadFault, WriteFault, NoMemory}
 use Rattle.verity_run.specs.Reports.{IsReport}
 use Rattle.verity_run.specs.Words.{are_good}
 use Rattle.verity_run.specs.Messages.{usage_line, read_failed_line}

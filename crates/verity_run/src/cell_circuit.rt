@@ -1,8 +1,10 @@
 //! The flat circuit of a cell without instances.
 
-ghost use Rattle.std.specs.Prelude.{◌≡◌, ◌<◌, ◌≤◌, ◌+◌, ⊤, ℕ, All, Bool, List, length, vec_len, IfOk, OnOk};
-ghost use Rattle.verity_run.specs.CellCircuits.{ArePins, supply_value, IsDeviceWithin, IsFlattened};
-ghost use Rattle.verity_run.specs.FlatCircuits.{IsFlat};
+ghost use Rattle.std.specs.Prelude.{◌≡◌, ◌≤◌, [], true, nat_lt, length, map, filter, IfOk, OnOk};
+ghost use Rattle.std.specs.List.{list_all};
+ghost use Rattle.text_lines.specs.Names.{is_among, with_names};
+ghost use Rattle.verity_run.specs.CellCircuits.{supply_value, IsFlattened, supply_names, with_net, with_nets, with_named, card_nets, nets_named, globals_named, net_names, number_in, net_by, device_by, circuit_by, kind_of_port, kind_by_model};
+ghost use Rattle.verity_run.specs.Reports.{IsSole, is_paired_signal};
 
 use crate::form_lines::{append, has_name};
 use std::alloc::Global;
@@ -27,181 +29,231 @@ pub fn supply(name: &[u8]) -> Option<bool>
     }
 }
 
-/// The nets of a transistor, by number.
-#[derive(Clone, Copy, Debug, PartialEq, Eq)]
-pub struct Pins {
-    pub gate: usize,
-    pub left: usize,
-    pub right: usize,
+/// The names of the two supplies, which are nets 0 and 1.
+fn supplies(alloc: Global) -> Result<Names, NoMemory>
+    ensures { IfOk result (λ names. names ≡ supply_names) }
+{
+    let mut names = Names::new(alloc);
+    names.number(b"gnd")?;
+    names.number(b"vdd")?;
+    Ok(names)
 }
 
-/// The number of a net: the supplies are 0 and 1, and the names follow in the order in which they were first seen.
-fn net_number(names: &mut Names, name: &[u8]) -> Result<usize, NoMemory>
-    ensures grows { OnOk result (length names.old ≤ length names.new) }
-    ensures within { IfOk result (λ n. n < length names.new + 2) }
+/// Adds the name of a net, the last, unless it is there or is a supply.
+fn add_net(names: &mut Names, name: &[u8]) -> Result<(), NoMemory>
+    ensures { OnOk result (names.new ≡ with_net names.old name.now) }
+{
+    if supply(name).is_none() {
+        names.number(name)?;
+    }
+    Ok(())
+}
+
+/// Adds the ports that are no supplies.
+fn add_ports(names: &mut Names, ports: &[Text]) -> Result<(), NoMemory>
+    ensures { OnOk result (names.new ≡ with_nets names.old ports.now) }
+{
+    for port in ports {
+        add_net(names, port.as_bytes())?;
+    }
+    Ok(())
+}
+
+/// Adds the nets that a card names: drain, gate, source.
+fn add_card(names: &mut Names, card: &DeviceCard) -> Result<(), NoMemory>
+    ensures { OnOk result (names.new ≡ with_nets names.old (card_nets card.now)) }
+{
+    add_net(names, card.drain.as_bytes())?;
+    add_net(names, card.gate.as_bytes())?;
+    add_net(names, card.source.as_bytes())
+}
+
+/// Adds the nets that cards name.
+fn add_cards(names: &mut Names, cards: &[DeviceCard]) -> Result<(), NoMemory>
+    ensures { OnOk result (names.new ≡ with_nets names.old (nets_named cards.now)) }
+{
+    for card in cards {
+        add_card(names, card)?;
+    }
+    Ok(())
+}
+
+/// The names that a card has.
+fn name_card(names: &mut Names, card: &DeviceCard) -> Result<(), NoMemory>
+    ensures { OnOk result (names.new ≡ with_names names.old (card_nets card.now)) }
+{
+    names.number(card.drain.as_bytes())?;
+    names.number(card.gate.as_bytes())?;
+    names.number(card.source.as_bytes())?;
+    Ok(())
+}
+
+/// The names that cards have.
+fn names_of(alloc: Global, cards: &[DeviceCard]) -> Result<Names, NoMemory>
+    ensures { IfOk result (λ names. names ≡ with_names [] (nets_named cards.now)) }
+{
+    let mut names = Names::new(alloc);
+    for card in cards {
+        name_card(&mut names, card)?;
+    }
+    Ok(names)
+}
+
+/// Adds the name of a net, the last, if it is among others and is neither there nor a supply.
+fn add_named(names: &mut Names, named: &Names, name: &[u8]) -> Result<(), NoMemory>
+    ensures { OnOk result (names.new ≡ with_named named.now names.old name.now) }
+{
+    if named.contains(name) {
+        add_net(names, name)?;
+    }
+    Ok(())
+}
+
+/// Adds those of some nets that are among others.
+fn add_all_named(names: &mut Names, named: &Names, globals: &[Text]) -> Result<(), NoMemory>
+    ensures { OnOk result (names.new ≡ with_nets names.old (filter (is_among named.now) globals.now)) }
+{
+    for name in globals {
+        add_named(names, named, name.as_bytes())?;
+    }
+    Ok(())
+}
+
+/// Adds the global nets that a card names.
+fn add_globals(
+    alloc: Global,
+    names: &mut Names,
+    globals: &[Text],
+    cards: &[DeviceCard],
+) -> Result<(), NoMemory>
+    ensures { OnOk result (names.new ≡ with_nets names.old (globals_named cards.now globals.now)) }
+{
+    let named = names_of(alloc, cards)?;
+    add_all_named(names, &named, globals)?;
+    Ok(())
+}
+
+/// The names of the nets of a cell: the two supplies, the other ports, the global nets that a card names, and its own
+/// nets in the order of first mention.
+fn names_in(alloc: Global, design: &Design, cell: &Cell) -> Result<Names, NoMemory>
+    ensures { IfOk result (λ names. names ≡ net_names design.now cell.now) }
+{
+    let cards = cell.devices.as_slice();
+    let mut names = supplies(alloc)?;
+    add_ports(&mut names, cell.ports.as_slice())?;
+    add_globals(alloc, &mut names, design.globals.as_slice(), cards)?;
+    add_cards(&mut names, cards)?;
+    Ok(names)
+}
+
+/// The number of a net by its name.
+fn net_number(names: &Names, name: &[u8]) -> usize
+    ensures { result ≡ number_in names.now name.now }
 {
     match supply(name) {
-        Some(false) => Ok(0),
-        Some(true) => Ok(1),
-        None => {
-            let place = names.number(name)?;
-            Ok(place.saturating_add(2))
-        }
+        Some(false) => 0,
+        Some(true) => 1,
+        None => names.place(name).unwrap_or(0),
     }
 }
 
-/// The nets of a transistor, those first seen numbered in the order drain, gate, source.
-fn terminals(names: &mut Names, card: &DeviceCard) -> Result<Pins, NoMemory>
-    ensures grows { OnOk result (length names.old ≤ length names.new) }
-    ensures within { IfOk result (λ pins. ArePins (length names.new + 2) pins) }
+/// A net by its name.
+fn net(names: &Names, name: &[u8]) -> Net
+    requires few { length names.now ≤ 20000 }
+    ensures { result.0 ≡ number_in names.now name.now }
 {
-    let left = net_number(names, card.drain.as_bytes())?;
-    let gate = net_number(names, card.gate.as_bytes())?;
-    let right = net_number(names, card.source.as_bytes())?;
-    Ok(Pins { gate, left, right })
+    Net(net_number(names, name) as u32)
 }
 
-/// The nets of the transistors of a cell.
-fn all_pins(alloc: Global, names: &mut Names, cards: &[DeviceCard]) -> Result<Vec<Pins>, NoMemory>
-    ensures { IfOk result (λ found. (vec_len found ≡ length cards.now) × All (ArePins (length names.new + 2)) found.items) }
+/// The kind of the transistors of a model.
+fn device_kind(model: &[u8]) -> Kind
+    ensures { result ≡ kind_by_model model.now }
 {
-    let mut found = Vec::new(alloc);
-    for card in cards {
-        let one = terminals(names, card)?;
-        if found.push(one).is_err() {
-            return Err(NoMemory);
-        }
-    }
-    Ok(found)
-}
-
-/// The transistor of a card.
-fn device(alloc: Global, card: &DeviceCard, pins: Pins, count: usize) -> Result<Device, NoMemory>
-    requires pins { ArePins count pins }
-    requires count { count ≤ 20000 }
-    ensures { IfOk result (IsDeviceWithin count) }
-{
-    let kind = if card.model.as_bytes() == b"n".as_slice() {
+    if model == b"n".as_slice() {
         Kind::N
     } else {
         Kind::P
-    };
+    }
+}
+
+/// The transistor of a card.
+fn device(alloc: Global, names: &Names, card: &DeviceCard) -> Result<Device, NoMemory>
+    requires few { length names.now ≤ 20000 }
+    ensures { IfOk result (λ d. d ≡ device_by names.now card.now) }
+{
     Ok(Device {
         name: Text::from_bytes(alloc, card.name.as_bytes())?,
-        kind,
-        gate: Net(pins.gate as u32),
-        left: Net(pins.left as u32),
-        right: Net(pins.right as u32),
+        kind: device_kind(card.model.as_bytes()),
+        gate: net(names, card.gate.as_bytes()),
+        left: net(names, card.drain.as_bytes()),
+        right: net(names, card.source.as_bytes()),
         level: DEVICE_LEVEL,
         keeper: false,
     })
 }
 
-/// The transistors of a cell, by their cards and nets.
-fn devices(
-    alloc: Global,
-    cards: &[DeviceCard],
-    pins: &[Pins],
-    count: usize,
-) -> Result<Seq<Device>, NoMemory>
-    requires pins { All (ArePins count) pins.now }
-    requires count { count ≤ 20000 }
-    ensures { IfOk result (All (IsDeviceWithin count)) }
+/// The transistors of a cell.
+fn devices(alloc: Global, names: &Names, cards: &[DeviceCard]) -> Result<Seq<Device>, NoMemory>
+    requires few { length names.now ≤ 20000 }
+    ensures { IfOk result (λ found. found ≡ map (device_by names.now) cards.now) }
 {
     let mut found = Seq::new(alloc);
-    for (card, pins) in cards.iter().zip(pins) {
-        let one = device(alloc, card, *pins, count)?;
+    for card in cards {
+        let one = device(alloc, names, card)?;
         append(&mut found, one)?;
     }
     Ok(found)
 }
 
-/// Adds a net of a kind.
-fn add_net(
-    alloc: Global,
-    nets: &mut Seq<FlatNet>,
-    name: &[u8],
-    kind: NetKind,
-) -> Result<(), NoMemory>
-    ensures { OnOk result (length nets.new ≡ length nets.old + 1) }
+/// The kind of a net: a supply, an input where its name is among these, else plain.
+fn net_kind(name: &[u8], inputs: &[Text]) -> NetKind
+    ensures { result ≡ kind_of_port inputs.now name.now }
 {
-    let name = Text::from_bytes(alloc, name)?;
-    match nets.push(FlatNet { name, kind }) {
-        Ok(()) => Ok(()),
-        Err(_) => Err(NoMemory),
-    }
-}
-
-/// The two supplies and the named nets; those among the inputs have given values.
-fn nets(alloc: Global, names: &[Text], inputs: &[Text]) -> Result<Seq<FlatNet>, NoMemory>
-    ensures { IfOk result (λ nets. length nets ≡ length names.now + 2) }
-{
-    let mut nets = Seq::new(alloc);
-    add_net(alloc, &mut nets, b"gnd", NetKind::Supply(false))?;
-    add_net(alloc, &mut nets, b"vdd", NetKind::Supply(true))?;
-    for name in names {
-        let kind = if has_name(inputs, name.as_bytes()) {
+    match supply(name) {
+        Some(value) => NetKind::Supply(value),
+        None => if has_name(inputs, name) {
             NetKind::Input
         } else {
             NetKind::Plain
-        };
-        add_net(alloc, &mut nets, name.as_bytes(), kind)?;
+        },
+    }
+}
+
+/// A net of the circuit.
+fn flat_net(alloc: Global, name: &[u8], inputs: &[Text]) -> Result<FlatNet, NoMemory>
+    ensures { IfOk result (λ net. net ≡ net_by inputs.now name.now) }
+{
+    Ok(FlatNet {
+        name: Text::from_bytes(alloc, name)?,
+        kind: net_kind(name, inputs),
+    })
+}
+
+/// The nets of these names; those among the inputs have given values.
+fn nets(alloc: Global, names: &[Text], inputs: &[Text]) -> Result<Seq<FlatNet>, NoMemory>
+    ensures { IfOk result (λ nets. nets ≡ map (net_by inputs.now) names.now) }
+{
+    let mut nets = Seq::new(alloc);
+    for name in names {
+        let net = flat_net(alloc, name.as_bytes(), inputs)?;
+        append(&mut nets, net)?;
     }
     Ok(nets)
 }
 
-/// Numbers the ports that are no supplies.
-fn add_ports(names: &mut Names, ports: &[Text]) -> Result<(), NoMemory>
-    ensures { IfOk result (λ _. ⊤) }
-{
-    for port in ports {
-        net_number(names, port.as_bytes())?;
-    }
-    Ok(())
-}
-
-/// Whether a card of the cell names a net.
-fn mentions(cell: &Cell, name: &[u8]) -> bool {
-    cell.devices.as_slice().iter().any(|card| {
-        card.drain.as_bytes() == name
-            || card.gate.as_bytes() == name
-            || card.source.as_bytes() == name
-    })
-}
-
-/// Numbers the global nets that a card of the cell names.
-fn add_globals(names: &mut Names, globals: &[Text], cell: &Cell) -> Result<(), NoMemory>
-    ensures { IfOk result (λ _. ⊤) }
-{
-    for name in globals {
-        if mentions(cell, name.as_bytes()) {
-            net_number(names, name.as_bytes())?;
-        }
-    }
-    Ok(())
-}
-
-/// A flat circuit, or a count of nets or devices that passes its limit.
-#[derive(Debug, Drop)]
-pub enum Flattened {
-    Circuit(Circuit),
-    TooLarge { count: u64 },
-}
-
-/// The flat circuit of the devices and nets of a cell.
+/// The circuit of these nets and cards.
 fn assemble(
     alloc: Global,
-    cell: &Cell,
-    names: &[Text],
+    names: &Names,
     inputs: &[Text],
-    pins: &[Pins],
+    cards: &[DeviceCard],
 ) -> Result<Circuit, NoMemory>
-    requires pins { All (ArePins (length names.now + 2)) pins.now }
-    requires count { length names.now + 2 ≤ 20000 }
-    ensures { IfOk result IsFlat }
+    requires few { length names.now ≤ 20000 }
+    ensures { IfOk result (λ circuit. circuit ≡ circuit_by names.now inputs.now cards.now) }
 {
-    let nets = nets(alloc, names, inputs)?;
-    let devices = devices(alloc, cell.devices.as_slice(), pins, names.len() + 2)?;
+    let texts = names.to_texts(alloc)?;
+    let nets = nets(alloc, texts.as_slice(), inputs)?;
+    let devices = devices(alloc, names, cards)?;
     Ok(Circuit {
         nets,
         devices,
@@ -211,31 +263,40 @@ fn assemble(
     })
 }
 
-/// The flat circuit of a cell without instances: the two supplies, the other ports, the global nets that the cell
-/// names, and its own nets in the order of first mention. At most 20,000 nets and 40,000 devices.
+/// A flat circuit, or a count of nets that passes its limit.
+#[derive(Debug, Drop)]
+pub enum Flattened {
+    Circuit(Circuit),
+    TooLarge { count: u64 },
+}
+
+/// Whether a count of nets passes its limit.
+fn is_too_large(count: usize) -> bool
+    ensures { result ≡ nat_lt 20000 count }
+{
+    count > 20_000
+}
+
+/// The flat circuit of the one cell of a design that was read: the two supplies, the other ports, the global nets that
+/// a card names, and its own nets in the order of first mention. At most 20,000 nets; a cell that was read has at most
+/// 40,000 devices.
 pub fn flatten(
     alloc: Global,
     design: &Design,
     cell: &Cell,
     inputs: &[Text],
 ) -> Result<Flattened, NoMemory>
-    ensures { IfOk result IsFlattened }
+    requires sole { IsSole design.now cell.now }
+    requires ports { list_all (is_paired_signal cell.now) inputs.now ≡ true }
+    ensures { IfOk result (IsFlattened design.now cell.now inputs.now) }
 {
-    let mut names = Names::new(alloc);
-    add_ports(&mut names, cell.ports.as_slice())?;
-    add_globals(&mut names, design.globals.as_slice(), cell)?;
-    let pins = all_pins(alloc, &mut names, cell.devices.as_slice())?;
-    let texts = names.to_texts(alloc)?;
-    if texts.len() > 19_998 {
+    let names = names_in(alloc, design, cell)?;
+    let count = names.len();
+    if is_too_large(count) {
         return Ok(Flattened::TooLarge {
-            count: (texts.len() as u64).saturating_add(2),
+            count: count as u64,
         });
     }
-    if pins.len() > 40_000 {
-        return Ok(Flattened::TooLarge {
-            count: pins.len() as u64,
-        });
-    }
-    let circuit = assemble(alloc, cell, texts.as_slice(), inputs, pins.as_slice())?;
+    let circuit = assemble(alloc, &names, inputs, cell.devices.as_slice())?;
     Ok(Flattened::Circuit(circuit))
 }

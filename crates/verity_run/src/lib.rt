@@ -8,7 +8,6 @@ mod messages;
 mod outcome;
 mod parts;
 mod places;
-mod plain_paths;
 mod reads;
 mod rules_form;
 mod search;
@@ -20,7 +19,6 @@ mod words;
 
 pub use parts::least_nets;
 pub use places::{Place, ordered_places};
-pub use plain_paths::{Response, Signals, is_flat, signals_at};
 pub use status::Status;
 pub use top::run;
 

@@ -1,8 +1,9 @@
 //! What three files that were read give.
 
-ghost use Rattle.std.specs.Prelude.{◌≡◌, ◌≢◌, ◌≤◌, length, vec_len, IfOk, MatchOption};
-ghost use Rattle.verity_run.specs.Reports.{IsReportOf, IsReportBy, IsChecked, IsEnded, IsRefused, status_of, pair_unbuilt, unbuilt_text};
+ghost use Rattle.std.specs.Prelude.{◌≡◌, ◌≢◌, ◌≤◌, None, length, vec_len, IfOk, MatchOption};
+ghost use Rattle.verity_run.specs.Reports.{IsReportOf, IsReportBy, IsChecked, IsEnded, IsFormed, IsRefused, IsSole, status_of, pair_unbuilt, unbuilt_text};
 ghost use Rattle.verity_run.specs.Messages.{spice_line};
+ghost use Rattle.vrt_model.specs.Inputs.{IsDesign};
 
 use crate::blif_form::read_model;
 use crate::form_lines::{Misfit, split_lines};
@@ -62,9 +63,12 @@ fn checked(
     cell: &Cell,
     model: &BlifModel,
 ) -> Result<Answer, NoMemory>
-    requires { length model.now.inputs ≤ 12 }
+    requires inputs { length model.now.inputs ≤ 12 }
+    requires sole { IsSole design.now cell.now }
+    requires pair { pair_unbuilt cell.now model.now ≡ None }
+    requires form { IsFormed model.now }
     ensures ended { IfOk result (λ a. IsEnded a.status) }
-    ensures answer { IfOk result (λ a. IsChecked cell.now a.status a.text) }
+    ensures answer { IfOk result (λ a. IsChecked design.now model.now a.status a.text) }
 {
     let verdict = check(alloc, design, cell, model)?;
     let text = verdict_line(alloc, cell, &verdict)?;
@@ -82,8 +86,10 @@ fn paired(
     cell: &Cell,
     model: &BlifModel,
 ) -> Result<Answer, NoMemory>
+    requires sole { IsSole design.now cell.now }
+    requires form { IsFormed model.now }
     ensures ended { IfOk result (λ a. IsEnded a.status) }
-    ensures answer { IfOk result (λ a. MatchOption (pair_unbuilt cell.now model.now) (IsChecked cell.now a.status a.text) (λ form. IsRefused (unbuilt_text words.now.spice.now words.now.blif.now words.now.rules.now form) a.status a.text)) }
+    ensures answer { IfOk result (λ a. MatchOption (pair_unbuilt cell.now model.now) (IsChecked design.now model.now a.status a.text) (λ form. IsRefused (unbuilt_text words.now.spice.now words.now.blif.now words.now.rules.now form) a.status a.text)) }
 {
     match pair_line(cell, model) {
         Some(form) => unbuilt(alloc, words, form),
@@ -99,6 +105,7 @@ fn report(
     blif: &[u8],
     rules: &[u8],
 ) -> Result<Answer, NoMemory>
+    requires read { IsDesign design.now }
     requires blif { length blif.now ≤ 16777216 }
     requires rules { length rules.now ≤ 16777216 }
     ensures ended { IfOk result (λ a. IsEnded a.status) }

@@ -2,7 +2,7 @@
 //! bare circuit joins the plain nets at its channel.
 
 ghost use Rattle.std.specs.Prelude.{◌≡◌, ℕ, ◌<◌, ◌≤◌, ◌⊎◌, true, false, length, slice_index, sum, vec_len, IfOk};
-ghost use Rattle.verity_run.specs.FlatCircuits.{IsFlat};
+ghost use Rattle.plain_paths.specs.FlatCircuits.{IsFlat};
 ghost use Rattle.verity_run.specs.Parts.{AreOfParts, HasInputGates, LabelsPass, NoneRises, is_plain_at, joins_plain_nets};
 ghost use Rattle.vrt_model.specs.Known.{IsLeastOfPart, IsPlain};
 ghost use Rattle.vrt_model.specs.Lists.{Among};

@@ -1,7 +1,7 @@
 //! The places at which a fault can stand in a cell of one output whose gates are all at inputs, in their order.
 
 ghost use Rattle.std.specs.Prelude.{◌≡◌, ℕ, ◌++◌, length, IfOk, OnOk};
-ghost use Rattle.verity_run.specs.FlatCircuits.{IsFlat};
+ghost use Rattle.plain_paths.specs.FlatCircuits.{IsFlat};
 ghost use Rattle.verity_run.specs.PlaceLists.{ArePlaces, AreOrderedNets, place_list, places_at, plain_pairs_of};
 
 use crate::parts::{is_plain, least_nets};
@@ -114,3 +114,6 @@ pub fn ordered_places(
     let nets = ordered_nets(alloc, circuit, labels)?;
     list_places(alloc, nets.as_slice(), output)
 }
+
+#[cfg(test)]
+mod tests;

@@ -172,14 +172,13 @@ fn add_large(alloc: Global, words: &mut Seq<Text>, count: u64) -> Result<(), NoM
     }
 }
 
-/// Adds the words of a cause. None of those that name a net, a signal or a phase comes yet.
+/// Adds the words of a cause. A count that is too large is the one that comes here.
 fn add_why(alloc: Global, words: &mut Seq<Text>, _rules: &Rules, why: &Why) -> Result<(), NoMemory>
     requires { IsPlainWhy why.now }
     ensures { OnOk result (words.new ≡ words.old ++ why_words _rules.now None None why.now) }
 {
     match why {
         Why::TooLarge { count } => add_large(alloc, words, *count),
-        Why::NoModel => add(alloc, words, b"nomodel"),
         _ => unreachable!(),
     }
 }

@@ -1,6 +1,7 @@
-use Rattle.std.proofs.Common.{◌≡◌, ◌+◌, length}
+use Rattle.std.proofs.Common.{◌≡◌, map, take}
+use Rattle.verity_run.specs.CellCircuits.{net_by}
 use Rattle.verity_run.proofs.cell_circuit.nets.Given as goal
 
--- the supplies and the names so far
+-- the nets so far
 abbrev pub invariant-loop-name : goal.invariant-loop-name
-invariant-loop-name l = length l.nets ≡ l.name-index + 2
+invariant-loop-name l = l.nets ≡ map (net_by l.inputs) (take l.name-index l.names)

@@ -1,4 +1,4 @@
-use Rattle.std.proofs.Common.{◌≡◌, ◌++◌, map, take, drop}
+use Rattle.std.proofs.Common.{◌≡◌, ◌++◌, map, drop}
 use Rattle.verity_run.specs.Messages.{joined}
 use Rattle.verity_run.proofs.messages.join.Given as goal
 

@@ -1,7 +1,7 @@
 use Rattle.std.proofs.Common.{◌≡◌, ℕ, length, arith, subst, sym, ◌∙◌, below_more, inl, inr}
 use Rattle.std.proofs.lemmas.Bool.{or_cases, or_parts}
 use Rattle.std.proofs.lemmas.Option.{same_Some, slice_get_within}
-use Rattle.verity_run.proofs.Items.{item_at}
+use Rattle.plain_paths.proofs.Items.{item_at}
 use Rattle.verity_run.specs.Parts.{LabelsPass}
 use Rattle.vrt_model.specs.Lists.{At}
 use Rattle.vrt_model.specs.declared.circuit.Device.{Device}

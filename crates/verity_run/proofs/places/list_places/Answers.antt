@@ -1,4 +1,3 @@
-use Rattle.std.proofs.Common.{sym}
 use Rattle.verity_run.proofs.PlaceOrder.{places_more}
 use Rattle.verity_run.proofs.places.list_places.Goals as goal
 

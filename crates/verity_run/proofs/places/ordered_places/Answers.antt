@@ -1,7 +1,7 @@
-use Rattle.std.proofs.Common.{◌≡◌, ℕ, List, length, slice_index, subst, sym, ◌∙◌, ap, arith}
+use Rattle.std.proofs.Common.{ℕ, List, slice_index, subst, sym, ◌∙◌, ap}
 use Rattle.std.proofs.lemmas.Result.{IfOk-weaker}
 use Rattle.verity_run.specs.Parts.{HasInputGates}
-use Rattle.verity_run.specs.PlaceLists.{AreOrderedNets, place_list}
+use Rattle.verity_run.specs.PlaceLists.{place_list}
 use Rattle.vrt_model.specs.Known.{IsLeastOfPart, IsPlain}
 use Rattle.vrt_model.specs.declared.rules.Phase.{Phase}
 use Rattle.verity_run.proofs.places.ordered_places.Goals as goal

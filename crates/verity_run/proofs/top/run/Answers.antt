@@ -1,6 +1,6 @@
-use Rattle.std.proofs.Common.{◌≡◌, ◌∷◌, [], ℕ, List, subst, sym, inl, inr, ap, ◌∙◌}
+use Rattle.std.proofs.Common.{ℕ, List, subst, inl, inr, ap, ◌∙◌}
 use Rattle.verity_run.specs.Messages.{read_failed_line}
-use Rattle.verity_run.specs.Runs.{IsFileWord, PutsAll, Wants, FailsToRead}
+use Rattle.verity_run.specs.Runs.{PutsAll}
 use Rattle.verity_run.specs.Words.{texts}
 use Rattle.verity_run.specs.declared.status.Status.TheVariants.{ReadFault}
 use Rattle.verity_run.proofs.Written.{report_is_wanted, failed_is_wanted}

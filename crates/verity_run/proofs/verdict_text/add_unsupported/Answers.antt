@@ -1,4 +1,4 @@
-use Rattle.std.proofs.Common.{◌≡◌, ◌∷◌, ◌++◌, [], ℕ, List, ap, ◌∙◌, subst, append_assoc, None}
+use Rattle.std.proofs.Common.{◌≡◌, ◌++◌, ℕ, List, ap, ◌∙◌, subst, append_assoc, None}
 use Rattle.std.specs.Prelude.{OnOk}
 use Rattle.vrt_model.specs.VerdictText.{why_words}
 use Rattle.verity_run.proofs.verdict_text.add_unsupported.Goals as goal

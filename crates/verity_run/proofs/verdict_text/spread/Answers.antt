@@ -1,4 +1,4 @@
-use Rattle.std.proofs.Common.{◌≡◌, ◌++◌, ap, sym, ◌∙◌, arith, drop}
+use Rattle.std.proofs.Common.{◌++◌, ap, sym, ◌∙◌, arith}
 use Rattle.vrt_model.specs.VerdictText.{spaced}
 use Rattle.verity_run.proofs.Spaces.{spaced_behind, spaced_to_end}
 use Rattle.verity_run.proofs.verdict_text.spread.Goals as goal
