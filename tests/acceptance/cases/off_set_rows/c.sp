@@ -1,0 +1,7 @@
+* the same nand against its off-set
+.subckt nand2 a b y
+m1 y a vdd vdd p
+m2 y b vdd vdd p
+m3 y a m gnd n
+m4 m b gnd gnd n
+.ends
