@@ -1,0 +1,9 @@
+pub mod KnownTables
+pub mod Labels
+pub mod Learned
+pub mod Listings
+pub mod OneSolution
+pub mod OpenNets
+pub mod Orders
+pub mod Ranks
+pub mod Reaches

@@ -1,0 +1,23 @@
+//! Nets that are known before anything is solved, channel-connected parts, and the law that a circuit whose nets have
+//! ranks has exactly one solution.
+#![tactic(auto)]
+
+mod cycle;
+mod fixed;
+mod known;
+mod learn;
+mod least;
+mod listing;
+mod opening;
+mod order;
+mod ranking;
+
+pub use cycle::first_cycle;
+pub use known::known_nets;
+pub use least::least_nets;
+pub use listing::in_order;
+pub use order::{Order, order_of};
+pub use ranking::ranks;
+
+#[cfg(test)]
+mod tests;
