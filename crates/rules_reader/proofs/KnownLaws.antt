@@ -1,0 +1,55 @@
+-- What one line more changes of what is known.
+use Rattle.std.proofs.Common.{◌≡◌, ◌++◌, ◌∷◌, ◌||◌, not, [], ℕ, List, Bool, true, false, Option, Some, None, refl, ap, ap₂, sym, ◌∙◌, append-nil}
+use Rattle.std.proofs.lemmas.Grind.{flat_map-append}
+use Rattle.text_lines.specs.Names.{distinct, is_empty, with_names}
+use Rattle.text_lines.proofs.NameLaws.{names_once, with_names-append}
+use Rattle.rules_reader.specs.Learned.{learned, learned_from}
+use Rattle.rules_reader.specs.Refused.{key_texts, known_by, phases_named}
+use Rattle.rules_reader.specs.Tables.{clocks_in, clocks_of, phase_names_in, phase_names_of, told, told_on}
+use Rattle.rules_reader.specs.declared.cards.Card.{Card}
+use Rattle.rules_reader.specs.declared.entry.Entry.{Entry}
+use Rattle.rules_reader.specs.declared.known.Known.{Known}
+
+told_more : {X : Type 0} (f : Entry → List X) (before : List Card) (card : Card) → told f (before ++ card ∷ []) ≡ told f before ++ told_on f card
+told_more f before card = flat_map-append (told_on f) before (card ∷ []) ∙ ap (λ xs. told f before ++ xs) (append-nil (told_on f card))
+
+pub distinct_more : (xs ys : List (List ℕ)) → distinct (xs ++ ys) ≡ with_names (distinct xs) ys
+distinct_more xs ys = sym (names_once (xs ++ ys)) ∙ with_names-append [] xs ys ∙ ap (λ ns. with_names ns ys) (names_once xs)
+
+empty_more : (xs ys : List (List ℕ)) → not (is_empty (xs ++ ys)) ≡ (not (is_empty xs) || not (is_empty ys))
+empty_more [] ys = refl
+empty_more (x ∷ xs) ys = refl
+
+abbrev by_card : Known → Card → Known
+by_card known card = record {
+  clocks = with_names known.clocks (told_on clocks_in card);
+  phases = with_names known.phases (told_on phase_names_in card);
+  keys = with_names known.keys (told_on key_texts card);
+  is_phase_named = known.is_phase_named || not (is_empty (told_on phases_named card));
+}
+
+or_no : (b : Bool) → (b || false) ≡ b
+or_no true = refl
+or_no false = refl
+
+pub same_known : {c d p q k l : List (List ℕ)} {b e : Bool} → c ≡ d → p ≡ q → k ≡ l → b ≡ e
+    → (let x : Known = record { clocks = c; phases = p; keys = k; is_phase_named = b } in x) ≡ (let x : Known = record { clocks = d; phases = q; keys = l; is_phase_named = e } in x)
+same_known {c} {d} {p} {q} {k} {l} {b} {e} h i j m =
+    ap₂ (λ c p. let x : Known = record { clocks = c; phases = p; keys = k; is_phase_named = b } in x) h i
+    ∙ ap₂ (λ k b. let x : Known = record { clocks = d; phases = q; keys = k; is_phase_named = b } in x) j m
+
+card_learned : (known : Known) (line : ℕ) (is_all_text : Bool) (entry : Option Entry)
+    → by_card known (record { line = line; is_all_text = is_all_text; entry = entry }) ≡ learned_from known entry
+card_learned known line is_all_text None = same_known refl refl refl (or_no known.is_phase_named)
+card_learned known line is_all_text (Some entry) = refl
+
+-- behind one line more
+pub known_more : (before : List Card) (card : Card) → known_by (before ++ card ∷ []) ≡ learned (known_by before) card
+unfolding known_by clocks_of phase_names_of
+known_more before card =
+    same_known
+    (ap distinct (told_more clocks_in before card) ∙ distinct_more (told clocks_in before) (told_on clocks_in card))
+    (ap distinct (told_more phase_names_in before card) ∙ distinct_more (told phase_names_in before) (told_on phase_names_in card))
+    (ap (with_names []) (told_more key_texts before card) ∙ with_names-append [] (told key_texts before) (told_on key_texts card))
+    (ap (λ ns. not (is_empty ns)) (told_more phases_named before card) ∙ empty_more (told phases_named before) (told_on phases_named card))
+    ∙ card_learned (known_by before) card.line card.is_all_text card.entry

@@ -1,0 +1,178 @@
+-- What lines without a fault say, by what all lines tell.
+use Rattle.std.proofs.Common.{◌≡◌, ◌++◌, ◌∷◌, ◌≤◌, ◌<◌, ◌+◌, ◌||◌, nat_le, nat_lt, not, [], ℕ, List, Bool, true, false, cond, length, length-append, Some, None, refl, ap, ap₂, sym, subst, ◌∙◌, append-nil, append_assoc, arith}
+use Rattle.std.specs.List.{list_any}
+use Rattle.std.proofs.lemmas.Bool.{leb-false, ltb-false}
+use Rattle.std.proofs.lemmas.Grind.{flat_map-append}
+use Rattle.text_lines.specs.Names.{distinct, is_among, is_empty, with_name, with_names}
+use Rattle.text_lines.proofs.FaultLaws.{CleanFrom}
+use Rattle.rules_reader.specs.Refused.{clocks_named, fault_of, first_missing, has_bad_expression, has_bad_number, is_misplaced, known_by, lacks_bit, known_from, passes_own_limit, phases_named}
+use Rattle.rules_reader.specs.Tables.{clocks_in, clocks_of, phase_names_in, phase_names_of, told, told_on}
+use Rattle.rules_reader.specs.Tokens.{nests_deeper, operator_count}
+use Rattle.rules_reader.specs.declared.cards.Card.{Card}
+use Rattle.rules_reader.specs.declared.entry.Entry.{Entry}
+use Rattle.rules_reader.specs.declared.entry.Entry.TheVariants.{ClockLine, PhaseLine, AssumeLine}
+use Rattle.rules_reader.specs.declared.known.Known.{Known}
+use Rattle.rules_reader.proofs.Fine.{AllSay, Fine, Says, here, known_next, says, told_here}
+use Rattle.rules_reader.proofs.KnownLaws.{distinct_more}
+use Rattle.rules_reader.proofs.Within.{among_more}
+
+-- ---- more lines tell more
+
+clocks_then : (before cards : List Card) → (known_by (before ++ cards)).clocks ≡ with_names (known_by before).clocks (told clocks_in cards)
+unfolding known_by clocks_of
+clocks_then before cards = ap distinct (flat_map-append (told_on clocks_in) before cards) ∙ distinct_more (told clocks_in before) (told clocks_in cards)
+
+phases_then : (before cards : List Card) → (known_by (before ++ cards)).phases ≡ with_names (known_by before).phases (told phase_names_in cards)
+unfolding known_by phase_names_of
+phases_then before cards = ap distinct (flat_map-append (told_on phase_names_in) before cards) ∙ distinct_more (told phase_names_in before) (told phase_names_in cards)
+
+missing_less : (a b : List (List ℕ)) → ((z : List ℕ) → is_among a z ≡ true → is_among b z ≡ true) → (xs : List (List ℕ)) → first_missing a xs ≡ None → first_missing b xs ≡ None
+missing_less a b more [] e = refl
+missing_less a b more (x ∷ xs) e = by_test (is_among a x) refl e (missing_less a b more xs) where
+  by_test : (c : Bool) → is_among a x ≡ c → cond c (first_missing a xs) (Some x) ≡ None → (first_missing a xs ≡ None → first_missing b xs ≡ None)
+      → cond (is_among b x) (first_missing b xs) (Some x) ≡ None
+  by_test true h e rest = ap (λ c. cond c (first_missing b xs) (Some x)) (more x h) ∙ rest e
+  by_test false h e rest = cc
+
+-- ---- no phase is declared behind a line that names one
+
+no_phase : (known : Known) (entry : Entry) → known.is_phase_named ≡ true → is_misplaced known entry ≡ false → phase_names_in entry ≡ []
+no_phase known (PhaseLine name bits) named placed = absurd (clash known.is_phase_named (list_any (lacks_bit bits) known.clocks) named placed) where
+  clash : (a b : Bool) → a ≡ true → (a || b) ≡ false → ⊥
+  clash true b n p = cc
+  clash false b n p = cc
+no_phase known entry named placed = refl
+
+names_no_phase : (entry : Entry) → is_empty (phases_named entry) ≡ false → phase_names_in entry ≡ []
+names_no_phase (PhaseLine name bits) e = cc
+names_no_phase entry e = refl
+
+or_left : (a b : Bool) → a ≡ true → (a || b) ≡ true
+or_left true b e = refl
+or_left false b e = cc
+
+named_then : (before : List Card) (card : Card) (s : Says (length before) (known_by before) card) → (known_by before).is_phase_named ≡ true → (known_by (before ++ card ∷ [])).is_phase_named ≡ true
+named_then before card s named = ap (λ (k : Known). k.is_phase_named) (known_next before card s) ∙ or_left (known_by before).is_phase_named (not (is_empty (phases_named s.entry))) named
+
+no_later_phase : (before cards : List Card) → CleanFrom fault_of before cards → (known_by before).is_phase_named ≡ true → told phase_names_in cards ≡ []
+no_later_phase before [] clean named = refl
+no_later_phase before (card ∷ cards) clean named =
+    let s = says before card clean.0 in
+    ap₂ (λ xs ys. xs ++ ys) (told_here phase_names_in (length before) (known_by before) card s ∙ no_phase (known_by before) s.entry named s.fine.placed)
+    (no_later_phase (before ++ card ∷ []) cards clean.1 (named_then before card s named))
+
+-- ---- limits
+
+or_no : (a b : Bool) → (a || b) ≡ false → (a ≡ false) × (b ≡ false)
+or_no true b e = cc
+or_no false b e = (refl, e)
+
+-- an `assume` line has few operators
+abbrev pub FewOperators : Entry → Type 0
+FewOperators (AssumeLine cell phase tokens) = operator_count tokens ≤ 1000
+FewOperators entry = Unit {0}
+
+few_operators : (clocks phases : List (List ℕ)) (entry : Entry) → passes_own_limit clocks phases entry ≡ false → FewOperators entry
+few_operators clocks phases (AssumeLine cell phase tokens) e = ltb-false 1000 (operator_count tokens) (or_no (nests_deeper 64 0 tokens) (nat_lt 1000 (operator_count tokens)) e).1
+few_operators clocks phases entry e = tt
+
+length_name : (known : List (List ℕ)) (n : List ℕ) → length (with_name known n) ≤ length known + 1
+length_name known n = by_test (is_among known n) where
+  by_test : (b : Bool) → length (cond b known (known ++ n ∷ [])) ≤ length known + 1
+  by_test true = omega arith
+  by_test false = omega (arith, length-append known (n ∷ []))
+
+length_names : (known ns : List (List ℕ)) → length (with_names known ns) ≤ length known + length ns
+length_names known [] = omega arith
+length_names known (n ∷ ns) = omega (arith, length_name known n, length_names (with_name known n) ns)
+
+few_clocks : (clocks phases : List (List ℕ)) (entry : Entry) → length clocks ≤ 16 → passes_own_limit clocks phases entry ≡ false → length (with_names clocks (clocks_in entry)) ≤ 16
+few_clocks clocks phases (ClockLine names) few e = let least : length clocks + length names ≤ 16 = ltb-false 16 (length clocks + length names) e in omega (arith, length_names clocks names)
+few_clocks clocks phases entry few e = few
+
+few_phases : (clocks phases : List (List ℕ)) (entry : Entry) → length phases ≤ 16 → passes_own_limit clocks phases entry ≡ false → length (with_names phases (phase_names_in entry)) ≤ 16
+few_phases clocks phases (PhaseLine name bits) few e = let least : length phases < 16 = leb-false 16 (length phases) e in omega (arith, length_names phases (name ∷ []))
+few_phases clocks phases entry few e = few
+
+own_limit : (count : ℕ) (known : Known) (entry : Entry) → Fine count known entry → passes_own_limit known.clocks known.phases entry ≡ false
+own_limit count known entry fine = (or_no (nat_le 100000 count) (passes_own_limit known.clocks known.phases entry) fine.limit).1
+
+record Few (known : Known) : Type 0 where
+  clocks : length known.clocks ≤ 16
+  phases : length known.phases ≤ 16
+
+few_then : (before cards : List Card) → CleanFrom fault_of before cards → Few (known_by before) → Few (known_by (before ++ cards))
+few_then before [] clean few = subst (λ cs. Few (known_by cs)) (sym (append-nil before)) few
+few_then before (card ∷ cards) clean few =
+    let s = says before card clean.0 in
+    let own = own_limit (length before) (known_by before) s.entry s.fine in
+    subst (λ cs. Few (known_by cs)) (append_assoc before (card ∷ []) cards)
+    (few_then (before ++ card ∷ []) cards clean.1 (record {
+      clocks = subst (λ (k : Known). length k.clocks ≤ 16) (sym (known_next before card s)) (few_clocks (known_by before).clocks (known_by before).phases s.entry few.clocks own);
+      phases = subst (λ (k : Known). length k.phases ≤ 16) (sym (known_next before card s)) (few_phases (known_by before).clocks (known_by before).phases s.entry few.phases own);
+    }))
+
+none_known : Few (known_by [])
+unfolding known_by clocks_of phase_names_of
+none_known = record { clocks = omega arith; phases = omega arith }
+
+pub clocks_are_few : (cards : List Card) → CleanFrom fault_of [] cards → length (clocks_of cards) ≤ 16
+unfolding known_by
+clocks_are_few cards clean = (few_then [] cards clean none_known).clocks
+
+pub phases_are_few : (cards : List Card) → CleanFrom fault_of [] cards → length (phase_names_of cards) ≤ 16
+unfolding known_by
+phases_are_few cards clean = (few_then [] cards clean none_known).phases
+
+-- ---- lines
+
+-- what a line says, where these clocks and phases are known in the end
+pub record Settled (clocks phases : List (List ℕ)) (entry : Entry) : Type 0 where
+  pub numbers : has_bad_number entry ≡ false
+  pub expression : has_bad_expression entry ≡ false
+  pub operators : FewOperators entry
+  pub clocks_are : first_missing clocks (clocks_named entry) ≡ None
+  pub phases_are : first_missing (known_from phases) (phases_named entry) ≡ None
+
+or_true : (b : Bool) → (b || true) ≡ true
+or_true true = refl
+or_true false = refl
+
+settled_phases : (before : List Card) (card : Card) (cards : List Card) → CleanFrom fault_of before (card ∷ cards) → (s : Says (length before) (known_by before) card)
+    → first_missing (known_from (known_by (before ++ card ∷ cards)).phases) (phases_named s.entry) ≡ None
+settled_phases before card cards clean s = by_named (phases_named s.entry) refl s.fine.phases where
+  by_named : (ns : List (List ℕ)) → phases_named s.entry ≡ ns → first_missing (known_from (known_by before).phases) ns ≡ None
+      → first_missing (known_from (known_by (before ++ card ∷ cards)).phases) ns ≡ None
+  by_named [] e h = refl
+  by_named (n ∷ ns) e h =
+      let some : is_empty (phases_named s.entry) ≡ false = ap is_empty e in
+      let named : (known_by (before ++ card ∷ [])).is_phase_named ≡ true = ap (λ (k : Known). k.is_phase_named) (known_next before card s)
+      ∙ ap (λ b. (known_by before).is_phase_named || not b) some ∙ or_true (known_by before).is_phase_named in
+      let none : told phase_names_in (card ∷ cards) ≡ [] = ap₂ (λ xs ys. xs ++ ys) (told_here phase_names_in (length before) (known_by before) card s ∙ names_no_phase s.entry some)
+      (no_later_phase (before ++ card ∷ []) cards clean.1 named) in
+      ap (λ ps. first_missing (known_from ps) (n ∷ ns)) (phases_then before (card ∷ cards) ∙ ap (with_names (known_by before).phases) none) ∙ h
+
+settled_clocks : (before : List Card) (card : Card) (cards : List Card) (s : Says (length before) (known_by before) card)
+    → first_missing (known_by (before ++ card ∷ cards)).clocks (clocks_named s.entry) ≡ None
+settled_clocks before card cards s =
+    missing_less (known_by before).clocks (known_by (before ++ card ∷ cards)).clocks
+    (λ z h. ap (λ cs. is_among cs z) (clocks_then before (card ∷ cards)) ∙ among_more (known_by before).clocks (told clocks_in (card ∷ cards)) z h)
+    (clocks_named s.entry) s.fine.clocks
+
+all_settled : (final before cards : List Card) → before ++ cards ≡ final → CleanFrom fault_of before cards → AllSay (Settled (known_by final).clocks (known_by final).phases) cards
+all_settled final before [] is clean = tt
+all_settled final before (card ∷ cards) is clean =
+    let s = says before card clean.0 in (
+      here (Settled (known_by final).clocks (known_by final).phases) (length before) (known_by before) card s (record {
+        numbers = s.fine.numbers;
+        expression = s.fine.expression;
+        operators = few_operators (known_by before).clocks (known_by before).phases s.entry (own_limit (length before) (known_by before) s.entry s.fine);
+        clocks_are = subst (λ cs. first_missing (known_by cs).clocks (clocks_named s.entry) ≡ None) is (settled_clocks before card cards s);
+        phases_are = subst (λ cs. first_missing (known_from (known_by cs).phases) (phases_named s.entry) ≡ None) is (settled_phases before card cards clean s);
+      }),
+      all_settled final (before ++ card ∷ []) cards (append_assoc before (card ∷ []) cards ∙ is) clean.1,
+    )
+
+pub settled : (cards : List Card) → CleanFrom fault_of [] cards → AllSay (Settled (clocks_of cards) (phase_names_of cards)) cards
+unfolding known_by
+settled cards clean = all_settled cards [] cards refl clean

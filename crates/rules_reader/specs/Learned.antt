@@ -1,0 +1,23 @@
+-- What is known behind one line more.
+use Rattle.std.specs.Prelude.{not, ◌||◌, Option, Some, None}
+use Rattle.text_lines.specs.Names.{is_empty, with_names}
+use Rattle.rules_reader.specs.Refused.{key_texts, phases_named}
+use Rattle.rules_reader.specs.Tables.{clocks_in, phase_names_in}
+use Rattle.rules_reader.specs.declared.cards.Card.{Card}
+use Rattle.rules_reader.specs.declared.entry.Entry.{Entry}
+use Rattle.rules_reader.specs.declared.known.Known.{Known}
+
+abbrev pub learned_by : Known → Entry → Known
+learned_by known entry = record {
+  clocks = with_names known.clocks (clocks_in entry);
+  phases = with_names known.phases (phase_names_in entry);
+  keys = with_names known.keys (key_texts entry);
+  is_phase_named = known.is_phase_named || not (is_empty (phases_named entry));
+}
+
+abbrev pub learned_from : Known → Option Entry → Known
+learned_from known None = known
+learned_from known (Some entry) = learned_by known entry
+
+abbrev pub learned : Known → Card → Known
+learned known card = learned_from known card.entry

@@ -1,0 +1,14 @@
+pub mod Tokens
+pub mod Spelled
+pub mod Grammar
+pub mod Readings
+pub mod Kept
+pub mod Formed
+pub mod Entries
+pub mod Keys
+pub mod Tables
+pub mod Refused
+pub mod Claimed
+pub mod Judged
+pub mod Learned
+pub mod Built

@@ -1,0 +1,109 @@
+//! The lines of a text that are not passed over.
+
+ghost use Rattle.std.specs.Prelude.{◌≡◌, ◌≤◌, ◌++◌, length, map, IfOk, OnOk};
+ghost use Rattle.text_lines.specs.Bytes.{is_blank_line, starts, without_blanks};
+ghost use Rattle.rules_reader.specs.Entries.{card_of, cards_of, cards_on, is_passed_over};
+
+use crate::clocked_lines::read_entry;
+use crate::entry::Entry;
+use std::alloc::Global;
+use text_lines::{cut_words, is_blank_byte, is_text_line, numbered_lines};
+use vrt_model::{NoMemory, Seq, Text};
+
+/// A line: its number, from 1, whether all its bytes are text, and what it says, none where it does not fit.
+#[derive(Drop)]
+pub struct Card {
+    pub line: u32,
+    pub is_all_text: bool,
+    pub entry: Option<Entry>,
+}
+
+// The bytes from the first on that is no blank.
+fn from_first(line: &[u8]) -> &[u8]
+    ensures { result.now ≡ without_blanks line.now }
+{
+    let mut at = 0;
+    'bytes: while at < line.len() {
+        if !is_blank_byte(line[at]) {
+            return &line[at..];
+        }
+        at += 1;
+    }
+    &[]
+}
+
+fn is_blank_only(line: &[u8]) -> bool
+    ensures { result ≡ is_blank_line line.now }
+{
+    line.iter().all(|b| is_blank_byte(*b))
+}
+
+// Whether a line is blank, or its first byte that is no blank is `#`.
+fn is_passed(line: &[u8]) -> bool
+    ensures { result ≡ is_passed_over line.now }
+{
+    is_blank_only(line) || begins(b'#', from_first(line))
+}
+
+fn begins(sign: u8, bytes: &[u8]) -> bool
+    ensures { result ≡ starts sign bytes.now }
+{
+    match bytes.first() {
+        Some(first) => sign == *first,
+        None => false,
+    }
+}
+
+// The texts of words.
+fn texts_of(alloc: Global, words: &[&[u8]]) -> Result<Seq<Text>, NoMemory>
+    ensures { IfOk result (λ s. s ≡ map (λ x. x.now) words.now) }
+{
+    let mut texts = Seq::new(alloc);
+    for word in words {
+        let text = Text::from_bytes(alloc, word)?;
+        if texts.push(text).is_err() {
+            return Err(NoMemory);
+        }
+    }
+    Ok(texts)
+}
+
+// The card of a line.
+fn read_card(alloc: Global, line: u32, bytes: &[u8]) -> Result<Card, NoMemory>
+    ensures { IfOk result (λ card. card ≡ card_of (line, bytes.now)) }
+{
+    let words = cut_words(alloc, bytes)?;
+    let texts = texts_of(alloc, words.as_slice())?;
+    Ok(Card {
+        line,
+        is_all_text: is_text_line(bytes),
+        entry: read_entry(alloc, texts.as_slice())?,
+    })
+}
+
+// Adds the card of a line, unless it is passed over.
+fn add_line(alloc: Global, cards: &mut Seq<Card>, line: u32, bytes: &[u8]) -> Result<(), NoMemory>
+    ensures { OnOk result (cards.new ≡ cards.old ++ cards_on (line, bytes.now)) }
+{
+    if is_passed(bytes) {
+        return Ok(());
+    }
+    let card = read_card(alloc, line, bytes)?;
+    match cards.push(card) {
+        Ok(()) => Ok(()),
+        Err(_) => Err(NoMemory),
+    }
+}
+
+/// The lines of a text that are not passed over, with what they say.
+pub fn read_cards(alloc: Global, text: &[u8]) -> Result<Seq<Card>, NoMemory>
+    requires { length text.now ≤ 16777216 }
+    ensures { IfOk result (λ cards. cards ≡ cards_of text.now) }
+{
+    let lines = numbered_lines(alloc, text)?;
+    let mut cards = Seq::new(alloc);
+    for line in &lines {
+        add_line(alloc, &mut cards, line.number, line.bytes)?;
+    }
+    Ok(cards)
+}

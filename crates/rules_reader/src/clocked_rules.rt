@@ -1,0 +1,227 @@
+//! The rules of lines on clocks and phases.
+
+ghost use Rattle.std.specs.Prelude.{◌≡◌, ◌++◌, ◌∷◌, [], false, map, option_map, unwrap_or, IfOk, OnOk};
+ghost use Rattle.rules_reader.specs.Grammar.{seen};
+ghost use Rattle.rules_reader.specs.Grammar.Formula.{a_port};
+ghost use Rattle.rules_reader.specs.Readings.{formula_of};
+ghost use Rattle.rules_reader.specs.Tables.{assumed, bit_for, clock_ref, number_in};
+
+use crate::entry::{ClockBit, Signed};
+use crate::expression::read_expression;
+use crate::tokens::Token;
+use crate::words::copy;
+use std::alloc::Global;
+use text_lines::Names;
+use vrt_model::{
+    AssumeRule, ClockRef, ClockportRule, DefaultclockRule, EnterRule, Expr, NoMemory, ObserveRule,
+    Phase, Seq, Text,
+};
+
+// The number of a name, and 0 where it is not there. The limits of clocks and phases keep it far below 32 bits; a greater
+// one would be answered as want of memory.
+fn number(names: &Names, name: &Text) -> Result<u32, NoMemory>
+    ensures { IfOk result (λ n. n ≡ number_in names.now name.now) }
+{
+    match u32::try_from(names.place(name.as_bytes()).unwrap_or(0)) {
+        Ok(n) => Ok(n),
+        Err(_) => Err(NoMemory),
+    }
+}
+
+// The bit that a phase gives a clock.
+fn bit_of_clock(bits: &[ClockBit], clock: &[u8]) -> bool
+    ensures { result ≡ bit_for bits.now clock.now }
+{
+    let mut at = 0;
+    'bits: while at < bits.len() {
+        if bits[at].clock.as_bytes() == clock {
+            return bits[at].bit.unwrap_or(false);
+        }
+        at += 1;
+    }
+    false
+}
+
+// The bits that a phase gives clocks.
+fn bits_of(alloc: Global, bits: &[ClockBit], clocks: &[Text]) -> Result<Seq<bool>, NoMemory>
+    ensures { IfOk result (λ found. found ≡ map (bit_for bits.now) clocks.now) }
+{
+    let mut found = Seq::new(alloc);
+    for clock in clocks {
+        if found.push(bit_of_clock(bits, clock.as_bytes())).is_err() {
+            return Err(NoMemory);
+        }
+    }
+    Ok(found)
+}
+
+/// A phase gives each clock a bit.
+pub fn add_phase(
+    alloc: Global,
+    rules: &mut Seq<Phase>,
+    line: u32,
+    clocks: &[Text],
+    name: &Text,
+    bits: &[ClockBit],
+) -> Result<(), NoMemory>
+    ensures { OnOk result (rules.new ≡ rules.old ++ record { line = line; name = name.now; bits = map (bit_for bits.now) clocks.now } ∷ []) }
+{
+    let rule = Phase {
+        line,
+        name: copy(alloc, name)?,
+        bits: bits_of(alloc, bits, clocks)?,
+    };
+    match rules.push(rule) {
+        Ok(()) => Ok(()),
+        Err(_) => Err(NoMemory),
+    }
+}
+
+pub fn add_clockport(
+    alloc: Global,
+    rules: &mut Seq<ClockportRule>,
+    line: u32,
+    clocks: &Names,
+    cell: &Text,
+    port: &Text,
+    clock: &Signed,
+) -> Result<(), NoMemory>
+    ensures { OnOk result (rules.new ≡ rules.old ++ record { line = line; cell = cell.now; port = port.now; clock = clock_ref clocks.now clock.now } ∷ []) }
+{
+    let rule = ClockportRule {
+        line,
+        cell: copy(alloc, cell)?,
+        port: copy(alloc, port)?,
+        clock: ClockRef {
+            clock: number(clocks, &clock.name)?,
+            inverted: clock.is_inverted,
+        },
+    };
+    match rules.push(rule) {
+        Ok(()) => Ok(()),
+        Err(_) => Err(NoMemory),
+    }
+}
+
+pub fn add_defaultclock(
+    rules: &mut Seq<DefaultclockRule>,
+    line: u32,
+    clocks: &Names,
+    clock: &Text,
+) -> Result<(), NoMemory>
+    ensures { OnOk result (rules.new ≡ rules.old ++ record { line = line; clock = number_in clocks.now clock.now } ∷ []) }
+{
+    let clock = number(clocks, clock)?;
+    match rules.push(DefaultclockRule { line, clock }) {
+        Ok(()) => Ok(()),
+        Err(_) => Err(NoMemory),
+    }
+}
+
+pub fn add_enter(
+    alloc: Global,
+    rules: &mut Seq<EnterRule>,
+    line: u32,
+    phases: &Names,
+    cell: &Text,
+    phase: &Text,
+    net: &Text,
+    bit: Option<bool>,
+) -> Result<(), NoMemory>
+    ensures { OnOk result (rules.new ≡ rules.old ++ record { line = line; cell = cell.now; phase = number_in phases.now phase.now; net = net.now; value = unwrap_or bit false } ∷ []) }
+{
+    let rule = EnterRule {
+        line,
+        cell: copy(alloc, cell)?,
+        phase: number(phases, phase)?,
+        net: copy(alloc, net)?,
+        value: bit.unwrap_or(false),
+    };
+    match rules.push(rule) {
+        Ok(()) => Ok(()),
+        Err(_) => Err(NoMemory),
+    }
+}
+
+// The numbers of phases.
+fn numbers(alloc: Global, phases: &Names, names: &[Text]) -> Result<Seq<u32>, NoMemory>
+    ensures { IfOk result (λ found. found ≡ map (number_in phases.now) names.now) }
+{
+    let mut found = Seq::new(alloc);
+    for name in names {
+        let one = number(phases, name)?;
+        if found.push(one).is_err() {
+            return Err(NoMemory);
+        }
+    }
+    Ok(found)
+}
+
+pub fn add_observe(
+    alloc: Global,
+    rules: &mut Seq<ObserveRule>,
+    line: u32,
+    phases: &Names,
+    cell: &Text,
+    port: &Text,
+    names: &[Text],
+) -> Result<(), NoMemory>
+    ensures { OnOk result (rules.new ≡ rules.old ++ record { line = line; cell = cell.now; port = port.now; phases = map (number_in phases.now) names.now } ∷ []) }
+{
+    let rule = ObserveRule {
+        line,
+        cell: copy(alloc, cell)?,
+        port: copy(alloc, port)?,
+        phases: numbers(alloc, phases, names)?,
+    };
+    match rules.push(rule) {
+        Ok(()) => Ok(()),
+        Err(_) => Err(NoMemory),
+    }
+}
+
+// The number of a phase, none for `*`.
+fn phase_number(phases: &Names, phase: &Option<Text>) -> Result<Option<u32>, NoMemory>
+    ensures { IfOk result (λ n. n ≡ option_map (number_in phases.now) phase.now) }
+{
+    match phase {
+        Some(phase) => {
+            let n = number(phases, phase)?;
+            Ok(Some(n))
+        }
+        None => Ok(None),
+    }
+}
+
+// The expression of tokens, a port without a name where they spell none.
+fn expression(alloc: Global, tokens: &[Token]) -> Result<Expr, NoMemory>
+    ensures { IfOk result (λ e. seen e ≡ unwrap_or (formula_of tokens.now) (a_port [])) }
+{
+    match read_expression(alloc, tokens)? {
+        Some(e) => Ok(e),
+        None => Ok(Expr::Port(Text::new(alloc))),
+    }
+}
+
+pub fn add_assume(
+    alloc: Global,
+    rules: &mut Seq<AssumeRule>,
+    line: u32,
+    phases: &Names,
+    cell: &Text,
+    phase: &Option<Text>,
+    tokens: &[Token],
+) -> Result<(), NoMemory>
+    ensures { OnOk result (map assumed rules.new ≡ map assumed rules.old ++ record { line = line; cell = cell.now; phase = option_map (number_in phases.now) phase.now; formula = unwrap_or (formula_of tokens.now) (a_port []) } ∷ []) }
+{
+    let rule = AssumeRule {
+        line,
+        cell: copy(alloc, cell)?,
+        phase: phase_number(phases, phase)?,
+        expression: expression(alloc, tokens)?,
+    };
+    match rules.push(rule) {
+        Ok(()) => Ok(()),
+        Err(_) => Err(NoMemory),
+    }
+}
