@@ -53,7 +53,7 @@ over : (inner : ℕ → List ℕ) (k m l : ℕ) → Among (inner m) l → k < de
 over inner k m l a lt = let le : depth_in inner k l ≤ greatest (map (depth_in inner k) (inner m)) = greatest_least (depth_in inner k) (inner m) a.0 l a.1 in omega arith
 
 -- what contains itself is deep after any number of rounds
-deep_within : (inner : ℕ → List ℕ) (n : ℕ) → ContainsItself inner n → (k m : ℕ) → IsWithin inner n m → k < depth_in inner k m
+pub deep_within : (inner : ℕ → List ℕ) (n : ℕ) → ContainsItself inner n → (k m : ℕ) → IsWithin inner n m → k < depth_in inner k m
 deep_within inner n self zero m w = omega arith
 deep_within inner n self (suc k) m (directly a) = over inner k m n a (deep_within inner n self k n self)
 deep_within inner n self (suc k) m (further {l} a w) = over inner k m l a (deep_within inner n self k l w)
@@ -80,7 +80,7 @@ limited blif k shallow n lt =
 
 -- ---- tables of depths
 
-past : (xs : List ℕ) (n : ℕ) → length xs ≤ n → get_or xs n 0 ≡ 0
+pub past : (xs : List ℕ) (n : ℕ) → length xs ≤ n → get_or xs n 0 ≡ 0
 past [] n le = refl
 past (x ∷ xs) zero le = absurd (omega arith)
 past (x ∷ xs) (suc n) le = past xs n (omega arith)
@@ -110,14 +110,14 @@ unfolding depth_after
 depth_small blif k n = depth_bound (models_within blif) k n
 
 -- depths after few rounds are small
-pub small : (blif : Blif) (k : ℕ) (depths : List ℕ) → k < 33 → AreDepths blif k depths → (n : ℕ) → get_or depths n 0 ≤ 64
+pub small : (blif : Blif) (k : ℕ) (depths : List ℕ) → k < 5000 → AreDepths blif k depths → (n : ℕ) → get_or depths n 0 ≤ 8192
 small blif k depths few are n =
     elim (cases_lt n (length blif.models)) [
       | inl lt ↦ let e : get_or depths n 0 ≡ depth_after blif k n = are.each n lt in let le : depth_after blif k n ≤ k + 1 = depth_small blif k n in omega arith
       | inr le ↦ let e : get_or depths n 0 ≡ 0 = past depths n (omega (arith, are.count)) in omega arith
     ]
 
-number_within : (blif : Blif) (name : List ℕ) → 0 < length blif.models → model_numbered blif name < length blif.models
+pub number_within : (blif : Blif) (name : List ℕ) → 0 < length blif.models → model_numbered blif name < length blif.models
 number_within blif name some = by_place (place_in blif name) refl where
   by_place : (o : Option ℕ) → place_in blif name ≡ o → unwrap_or (place_in blif name) 0 < length blif.models
   by_place None e = subst (λ (o : Option ℕ). unwrap_or o 0 < length blif.models) (sym e) some

@@ -13,7 +13,7 @@ use text_lines::Names;
 use vrt_model::{Blif, BlifModel, NoMemory, Seq};
 
 // The number of a name, 0 where it has none.
-fn number_of(names: &Names, name: &[u8]) -> usize
+pub(crate) fn number_of(names: &Names, name: &[u8]) -> usize
     ensures { result ≡ unwrap_or (position (bytes_eq name.now) names.now) 0 }
 {
     match names.place(name) {
@@ -36,7 +36,7 @@ fn inner_of(alloc: Global, names: &Names, model: &BlifModel) -> Result<Seq<usize
 }
 
 // The models that stand directly in each.
-fn all_inner(
+pub(crate) fn all_inner(
     alloc: Global,
     names: &Names,
     models: &[BlifModel],
@@ -54,7 +54,7 @@ fn all_inner(
 }
 
 // The depth of a model, 0 where there is none.
-fn depth_at(depths: &[u32], number: usize) -> u32
+pub(crate) fn depth_at(depths: &[u32], number: usize) -> u32
     ensures { result ≡ get_or depths.now number 0 }
 {
     if number < depths.len() {
@@ -73,7 +73,7 @@ fn larger(a: u32, b: u32) -> u32
 
 // One more than the greatest depth of some models.
 fn depth_above(inner: &[usize], depths: &[u32]) -> u32
-    requires { (n : ℕ) → get_or depths.now n 0 ≤ 64 }
+    requires { (n : ℕ) → get_or depths.now n 0 ≤ 8192 }
     ensures { result ≡ depth_over depths.now inner.now }
 {
     let mut greatest_so_far = 0u32;
@@ -84,8 +84,12 @@ fn depth_above(inner: &[usize], depths: &[u32]) -> u32
 }
 
 // The depths of models, as far as one level more shows.
-fn next_round(alloc: Global, all: &[Seq<usize>], depths: &[u32]) -> Result<Seq<u32>, NoMemory>
-    requires { (n : ℕ) → get_or depths.now n 0 ≤ 64 }
+pub(crate) fn next_round(
+    alloc: Global,
+    all: &[Seq<usize>],
+    depths: &[u32],
+) -> Result<Seq<u32>, NoMemory>
+    requires { (n : ℕ) → get_or depths.now n 0 ≤ 8192 }
     ensures { IfOk result (λ next. next ≡ map (depth_over depths.now) all.now) }
 {
     let mut next = Seq::new(alloc);
@@ -98,7 +102,7 @@ fn next_round(alloc: Global, all: &[Seq<usize>], depths: &[u32]) -> Result<Seq<u
 }
 
 // The depth 1 for each model.
-fn first_round(alloc: Global, models: &[BlifModel]) -> Result<Seq<u32>, NoMemory>
+pub(crate) fn first_round(alloc: Global, models: &[BlifModel]) -> Result<Seq<u32>, NoMemory>
     ensures { IfOk result (λ depths. depths ≡ map (λ m. 1) models.now) }
 {
     let mut depths = Seq::new(alloc);
@@ -111,7 +115,7 @@ fn first_round(alloc: Global, models: &[BlifModel]) -> Result<Seq<u32>, NoMemory
 }
 
 // The depths of models, as far as 32 levels show.
-fn depths_of(alloc: Global, blif: &Blif, tables: &Tables) -> Result<Seq<u32>, NoMemory>
+pub(crate) fn depths_of(alloc: Global, blif: &Blif, tables: &Tables) -> Result<Seq<u32>, NoMemory>
     requires { AreTables blif.now tables.now }
     ensures { IfOk result (λ depths. AreDepths blif.now 32 depths) }
 {
@@ -137,7 +141,7 @@ pub fn are_shallow(alloc: Global, blif: &Blif, tables: &Tables) -> Result<bool, 
 }
 
 // Whether each depth is at most 32.
-fn are_within(depths: &[u32]) -> bool
+pub(crate) fn are_within(depths: &[u32]) -> bool
     ensures { result ≡ list_all (λ d. nat_le d 32) depths.now }
 {
     depths.iter().all(|d| *d <= 32)

@@ -13,6 +13,18 @@ pub enum ModelFault {
     /// out.
     #[error("line {line}: tie does not fit")]
     Formals { line: u32, name: Text },
+    /// The first model that contains itself.
+    #[error("line {line}: model contains itself")]
+    Recursion { line: u32, name: Text },
+    /// The first model deeper than 32, with its depth.
+    #[error("line {line}: deeper than 32")]
+    Depth { line: u32, depth: u32 },
+    /// A signal with two drivers, at the line of the second.
+    #[error("line {line}: two drivers")]
+    DrivenTwice { line: u32, name: Text },
+    /// A signal that is used and not driven, at the line of its first use.
+    #[error("line {line}: no driver")]
+    Undriven { line: u32, name: Text },
     /// Memory could not be had.
     #[error("out of memory")]
     NoMemory,

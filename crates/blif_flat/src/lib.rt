@@ -1,14 +1,27 @@
-//! Which BLIF models can be unrolled: each sub-model is there and is tied as its interface asks, and none contains
-//! itself or is too deep.
+//! Which BLIF models can be unrolled: each sub-model is there and is tied as its interface asks, none contains itself or
+//! is too deep, and each signal that is used has one driver.
 #![tactic(auto)]
 
+mod check;
 mod depths;
+mod drivers;
 mod faults;
+mod judge;
+mod mentions;
+mod nesting;
+mod notes;
+mod reached;
+mod roles;
+mod signals;
 mod subs;
 mod tables;
+mod uses;
 
+pub use check::check_models;
 pub use depths::are_shallow;
 pub use faults::ModelFault;
+pub use judge::check_drivers;
+pub use nesting::check_nesting;
 pub use subs::check_subs;
 pub use tables::{Tables, tables_of};
 

@@ -8,7 +8,7 @@ loop-round-init c = first_depths c.args.blif.now c.as_slice-2.result.now _ c.as_
 
 pub next_round-requires : goal.next_round-requires
 next_round-requires c =
-    λ n. subst (λ (ds : List ℕ). get_or ds n 0 ≤ 64) (sym c.as_slice-in-loop-round-2.ensures) (small c.args.blif.now c.loop-round.round c.loop-round.depths (omega arith) c.loop-round.invariant n)
+    λ n. subst (λ (ds : List ℕ). get_or ds n 0 ≤ 8192) (sym c.as_slice-in-loop-round-2.ensures) (small c.args.blif.now c.loop-round.round c.loop-round.depths (omega arith) c.loop-round.invariant n)
 
 pub loop-round-preserved : goal.loop-round-preserved
 loop-round-preserved c =
