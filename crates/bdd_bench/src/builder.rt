@@ -44,7 +44,7 @@ fn reach(seen: &mut Vec<bool>, place: u32) {
 
 impl Builder {
     /// With a budget of so many nodes, at least 2 and at most 64,000,000.
-    pub fn open(alloc: Global, budget: u32) -> Result<Builder, NoMemory> {
+    pub(crate) fn open(alloc: Global, budget: u32) -> Result<Builder, NoMemory> {
         let budget = budget.clamp(2, 64_000_000);
         Ok(Builder {
             store: Store::with_budget(alloc, budget, 0, VARS)?,
@@ -52,12 +52,12 @@ impl Builder {
     }
 
     /// How many nodes the store has.
-    pub fn count(&self) -> u32 {
+    pub(crate) fn count(&self) -> u32 {
         self.store.node_count()
     }
 
     /// The bit of a variable.
-    pub fn bit(&mut self, var: u32) -> Result<H, Refused> {
+    pub(crate) fn bit(&mut self, var: u32) -> Result<H, Refused> {
         if var >= self.store.vars() {
             return Err(Refused::NotThere);
         }
@@ -65,7 +65,7 @@ impl Builder {
     }
 
     /// The complement.
-    pub fn not(&mut self, f: H) -> Result<H, Refused> {
+    pub(crate) fn not(&mut self, f: H) -> Result<H, Refused> {
         if f.0 >= self.store.node_count() {
             return Err(Refused::NotThere);
         }
@@ -73,7 +73,7 @@ impl Builder {
     }
 
     /// The function that is 1 where both are.
-    pub fn and(&mut self, f: H, g: H) -> Result<H, Refused> {
+    pub(crate) fn and(&mut self, f: H, g: H) -> Result<H, Refused> {
         let (f, g) = in_order(f, g);
         let count = self.store.node_count();
         if f.0 >= count || g.0 >= count {
@@ -83,7 +83,7 @@ impl Builder {
     }
 
     /// The function that is 1 where one of them or both are.
-    pub fn or(&mut self, f: H, g: H) -> Result<H, Refused> {
+    pub(crate) fn or(&mut self, f: H, g: H) -> Result<H, Refused> {
         let (f, g) = in_order(f, g);
         let count = self.store.node_count();
         if f.0 >= count || g.0 >= count {
@@ -93,7 +93,7 @@ impl Builder {
     }
 
     /// The function that is 1 where exactly one of them is.
-    pub fn xor(&mut self, f: H, g: H) -> Result<H, Refused> {
+    pub(crate) fn xor(&mut self, f: H, g: H) -> Result<H, Refused> {
         let (f, g) = in_order(f, g);
         let count = self.store.node_count();
         if f.0 >= count || g.0 >= count {
@@ -103,7 +103,7 @@ impl Builder {
     }
 
     /// How many nodes the diagram of a handle has, without the two constants.
-    pub fn size(&self, alloc: Global, root: H) -> Result<usize, AllocError> {
+    pub(crate) fn size(&self, alloc: Global, root: H) -> Result<usize, AllocError> {
         let count = self.store.node_count();
         let mut seen = vec![in alloc; false; count as usize]?;
         reach(&mut seen, root.0);

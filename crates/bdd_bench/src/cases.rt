@@ -36,7 +36,7 @@ pub const ALL: [Case; 7] = [
 ];
 
 /// The name of a case.
-pub fn name(case: Case) -> &'static str {
+pub(crate) fn name(case: Case) -> &'static str {
     match case {
         Case::AndOrBad => "andor-bad",
         Case::AndOrGood => "andor-good",
@@ -49,7 +49,7 @@ pub fn name(case: Case) -> &'static str {
 }
 
 /// The function of a case.
-pub fn make(b: &mut Builder, case: Case) -> Result<H, Refused> {
+pub(crate) fn make(b: &mut Builder, case: Case) -> Result<H, Refused> {
     match case {
         Case::AndOrBad => and_or(b, 1, 17),
         Case::AndOrGood => and_or(b, 2, 1),

@@ -10,9 +10,9 @@ use std::alloc::{AllocError, Global};
 /// How many heads a pool begins with. Their number is this times a power of 4.
 pub const FEWEST: u32 = 1024;
 
-// The chain that a node is on, of `mask` and one more. A branch that is one place later is on the next chain: nodes
-// that are made one after another then have heads near each other, which caches serve well. The multipliers are the
-// first two primes of the package CUDD.
+/// The chain that a node is on, of `mask` and one more. A branch that is one place later is on the next chain: nodes
+/// that are made one after another then have heads near each other, which caches serve well. The multipliers are the
+/// first two primes of the package CUDD.
 pub fn chain_at(mask: u32, node: Node) -> u32
     ensures place { result ≡ chain_of mask node }
     ensures within { result ≤ mask }
@@ -24,7 +24,7 @@ pub fn chain_at(mask: u32, node: Node) -> u32
     mixed & mask
 }
 
-// Has each chain lead to its newest node below `to`, by undoing the links of the nodes above, newest first.
+/// Has each chain lead to its newest node below `to`, by undoing the links of the nodes above, newest first.
 pub fn unlink(heads: &mut Vec<u32>, nodes: &Vec<Node>, older: &Vec<u32>, mask: u32, to: usize)
     requires within { to ≤ length nodes.now.items }
     requires heads { HeadsBelow mask nodes.now.items heads.old.items (length nodes.now.items) }
@@ -43,7 +43,7 @@ pub fn unlink(heads: &mut Vec<u32>, nodes: &Vec<Node>, older: &Vec<u32>, mask: u
     }
 }
 
-// The first heads, none of which leads anywhere, in memory for the most.
+/// The first heads, none of which leads anywhere, in memory for the most.
 pub fn few_heads(alloc: Global, most: usize) -> Result<Vec<u32>, AllocError>
     requires { 1024 ≤ most }
     ensures items { IfOk result (λ heads. heads.items ≡ replicate 1024 0) }
@@ -54,7 +54,7 @@ pub fn few_heads(alloc: Global, most: usize) -> Result<Vec<u32>, AllocError>
     Ok(heads)
 }
 
-// Writes zeros.
+/// Writes zeros.
 pub fn clear(heads: &mut Vec<u32>)
     ensures zeros { (b : ℕ) → b < length heads.new.items → slice_index heads.new.items b ≡ 0 }
     ensures len { length heads.new.items ≡ length heads.old.items }
@@ -65,7 +65,7 @@ pub fn clear(heads: &mut Vec<u32>)
     }
 }
 
-// Appends zeros, for which there is room.
+/// Appends zeros, for which there is room.
 pub fn push_zeros(words: &mut Vec<u32>, len: u32)
     requires { length words.old.items + len ≤ vec_capacity words.old }
     ensures items { words.new.items ≡ words.old.items ++ replicate len 0 }
@@ -76,7 +76,7 @@ pub fn push_zeros(words: &mut Vec<u32>, len: u32)
     }
 }
 
-// Has the chains lead through all nodes, where no head leads anywhere yet.
+/// Has the chains lead through all nodes, where no head leads anywhere yet.
 pub fn relink(heads: &mut Vec<u32>, older: &mut Vec<u32>, nodes: &Vec<Node>, mask: u32)
     requires none { (b : ℕ) → b ≤ mask → slice_index heads.old.items b ≡ 0 }
     requires heads_len { length heads.old.items ≡ mask + 1 }
