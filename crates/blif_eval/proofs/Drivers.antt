@@ -1,0 +1,141 @@
+-- What one driver for each signal says of a model without latches.
+use Rattle.std.proofs.Common.{◌≡◌, ℕ, zero, suc, ◌+◌, ◌<◌, ◌≤◌, ◌⊎◌, ◌++◌, ◌∷◌, [], List, Bool, cond, map, length, eqb, ap, arith, subst, sym, refl, ◌∙◌, inl, inr, Some}
+use Rattle.std.specs.Prelude.{count_by, slice_get, ◌==◌}
+use Rattle.std.proofs.lemmas.Bool.{cases_Bool, cases_lt, eq-eqb, eqb-true}
+use Rattle.std.proofs.lemmas.List.Sums.{sum_by-cons}
+use Rattle.std.proofs.lemmas.Option.{same_Some, none-some}
+use Rattle.vrt_model.proofs.Members.{among_later, among_map, all_among}
+use Rattle.vrt_model.specs.FlatModels.{IsCover, IsFlatModel, drivers_of}
+use Rattle.vrt_model.specs.Lists.{At, Among}
+use Rattle.vrt_model.specs.declared.flat_model.Cover.{Cover}
+use Rattle.vrt_model.specs.declared.flat_model.FlatLatch.{FlatLatch}
+use Rattle.vrt_model.specs.declared.flat_model.FlatModel.{FlatModel}
+
+-- ---- how often a number stands in a list
+
+abbrev pub times : ℕ → List ℕ → ℕ
+times s xs = count_by (λ d. d == s) xs
+
+-- how much an element counts
+abbrev counts : ℕ → ℕ → ℕ
+counts s x = cond (eqb x s) 1 0
+
+times_more : (s x : ℕ) (xs : List ℕ) → times s (x ∷ xs) ≡ counts s x + times s xs
+times_more s x xs = sum_by-cons (λ (d : ℕ). cond (d == s) 1 0) x xs
+
+times_joined : (s : ℕ) (xs ys : List ℕ) → times s (xs ++ ys) ≡ times s xs + times s ys
+times_joined s [] ys = omega arith
+times_joined s (x ∷ xs) ys =
+    let rest = times_joined s xs ys in
+    let one = times_more s x (xs ++ ys) in
+    let two = times_more s x xs in
+    omega (arith, rest, one, two)
+
+test_one : (s x : ℕ) → x ≡ s → counts s x ≡ 1
+test_one s x e = let amount : Bool → ℕ = λ b. cond b 1 0 in ap amount (eq-eqb x s e)
+
+times_among : (s : ℕ) (xs : List ℕ) → Among xs s → 1 ≤ times s xs
+times_among s [] m = absurd (none-some s m.1)
+times_among s (x ∷ xs) (zero, e) =
+    let here = test_one s x (same_Some x s e) in
+    let more = times_more s x xs in
+    omega (arith, here, more)
+times_among s (x ∷ xs) (suc i, e) =
+    let rest = times_among s xs (i, e) in
+    let more = times_more s x xs in
+    omega (arith, rest, more)
+
+among_times : (s : ℕ) (xs : List ℕ) → 1 ≤ times s xs → Among xs s
+among_times s [] le = absurd (omega (arith, le))
+among_times s (x ∷ xs) le =
+    elim (cases_Bool (eqb x s)) [
+      | inl t ↦ (0, ap Some (eqb-true x s t))
+      | inr f ↦
+          let more = times_more s x xs in
+          let amount : Bool → ℕ = λ b. cond b 1 0 in
+          let none : counts s x ≡ 0 = ap amount f in
+          among_later x xs s (among_times s xs (omega (arith, le, more, none)))
+    ]
+
+-- a number that stands at most once stands at one place
+times_once : (s : ℕ) (xs : List ℕ) → times s xs ≤ 1 → (i j : ℕ) → At xs i s → At xs j s → i ≡ j
+times_once s [] le i j e f = absurd (none-some s e)
+times_once s (x ∷ xs) le zero zero e f = refl
+times_once s (x ∷ xs) le zero (suc j) e f =
+    let here = test_one s x (same_Some x s e) in
+    let more = times_more s x xs in
+    let rest = times_among s xs (j, f) in
+    absurd (omega (arith, here, more, rest, le))
+times_once s (x ∷ xs) le (suc i) zero e f =
+    let here = test_one s x (same_Some x s f) in
+    let more = times_more s x xs in
+    let rest = times_among s xs (i, e) in
+    absurd (omega (arith, here, more, rest, le))
+times_once s (x ∷ xs) le (suc i) (suc j) e f =
+    let more = times_more s x xs in
+    ap suc (times_once s xs (omega (arith, more, le)) i j e f)
+
+-- ---- the image of a list
+
+at_map : {X Y : Type 0} (f : X → Y) (xs : List X) (i : ℕ) (x : X) → At xs i x → At (map f xs) i (f x)
+at_map f [] i x e = absurd (none-some x e)
+at_map f (y ∷ ys) zero x e = ap (λ z. Some (f z)) (same_Some y x e)
+at_map f (y ∷ ys) (suc i) x e = at_map f ys i x e
+
+same_at : {X : Type 0} (xs : List X) (i j : ℕ) (x y : X) → At xs i x → At xs j y → i ≡ j → x ≡ y
+same_at xs i j x y e f same = same_Some x y (sym e ∙ ap (λ k. slice_get xs k) same ∙ f)
+
+-- ---- drivers
+
+abbrev pub outputs_of : List Cover → List ℕ
+outputs_of covers = map (λ (c : Cover). c.output) covers
+
+module _ (flat : FlatModel) (model : IsFlatModel flat) (latchless : flat.latches ≡ []) where
+  interface : List ℕ
+  interface = flat.inputs ++ flat.clocks
+
+  drivers_are : (s : ℕ) → times s (drivers_of flat) ≡ times s (flat.inputs ++ flat.clocks) + times s (outputs_of flat.covers)
+  drivers_are s =
+      let a = times_joined s (flat.inputs ++ flat.clocks ++ outputs_of flat.covers) (map (λ (l : FlatLatch). l.output) flat.latches) in
+      let b = times_joined s (flat.inputs ++ flat.clocks) (outputs_of flat.covers) in
+      let none : times s (map (λ (l : FlatLatch). l.output) flat.latches) ≡ 0 = ap (λ (ls : List FlatLatch). times s (map (λ (l : FlatLatch). l.output) ls)) latchless in
+      omega (arith, a, b, none)
+
+  pub covered_below : (c : Cover) → Among flat.covers c → c.output < length flat.signals
+  covered_below c m = (all_among (λ (k : Cover). IsCover (length flat.signals) k) flat.covers c model.covers m).output
+
+  -- each signal is an input, a clock or the output of a cover
+  pub driven : (s : ℕ) → s < length flat.signals → Among (flat.inputs ++ flat.clocks) s ⊎ ((c : Cover) × Among flat.covers c × (c.output ≡ s))
+  driven s lt =
+      let one = model.one_driver s lt in
+      let sum = drivers_are s in
+      elim (cases_lt 0 (times s (flat.inputs ++ flat.clocks))) [
+        | inl some ↦ inl (among_times s (flat.inputs ++ flat.clocks) (omega (arith, some)))
+        | inr none ↦ inr (among_map (λ (c : Cover). c.output) flat.covers s (among_times s (outputs_of flat.covers) (omega (arith, one, sum, none))))
+      ]
+
+  -- the output of a cover is no input and no clock
+  pub apart : (c : Cover) → Among flat.covers c → ¬ Among (flat.inputs ++ flat.clocks) c.output
+  apart c m i =
+      let one = model.one_driver c.output (covered_below c m) in
+      let sum = drivers_are c.output in
+      let here = times_among c.output (flat.inputs ++ flat.clocks) i in
+      let there = times_among c.output (outputs_of flat.covers) (m.0, at_map (λ (k : Cover). k.output) flat.covers m.0 c m.1) in
+      omega (arith, one, sum, here, there)
+
+  -- and of no other cover
+  pub one_place : (i j : ℕ) (c d : Cover) → At flat.covers i c → At flat.covers j d → c.output ≡ d.output → i ≡ j
+  one_place i j c d e f same =
+      let one = model.one_driver c.output (covered_below c (i, e)) in
+      let sum = drivers_are c.output in
+      times_once c.output (outputs_of flat.covers) (omega (arith, one, sum)) i j
+      (at_map (λ (k : Cover). k.output) flat.covers i c e)
+      (subst (λ (n : ℕ). At (outputs_of flat.covers) j n) (sym same) (at_map (λ (k : Cover). k.output) flat.covers j d f))
+
+  pub one_cover : (c d : Cover) → Among flat.covers c → Among flat.covers d → c.output ≡ d.output → c ≡ d
+  one_cover c d m n same = same_at flat.covers m.0 n.0 c d m.1 n.1 (one_place m.0 n.0 c d m.1 n.1 same)
+
+-- what a cover reads is a signal
+pub input_below : (flat : FlatModel) → IsFlatModel flat → (c : Cover) (i : ℕ) → Among flat.covers c → Among c.inputs i → i < length flat.signals
+input_below flat model c i m n =
+    all_among (λ (s : ℕ). s < length flat.signals) c.inputs i (all_among (λ (k : Cover). IsCover (length flat.signals) k) flat.covers c model.covers m).inputs n

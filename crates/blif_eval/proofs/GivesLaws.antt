@@ -1,0 +1,204 @@
+-- Operations on a store, one after the other, and the values of rows and covers.
+use Rattle.std.proofs.Common.{◌≡◌, ℕ, zero, suc, ◌+◌, ◌<◌, ◌≤◌, ◌&&◌, ◌||◌, Bool, true, false, not, cond, List, [], ◌∷◌, drop, take, get_or, length, Result, Ok, Err, arith, ap, ap₂, subst, sym, refl, ◌∙◌}
+use Rattle.std.specs.Prelude.{All}
+use Rattle.std.proofs.Math.Seq.{drop-cons}
+use Rattle.std.proofs.lemmas.List.Folds.{list_any_more}
+use Rattle.bdd_ops.specs.Ops.{not_of, or_of}
+use Rattle.blif_eval.proofs.CoverRows.{row_same}
+use Rattle.vrt_model.proofs.Members.{all_among}
+use Rattle.bdd_core.proofs.Meaning.{meaning_one, meaning_zero}
+use Rattle.bdd_core.specs.Diagram.{Function, IsReduced, IsSame, Valuation, meaning}
+use Rattle.bdd_core.specs.Store.{Diagrams, IsExact, IsLive, IsSpan, Makes, function_of}
+use Rattle.bdd_core.specs.declared.handle.H.{H}
+use Rattle.bdd_core.specs.declared.handle.Spent.{Spent}
+use Rattle.blif_eval.specs.Gives.{AreLive, Gives, bits_in, handle_in}
+use Rattle.node_pool.specs.declared.region.Node.{Node}
+use Rattle.node_pool.specs.declared.region.Span.{Span}
+use Rattle.vrt_model.specs.Covers.{byte_fits, cover_bit, is_empty, row_fits, some_row_fits}
+use Rattle.vrt_model.specs.declared.flat_model.Cover.{Cover}
+
+pub gives_made : (old new : Diagrams) (f g : Function) (r : Result H Spent) → IsSame f g → Makes old new f r → IsExact old new f r → Gives old new g r
+gives_made old new f g (Ok r) same m x = record {
+  rest = m.rest;
+  sound = m.sound;
+  kept = x.kept;
+  ok = record { live = m.ok.live; same = λ v. m.ok.same v ∙ same v };
+  spent = tt;
+}
+gives_made old new f g (Err s) same m x = record { rest = m.rest; sound = m.sound; kept = x.kept; ok = tt; spent = (m.spent.number, m.spent.full) }
+
+pub gives_none : (d : Diagrams) (f : Function) (r : H) → IsReduced d.vars d.nodes → IsLive d r → IsSame (function_of d r) f → Gives d d f (Ok r)
+gives_none d f r sound live same = record {
+  rest = refl;
+  sound = sound;
+  kept = λ h l. (l, λ v. refl);
+  ok = record { live = live; same = same };
+  spent = tt;
+}
+
+abbrev with_nodes : List Node → Diagrams → Diagrams
+with_nodes ns d = record d { nodes = ns }
+
+pub gives_next : (a b c : Diagrams) (f g h : Function) (p : H) (r : Result H Spent) → Gives a b f (Ok p) → Gives b c g r → IsSame g h → Gives a c h r
+gives_next a b c f g h p (Ok r) first second same = record {
+  rest = second.rest ∙ ap (with_nodes c.nodes) first.rest;
+  sound = second.sound;
+  kept = λ x live. let one = first.kept x live in let two = second.kept x one.0 in (two.0, λ v. two.1 v ∙ one.1 v);
+  ok = record { live = second.ok.live; same = λ v. second.ok.same v ∙ same v };
+  spent = tt;
+}
+gives_next a b c f g h p (Err s) first second same = record {
+  rest = second.rest ∙ ap (with_nodes c.nodes) first.rest;
+  sound = second.sound;
+  kept = λ x live. let one = first.kept x live in let two = second.kept x one.0 in (two.0, λ v. two.1 v ∙ one.1 v);
+  ok = tt;
+  spent = second.spent;
+}
+
+-- ---- one literal
+
+pub zero_literal : (a b : Bool) → cond a false b ≡ (byte_fits 48 a && b)
+zero_literal true b = refl
+zero_literal false b = refl
+
+pub one_literal : (a b : Bool) → cond a b false ≡ (byte_fits 49 a && b)
+one_literal true b = refl
+one_literal false b = refl
+
+-- ---- spans are kept
+
+pub span_kept : (a b : Diagrams) (f : Function) (r : Result H Spent) (span : Span) → Gives a b f r → IsSpan a span → IsSpan b span
+span_kept a b f r span g is = subst (λ (d : Diagrams). IsSpan d span) (sym g.rest) is
+
+pub handle_kept : (a b : Diagrams) (f : Function) (r : Result H Spent) (span : Span) (s : ℕ) → Gives a b f r → handle_in b span s ≡ handle_in a span s
+handle_kept a b f r span s g = ap (λ (d : Diagrams). handle_in d span s) g.rest
+
+pub live_kept : (a b : Diagrams) (f : Function) (r : Result H Spent) (span : Span) → Gives a b f r → AreLive a span → AreLive b span
+live_kept a b f r span g live s lt =
+    let same = handle_kept a b f r span s g in
+    let there = (g.kept (record { 0 = handle_in a span s }) (live s lt)).0 in
+    omega (arith, same, there)
+
+pub bits_kept : (a b : Diagrams) (f : Function) (r : Result H Spent) (span : Span) (s : ℕ) (v : Valuation) → Gives a b f r → AreLive a span → s < span.len
+    → bits_in b span v s ≡ bits_in a span v s
+bits_kept a b f r span s v g live lt =
+    ap (λ (k : ℕ). meaning b.nodes k v) (handle_kept a b f r span s g) ∙ (g.kept (record { 0 = handle_in a span s }) (live s lt)).1 v
+
+-- ---- a row, from its last input to its first
+
+drop_all : {X : Type 0} (xs : List X) → drop (length xs) xs ≡ []
+drop_all [] = refl
+drop_all (x ∷ xs) = drop_all xs
+
+abbrev pub row_from : Diagrams → Span → List ℕ → List ℕ → ℕ → Function
+row_from d span inputs row at = λ v. row_fits (bits_in d span v) (drop at inputs) (drop at row)
+
+pub row_last : (d : Diagrams) (span : Span) (inputs row : List ℕ) (at : ℕ) → at ≡ length inputs → IsReduced d.vars d.nodes
+    → Gives d d (row_from d span inputs row at) (Ok (record { 0 = 1 }))
+row_last d span inputs row at is sound =
+    gives_none d (row_from d span inputs row at) (record { 0 = 1 }) sound (let ends = sound.ends in omega (arith, ends))
+    (λ v. meaning_one d.nodes v ∙ sym (ap (λ (xs : List ℕ). row_fits (bits_in d span v) xs (drop at row)) (ap (λ (k : ℕ). drop k inputs) is ∙ drop_all inputs)))
+
+pub row_next : (a b c : Diagrams) (span : Span) (inputs row : List ℕ) (before at : ℕ) (value p : H) (r : Result H Spent) → before ≡ suc at → AreLive a span
+    → at < length inputs → at < length row → get_or inputs at 0 < span.len → value.0 ≡ handle_in b span (get_or inputs at 0)
+    → Gives a b (row_from a span inputs row before) (Ok p) → Gives b c (λ v. byte_fits (get_or row at 0) (function_of b value v) && function_of b p v) r
+    → Gives a c (row_from a span inputs row at) r
+row_next a b c span inputs row before at value p r next live lt within low is first second =
+    gives_next a b c (row_from a span inputs row before) (λ v. byte_fits (get_or row at 0) (function_of b value v) && function_of b p v) (row_from a span inputs row at) p r first second same
+  where
+    same : (v : Valuation) → (byte_fits (get_or row at 0) (function_of b value v) && function_of b p v) ≡ row_from a span inputs row at v
+    same v =
+        let bit : function_of b value v ≡ bits_in a span v (get_or inputs at 0) =
+        ap (λ (k : ℕ). meaning b.nodes k v) is ∙ bits_kept a b (row_from a span inputs row before) (Ok p) span (get_or inputs at 0) v first live low in
+        let rest : function_of b p v ≡ row_fits (bits_in a span v) (drop (suc at) inputs) (drop (suc at) row) =
+        first.ok.same v ∙ ap (λ (k : ℕ). row_fits (bits_in a span v) (drop k inputs) (drop k row)) next in
+        let whole : row_from a span inputs row at v ≡ (byte_fits (get_or row at 0) (bits_in a span v (get_or inputs at 0)) && row_fits (bits_in a span v) (drop (suc at) inputs) (drop (suc at) row)) =
+        ap₂ (λ (xs ys : List ℕ). row_fits (bits_in a span v) xs ys) (drop-cons inputs at 0 lt) (drop-cons row at 0 within) in
+        ap₂ (λ (x y : Bool). byte_fits (get_or row at 0) x && y) bit rest ∙ sym whole
+
+-- a refusal says nothing of the function
+pub gives_refused : (a b c : Diagrams) (f g h : Function) (p : H) (s : Spent) → Gives a b f (Ok p) → Gives b c g (Err s) → Gives a c h (Err s)
+gives_refused a b c f g h p s first second = record {
+  rest = second.rest ∙ ap (with_nodes c.nodes) first.rest;
+  sound = second.sound;
+  kept = λ x live. let one = first.kept x live in let two = second.kept x one.0 in (two.0, λ v. two.1 v ∙ one.1 v);
+  ok = tt;
+  spent = second.spent;
+}
+
+-- ---- rows, one after the other
+
+abbrev pub rows_upto : Diagrams → Span → List ℕ → List (List ℕ) → ℕ → Function
+rows_upto d span inputs rows k = λ v. some_row_fits (bits_in d span v) inputs (take k rows)
+
+pub rows_none : (d : Diagrams) (span : Span) (inputs : List ℕ) (rows : List (List ℕ)) → IsReduced d.vars d.nodes → Gives d d (rows_upto d span inputs rows 0) (Ok (record { 0 = 0 }))
+rows_none d span inputs rows sound =
+    gives_none d (rows_upto d span inputs rows 0) (record { 0 = 0 }) sound (let ends = sound.ends in omega (arith, ends)) (λ v. meaning_zero d.nodes v)
+
+-- the same bits of the inputs, the same rows fit
+row_bits : (a b : Diagrams) (f : Function) (r : Result H Spent) (span : Span) (v : Valuation) (inputs row : List ℕ) → Gives a b f r → AreLive a span
+    → All (λ s. s < span.len) inputs → row_fits (bits_in b span v) inputs row ≡ row_fits (bits_in a span v) inputs row
+row_bits a b f r span v inputs row g live low =
+    row_same (bits_in b span v) (bits_in a span v) inputs row (λ s m. bits_kept a b f r span s v g live (all_among (λ (k : ℕ). k < span.len) inputs s low m))
+
+-- a row, and then both
+pub added_row : (a b c : Diagrams) (span : Span) (inputs row : List ℕ) (sum one : H) (r : Result H Spent) → IsLive a sum
+    → Gives a b (λ v. row_fits (bits_in a span v) inputs row) (Ok one) → Gives b c (or_of (function_of b sum) (function_of b one)) r
+    → Gives a c (λ v. function_of a sum v || row_fits (bits_in a span v) inputs row) r
+added_row a b c span inputs row sum one r there first second =
+    gives_next a b c (λ v. row_fits (bits_in a span v) inputs row) (or_of (function_of b sum) (function_of b one)) (λ v. function_of a sum v || row_fits (bits_in a span v) inputs row) one r first second
+    (λ v. ap₂ (λ (x y : Bool). x || y) ((first.kept sum there).1 v) (first.ok.same v))
+
+-- a row more
+pub rows_next : (a b c : Diagrams) (span : Span) (inputs : List ℕ) (rows : List (List ℕ)) (k : ℕ) (sum : H) (r : Result H Spent) → AreLive a span
+    → All (λ s. s < span.len) inputs → k < length rows → Gives a b (rows_upto a span inputs rows k) (Ok sum)
+    → Gives b c (λ v. function_of b sum v || row_fits (bits_in b span v) inputs (get_or rows k [])) r → Gives a c (rows_upto a span inputs rows (k + 1)) r
+rows_next a b c span inputs rows k sum r live low lt first second =
+    gives_next a b c (rows_upto a span inputs rows k) (λ v. function_of b sum v || row_fits (bits_in b span v) inputs (get_or rows k [])) (rows_upto a span inputs rows (k + 1)) sum r first second both
+  where
+    both : (v : Valuation) → (function_of b sum v || row_fits (bits_in b span v) inputs (get_or rows k [])) ≡ rows_upto a span inputs rows (k + 1) v
+    both v =
+        ap₂ (λ (x y : Bool). x || y) (first.ok.same v) (row_bits a b (rows_upto a span inputs rows k) (Ok sum) span v inputs (get_or rows k []) first live low)
+        ∙ sym (list_any_more (row_fits (bits_in a span v) inputs) rows k [] lt)
+
+-- ---- the bit of a cover
+
+pub rows_all : (a b : Diagrams) (span : Span) (inputs : List ℕ) (rows : List (List ℕ)) (k : ℕ) (sum : H) → length rows ≤ k → Gives a b (rows_upto a span inputs rows k) (Ok sum)
+    → Gives a b (λ v. some_row_fits (bits_in a span v) inputs rows) (Ok sum)
+rows_all a b span inputs rows k sum le g = record {
+  rest = g.rest;
+  sound = g.sound;
+  kept = g.kept;
+  ok = record { live = g.ok.live; same = λ v. g.ok.same v ∙ ap (λ (xs : List (List ℕ)). some_row_fits (bits_in a span v) inputs xs) (take_all rows k le) };
+  spent = tt;
+} where
+  take_all : {X : Type 0} (xs : List X) (k : ℕ) → length xs ≤ k → take k xs ≡ xs
+  take_all [] zero le = refl
+  take_all [] (suc k) le = refl
+  take_all (x ∷ xs) zero le = absurd (omega (arith, le))
+  take_all (x ∷ xs) (suc k) le = ap (λ ys. x ∷ ys) (take_all xs k (omega (arith, le)))
+
+pub cover_as_rows : (bits : ℕ → Bool) (cover : Cover) → (cover.on || is_empty cover.rows) ≡ true → some_row_fits bits cover.inputs cover.rows ≡ cover_bit bits cover
+cover_as_rows bits cover e = let some = some_row_fits bits cover.inputs cover.rows in sym (ap (λ (b : Bool). cond b some (not some)) e)
+
+pub cover_as_none : (bits : ℕ → Bool) (cover : Cover) → (cover.on || is_empty cover.rows) ≡ false → not (some_row_fits bits cover.inputs cover.rows) ≡ cover_bit bits cover
+cover_as_none bits cover e = let some = some_row_fits bits cover.inputs cover.rows in sym (ap (λ (b : Bool). cond b some (not some)) e)
+
+pub cover_rows : (a b : Diagrams) (span : Span) (cover : Cover) (r : Result H Spent) → (cover.on || is_empty cover.rows) ≡ true
+    → Gives a b (λ v. some_row_fits (bits_in a span v) cover.inputs cover.rows) r → Gives a b (λ v. cover_bit (bits_in a span v) cover) r
+cover_rows a b span cover (Ok p) e g = record {
+  rest = g.rest;
+  sound = g.sound;
+  kept = g.kept;
+  ok = record { live = g.ok.live; same = λ v. g.ok.same v ∙ cover_as_rows (bits_in a span v) cover e };
+  spent = tt;
+}
+cover_rows a b span cover (Err s) e g = record { rest = g.rest; sound = g.sound; kept = g.kept; ok = tt; spent = g.spent }
+
+pub cover_none : (a b c : Diagrams) (span : Span) (cover : Cover) (sum : H) (r : Result H Spent) → (cover.on || is_empty cover.rows) ≡ false
+    → Gives a b (λ v. some_row_fits (bits_in a span v) cover.inputs cover.rows) (Ok sum) → Makes b c (not_of (function_of b sum)) r → IsExact b c (not_of (function_of b sum)) r
+    → Gives a c (λ v. cover_bit (bits_in a span v) cover) r
+cover_none a b c span cover sum r e first m x =
+    gives_next a b c (λ v. some_row_fits (bits_in a span v) cover.inputs cover.rows) (not_of (function_of b sum)) (λ v. cover_bit (bits_in a span v) cover) sum r first
+    (gives_made b c (not_of (function_of b sum)) (not_of (function_of b sum)) r (λ v. refl) m x)
+    (λ v. ap not (first.ok.same v) ∙ cover_as_none (bits_in a span v) cover e)

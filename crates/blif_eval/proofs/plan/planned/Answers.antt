@@ -1,0 +1,13 @@
+use Rattle.std.proofs.Common.{ℕ, List, sym, subst}
+use Rattle.blif_eval.proofs.GraphLaws.{plan_gives}
+use Rattle.blif_eval.specs.Graphs.{AreInside}
+use Rattle.blif_eval.specs.Orders.{OrderGives}
+use Rattle.blif_eval.proofs.plan.planned.Goals as goal
+
+pub order_of-requires-clause-inside : goal.order_of-requires-clause-inside
+order_of-requires-clause-inside c = subst AreInside (sym c.as_slice.ensures) c.in_ok-graph.ensures.inside
+
+pub returns : goal.returns
+returns c =
+    λ known. plan_gives c.args.flat.now c.requires.model c.requires.latchless c.in_ok-graph.graph known c.in_ok-graph.ensures.size (c.in_ok-graph.ensures.arcs known) c.in_ok-order.order
+    (subst (λ (g : List (List ℕ)). OrderGives g c.in_ok-order.order) c.as_slice.ensures c.in_ok-order.ensures)

@@ -1,0 +1,57 @@
+-- An order of the signals and elements of a model that follows its arcs.
+use Rattle.std.specs.Prelude.{◌≡◌, ℕ, ◌+◌, ◌<◌, Bool, List, length, Option, Some, None, Result, Ok, Err, slice_get, unwrap_or}
+use Rattle.blif_eval.specs.OneAssignment.{HasOneAssignment}
+use Rattle.blif_eval.specs.declared.order.Order.{Order}
+use Rattle.blif_eval.specs.declared.order.Order.TheVariants.{Steps, Cycle}
+use Rattle.blif_eval.specs.declared.plan.ModelPlan.{ModelPlan}
+use Rattle.blif_eval.specs.declared.plan.PlanFault.{PlanFault}
+use Rattle.blif_eval.specs.declared.plan.PlanFault.TheVariants.{ModelCycle, NoMemory}
+use Rattle.vrt_model.specs.Elements.{element_names}
+use Rattle.vrt_model.specs.Known.{IsCycle, IsFirstCycle}
+use Rattle.vrt_model.specs.Lists.{At, Among}
+use Rattle.vrt_model.specs.ModelArcs.{AreGiven, HasModelArc}
+use Rattle.vrt_model.specs.declared.flat_model.FlatModel.{FlatModel}
+
+-- each number below a count stands once, and no other
+pub record ListsOnce (count : ℕ) (steps : List ℕ) : Type 0 where
+  pub all : (n : ℕ) → n < count → Among steps n
+  pub below : (n : ℕ) → Among steps n → n < count
+  pub once : (i j n : ℕ) → At steps i n → At steps j n → i ≡ j
+
+-- where an arc leads to a number, it comes from one before
+abbrev pub Follows : (ℕ → ℕ → Type 0) → List ℕ → Type 0
+Follows Arc steps = (from to k : ℕ) → At steps k to → Arc from to → (j : ℕ) × (j < k) × At steps j from
+
+-- how many signals and elements a model has
+abbrev pub node_count : FlatModel → ℕ
+node_count flat = length flat.signals + length (element_names flat)
+
+-- the bits that are known: one entry for each signal, and one more for the default clock
+abbrev pub entry_of : List (Option Bool) → ℕ → Option Bool
+entry_of known s = unwrap_or (slice_get known s) None
+
+abbrev pub ArcOf : FlatModel → List (Option Bool) → ℕ → ℕ → Type 0
+ArcOf flat known = HasModelArc flat (entry_of known) (entry_of known (length flat.signals))
+
+-- exactly one assignment, at any bits that are as is known
+abbrev pub IsAssignedOnce : FlatModel → List (Option Bool) → Type 0
+IsAssignedOnce flat known =
+    (default_clock : Bool) (held inputs : ℕ → Bool) → AreGiven flat (entry_of known) inputs
+    → ((v : Bool) → entry_of known (length flat.signals) ≡ Some v → v ≡ default_clock) → HasOneAssignment flat default_clock held inputs
+
+-- a plan of a model: an order that follows the arcs, which have no cycle; and then there is one assignment
+pub record IsPlan (flat : FlatModel) (known : List (Option Bool)) (steps : List ℕ) : Type 0 where
+  pub lists : ListsOnce (node_count flat) steps
+  pub follows : Follows (ArcOf flat known) steps
+  pub acyclic : (nodes : List ℕ) → ¬ IsCycle (ArcOf flat known) nodes
+  pub assigned : IsAssignedOnce flat known
+
+abbrev pub PlanGives : FlatModel → List (Option Bool) → Result ModelPlan PlanFault → Type 0
+PlanGives flat known (Ok plan) = IsPlan flat known plan.steps
+PlanGives flat known (Err (ModelCycle signals)) = IsFirstCycle (ArcOf flat known) signals
+PlanGives flat known (Err NoMemory) = Unit {0}
+
+-- the answer by the order of a graph
+abbrev pub plan_by : Order → Result ModelPlan PlanFault
+plan_by (Steps steps) = Ok (record { steps = steps })
+plan_by (Cycle nodes) = Err (ModelCycle nodes)

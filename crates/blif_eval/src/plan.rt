@@ -1,0 +1,57 @@
+//! The order in which the signals and elements of a model take their values.
+
+ghost use Rattle.std.specs.Prelude.{◌≡◌, ◌+◌, [], Bool, List, Option, length, IfOk};
+ghost use Rattle.blif_eval.specs.Plans.{PlanGives, plan_by};
+ghost use Rattle.vrt_model.specs.FlatModels.{IsFlatModel};
+
+use crate::graph::graph_of;
+use crate::order::{Order, order_of};
+use std::alloc::Global;
+use vrt_model::{FlatModel, NoMemory, Seq};
+
+/// The signals and elements of a model in an order that follows what depends on what. Elements are numbered after the
+/// signals.
+#[derive(Debug, Drop)]
+pub struct ModelPlan {
+    pub steps: Seq<u32>,
+}
+
+/// Why a model has no plan: what depends on what leads around. The cycle begins with the least number on any.
+#[derive(Debug, Drop)]
+pub enum PlanFault {
+    ModelCycle { signals: Seq<u32> },
+    NoMemory,
+}
+
+/// The order of what depends on what in a model, or the first cycle.
+fn planned(alloc: Global, flat: &FlatModel) -> Result<Order, NoMemory>
+    requires model { IsFlatModel flat.now }
+    requires latchless { flat.now.latches ≡ [] }
+    ensures { IfOk result (λ o. (known : List (Option Bool)) → PlanGives flat.now known (plan_by o)) }
+{
+    let graph = graph_of(alloc, flat)?;
+    let order = order_of(alloc, graph.as_slice())?;
+    Ok(order)
+}
+
+/// The signals of a model without latches in an order that follows what depends on what, or, where that leads around, a
+/// cycle through the least number on any. `known` has the bit of each signal that carries a clock, and behind the
+/// signals that of the default clock. Where there is a plan, the model has exactly one assignment, for any bits of
+/// its inputs. Nothing but want of memory refuses beside.
+pub fn model_plan(
+    alloc: Global,
+    flat: &FlatModel,
+    known: &Seq<Option<bool>>,
+) -> Result<ModelPlan, PlanFault>
+    requires model { IsFlatModel flat.now }
+    requires latchless { flat.now.latches ≡ [] }
+    requires known { length known.now ≡ length flat.now.signals + 1 }
+    ensures { PlanGives flat.now known.now result }
+{
+    let _no_control = known;
+    match planned(alloc, flat) {
+        Ok(Order::Steps(steps)) => Ok(ModelPlan { steps }),
+        Ok(Order::Cycle(signals)) => Err(PlanFault::ModelCycle { signals }),
+        Err(_) => Err(PlanFault::NoMemory),
+    }
+}

@@ -1,0 +1,13 @@
+pub mod Counts
+pub mod Fitting
+pub mod Frames
+pub mod Opened
+pub mod Passing
+pub mod Places
+pub mod ReachLaws
+pub mod ReachSpreading
+pub mod RoundLaws
+pub mod SignalLaws
+pub mod SolveLaws
+pub mod SourceLaws
+pub mod Spreading

@@ -1,0 +1,146 @@
+-- One device: what it passes on in one direction, and in both.
+use Rattle.std.proofs.Common.{◌≡◌, ◌≢◌, ℕ, ◌+◌, ◌<◌, ◌≤◌, Bool, true, false, cond, not, ◌||◌, ◌&&◌, List, Option, Some, None, Ok, get_or, ap, ap₂, refl, sym, subst, ◌∙◌, inl, inr}
+use Rattle.std.specs.Prelude.{IfSome, IsNone}
+use Rattle.std.proofs.lemmas.Bool.{cases_eq, or_cases, and_parts, false≢true}
+use Rattle.std.proofs.lemmas.Option.{same_Some}
+use Rattle.node_pool.specs.declared.region.Span.{Span}
+use Rattle.bdd_core.specs.declared.handle.H.{H}
+use Rattle.bdd_core.specs.Diagram.{Valuation, meaning}
+use Rattle.bdd_core.specs.Store.{Diagrams, Makes}
+use Rattle.vrt_model.proofs.PathKinds.{arrives_on, arrives_root}
+use Rattle.vrt_model.proofs.Strength.{AtLeast, HopHas, RootHas}
+use Rattle.vrt_model.specs.Lists.{At, Among}
+use Rattle.vrt_model.specs.Path.{Joins, Network, Root}
+use Rattle.vrt_model.specs.Reading.{conducts, conducts_at}
+use Rattle.vrt_model.specs.declared.circuit.Circuit.{Circuit}
+use Rattle.vrt_model.specs.declared.circuit.Device.{Device}
+use Rattle.vrt_model.specs.declared.circuit.FlatNet.{FlatNet}
+use Rattle.vrt_model.specs.declared.design.Kind.{Kind}
+use Rattle.path_fixpoint.specs.declared.part.Part.{Part}
+use Rattle.path_fixpoint.specs.Parts.{IsGiven, IsPart, IsPlace}
+use Rattle.path_fixpoint.specs.Passed.{IsWider, gated}
+use Rattle.path_fixpoint.specs.Strengths.{HasPaths, HasWords, IsStrong, Passes, strong, strong_end, word_of}
+use Rattle.path_fixpoint.specs.Words.{IsFilled, Writes, word_at}
+use Rattle.path_fixpoint.proofs.Frames.{made_words, shows_kept, writes_made}
+use Rattle.path_fixpoint.proofs.Places.{place_once, place_word, words_differ}
+
+pub or_left : (a b : Bool) → a ≡ true → (a || b) ≡ true
+or_left a b e = ap (λ (x : Bool). x || b) e
+
+pub or_right : (a b : Bool) → b ≡ true → (a || b) ≡ true
+or_right true b e = refl
+or_right false b e = e
+
+pub and_both : (a b : Bool) → a ≡ true → b ≡ true → (a && b) ≡ true
+and_both true b e f = f
+and_both false b e f = absurd (false≢true e)
+
+-- a p-device conducts where its gate is 0
+pub blocked_choice : (a b : Bool) → cond a false b ≡ (not a && b)
+blocked_choice true b = refl
+blocked_choice false b = refl
+
+-- a word that shows a signal too, and the signal that a device passes on
+module _ (out : Span) (level : ℕ) (kind : Kind) (gate : ℕ) (from : Option ℕ) (i : ℕ) (old mid new : Diagrams) (signal passed : H) (changed : Bool)
+    (signal_is : (v : Valuation) → meaning old.nodes signal.0 v ≡ strong_end old out level from v)
+    (made : Makes old mid (gated kind (meaning old.nodes gate) (meaning old.nodes signal.0)) (Ok passed))
+    (live : IsFilled old out)
+    (wider : IsWider out (word_of level i) (meaning mid.nodes passed.0) changed mid new)
+    (wrote : Writes out mid new)
+    (apart : (k : ℕ) → k ≢ word_of level i → word_at new out k ≡ word_at mid out k)
+    (inside : word_of level i < out.len) where
+  made_writes : Writes out old mid
+  made_writes = writes_made out old mid (gated kind (meaning old.nodes gate) (meaning old.nodes signal.0)) (Ok passed) live made
+
+  before : (j : ℕ) → word_of level j < out.len → (v : Valuation) → strong mid out level j v ≡ strong old out level j v
+  before j lt v = shows_kept out out old mid (word_of level j) v made_writes
+      (ap (λ (ws : List ℕ). get_or ws (out.start + word_of level j) 0) (made_words old mid (gated kind (meaning old.nodes gate) (meaning old.nodes signal.0)) (Ok passed) made)) (live (word_of level j) lt)
+
+  here : (v : Valuation) → strong new out level i v ≡ (strong old out level i v || (conducts_at kind (meaning old.nodes gate v) && strong_end old out level from v))
+  here v = wider.here v ∙ ap₂ (λ (a b : Bool). a || b) (before i inside v)
+      (made.ok.same v ∙ ap (λ (b : Bool). conducts_at kind (meaning old.nodes gate v) && b) (signal_is v))
+
+  other : (j : ℕ) → word_of level j < out.len → j ≢ i → (v : Valuation) → strong new out level j v ≡ strong old out level j v
+  other j lt ne v = shows_kept out out mid new (word_of level j) v wrote (apart (word_of level j) (λ e. ne (words_differ level j i e))) (made_writes.live (word_of level j) lt) ∙ before j lt v
+
+  pub passes_from : Passes out level kind gate from (Some i) changed old new
+  passes_from = record {
+    grown = λ j lt v e. elim (cases_eq j i) [
+      | inl is ↦ subst (λ (x : ℕ). strong new out level x v ≡ true) (sym is)
+          (here v ∙ or_left (strong old out level i v) (conducts_at kind (meaning old.nodes gate v) && strong_end old out level from v) (subst (λ (x : ℕ). strong old out level x v ≡ true) is e))
+      | inr ne ↦ other j lt ne v ∙ e
+    ];
+    passed = λ j is v on seen. subst (λ (x : ℕ). strong new out level x v ≡ true) (same_Some i j is)
+        (here v ∙ or_right (strong old out level i v) (conducts_at kind (meaning old.nodes gate v) && strong_end old out level from v)
+        (and_both (conducts_at kind (meaning old.nodes gate v)) (strong_end old out level from v) on seen));
+    only = λ j lt v e. elim (cases_eq j i) [
+      | inl is ↦ elim (or_cases (strong old out level i v) (conducts_at kind (meaning old.nodes gate v) && strong_end old out level from v)
+          (sym (here v) ∙ subst (λ (x : ℕ). strong new out level x v ≡ true) is e)) [
+            | inl was ↦ inl (subst (λ (x : ℕ). strong old out level x v ≡ true) (sym is) was)
+            | inr new' ↦ let parts = and_parts (conducts_at kind (meaning old.nodes gate v)) (strong_end old out level from v) new' in inr (ap Some (sym is), parts.0, parts.1)
+          ]
+      | inr ne ↦ inl (sym (other j lt ne v) ∙ e)
+    ];
+    same = λ e. wider.same e ∙ made_words old mid (gated kind (meaning old.nodes gate) (meaning old.nodes signal.0)) (Ok passed) made;
+  }
+
+none-some : {X : Type 0} (x : X) → None ≡ Some x → ⊥
+none-some x e = cc e
+
+-- nothing is passed on to a net outside the part
+pub passes_none : (out : Span) (level : ℕ) (kind : Kind) (gate : ℕ) (from : Option ℕ) (d : Diagrams) → Passes out level kind gate from None false d d
+passes_none out level kind gate from d = record {
+  grown = λ i lt v e. e;
+  passed = λ i e. absurd (none-some i e);
+  only = λ i lt v e. inl e;
+  same = λ e. refl;
+}
+
+-- where a net stands in a part
+pub record EndIs (part : Part) (place : Option ℕ) (n : ℕ) : Type 0 where
+  pub some : IfSome place (λ i. IsPlace part i n)
+  pub none : IsNone place → (i : ℕ) → IsPlace part i n → ⊥
+
+end_strong : (part : Part) (out : Span) (level : ℕ) (d : Diagrams) (v : Valuation) (place : Option ℕ) (n : ℕ) → EndIs part place n → IsStrong part out level d v n → strong_end d out level place v ≡ true
+end_strong part out level d v (Some i) n e s = s i e.some
+end_strong part out level d v None n e s = refl
+
+-- one direction, from the net m to the net n
+module _ (c : Circuit) (part : Part) (is_part : IsPart c part) (gates out : Span) (level : ℕ) (low : 1 ≤ level) (high : level ≤ 8)
+    (kind : Kind) (gate : ℕ) (changed : Bool) (m n : ℕ) where
+  pub over : (from to : Option ℕ) (old new : Diagrams) → EndIs part from m → EndIs part to n → Passes out level kind gate from to changed old new
+      → (v : Valuation) → conducts_at kind (meaning old.nodes gate v) ≡ true → IsStrong part out level old v m → IsStrong part out level new v n
+  over from None old new e f p v on s = λ j q. absurd (f.none refl j q)
+  over from (Some i) old new e f p v on s = λ j q.
+      subst (λ (x : ℕ). strong new out level x v ≡ true) (is_part.once i j n f.some q)
+      (p.passed i refl v on (end_strong part out level old v from m e s))
+
+  -- the end of a channel that is marked is the end of a path
+  end_path : (from : Option ℕ) (d : Diagrams) (v : Valuation) (w : Network) → EndIs part from m → (from ≡ None → AtLeast w level m) → HasPaths part out level d v w
+      → strong_end d out level from v ≡ true → AtLeast w level m
+  end_path (Some i) d v w e given paths s = paths i m e.some s
+  end_path None d v w e given paths s = given refl
+
+  placed : (to : Option ℕ) (j : ℕ) → EndIs part to n → to ≡ Some j → IsPlace part j n
+  placed (Some i) j f e = subst (λ (x : ℕ). IsPlace part x n) (same_Some i j e) f.some
+  placed None j f e = absurd (none-some j e)
+
+  pub over_paths : (from to : Option ℕ) (old new : Diagrams) (d : Device) (w : Network) (v : Valuation) → HasWords c part gates out old → EndIs part from m → EndIs part to n
+      → Passes out level kind gate from to changed old new
+      → (from ≡ None → AtLeast w level m) → Among w.devices d → (conducts_at kind (meaning old.nodes gate v) ≡ true → conducts w.reading d ≡ true) → level ≤ d.level → Joins d m n
+      → HasPaths part out level old v w → HasPaths part out level new v w
+  over_paths from to old new d w v words e f p given there on le joins paths j k q s =
+      elim (p.only j (place_word c part gates out old level j k words low high q) v s) [
+        | inl was ↦ paths j k q was
+        | inr added ↦
+            let at = end_path from old v w e given paths added.2 in
+            subst (AtLeast w level) (place_once part j n k (placed to j f added.0) q)
+            (arrives_on w (RootHas level) (HopHas level) m n d at (there, on added.1) joins le)
+      ]
+
+-- a net outside the part has a given value, so a path of the source level
+pub given_path : (c : Circuit) (w : Network) (level n : ℕ) → w.nets ≡ c.nets → w.source ≡ 8 → level ≤ 8 → IsGiven c n → AtLeast w level n
+given_path c w level n nets source high given =
+    let root : Root = record { net = n; level = 8; value = w.given n } in
+    let there : At w.nets n given.0 = subst (λ (ns : List FlatNet). At ns n given.0) (sym nets) given.1 in
+    arrives_root w (RootHas level) (HopHas level) root (inl (given.0, there, given.2, sym source, refl)) high

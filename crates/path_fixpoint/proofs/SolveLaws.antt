@@ -1,0 +1,123 @@
+-- A part solved, step by step, at each valuation.
+use Rattle.std.proofs.Common.{◌≡◌, ℕ, ◌≤◌, Bool, true, false, length, Option, arith, ap, refl, sym, subst, ◌∙◌, inl, inr}
+use Rattle.std.proofs.lemmas.Option.{slice_get_within}
+use Rattle.node_pool.specs.declared.region.Span.{Span}
+use Rattle.bdd_core.specs.Diagram.{Valuation}
+use Rattle.bdd_core.specs.Store.{Diagrams}
+use Rattle.plain_paths.specs.FlatCircuits.{IsFlat}
+use Rattle.vrt_model.proofs.Decidable.{IsFinite, strength_exists}
+use Rattle.vrt_model.proofs.Members.{all_among, at_none}
+use Rattle.vrt_model.proofs.Strength.{at_least-strength, strength-at_least}
+use Rattle.vrt_model.specs.Circuits.{IsHold}
+use Rattle.vrt_model.specs.Path.{Network}
+use Rattle.vrt_model.specs.Response.{IsStrength}
+use Rattle.vrt_model.specs.declared.circuit.Circuit.{Circuit}
+use Rattle.vrt_model.specs.declared.circuit.Hold.{Hold}
+use Rattle.path_fixpoint.specs.declared.part.Part.{Part}
+use Rattle.path_fixpoint.specs.Parts.{IsPart}
+use Rattle.path_fixpoint.specs.Reaching.{HasReach, HasRootWords, SolvedAt, slot_of}
+use Rattle.path_fixpoint.specs.Solved.{HasRootSpans, TellsReach, net_of, network_at}
+use Rattle.path_fixpoint.specs.Strengths.{ChangesLevel, HasLevel, StandsAt, TellsStrengths, strong, word_of}
+use Rattle.path_fixpoint.specs.Words.{Writes, shows}
+use Rattle.path_fixpoint.proofs.Frames.{filled_beside, shows_beside, shows_kept}
+use Rattle.path_fixpoint.proofs.Places.{levels_differ, place_word}
+use Rattle.path_fixpoint.proofs.ReachLaws.{levels_of, slot_high, slot_low, slot_place}
+use Rattle.path_fixpoint.proofs.RoundLaws.{words_from}
+use Rattle.path_fixpoint.proofs.Spreading.{device_ranges}
+
+module _ (c : Circuit) (part : Part) (is_part : IsPart c part) (flat : IsFlat c) (gates roots out : Span) where
+  pub root_words_from : (old new : Diagrams) → HasRootSpans c part gates roots out old → Writes out old new → HasRootWords c part gates roots out new
+  root_words_from old new spans w = record {
+    words = words_from c part gates out old new spans.spans w;
+    roots_span = (subst (λ (d : Diagrams). d.own ≤ roots.start) (sym w.rest) spans.roots_span.0, omega (arith, spans.roots_span.1, w.len));
+    roots_len = spans.roots_len;
+    roots_live = filled_beside out roots old new w spans.roots_apart spans.roots_live;
+    roots_apart = spans.roots_apart;
+  }
+
+  -- the network at the beginning, as the handles of then say it
+  pub stands_here : (old : Diagrams) (v : Valuation) → StandsAt c part gates old v (network_at old c part gates roots v)
+  stands_here old v = record {
+    nets = refl;
+    holds = refl;
+    outputs = refl;
+    source = refl;
+    devices = refl;
+    reading = λ n lt. refl;
+  }
+
+  -- its nets and levels are in range, so each net has a strength
+  pub is_finite : (old : Diagrams) (v : Valuation) → IsFinite (network_at old c part gates roots v) (length c.nets) 8
+  is_finite old v =
+      let w : Network = network_at old c part gates roots v in
+      record {
+        bounded = record {
+          roots = λ root r. elim r [
+            | inl g ↦ slice_get_within c.nets root.net g.0 g.1
+            | inr other ↦ elim other [
+              | inl h ↦ omega (arith, h.3, (all_among (IsHold c) c.holds h.1 flat.holds (h.0, h.2)).net)
+              | inr o ↦ absurd (at_none o.0 o.1 o.2)
+            ]
+          ];
+          hops = λ m n d on j.
+              let range = device_ranges c part d flat on.0 in
+              elim j [ inl q ↦ omega (arith, q.1, range.right) | inr q ↦ omega (arith, q.0, range.left) ];
+        };
+        most = λ root r. (levels_of c part is_part flat gates roots out true old v w (stands_here old v)).roots root r;
+      }
+
+  pub strength_here : (old : Diagrams) (v : Valuation) (n : ℕ) → (s : ℕ) × IsStrength (network_at old c part gates roots v) n s
+  strength_here old v n = strength_exists (network_at old c part gates roots v) (length c.nets) 8 (is_finite old v) n
+
+  pub levels_from : (d : Diagrams) (v : Valuation) (w : Network) → ((n : ℕ) → (s : ℕ) × IsStrength w n s) → TellsStrengths part out d v w → (level : ℕ) → 1 ≤ level → level ≤ 8 → HasLevel part out level d v w
+  levels_from d v w has tells level low high i n p =
+      let e = has n in
+      let t = tells i n level e.0 p low high e.1 in
+      (λ on. strength-at_least w n e.0 level (omega (arith, low)) e.1 (t.0 on), λ r. t.1 (at_least-strength w n e.0 level e.1 r))
+
+  -- it is solved once the words of the levels are written
+  pub solved_from : (old new : Diagrams) (v : Valuation) → HasRootSpans c part gates roots out old → Writes out old new
+      → TellsStrengths part out new v (network_at old c part gates roots v)
+      → SolvedAt c part gates roots out new v (network_at old c part gates roots v) (λ n. (strength_here old v n).0)
+  solved_from old new v spans wr tells = record {
+    stands = record {
+      nets = refl;
+      holds = refl;
+      outputs = refl;
+      source = refl;
+      devices = refl;
+      reading = λ n lt. shows_beside out gates old new n v wr spans.spans.apart spans.spans.gates_live (omega (arith, lt, spans.spans.gates_len));
+    };
+    given = λ n lt. shows_beside out roots old new n v wr spans.roots_apart spans.roots_live (omega (arith, lt, spans.roots_len));
+    held = λ at hold e.
+        let lt = (all_among (IsHold c) c.holds hold flat.holds (at, e)).net in
+        shows_beside out roots old new hold.net.0 v wr spans.roots_apart spans.roots_live (omega (arith, lt, spans.roots_len))
+        ∙ ap (λ (o : Option Hold). shows old roots (net_of o) v) (sym e);
+    strength = λ n. (strength_here old v n).1;
+    solved = levels_from new v (network_at old c part gates roots v) (strength_here old v) tells;
+  }
+
+  -- the words of the levels stay, where those of a value alone change
+  pub tells_stay : (value : Bool) (a b : Diagrams) (v : Valuation) (w : Network) → HasRootWords c part gates roots out a → Writes out a b → ChangesLevel out (slot_of value) a b
+      → TellsStrengths part out a v w → TellsStrengths part out b v w
+  tells_stay value a b v w words wr changes tells i n level s p low high is =
+      let same : strong b out level i v ≡ strong a out level i v =
+      shows_kept out out a b (word_of level i) v wr
+      (changes (word_of level i) (λ j e. omega (arith, levels_differ level (slot_of value) i j low (omega (arith, high)) (omega (arith, slot_low value)) (slot_high value) e, high, slot_low value)))
+      (words.words.out_live (word_of level i) (place_word c part gates out a level i n words.words low high p)) in
+      let t = tells i n level s p low high is in
+      (λ e. t.0 (sym same ∙ e), λ le. same ∙ t.1 le)
+
+  -- and so do those of 0, where those of 1 change
+  pub zeros_stay : (a b : Diagrams) (v : Valuation) (w : Network) → HasRootWords c part gates roots out a → Writes out a b → ChangesLevel out (slot_of true) a b
+      → HasReach part out false a v w → HasReach part out false b v w
+  zeros_stay a b v w words wr changes is i n p =
+      let same : strong b out (slot_of false) i v ≡ strong a out (slot_of false) i v =
+      shows_kept out out a b (word_of (slot_of false) i) v wr
+      (changes (word_of (slot_of false) i) (λ j e. omega (arith, levels_differ 9 10 i j (omega arith) (omega arith) (omega arith) (omega arith) e)))
+      (words.words.out_live (word_of (slot_of false) i) (slot_place c part is_part flat gates roots out false a i n words p)) in
+      (λ e. (is i n p).0 (sym same ∙ e), λ r. same ∙ (is i n p).1 r)
+
+  pub both_reach : (d : Diagrams) (v : Valuation) (w : Network) → HasReach part out false d v w → HasReach part out true d v w → TellsReach part out d v w
+  both_reach d v w zeros ones i n true p = ones i n p
+  both_reach d v w zeros ones i n false p = zeros i n p

@@ -1,0 +1,173 @@
+-- Both directions of a device, and one device after another.
+use Rattle.std.proofs.Common.{◌≡◌, ℕ, ◌+◌, ◌<◌, ◌≤◌, ◌⊎◌, Bool, true, false, ◌||◌, List, [], ◌∷◌, length, Option, Some, None, arith, ap, refl, sym, subst, ◌∙◌, inl, inr}
+use Rattle.std.specs.Prelude.{zero, suc, slice_get, filter_map}
+use Rattle.std.specs.List.{cons_option}
+use Rattle.std.proofs.lemmas.Bool.{cases_lt, or_parts}
+use Rattle.std.proofs.lemmas.Option.{same_Some, slice_get_within}
+use Rattle.node_pool.specs.declared.region.Span.{Span}
+use Rattle.bdd_core.specs.Diagram.{Valuation, meaning}
+use Rattle.bdd_core.specs.Store.{Diagrams}
+use Rattle.plain_paths.specs.FlatCircuits.{IsFlat}
+use Rattle.vrt_model.proofs.Members.{all_among, among_later, at_none}
+use Rattle.vrt_model.specs.Circuits.{IsDevice}
+use Rattle.vrt_model.specs.Lists.{At, Among}
+use Rattle.vrt_model.specs.Path.{Joins, Network}
+use Rattle.vrt_model.specs.Reading.{conducts, conducts_at}
+use Rattle.vrt_model.specs.declared.circuit.Circuit.{Circuit}
+use Rattle.vrt_model.specs.declared.circuit.Device.{Device}
+use Rattle.vrt_model.specs.declared.ids.Dev.{Dev}
+use Rattle.vrt_model.specs.declared.ids.Net.{Net}
+use Rattle.path_fixpoint.specs.declared.part.Part.{Part}
+use Rattle.path_fixpoint.specs.Parts.{IsGiven, IsPart, part_devices}
+use Rattle.path_fixpoint.specs.Strengths.{ChangesLevel, HasWords, IsStrong, Passes, Spreads, StandsAt}
+use Rattle.path_fixpoint.specs.Words.{Writes, word_at}
+use Rattle.path_fixpoint.proofs.RoundLaws.{stands_kept, words_kept}
+use Rattle.path_fixpoint.proofs.Passing.{EndIs, given_path, over, over_paths}
+use Rattle.path_fixpoint.proofs.Places.{place_word}
+
+later : {X Y : Type 0} (h : X → Option Y) (x : X) (xs : List X) (y : Y) → ((z : X) × Among xs z × (h z ≡ Some y)) → (z : X) × Among (x ∷ xs) z × (h z ≡ Some y)
+later h x xs y r = (r.0, among_later x xs r.0 r.1, r.2)
+
+from_cons : {X Y : Type 0} (h : X → Option Y) (x : X) (xs : List X) (y : Y) → (Among (filter_map h xs) y → (z : X) × Among xs z × (h z ≡ Some y))
+    → (o : Option Y) → h x ≡ o → Among (cons_option o (filter_map h xs)) y → (z : X) × Among (x ∷ xs) z × (h z ≡ Some y)
+from_cons h x xs y rest None e q = later h x xs y (rest q)
+from_cons h x xs y rest (Some z) e (zero, q) = (x, (0, refl), e ∙ q)
+from_cons h x xs y rest (Some z) e (suc i, q) = later h x xs y (rest (i, q))
+
+-- what a device of the part is in the lists
+pub among_filter_map : {X Y : Type 0} (h : X → Option Y) (xs : List X) (y : Y) → Among (filter_map h xs) y → (z : X) × Among xs z × (h z ≡ Some y)
+among_filter_map h [] y m = absurd (at_none m.0 y m.1)
+among_filter_map h (x ∷ xs) y m = from_cons h x xs y (among_filter_map h xs y) (h x) refl m
+
+cons_filter_map : {X Y : Type 0} (h : X → Option Y) (x : X) (xs : List X) (y : Y) → (o : Option Y) → Among (filter_map h xs) y → Among (cons_option o (filter_map h xs)) y
+cons_filter_map h x xs y None m = m
+cons_filter_map h x xs y (Some z) m = among_later z (filter_map h xs) y m
+
+pub filter_map_among : {X Y : Type 0} (h : X → Option Y) (xs : List X) (i : ℕ) (x : X) (y : Y) → At xs i x → h x ≡ Some y → Among (filter_map h xs) y
+filter_map_among h [] i x y at is = absurd (at_none i x at)
+filter_map_among {X} {Y} h (z ∷ xs) zero x y at is =
+    let first : h z ≡ Some y = ap h (same_Some z x at) ∙ is in
+    subst (λ (o : Option Y). Among (cons_option o (filter_map h xs)) y) (sym first) (0, refl)
+filter_map_among h (z ∷ xs) (suc i) x y at is = cons_filter_map h z xs y (h z) (filter_map_among h xs i x y at is)
+
+pub device_of_circuit : (c : Circuit) (part : Part) (d : Device) → Among (part_devices c part) d → Among c.devices d
+device_of_circuit c part d m = let r = among_filter_map (λ (x : Dev). slice_get c.devices x.0) part.devices d m in (r.0.0, r.2)
+
+-- a device that stands among the first ones of the part
+abbrev pub Visited : Circuit → Part → ℕ → Device → Type 0
+Visited c part count d = (k : ℕ) × (k < count) × (dev : Dev) × At part.devices k dev × At c.devices dev.0 d
+
+pub visited_more : (c : Circuit) (part : Part) (i : ℕ) (dev : Dev) (device : Device) → At part.devices i dev → At c.devices dev.0 device
+    → (d : Device) → Visited c part (i + 1) d → Visited c part i d ⊎ (d ≡ device)
+visited_more c part i dev device at is d x =
+    elim (cases_lt x.0 i) [
+      | inl low ↦ inl (x.0, low, x.2, x.3, x.4)
+      | inr ge ↦
+          let here : x.0 ≡ i = omega (arith, ge, x.1) in
+          let same : x.2 ≡ dev = same_Some x.2 dev (sym x.3 ∙ subst (λ (k : ℕ). At part.devices k dev) (sym here) at) in
+          inr (same_Some d device (sym x.4 ∙ subst (λ (y : Dev). At c.devices y.0 device) (sym same) is))
+    ]
+
+pub all_visited : (c : Circuit) (part : Part) (count : ℕ) → length part.devices ≤ count → (d : Device) → Among (part_devices c part) d → Visited c part count d
+all_visited c part count le d m =
+    let r = among_filter_map (λ (x : Dev). slice_get c.devices x.0) part.devices d m in
+    (r.1.0, omega (arith, le, slice_get_within part.devices r.1.0 r.0 r.1.1), r.0, r.1.1, r.2)
+
+pub device_ranges : (c : Circuit) (part : Part) (d : Device) → IsFlat c → Among (part_devices c part) d → IsDevice c d
+device_ranges c part d flat m = all_among (IsDevice c) c.devices d flat.devices (device_of_circuit c part d m)
+
+-- a net of a channel that is not in the part has a given value
+pub outside_given : (c : Circuit) (part : Part) (place : Option ℕ) (net : Net) → EndIs part place net.0 → Among part.nets net ⊎ IsGiven c net.0 → place ≡ None → IsGiven c net.0
+outside_given c part None net e (inl q) none = absurd (e.none refl q.0 (net, q.1, refl))
+outside_given c part None net e (inr g) none = g
+outside_given c part (Some i) net e h none = absurd (cc none)
+
+-- one device, in both directions
+module _ (c : Circuit) (part : Part) (is_part : IsPart c part) (flat : IsFlat c) (gates out : Span) (level : ℕ) (low : 1 ≤ level) (high : level ≤ 8)
+    (d : Device) (member : Among (part_devices c part) d) where
+  -- too weak for the level
+  pub spreads_weak : (s : Diagrams) → d.level < level → Spreads c part gates out level (λ x. x ≡ d) false s s
+  spreads_weak s weak = record {
+    grown = λ i lt v e. e;
+    passed = λ x is v w st on le m n j str. absurd (let same : x.level ≡ d.level = ap (λ (y : Device). y.level) is in omega (arith, le, weak, same));
+    paths = λ v w st paths. paths;
+    same = λ e. refl;
+  }
+
+  module _ (left right : Option ℕ) (left_is : EndIs part left d.left.0) (right_is : EndIs part right d.right.0) (le : level ≤ d.level)
+      (old mid new : Diagrams) (gate : ℕ) (forth back : Bool) (words : HasWords c part gates out old) (gate_is : gate ≡ word_at old gates d.gate.0)
+      (first : Writes out old mid) (second : Writes out mid new)
+      (there : Passes out level d.kind gate left right forth old mid) (here : Passes out level d.kind gate right left back mid new) where
+    gate_in : d.gate.0 < length c.nets
+    gate_in = (device_ranges c part d flat member).gate
+
+    gate_old : (v : Valuation) (w : Network) → StandsAt c part gates old v w → meaning old.nodes gate v ≡ w.reading d.gate.0
+    gate_old v w st = ap (λ (h : ℕ). meaning old.nodes h v) gate_is ∙ st.reading d.gate.0 gate_in
+
+    gate_live : gate < length old.nodes
+    gate_live = omega (arith, gate_is, words.gates_live d.gate.0 (omega (arith, gate_in, words.gates_len)))
+
+    gate_mid : (v : Valuation) (w : Network) → StandsAt c part gates old v w → meaning mid.nodes gate v ≡ w.reading d.gate.0
+    gate_mid v w st = first.kept gate gate_live v ∙ gate_old v w st
+
+    on_old : (v : Valuation) (w : Network) → StandsAt c part gates old v w → conducts w.reading d ≡ true → conducts_at d.kind (meaning old.nodes gate v) ≡ true
+    on_old v w st on = ap (λ (b : Bool). conducts_at d.kind b) (gate_old v w st) ∙ on
+
+    on_mid : (v : Valuation) (w : Network) → StandsAt c part gates old v w → conducts w.reading d ≡ true → conducts_at d.kind (meaning mid.nodes gate v) ≡ true
+    on_mid v w st on = ap (λ (b : Bool). conducts_at d.kind b) (gate_mid v w st) ∙ on
+
+    both_ways : (v : Valuation) (w : Network) → StandsAt c part gates old v w → conducts w.reading d ≡ true → (m n : ℕ) → Joins d m n
+        → IsStrong part out level old v m → IsStrong part out level new v n
+    both_ways v w st on m n (inl j) s =
+        let q : IsStrong part out level mid v d.right.0 =
+        over c part is_part gates out level low high d.kind gate forth d.left.0 d.right.0 left right old mid left_is right_is there v (on_old v w st on) (subst (IsStrong part out level old v) (sym j.0) s) in
+        subst (IsStrong part out level new v) j.1 (λ i p. here.grown i (place_word c part gates out old level i d.right.0 words low high p) v (q i p))
+    both_ways v w st on m n (inr j) s =
+        let s' : IsStrong part out level old v d.right.0 = subst (IsStrong part out level old v) (sym j.1) s in
+        let q : IsStrong part out level mid v d.right.0 = λ i p. there.grown i (place_word c part gates out old level i d.right.0 words low high p) v (s' i p) in
+        subst (IsStrong part out level new v) j.0
+        (over c part is_part gates out level low high d.kind gate back d.right.0 d.left.0 right left mid new right_is left_is here v (on_mid v w st on) q)
+
+    pub spreads_both : Spreads c part gates out level (λ x. x ≡ d) (forth || back) old new
+    spreads_both = record {
+      grown = λ i lt v e. here.grown i lt v (there.grown i lt v e);
+      passed = λ x is v w st on le' m n j s. both_ways v w st (subst (λ (y : Device). conducts w.reading y ≡ true) is on.1) m n (subst (λ (y : Device). Joins y m n) is j) s;
+      paths = λ v w st paths.
+          let on : Among w.devices d = subst (λ (ds : List Device). Among ds d) (sym st.devices) member in
+          over_paths c part is_part gates out level low high d.kind gate back d.right.0 d.left.0 right left mid new d w v (words_kept c part gates out old mid words first) right_is left_is here
+          (λ e. given_path c w level d.right.0 st.nets st.source high (outside_given c part right d.right right_is (is_part.right d member) e))
+          on (λ e. ap (λ (b : Bool). conducts_at d.kind b) (sym (gate_mid v w st)) ∙ e) le (inr (refl, refl))
+          (over_paths c part is_part gates out level low high d.kind gate forth d.left.0 d.right.0 left right old mid d w v words left_is right_is there
+          (λ e. given_path c w level d.left.0 st.nets st.source high (outside_given c part left d.left left_is (is_part.left d member) e))
+          on (λ e. ap (λ (b : Bool). conducts_at d.kind b) (sym (gate_old v w st)) ∙ e) le (inl (refl, refl)) paths);
+      same = λ e. let h = or_parts forth back e in here.same h.1 ∙ there.same h.0;
+    }
+
+-- one step after another
+module _ (c : Circuit) (part : Part) (gates out : Span) (level : ℕ) (low : 1 ≤ level) (high : level ≤ 8) where
+  pub spreads_none : (IsPassed : Device → Type 0) (s : Diagrams) → ((d : Device) → IsPassed d → ⊥) → Spreads c part gates out level IsPassed false s s
+  spreads_none IsPassed s none = record {
+    grown = λ i lt v e. e;
+    passed = λ d is. absurd (none d is);
+    paths = λ v w st paths. paths;
+    same = λ e. refl;
+  }
+
+  pub spreads_less : (P R : Device → Type 0) (a : Bool) (x y : Diagrams) → ((d : Device) → R d → P d) → Spreads c part gates out level P a x y → Spreads c part gates out level R a x y
+  spreads_less P R a x y less s = record { grown = s.grown; passed = λ d is. s.passed d (less d is); paths = s.paths; same = s.same }
+
+  pub spreads_then : (P Q R : Device → Type 0) (a b : Bool) (x y z : Diagrams) → HasWords c part gates out x → Writes out x y
+      → ((d : Device) → R d → P d ⊎ Q d) → Spreads c part gates out level P a x y → Spreads c part gates out level Q b y z → Spreads c part gates out level R (a || b) x z
+  spreads_then P Q R a b x y z words writes either f s = record {
+    grown = λ i lt v e. s.grown i lt v (f.grown i lt v e);
+    passed = λ d is v w st on le m n j str. elim (either d is) [
+      | inl p ↦ (λ i q. s.grown i (place_word c part gates out x level i n words low high q) v (f.passed d p v w st on le m n j str i q))
+      | inr p ↦ s.passed d p v w (stands_kept c part gates out x y v w words writes st) on le m n j
+          (λ i q. f.grown i (place_word c part gates out x level i m words low high q) v (str i q))
+    ];
+    paths = λ v w st paths. s.paths v w (stands_kept c part gates out x y v w words writes st) (f.paths v w st paths);
+    same = λ e. let h = or_parts a b e in s.same h.1 ∙ f.same h.0;
+  }
+
+pub changes_then : (out : Span) (level : ℕ) (a b c : Diagrams) → ChangesLevel out level a b → ChangesLevel out level b c → ChangesLevel out level a c
+changes_then out level a b c f s k away = s k away ∙ f k away

@@ -1,0 +1,26 @@
+use Rattle.std.proofs.Common.{◌≡◌, ℕ, arith, ap, refl, sym, subst, ◌∙◌}
+use Rattle.path_fixpoint.specs.Strengths.{word_of}
+use Rattle.path_fixpoint.specs.Words.{word_at}
+use Rattle.path_fixpoint.proofs.Places.{place_in}
+use Rattle.path_fixpoint.proofs.opening.mark.Goals as goal
+
+pub returns-in_default-clause-marked : goal.returns-in_default-clause-marked
+returns-in_default-clause-marked c fits i p = absurd (c.in_default.ensures.none refl i p)
+
+pub word-requires-clause-fits : goal.word-requires-clause-fits
+word-requires-clause-fits c =
+    let inside = place_in c.args.part.now c.in-Some.i c.args.net.0 c.in-Some.ensures.some in
+    omega (arith, inside, c.requires.len.0, c.requires.len.1, c.requires.level.1)
+
+pub set-requires-clause-at : goal.set-requires-clause-at
+set-requires-clause-at c =
+    let inside = place_in c.args.part.now c.in-Some.i c.args.net.0 c.in-Some.ensures.some in
+    omega (arith, inside, c.requires.len.0, c.requires.level.0, c.requires.level.1, c.word.ensures)
+
+pub returns-clause-apart : goal.returns-clause-apart
+returns-clause-apart c k away = c.set.ensures.apart k (λ e. away c.in-Some.i (e ∙ c.word.ensures))
+
+pub returns-clause-marked : goal.returns-clause-marked
+returns-clause-marked c fits i p =
+    let same : i ≡ c.in-Some.i = c.requires.part i c.in-Some.i c.args.net.0 p c.in-Some.ensures.some in
+    subst (λ (x : ℕ). word_at c.set.new.store c.args.out x ≡ 1) (c.word.ensures ∙ ap (λ (x : ℕ). word_of c.args.level x) (sym same)) c.set.ensures.here

@@ -1,0 +1,22 @@
+use Rattle.path_fixpoint.specs.Words.{Writes}
+use Rattle.path_fixpoint.proofs.Frames.{writes_then}
+use Rattle.path_fixpoint.proofs.Opened.{open_paths, open_roots}
+use Rattle.path_fixpoint.proofs.opening.open.Goals as goal
+
+pub returns-clause-roots : goal.returns-clause-roots
+returns-clause-roots c =
+    let whole : Writes c.args.out c.args.store.now c.mark_holds.new.store =
+    writes_then c.args.out c.args.store.now c.mark_given.new.store c.mark_holds.new.store
+    (writes_then c.args.out c.args.store.now c.take_above.new.store c.mark_given.new.store c.take_above.ensures.writes c.mark_given.ensures.writes) c.mark_holds.ensures.writes in
+    open_roots c.args.circuit.now c.args.part.now c.args.gates c.args.out c.args.level c.requires.level.0 c.requires.level.1
+    c.args.store.now c.take_above.new.store c.mark_given.new.store c.mark_holds.new.store c.requires.words whole
+    c.take_above.ensures.taken c.mark_given.ensures.marked c.mark_given.ensures.only c.mark_holds.ensures.marked c.mark_holds.ensures.only
+
+pub returns-clause-paths : goal.returns-clause-paths
+returns-clause-paths c =
+    let whole : Writes c.args.out c.args.store.now c.mark_holds.new.store =
+    writes_then c.args.out c.args.store.now c.mark_given.new.store c.mark_holds.new.store
+    (writes_then c.args.out c.args.store.now c.take_above.new.store c.mark_given.new.store c.take_above.ensures.writes c.mark_given.ensures.writes) c.mark_holds.ensures.writes in
+    open_paths c.args.circuit.now c.args.part.now c.args.gates c.args.out c.args.level c.requires.level.0 c.requires.level.1
+    c.args.store.now c.take_above.new.store c.mark_given.new.store c.mark_holds.new.store c.requires.words whole
+    c.take_above.ensures.taken c.mark_given.ensures.marked c.mark_given.ensures.only c.mark_holds.ensures.marked c.mark_holds.ensures.only

@@ -1,0 +1,12 @@
+use Rattle.std.proofs.Common.{ℕ, ◌<◌}
+use Rattle.path_fixpoint.specs.Openings.{TakesAbove}
+use Rattle.path_fixpoint.specs.Strengths.{ChangesLevel}
+use Rattle.path_fixpoint.specs.Words.{Writes}
+use Rattle.path_fixpoint.proofs.opening.take_above.Given as goal
+
+abbrev pub invariant-loop-i : goal.invariant-loop-i
+invariant-loop-i l = record {
+  writes : Writes l.fn.out l.fn.store l.store;
+  apart : ChangesLevel l.fn.out l.fn.level l.fn.store l.store;
+  taken : (i : ℕ) → i < l.i → TakesAbove l.fn.out l.fn.level l.fn.store l.store i;
+}

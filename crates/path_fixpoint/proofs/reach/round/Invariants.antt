@@ -1,0 +1,12 @@
+use Rattle.path_fixpoint.specs.Reaching.{SpreadsValue, slot_of}
+use Rattle.path_fixpoint.specs.Strengths.{ChangesLevel}
+use Rattle.path_fixpoint.specs.Words.{Writes}
+use Rattle.path_fixpoint.proofs.Spreading.{Visited}
+use Rattle.path_fixpoint.proofs.reach.round.Given as goal
+
+abbrev pub invariant-loop-dev : goal.invariant-loop-dev
+invariant-loop-dev l = record {
+  writes : Writes l.fn.out l.fn.store l.store;
+  apart : ChangesLevel l.fn.out (slot_of l.fn.value) l.fn.store l.store;
+  spreads : SpreadsValue l.circuit l.part l.fn.gates l.fn.roots l.fn.out l.fn.value (Visited l.circuit l.part l.dev-index) l.changed l.fn.store l.store;
+}

@@ -1,0 +1,11 @@
+use Rattle.path_fixpoint.specs.Strengths.{ChangesLevel, Spreads}
+use Rattle.path_fixpoint.specs.Words.{Writes}
+use Rattle.path_fixpoint.proofs.Spreading.{Visited}
+use Rattle.path_fixpoint.proofs.rounds.round.Given as goal
+
+abbrev pub invariant-loop-dev : goal.invariant-loop-dev
+invariant-loop-dev l = record {
+  writes : Writes l.fn.out l.fn.store l.store;
+  apart : ChangesLevel l.fn.out l.fn.level l.fn.store l.store;
+  spreads : Spreads l.circuit l.part l.fn.gates l.fn.out l.fn.level (Visited l.circuit l.part l.dev-index) l.changed l.fn.store l.store;
+}

@@ -1,0 +1,15 @@
+use Rattle.bdd_core.specs.Diagram.{Valuation}
+use Rattle.vrt_model.specs.Path.{Network}
+use Rattle.path_fixpoint.specs.Strengths.{ChangesLevel, HasPaths, HasRoots, StandsAt}
+use Rattle.path_fixpoint.specs.Words.{Writes}
+use Rattle.path_fixpoint.proofs.RoundLaws.{HasProgress}
+use Rattle.path_fixpoint.proofs.rounds.settle.Given as goal
+
+abbrev pub invariant-rounds : goal.invariant-rounds
+invariant-rounds l = record {
+  writes : Writes l.fn.out l.fn.store l.store;
+  apart : ChangesLevel l.fn.out l.fn.level l.fn.store l.store;
+  roots : (v : Valuation) (w : Network) → StandsAt l.circuit l.part l.fn.gates l.fn.store v w → HasRoots l.part l.fn.out l.fn.level l.fn.store v w → HasRoots l.part l.fn.out l.fn.level l.store v w;
+  paths : (v : Valuation) (w : Network) → StandsAt l.circuit l.part l.fn.gates l.fn.store v w → HasPaths l.part l.fn.out l.fn.level l.fn.store v w → HasPaths l.part l.fn.out l.fn.level l.store v w;
+  progress : (v : Valuation) (w : Network) → StandsAt l.circuit l.part l.fn.gates l.fn.store v w → HasRoots l.part l.fn.out l.fn.level l.fn.store v w → HasProgress l.part l.fn.out l.fn.level l._count l.store v w;
+}

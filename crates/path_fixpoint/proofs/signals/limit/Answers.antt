@@ -1,0 +1,35 @@
+use Rattle.std.proofs.Common.{◌≡◌, Bool, not, ◌||◌, ◌&&◌, Ok, Err, true, ap₂, sym, ◌∙◌}
+use Rattle.std.specs.Prelude.{◌↔◌}
+use Rattle.bdd_core.specs.Diagram.{Function, Valuation, meaning}
+use Rattle.bdd_core.specs.Store.{Means, function_of}
+use Rattle.bdd_core.proofs.Growth.{grows_keeps}
+use Rattle.bdd_core.proofs.Results.{if_ok_more}
+use Rattle.bdd_ops.specs.Ops.{and_of}
+use Rattle.path_fixpoint.proofs.Fitting.{limit_bits}
+use Rattle.path_fixpoint.proofs.Frames.{writes_made, writes_then}
+use Rattle.path_fixpoint.proofs.signals.limit.Goals as goal
+
+pub returns-in-Err-clause-writes : goal.returns-in-Err-clause-writes
+returns-in-Err-clause-writes c out live = writes_made out c.args.store.now c.implies.new.store _ (Err c.in-Err.spent) live c.in-Err.ensures.makes
+
+pub returns-clause-writes : goal.returns-clause-writes
+returns-clause-writes c out live =
+    let first = writes_made out c.args.store.now c.implies.new.store _ (Ok c.in-Ok.allowed) live c.in-Ok.ensures.makes in
+    writes_then out c.args.store.now c.implies.new.store c.and.new.store first (writes_made out c.implies.new.store c.and.new.store _ c.and.result first.live c.and.ensures.makes)
+
+pub returns-clause-is : goal.returns-clause-is
+returns-clause-is c =
+    let old = c.args.store.now in
+    let mid = c.implies.new.store in
+    let new = c.and.new.store in
+    let f : Function = and_of (meaning mid.nodes c.args.signal.0) (meaning mid.nodes c.in-Ok.allowed.0) in
+    if_ok_more (λ r. Means new r f)
+    (λ r. (v : Valuation) → (function_of new r v ≡ true) ↔ ((function_of old c.args.signal v ≡ true) × (function_of old c.args.here v ≡ true → function_of old c.args.other v ≡ true))) c.and.result
+    (λ r m v.
+    let x = function_of old c.args.signal v in
+    let h = function_of old c.args.here v in
+    let o = function_of old c.args.other v in
+    let is : function_of new r v ≡ (x && (not h || o)) =
+    m.same v ∙ ap₂ (λ (a b : Bool). a && b) (grows_keeps old.nodes mid.nodes _ c.in-Ok.ensures.makes.grows c.args.signal.0 c.requires.0 v) (c.in-Ok.ensures.makes.ok.same v) in
+    (λ e. (limit_bits x h o).0 (sym is ∙ e), λ q. is ∙ (limit_bits x h o).1 q))
+    c.and.ensures.makes.ok

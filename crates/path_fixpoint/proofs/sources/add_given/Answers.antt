@@ -1,0 +1,52 @@
+use Rattle.std.proofs.Common.{◌≡◌, ℕ, ◌+◌, ◌<◌, List, length, get_or, arith, ap, refl, sym, subst, ◌∙◌, inl, inr}
+use Rattle.std.proofs.lemmas.Bool.{cases_lt}
+use Rattle.std.proofs.lemmas.Option.{slice_get-get_or, slice_get_within}
+use Rattle.vrt_model.specs.Lists.{At}
+use Rattle.vrt_model.specs.declared.ids.Net.{Net}
+use Rattle.path_fixpoint.specs.Parts.{IsGiven, IsPlace}
+use Rattle.path_fixpoint.specs.Sources.{IsGivenSource}
+use Rattle.path_fixpoint.proofs.Frames.{writes_then}
+use Rattle.path_fixpoint.proofs.Places.{place_in, place_once}
+use Rattle.path_fixpoint.proofs.SourceLaws.{adds_same, adds_then}
+use Rattle.path_fixpoint.proofs.sources.add_given.Goals as goal
+
+pub loop-net-preserved : goal.loop-net-preserved
+loop-net-preserved c =
+    let out = c.args.out in
+    let circuit = c.args.circuit.now in
+    let part = c.args.part.now in
+    let words = c.requires.words in
+    let first = c.args.store.now in
+    let old = c.loop-net.store in
+    let new = c.add_net.new.store in
+    let at = c.loop-net.net-index in
+    let i = c.loop-net.invariant in
+    let blank : Net = record { 0 = 0 } in
+    let net : Net = get_or c.as_slice-net-items.result.now at blank in
+    let there : At part.nets at net = subst (λ (xs : List Net). At xs at net) c.as_slice-net-items.ensures (slice_get-get_or c.as_slice-net-items.result.now at blank c.loop-net-test.true) in
+    let P : ℕ → ℕ → Type 0 = λ n size. ((j : ℕ) × (j < at) × IsPlace part j n) × IsGiven circuit n × (size ≡ 8) in
+    let Q : ℕ → ℕ → Type 0 = λ n size. IsGiven circuit n × (n ≡ net.0) × (size ≡ 8) in
+    let R : ℕ → ℕ → Type 0 = λ n size. ((j : ℕ) × (j < at + 1) × IsPlace part j n) × IsGiven circuit n × (size ≡ 8) in
+    record {
+      writes = writes_then out first old new i.writes c.in-Ok.ensures.writes;
+      apart = λ k away. c.in-Ok.ensures.apart k away ∙ i.apart k away;
+      adds = adds_then part c.args.roots out c.args.value P Q R first old new words.words.out_len i.writes i.apart words.roots_apart words.roots_live words.words.out_live
+          (λ n size r. elim (cases_lt r.0.0 at) [
+            | inl low ↦ inl ((r.0.0, low, r.0.2), r.1, r.2)
+            | inr ge ↦ inr (r.1, place_once part at n net.0 (subst (λ (k : ℕ). IsPlace part k n) (let e : r.0.0 ≡ at = omega (arith, ge, r.0.1) in e) r.0.2) (net, there, refl), r.2)
+          ])
+          (λ n size p. ((p.0.0, omega (arith, p.0.1), p.0.2), p.1, p.2))
+          (λ n size q. ((at, omega arith, (net, there, sym q.1)), q.0, q.2))
+          (λ n size r. (omega (arith, slice_get_within circuit.nets n r.1.0 r.1.1, words.roots_len), omega (arith, r.2)))
+          i.adds c.in-Ok.ensures.adds;
+    }
+
+pub returns-clause-adds : goal.returns-clause-adds
+returns-clause-adds c =
+    let circuit = c.args.circuit.now in
+    let part = c.args.part.now in
+    let at = c.loop-net.net-index in
+    let shown : length c.as_slice-net-items.result.now ≡ length part.nets = ap (λ (xs : List Net). length xs) c.as_slice-net-items.ensures in
+    adds_same part c.args.roots c.args.out c.args.value (λ n size. ((j : ℕ) × (j < at) × IsPlace part j n) × IsGiven circuit n × (size ≡ 8)) (IsGivenSource circuit part) c.args.store.now c.loop-net.store
+    (λ n size g. ((g.0.0, omega (arith, place_in part g.0.0 n g.0.1, shown, c.loop-net-test.false), g.0.1), g.1, g.2))
+    (λ n size g. ((g.0.0, g.0.2), g.1, g.2)) c.loop-net.invariant.adds

@@ -1,0 +1,14 @@
+use Rattle.std.proofs.Common.{◌≡◌, ℕ, ◌<◌}
+use Rattle.path_fixpoint.specs.Parts.{IsGiven, IsPlace}
+use Rattle.path_fixpoint.specs.Reaching.{slot_of}
+use Rattle.path_fixpoint.specs.Sources.{AddsRoots}
+use Rattle.path_fixpoint.specs.Strengths.{ChangesLevel}
+use Rattle.path_fixpoint.specs.Words.{Writes}
+use Rattle.path_fixpoint.proofs.sources.add_given.Given as goal
+
+abbrev pub invariant-loop-net : goal.invariant-loop-net
+invariant-loop-net l = record {
+  writes : Writes l.fn.out l.fn.store l.store;
+  apart : ChangesLevel l.fn.out (slot_of l.fn.value) l.fn.store l.store;
+  adds : AddsRoots l.part l.fn.roots l.fn.out l.fn.value (λ n size. ((i : ℕ) × (i < l.net-index) × IsPlace l.part i n) × IsGiven l.circuit n × (size ≡ 8)) l.fn.store l.store;
+}

@@ -1,0 +1,56 @@
+use Rattle.std.proofs.Common.{◌≡◌, ℕ, ◌+◌, ◌<◌, List, length, arith, ap, sym, subst, ◌∙◌, inl, inr}
+use Rattle.std.proofs.lemmas.Bool.{cases_lt}
+use Rattle.std.proofs.lemmas.Option.{same_Some, slice_get_within}
+use Rattle.plain_paths.proofs.Items.{item_at}
+use Rattle.vrt_model.proofs.Members.{all_among}
+use Rattle.vrt_model.specs.Circuits.{IsHold}
+use Rattle.vrt_model.specs.Lists.{At}
+use Rattle.vrt_model.specs.declared.circuit.Hold.{Hold}
+use Rattle.path_fixpoint.specs.Sources.{IsHoldSource}
+use Rattle.path_fixpoint.proofs.Frames.{writes_then}
+use Rattle.path_fixpoint.proofs.SourceLaws.{adds_same, adds_then}
+use Rattle.path_fixpoint.proofs.sources.add_holds.Goals as goal
+
+pub loop-hold-preserved : goal.loop-hold-preserved
+loop-hold-preserved c =
+    let out = c.args.out in
+    let circuit = c.args.circuit.now in
+    let part = c.args.part.now in
+    let words = c.requires.words in
+    let first = c.args.store.now in
+    let old = c.loop-hold.store in
+    let new = c.add_root.new.store in
+    let at = c.loop-hold.hold-index in
+    let i = c.loop-hold.invariant in
+    let hold : Hold = c.hold-item.result in
+    let there : At circuit.holds at hold = item_at circuit.holds c.as_slice-hold-items.result.now at hold c.as_slice-hold-items.ensures c.loop-hold-test.true c.hold-item.is in
+    let P : ℕ → ℕ → Type 0 = λ n size. (k : ℕ) × (k < at) × (h : Hold) × At circuit.holds k h × (h.net.0 ≡ n) × (h.size ≡ size) in
+    let Q : ℕ → ℕ → Type 0 = λ n size. (n ≡ hold.net.0) × (size ≡ hold.size) in
+    let R : ℕ → ℕ → Type 0 = λ n size. (k : ℕ) × (k < at + 1) × (h : Hold) × At circuit.holds k h × (h.net.0 ≡ n) × (h.size ≡ size) in
+    record {
+      writes = writes_then out first old new i.writes c.in-Ok.ensures.writes;
+      apart = λ k away. c.in-Ok.ensures.apart k away ∙ i.apart k away;
+      adds = adds_then part c.args.roots out c.args.value P Q R first old new words.words.out_len i.writes i.apart words.roots_apart words.roots_live words.words.out_live
+          (λ n size r. elim (cases_lt r.0 at) [
+            | inl low ↦ inl (r.0, low, r.2, r.3, r.4, r.5)
+            | inr ge ↦
+                let e : r.0 ≡ at = omega (arith, ge, r.1) in
+                let same : r.2 ≡ hold = same_Some r.2 hold (sym r.3 ∙ subst (λ (k : ℕ). At circuit.holds k hold) (sym e) there) in
+                inr (sym r.4 ∙ ap (λ (h : Hold). h.net.0) same, sym r.5 ∙ ap (λ (h : Hold). h.size) same)
+          ])
+          (λ n size p. (p.0, omega (arith, p.1), p.2, p.3, p.4, p.5))
+          (λ n size q. (at, omega arith, hold, there, sym q.0, sym q.1))
+          (λ n size r.
+          let range = all_among (IsHold circuit) circuit.holds r.2 c.requires.circuit.holds (r.0, r.3) in
+          (omega (arith, range.net, r.4, words.roots_len), omega (arith, range.size.0, r.5)))
+          i.adds c.in-Ok.ensures.adds;
+    }
+
+pub returns-clause-adds : goal.returns-clause-adds
+returns-clause-adds c =
+    let circuit = c.args.circuit.now in
+    let at = c.loop-hold.hold-index in
+    let shown : length c.as_slice-hold-items.result.now ≡ length circuit.holds = ap (λ (xs : List Hold). length xs) c.as_slice-hold-items.ensures in
+    adds_same c.args.part.now c.args.roots c.args.out c.args.value (λ n size. (k : ℕ) × (k < at) × (h : Hold) × At circuit.holds k h × (h.net.0 ≡ n) × (h.size ≡ size)) (IsHoldSource circuit) c.args.store.now c.loop-hold.store
+    (λ n size h. (h.0, omega (arith, slice_get_within circuit.holds h.0 h.1 h.2, shown, c.loop-hold-test.false), h.1, h.2, h.3, h.4))
+    (λ n size h. (h.0, h.2, h.3, h.4, h.5)) c.loop-hold.invariant.adds

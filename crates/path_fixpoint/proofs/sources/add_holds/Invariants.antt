@@ -1,0 +1,15 @@
+use Rattle.std.proofs.Common.{◌≡◌, ℕ, ◌<◌}
+use Rattle.vrt_model.specs.Lists.{At}
+use Rattle.vrt_model.specs.declared.circuit.Hold.{Hold}
+use Rattle.path_fixpoint.specs.Reaching.{slot_of}
+use Rattle.path_fixpoint.specs.Sources.{AddsRoots}
+use Rattle.path_fixpoint.specs.Strengths.{ChangesLevel}
+use Rattle.path_fixpoint.specs.Words.{Writes}
+use Rattle.path_fixpoint.proofs.sources.add_holds.Given as goal
+
+abbrev pub invariant-loop-hold : goal.invariant-loop-hold
+invariant-loop-hold l = record {
+  writes : Writes l.fn.out l.fn.store l.store;
+  apart : ChangesLevel l.fn.out (slot_of l.fn.value) l.fn.store l.store;
+  adds : AddsRoots l.part l.fn.roots l.fn.out l.fn.value (λ n size. (at : ℕ) × (at < l.hold-index) × (hold : Hold) × At l.circuit.holds at hold × (hold.net.0 ≡ n) × (hold.size ≡ size)) l.fn.store l.store;
+}

@@ -1,0 +1,73 @@
+use Rattle.std.proofs.Common.{◌≡◌, ℕ, ◌+◌, List, Ok, Err, slice_index, arith, ap, refl, subst, ◌∙◌}
+use Rattle.bdd_core.specs.Diagram.{meaning}
+use Rattle.path_fixpoint.specs.Parts.{IsPlace}
+use Rattle.path_fixpoint.specs.Passed.{IsWider}
+use Rattle.path_fixpoint.specs.Reaching.{slot_of}
+use Rattle.path_fixpoint.specs.Strengths.{word_of}
+use Rattle.path_fixpoint.proofs.Frames.{made_words, writes_made, writes_then}
+use Rattle.path_fixpoint.proofs.Places.{place_in}
+use Rattle.path_fixpoint.proofs.ReachLaws.{slot_high, slot_low}
+use Rattle.path_fixpoint.proofs.SourceLaws.{adds_none, adds_one}
+use Rattle.path_fixpoint.proofs.sources.add_root.Goals as goal
+
+pub returns-in_default-clause-adds : goal.returns-in_default-clause-adds
+returns-in_default-clause-adds c =
+    adds_none c.args.part.now c.args.roots c.args.out c.args.value (λ n k. (n ≡ c.args.net.0) × (k ≡ c.args.size)) c.args.store.now
+    (λ n k q i p. c.in_default.ensures.none refl i (subst (IsPlace c.args.part.now i) q.0 p))
+
+pub returns-in-Err-clause-writes : goal.returns-in-Err-clause-writes
+returns-in-Err-clause-writes c = writes_made c.args.out c.args.store.now c.root_bit.new.store _ (Err c.in-Err.spent) c.requires.out.1 c.in-Err.ensures
+
+pub unblocked-requires-clause-place : goal.unblocked-requires-clause-place
+unblocked-requires-clause-place c = (omega (arith, place_in c.args.part.now c.in-Some.i c.args.net.0 c.in-Some.ensures.some, c.requires.len.0), c.requires.len.1)
+
+pub returns-in-Err-unblocked-clause-writes : goal.returns-in-Err-unblocked-clause-writes
+returns-in-Err-unblocked-clause-writes c =
+    writes_then c.args.out c.args.store.now c.root_bit.new.store c.unblocked.new.store
+    (writes_made c.args.out c.args.store.now c.root_bit.new.store _ (Ok c.in-Ok.bit) c.requires.out.1 c.in-Ok.ensures) c.in-Err-unblocked.ensures.writes
+
+pub word-requires-clause-fits : goal.word-requires-clause-fits
+word-requires-clause-fits c =
+    omega (arith, place_in c.args.part.now c.in-Some.i c.args.net.0 c.in-Some.ensures.some, c.requires.len.0, c.requires.len.1, c.slot.ensures, slot_high c.args.value)
+
+pub widen-requires-clause-at : goal.widen-requires-clause-at
+widen-requires-clause-at c =
+    omega (arith, place_in c.args.part.now c.in-Some.i c.args.net.0 c.in-Some.ensures.some, c.requires.len.0, c.slot.ensures, slot_high c.args.value, slot_low c.args.value, c.word.ensures)
+
+pub returns-in-Ok-widen-clause-writes : goal.returns-in-Ok-widen-clause-writes
+returns-in-Ok-widen-clause-writes c =
+    writes_then c.args.out c.args.store.now c.unblocked.new.store c.widen.new.store
+    (writes_then c.args.out c.args.store.now c.root_bit.new.store c.unblocked.new.store
+    (writes_made c.args.out c.args.store.now c.root_bit.new.store _ (Ok c.in-Ok.bit) c.requires.out.1 c.in-Ok.ensures) c.in-Ok-unblocked.ensures.writes) c.in-Ok-widen.ensures.writes
+
+pub returns-in-Err-widen-clause-writes : goal.returns-in-Err-widen-clause-writes
+returns-in-Err-widen-clause-writes c =
+    writes_then c.args.out c.args.store.now c.unblocked.new.store c.widen.new.store
+    (writes_then c.args.out c.args.store.now c.root_bit.new.store c.unblocked.new.store
+    (writes_made c.args.out c.args.store.now c.root_bit.new.store _ (Ok c.in-Ok.bit) c.requires.out.1 c.in-Ok.ensures) c.in-Ok-unblocked.ensures.writes) c.in-Err-widen.ensures.writes
+
+pub returns-in-Ok-widen-clause-apart : goal.returns-in-Ok-widen-clause-apart
+returns-in-Ok-widen-clause-apart c k away =
+    let at : c.word.result ≡ word_of (slot_of c.args.value) c.in-Some.i = c.word.ensures ∙ ap (λ (l : ℕ). word_of l c.in-Some.i) c.slot.ensures in
+    c.in-Ok-widen.ensures.apart k (λ e. away c.in-Some.i (e ∙ at))
+    ∙ ap (λ (ws : List ℕ). slice_index ws (c.args.out.start + k)) (c.in-Ok-unblocked.ensures.words ∙ made_words c.args.store.now c.root_bit.new.store _ (Ok c.in-Ok.bit) c.in-Ok.ensures)
+
+pub returns-in-Err-widen-clause-apart : goal.returns-in-Err-widen-clause-apart
+returns-in-Err-widen-clause-apart c k away =
+    let at : c.word.result ≡ word_of (slot_of c.args.value) c.in-Some.i = c.word.ensures ∙ ap (λ (l : ℕ). word_of l c.in-Some.i) c.slot.ensures in
+    c.in-Err-widen.ensures.apart k (λ e. away c.in-Some.i (e ∙ at))
+    ∙ ap (λ (ws : List ℕ). slice_index ws (c.args.out.start + k)) (c.in-Ok-unblocked.ensures.words ∙ made_words c.args.store.now c.root_bit.new.store _ (Ok c.in-Ok.bit) c.in-Ok.ensures)
+
+pub returns-in-Ok-widen-clause-adds : goal.returns-in-Ok-widen-clause-adds
+returns-in-Ok-widen-clause-adds c =
+    let out = c.args.out in
+    let value = c.args.value in
+    let i = c.in-Some.i in
+    let b = c.unblocked.new.store in
+    let new = c.widen.new.store in
+    let signal = c.in-Ok-unblocked.signal in
+    let at : c.word.result ≡ word_of (slot_of value) i = c.word.ensures ∙ ap (λ (l : ℕ). word_of l i) c.slot.ensures in
+    adds_one c.args.part.now c.requires.part c.args.roots out value c.args.net.0 c.args.size i c.args.store.now c.root_bit.new.store b new c.in-Ok.bit signal c.in-Ok-widen.field-0
+    c.requires.len.0 c.requires.size.0 c.requires.out.1 c.in-Some.ensures.some c.in-Ok.ensures c.in-Ok-unblocked.ensures.writes c.in-Ok-unblocked.ensures.words c.in-Ok-unblocked.ensures.is
+    (subst (λ (x : ℕ). IsWider out x (meaning b.nodes signal.0) c.in-Ok-widen.field-0 b new) at c.in-Ok-widen.ensures.wider)
+    c.in-Ok-widen.ensures.writes (λ k ne. c.in-Ok-widen.ensures.apart k (λ e. ne (e ∙ at)))

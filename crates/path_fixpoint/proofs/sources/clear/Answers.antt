@@ -1,0 +1,23 @@
+use Rattle.std.proofs.Common.{◌≡◌, ℕ, arith, ap, sym, ◌∙◌, below_more}
+use Rattle.path_fixpoint.specs.Reaching.{slot_of}
+use Rattle.path_fixpoint.specs.Strengths.{word_of}
+use Rattle.path_fixpoint.specs.Words.{word_at}
+use Rattle.path_fixpoint.proofs.Frames.{writes_then}
+use Rattle.path_fixpoint.proofs.Places.{words_differ}
+use Rattle.path_fixpoint.proofs.sources.clear.Goals as goal
+
+pub loop-i-preserved : goal.loop-i-preserved
+loop-i-preserved c =
+    let out = c.args.out in
+    let value = c.args.value in
+    let at = c.loop-i.i in
+    let new = c.set.new.store in
+    let i = c.loop-i.invariant in
+    let place : c.word.result ≡ word_of (slot_of value) at = c.word.ensures ∙ ap (λ (l : ℕ). word_of l at) c.slot.ensures in
+    record {
+      writes = writes_then out c.args.store.now c.loop-i.store new i.writes c.set.ensures.writes;
+      apart = λ k away. c.set.ensures.apart k (λ e. away at (e ∙ place)) ∙ i.apart k away;
+      zero = below_more (λ k. word_at new out (word_of (slot_of value) k) ≡ 0) at
+          (λ k lt. c.set.ensures.apart (word_of (slot_of value) k) (λ e. omega (arith, lt, words_differ (slot_of value) k at (e ∙ place))) ∙ i.zero k lt)
+          (ap (λ (x : ℕ). word_at new out x) (sym place) ∙ c.set.ensures.here);
+    }

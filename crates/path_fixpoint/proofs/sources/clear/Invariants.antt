@@ -1,0 +1,12 @@
+use Rattle.std.proofs.Common.{◌≡◌, ℕ, ◌<◌}
+use Rattle.path_fixpoint.specs.Reaching.{slot_of}
+use Rattle.path_fixpoint.specs.Strengths.{ChangesLevel, word_of}
+use Rattle.path_fixpoint.specs.Words.{Writes, word_at}
+use Rattle.path_fixpoint.proofs.sources.clear.Given as goal
+
+abbrev pub invariant-loop-i : goal.invariant-loop-i
+invariant-loop-i l = record {
+  writes : Writes l.fn.out l.fn.store l.store;
+  apart : ChangesLevel l.fn.out (slot_of l.fn.value) l.fn.store l.store;
+  zero : (i : ℕ) → i < l.i → word_at l.store l.fn.out (word_of (slot_of l.fn.value) i) ≡ 0;
+}

@@ -1,0 +1,31 @@
+-- Where the marks of a level begin: at the marks of the level above, and at the roots.
+use Rattle.std.specs.Prelude.{◌≡◌, ℕ, ◌+◌, ◌<◌, ◌≤◌, ◌⊎◌}
+use Rattle.node_pool.specs.declared.region.Span.{Span}
+use Rattle.bdd_core.specs.Store.{Diagrams}
+use Rattle.vrt_model.specs.Lists.{At}
+use Rattle.vrt_model.specs.declared.circuit.Circuit.{Circuit}
+use Rattle.vrt_model.specs.declared.circuit.Hold.{Hold}
+use Rattle.path_fixpoint.specs.declared.part.Part.{Part}
+use Rattle.path_fixpoint.specs.Parts.{IsGiven, IsPlace}
+use Rattle.path_fixpoint.specs.Strengths.{word_of}
+use Rattle.path_fixpoint.specs.Words.{word_at}
+
+-- the word of the net at place i for a level
+abbrev pub mark_of : Diagrams → Span → ℕ → ℕ → ℕ
+mark_of d out level i = word_at d out (word_of level i)
+
+-- the words of a level are those of the level above, and 0 at the highest
+abbrev pub TakesAbove : Span → ℕ → Diagrams → Diagrams → ℕ → Type 0
+TakesAbove out level old new i = (level < 8 → mark_of new out level i ≡ mark_of old out (level + 1) i) × (level ≡ 8 → mark_of new out level i ≡ 0)
+
+-- each mark is as before, or the constant 1 by a cause
+abbrev pub OnlyBy : Span → ℕ → (ℕ → Type 0) → Diagrams → Diagrams → Type 0
+OnlyBy out level IsCause old new = (i : ℕ) → (mark_of new out level i ≡ mark_of old out level i) ⊎ ((mark_of new out level i ≡ 1) × IsCause i)
+
+-- a hold of at least this level at place i
+abbrev pub IsHoldAt : Circuit → Part → ℕ → ℕ → Type 0
+IsHoldAt c part level i = (at : ℕ) × (hold : Hold) × At c.holds at hold × (level ≤ hold.size) × IsPlace part i hold.net.0
+
+-- a net with a given value at place i
+abbrev pub IsGivenAt : Circuit → Part → ℕ → Type 0
+IsGivenAt c part i = (n : ℕ) × IsPlace part i n × IsGiven c n

@@ -1,0 +1,32 @@
+-- What a channel-connected part is in its circuit.
+use Rattle.std.specs.Prelude.{◌≡◌, ℕ, ◌<◌, ◌⊎◌, true, List, length, slice_get, filter_map, All}
+use Rattle.vrt_model.specs.Circuits.{IsNet}
+use Rattle.vrt_model.specs.Lists.{At, Among}
+use Rattle.vrt_model.specs.Reading.{is_given}
+use Rattle.vrt_model.specs.declared.circuit.Circuit.{Circuit}
+use Rattle.vrt_model.specs.declared.circuit.Device.{Device}
+use Rattle.vrt_model.specs.declared.circuit.FlatNet.{FlatNet}
+use Rattle.vrt_model.specs.declared.ids.Dev.{Dev}
+use Rattle.vrt_model.specs.declared.ids.Net.{Net}
+use Rattle.path_fixpoint.specs.declared.part.Part.{Part}
+
+-- the devices of a part
+abbrev pub part_devices : Circuit → Part → List Device
+part_devices c part = filter_map (λ (d : Dev). slice_get c.devices d.0) part.devices
+
+-- the net n stands at place i of a part
+abbrev pub IsPlace : Part → ℕ → ℕ → Type 0
+IsPlace part i n = (net : Net) × At part.nets i net × (net.0 ≡ n)
+
+-- a supply, an input or a clock port
+abbrev pub IsGiven : Circuit → ℕ → Type 0
+IsGiven c n = (net : FlatNet) × At c.nets n net × (is_given net.kind ≡ true)
+
+-- a part of a circuit: a set of nets, and devices whose channel nets are among these or have given values
+pub record IsPart (c : Circuit) (part : Part) : Type 0 where
+  pub nets : All (IsNet c) part.nets
+  -- no net stands twice
+  pub once : (i j n : ℕ) → IsPlace part i n → IsPlace part j n → i ≡ j
+  pub devices : All (λ (d : Dev). d.0 < length c.devices) part.devices
+  pub left : (d : Device) → Among (part_devices c part) d → Among part.nets d.left ⊎ IsGiven c d.left.0
+  pub right : (d : Device) → Among (part_devices c part) d → Among part.nets d.right ⊎ IsGiven c d.right.0

@@ -1,0 +1,45 @@
+-- The network of a part at a valuation, and what its words say.
+use Rattle.std.specs.Prelude.{◌≡◌, ℕ, ◌↔◌, Bool, true, false, [], length, Option, Some, None, slice_get}
+use Rattle.node_pool.specs.declared.region.Span.{Span}
+use Rattle.bdd_core.specs.Diagram.{Valuation}
+use Rattle.bdd_core.specs.Store.{Diagrams, IsSpan}
+use Rattle.vrt_model.specs.Path.{Network}
+use Rattle.vrt_model.specs.Response.{Reaches}
+use Rattle.vrt_model.specs.declared.circuit.Circuit.{Circuit}
+use Rattle.vrt_model.specs.declared.circuit.Hold.{Hold}
+use Rattle.path_fixpoint.specs.declared.part.Part.{Part}
+use Rattle.path_fixpoint.specs.Parts.{IsPlace, part_devices}
+use Rattle.path_fixpoint.specs.Reaching.{slot_of}
+use Rattle.path_fixpoint.specs.Strengths.{HasSpans, strong}
+use Rattle.path_fixpoint.specs.Words.{IsApart, IsFilled, shows}
+
+abbrev pub net_of : Option Hold → ℕ
+net_of None = 0
+net_of (Some hold) = hold.net.0
+
+-- at v: the devices of the part, the bits of the gates and the roots as their handles say them
+abbrev pub network_at : Diagrams → Circuit → Part → Span → Span → Valuation → Network
+network_at d c part gates roots v = record {
+  nets = c.nets;
+  holds = c.holds;
+  outputs = [];
+  devices = part_devices c part;
+  source = 8;
+  reading = λ n. shows d gates n v;
+  given = λ n. shows d roots n v;
+  held = λ at. shows d roots (net_of (slice_get c.holds at)) v;
+  driven = λ at. false;
+}
+
+-- spans of live handles of the gates and of the roots, one for each net of the circuit, and a span apart from them of ten
+-- words for each net of the part
+pub record HasRootSpans (c : Circuit) (part : Part) (gates roots out : Span) (d : Diagrams) : Type 0 where
+  pub spans : HasSpans c part gates out d
+  pub roots_span : IsSpan d roots
+  pub roots_len : roots.len ≡ length c.nets
+  pub roots_live : IsFilled d roots
+  pub roots_apart : IsApart roots out
+
+-- the words of the values say of each net of the part whether a clear path from a root of the value ends there
+abbrev pub TellsReach : Part → Span → Diagrams → Valuation → Network → Type 0
+TellsReach part out d v w = (i n : ℕ) (value : Bool) → IsPlace part i n → (strong d out (slot_of value) i v ≡ true) ↔ Reaches w n value

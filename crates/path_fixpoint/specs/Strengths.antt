@@ -1,0 +1,104 @@
+-- What the words of a part say of the strengths of its nets.
+use Rattle.std.specs.Prelude.{◌≡◌, ◌≢◌, ℕ, ◌+◌, ◌-◌, ◌*◌, ◌<◌, ◌≤◌, ◌⊎◌, ◌↔◌, Bool, true, false, [], length, Option, Some, None}
+use Rattle.node_pool.specs.declared.region.Span.{Span}
+use Rattle.bdd_core.specs.Diagram.{Valuation, meaning}
+use Rattle.bdd_core.specs.Store.{Diagrams, IsSpan}
+use Rattle.vrt_model.proofs.Strength.{AtLeast}
+use Rattle.vrt_model.specs.Path.{IsOn, IsRoot, Joins, Network, Root}
+use Rattle.vrt_model.specs.Reading.{conducts_at}
+use Rattle.vrt_model.specs.Response.{IsStrength}
+use Rattle.vrt_model.specs.declared.circuit.Circuit.{Circuit}
+use Rattle.vrt_model.specs.declared.circuit.Device.{Device}
+use Rattle.vrt_model.specs.declared.design.Kind.{Kind}
+use Rattle.path_fixpoint.specs.declared.part.Part.{Part}
+use Rattle.path_fixpoint.specs.Parts.{IsPlace, part_devices}
+use Rattle.path_fixpoint.specs.Words.{IsApart, IsFilled, shows, word_at}
+
+-- ten words for each net of a part: whether its strength is at least 1 to 8, and whether 0 and 1 reach it
+abbrev pub word_of : ℕ → ℕ → ℕ
+word_of level i = 10 * i + (level - 1)
+
+-- the strength of the net at place i is at least the level
+abbrev pub strong : Diagrams → Span → ℕ → ℕ → Valuation → Bool
+strong d out level i v = shows d out (word_of level i) v
+
+-- the same of the net at one end of a channel: outside the part it has a given value, so the greatest strength
+abbrev pub strong_end : Diagrams → Span → ℕ → Option ℕ → Valuation → Bool
+strong_end d out level (Some i) v = strong d out level i v
+strong_end d out level None v = true
+
+-- a span of live handles of the gates, one for each net of the circuit, and a span of ten words for each net of the part
+pub record HasSpans (c : Circuit) (part : Part) (gates out : Span) (d : Diagrams) : Type 0 where
+  pub gates_span : IsSpan d gates
+  pub gates_len : gates.len ≡ length c.nets
+  pub gates_live : IsFilled d gates
+  pub out_span : IsSpan d out
+  pub out_len : out.len ≡ 10 * length part.nets
+  pub apart : IsApart gates out
+
+-- the same spans, where the words of the part are live handles too
+pub record HasWords (c : Circuit) (part : Part) (gates out : Span) (d : Diagrams) : Type 0 where
+  pub gates_span : IsSpan d gates
+  pub gates_len : gates.len ≡ length c.nets
+  pub gates_live : IsFilled d gates
+  pub out_span : IsSpan d out
+  pub out_len : out.len ≡ 10 * length part.nets
+  pub out_live : IsFilled d out
+  pub apart : IsApart gates out
+
+-- w has the devices of the part, the nets of the circuit, and at the gates the values that their handles have at v
+pub record StandsAt (c : Circuit) (part : Part) (gates : Span) (d : Diagrams) (v : Valuation) (w : Network) : Type 0 where
+  pub nets : w.nets ≡ c.nets
+  pub holds : w.holds ≡ c.holds
+  pub outputs : w.outputs ≡ []
+  pub source : w.source ≡ 8
+  pub devices : w.devices ≡ part_devices c part
+  pub reading : (n : ℕ) → n < length c.nets → shows d gates n v ≡ w.reading n
+
+-- only words of one level change
+abbrev pub ChangesLevel : Span → ℕ → Diagrams → Diagrams → Type 0
+ChangesLevel out level old new = (k : ℕ) → ((i : ℕ) → k ≢ word_of level i) → word_at new out k ≡ word_at old out k
+
+-- no mark goes
+abbrev pub StrongGrows : Span → ℕ → Diagrams → Diagrams → Type 0
+StrongGrows out level old new = (i : ℕ) → word_of level i < out.len → (v : Valuation) → strong old out level i v ≡ true → strong new out level i v ≡ true
+
+-- the net n is marked, where it is in the part
+abbrev pub IsStrong : Part → Span → ℕ → Diagrams → Valuation → ℕ → Type 0
+IsStrong part out level d v n = (i : ℕ) → IsPlace part i n → strong d out level i v ≡ true
+
+-- at each marked net a path of at least this level ends
+abbrev pub HasPaths : Part → Span → ℕ → Diagrams → Valuation → Network → Type 0
+HasPaths part out level d v w = (i n : ℕ) → IsPlace part i n → strong d out level i v ≡ true → AtLeast w level n
+
+-- the nets of the roots of at least this level are marked
+abbrev pub HasRoots : Part → Span → ℕ → Diagrams → Valuation → Network → Type 0
+HasRoots part out level d v w = (root : Root) → IsRoot w root → level ≤ root.level → IsStrong part out level d v root.net
+
+-- what a device passes on from the marks in `old` is marked in `new`
+abbrev pub HasPassed : Part → Span → ℕ → Device → Diagrams → Diagrams → Valuation → Network → Type 0
+HasPassed part out level d old new v w =
+    IsOn w d → level ≤ d.level → (m n : ℕ) → Joins d m n → IsStrong part out level old v m → IsStrong part out level new v n
+
+-- the marks are at exactly the nets at which a path of at least this level ends
+abbrev pub HasLevel : Part → Span → ℕ → Diagrams → Valuation → Network → Type 0
+HasLevel part out level d v w = (i n : ℕ) → IsPlace part i n → (strong d out level i v ≡ true) ↔ AtLeast w level n
+
+-- what one direction of a device with such a gate passes on, from one end of its channel to the other
+pub record Passes (out : Span) (level : ℕ) (kind : Kind) (gate : ℕ) (from to : Option ℕ) (changed : Bool) (old new : Diagrams) : Type 0 where
+  pub grown : StrongGrows out level old new
+  pub passed : (i : ℕ) → to ≡ Some i → (v : Valuation) → conducts_at kind (meaning old.nodes gate v) ≡ true → strong_end old out level from v ≡ true → strong new out level i v ≡ true
+  pub only : (i : ℕ) → word_of level i < out.len → (v : Valuation) → strong new out level i v ≡ true
+      → (strong old out level i v ≡ true) ⊎ ((to ≡ Some i) × (conducts_at kind (meaning old.nodes gate v) ≡ true) × (strong_end old out level from v ≡ true))
+  pub same : changed ≡ false → new.words ≡ old.words
+
+-- what a step over devices does to the marks of a level, whatever the valuation
+pub record Spreads (c : Circuit) (part : Part) (gates out : Span) (level : ℕ) (IsPassed : Device → Type 0) (changed : Bool) (old new : Diagrams) : Type 0 where
+  pub grown : StrongGrows out level old new
+  pub passed : (d : Device) → IsPassed d → (v : Valuation) (w : Network) → StandsAt c part gates old v w → HasPassed part out level d old new v w
+  pub paths : (v : Valuation) (w : Network) → StandsAt c part gates old v w → HasPaths part out level old v w → HasPaths part out level new v w
+  pub same : changed ≡ false → new.words ≡ old.words
+
+-- the words of the levels 1 to 8 say of each net of the part whether its strength is at least that level
+abbrev pub TellsStrengths : Part → Span → Diagrams → Valuation → Network → Type 0
+TellsStrengths part out d v w = (i n level s : ℕ) → IsPlace part i n → 1 ≤ level → level ≤ 8 → IsStrength w n s → (strong d out level i v ≡ true) ↔ (level ≤ s)

@@ -1,0 +1,76 @@
+//! The strengths of the nets of a part, level by level.
+
+ghost use Rattle.std.specs.Prelude.{◌≡◌, ℕ, ◌*◌, ◌^◌, ◌<◌, ◌≤◌, length, IfOk};
+ghost use Rattle.bdd_core.specs.Diagram.{Valuation};
+ghost use Rattle.bdd_core.specs.Store.{IsSpan};
+ghost use Rattle.plain_paths.specs.FlatCircuits.{IsFlat};
+ghost use Rattle.vrt_model.specs.Path.{Network};
+ghost use Rattle.path_fixpoint.specs.Parts.{IsPart};
+ghost use Rattle.path_fixpoint.specs.Strengths.{HasLevel, HasSpans, HasWords, StandsAt, TellsStrengths};
+ghost use Rattle.path_fixpoint.specs.Words.{IsFilled, Writes};
+
+use crate::Part;
+use crate::opening::open;
+use crate::rounds::settle;
+use bdd_core::{Spent, Store};
+use node_pool::Span;
+use vrt_model::Circuit;
+
+/// Writes the constant 0 into each word of a span.
+fn clear(store: &mut Store, out: Span)
+    requires out { IsSpan store.old out }
+    ensures writes { Writes out store.old store.new }
+{
+    let _ends = store.node_count();
+    for at in 0..out.len {
+        store.write(out, at, 0);
+    }
+}
+
+/// Writes for each net of the part whether its strength is at least 8, at least 7 and so on down to 1.
+fn levels(
+    store: &mut Store,
+    circuit: &Circuit,
+    part: &Part,
+    gates: Span,
+    out: Span,
+) -> Result<(), Spent>
+    requires circuit { IsFlat circuit.now }
+    requires part { IsPart circuit.now part.now }
+    requires words { HasWords circuit.now part.now gates out store.old }
+    ensures writes { Writes out store.old store.new }
+    ensures levels { IfOk result (λ _. (v : Valuation) (w : Network) → StandsAt circuit.now part.now gates store.old v w → (level : ℕ) → 1 ≤ level → level ≤ 8 → HasLevel part.now out level store.new v w) }
+{
+    let _ends = store.node_count();
+    for done in 0..8u32 {
+        let level = 8 - done;
+        open(store, circuit, part, gates, out, level);
+        match settle(store, circuit, part, gates, out, level) {
+            Ok(()) => {}
+            Err(spent) => return Err(spent),
+        }
+    }
+    Ok(())
+}
+
+/// Writes for each net of a part, as diagrams over all valuations, whether its strength is at least 1 to 8: the word of
+/// the net at place `i` for a level is number `10 * i + level - 1` of `out`. `gates` has the handle of each net of the
+/// circuit. At each valuation the network is that of the part's devices, with the gates' bits as their handles say.
+///
+/// Handles from before keep their functions and words outside `out` stay as they are, also where the budget is used up.
+pub fn strengths(
+    store: &mut Store,
+    circuit: &Circuit,
+    part: &Part,
+    gates: Span,
+    out: Span,
+) -> Result<(), Spent>
+    requires circuit { IsFlat circuit.now }
+    requires part { IsPart circuit.now part.now }
+    requires spans { HasSpans circuit.now part.now gates out store.old }
+    ensures writes { Writes out store.old store.new }
+    ensures strengths { IfOk result (λ _. (v : Valuation) (w : Network) → StandsAt circuit.now part.now gates store.old v w → TellsStrengths part.now out store.new v w) }
+{
+    clear(store, out);
+    levels(store, circuit, part, gates, out)
+}

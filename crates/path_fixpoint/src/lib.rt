@@ -1,0 +1,18 @@
+//! The clear paths of one channel-connected part, at every valuation at once. The strengths of the nets and the values
+//! that reach them are held as decision diagrams, and spread in rounds over the devices until nothing changes (R. E.
+//! Bryant, A switch-level model and simulator for MOS digital systems, IEEE Transactions on Computers C-33, 1984).
+#![tactic(auto)]
+
+mod levels;
+mod opening;
+mod part;
+mod reach;
+mod rounds;
+mod signals;
+mod solve;
+mod sources;
+mod steps;
+
+pub use levels::strengths;
+pub use part::Part;
+pub use solve::solve_part;

@@ -1,0 +1,165 @@
+//! Where the marks of a level begin.
+
+ghost use Rattle.std.specs.Prelude.{◌≡◌, ◌≢◌, ℕ, ◌+◌, ◌*◌, ◌^◌, ◌<◌, ◌≤◌, ◌⊎◌, ◌↔◌, IsTrue, true, false, length, IfSome, IfOk};
+ghost use Rattle.bdd_core.specs.Diagram.{Valuation};
+ghost use Rattle.bdd_core.specs.Store.{IsLive, IsSpan};
+ghost use Rattle.plain_paths.specs.FlatCircuits.{IsFlat};
+ghost use Rattle.vrt_model.specs.Circuits.{IsNet};
+ghost use Rattle.vrt_model.specs.Lists.{At};
+ghost use Rattle.vrt_model.specs.Path.{Network};
+ghost use Rattle.vrt_model.specs.declared.circuit.Hold.{Hold as HoldValue};
+ghost use Rattle.path_fixpoint.specs.Openings.{IsGivenAt, IsHoldAt, OnlyBy, TakesAbove, mark_of};
+ghost use Rattle.path_fixpoint.specs.Parts.{IsGiven, IsPart, IsPlace};
+ghost use Rattle.path_fixpoint.specs.Strengths.{ChangesLevel, HasLevel, HasPaths, HasRoots, HasWords, StandsAt, word_of};
+ghost use Rattle.path_fixpoint.specs.Words.{IsFilled, Writes, word_at};
+
+use crate::Part;
+use crate::steps::{place, word};
+use bdd_core::{H, ONE, Store, ZERO};
+use node_pool::Span;
+use vrt_model::{Circuit, Net, NetKind};
+
+/// Writes a handle into a word.
+pub(crate) fn set(store: &mut Store, out: Span, at: u32, handle: H)
+    requires out { IsSpan store.old out × IsFilled store.old out }
+    requires at { at < out.len }
+    requires handle { IsLive store.old handle }
+    ensures writes { Writes out store.old store.new }
+    ensures here { word_at store.new out at ≡ handle.0 }
+    ensures apart { (k : ℕ) → k ≢ at → word_at store.new out k ≡ word_at store.old out k }
+{
+    let _ends = store.node_count();
+    store.write(out, at, handle.0);
+}
+
+/// Where the mark of a net begins: at that of the level above.
+fn above(store: &Store, out: Span, place: usize, level: u32) -> H
+    requires out { IsSpan store.now out × IsFilled store.now out }
+    requires level { (1 ≤ level) × (level ≤ 8) }
+    requires place { (10 * place + 10 ≤ out.len) × (out.len < 2 ^ 32) }
+    ensures live { IsLive store.now result }
+    ensures below { level < 8 → result.0 ≡ mark_of store.now out (level + 1) place }
+    ensures highest { level ≡ 8 → result.0 ≡ 0 }
+{
+    let _ends = store.node_count();
+    if level < 8 {
+        return H(store.read(out, word(place, level + 1)));
+    }
+    ZERO
+}
+
+/// Takes the marks of the level above.
+fn take_above(store: &mut Store, part: &Part, out: Span, level: u32)
+    requires out { IsSpan store.old out × IsFilled store.old out }
+    requires level { (1 ≤ level) × (level ≤ 8) }
+    requires len { (out.len ≡ 10 * length part.now.nets) × (out.len < 2 ^ 32) }
+    ensures writes { Writes out store.old store.new }
+    ensures apart { ChangesLevel out level store.old store.new }
+    ensures taken { (i : ℕ) → i < length part.now.nets → TakesAbove out level store.old store.new i }
+{
+    let _ends = store.node_count();
+    for i in 0..part.nets.len() {
+        let handle = above(store, out, i, level);
+        set(store, out, word(i, level), handle);
+    }
+}
+
+/// Marks a net of the part, by the constant 1, where the test says so.
+fn mark(store: &mut Store, part: &Part, out: Span, net: Net, level: u32, fits: bool)
+    requires part { (i j n : ℕ) → IsPlace part.now i n → IsPlace part.now j n → i ≡ j }
+    requires out { IsSpan store.old out × IsFilled store.old out }
+    requires level { (1 ≤ level) × (level ≤ 8) }
+    requires len { (out.len ≡ 10 * length part.now.nets) × (out.len < 2 ^ 32) }
+    ensures writes { Writes out store.old store.new }
+    ensures apart { ChangesLevel out level store.old store.new }
+    ensures marked { fits ≡ true → (i : ℕ) → IsPlace part.now i net.0 → mark_of store.new out level i ≡ 1 }
+    ensures only { OnlyBy out level (λ i. (fits ≡ true) × IsPlace part.now i net.0) store.old store.new }
+{
+    let _ends = store.node_count();
+    if !fits {
+        return;
+    }
+    let Some(i) = place(part, net) else {
+        return;
+    };
+    set(store, out, word(i, level), ONE);
+}
+
+/// Whether a net has a given value: a supply, an input or a clock port.
+pub(crate) fn is_given(circuit: &Circuit, net: Net) -> bool
+    ensures { (result ≡ true) ↔ IsGiven circuit.now net.0 }
+{
+    let Some(flat) = circuit.nets.get(net.0 as usize) else {
+        return false;
+    };
+    match flat.kind {
+        NetKind::Plain => false,
+        _ => true,
+    }
+}
+
+/// Marks the nets of the part that have given values.
+fn mark_given(store: &mut Store, circuit: &Circuit, part: &Part, out: Span, level: u32)
+    requires part { (i j n : ℕ) → IsPlace part.now i n → IsPlace part.now j n → i ≡ j }
+    requires out { IsSpan store.old out × IsFilled store.old out }
+    requires level { (1 ≤ level) × (level ≤ 8) }
+    requires len { (out.len ≡ 10 * length part.now.nets) × (out.len < 2 ^ 32) }
+    ensures writes { Writes out store.old store.new }
+    ensures apart { ChangesLevel out level store.old store.new }
+    ensures marked { (i : ℕ) → IsGivenAt circuit.now part.now i → mark_of store.new out level i ≡ 1 }
+    ensures only { OnlyBy out level (IsGivenAt circuit.now part.now) store.old store.new }
+{
+    let _ends = store.node_count();
+    for net in part.nets.as_slice() {
+        let fits = is_given(circuit, *net);
+        mark(store, part, out, *net, level, fits);
+    }
+}
+
+/// Whether a hold of this size is a root of at least the level.
+fn has_level(size: u8, level: u32) -> bool
+    ensures { (result ≡ true) ↔ (level ≤ size) }
+{
+    size as u32 >= level
+}
+
+/// Marks the nets of the holds of at least this level.
+fn mark_holds(store: &mut Store, circuit: &Circuit, part: &Part, out: Span, level: u32)
+    requires part { (i j n : ℕ) → IsPlace part.now i n → IsPlace part.now j n → i ≡ j }
+    requires out { IsSpan store.old out × IsFilled store.old out }
+    requires level { (1 ≤ level) × (level ≤ 8) }
+    requires len { (out.len ≡ 10 * length part.now.nets) × (out.len < 2 ^ 32) }
+    ensures writes { Writes out store.old store.new }
+    ensures apart { ChangesLevel out level store.old store.new }
+    ensures marked { (i : ℕ) → IsHoldAt circuit.now part.now level i → mark_of store.new out level i ≡ 1 }
+    ensures only { OnlyBy out level (IsHoldAt circuit.now part.now level) store.old store.new }
+{
+    let _ends = store.node_count();
+    for hold in circuit.holds.as_slice() {
+        let fits = has_level(hold.size, level);
+        mark(store, part, out, hold.net, level, fits);
+    }
+}
+
+/// Begins a level: with the marks of the level above, and those at the roots of at least this level.
+pub(crate) fn open(
+    store: &mut Store,
+    circuit: &Circuit,
+    part: &Part,
+    gates: Span,
+    out: Span,
+    level: u32,
+)
+    requires part { IsPart circuit.now part.now }
+    requires words { HasWords circuit.now part.now gates out store.old }
+    requires level { (1 ≤ level) × (level ≤ 8) }
+    ensures writes { Writes out store.old store.new }
+    ensures apart { ChangesLevel out level store.old store.new }
+    ensures roots { (v : Valuation) (w : Network) → StandsAt circuit.now part.now gates store.old v w → HasRoots part.now out level store.new v w }
+    ensures paths { (v : Valuation) (w : Network) → StandsAt circuit.now part.now gates store.old v w → (level < 8 → HasLevel part.now out (level + 1) store.old v w) → HasPaths part.now out level store.new v w }
+{
+    let _gates = gates;
+    take_above(store, part, out, level);
+    mark_given(store, circuit, part, out, level);
+    mark_holds(store, circuit, part, out, level);
+}

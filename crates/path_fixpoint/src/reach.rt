@@ -1,0 +1,160 @@
+//! Rounds over the devices of a part, for the nets that a value reaches.
+
+ghost use Rattle.std.specs.Prelude.{◌≡◌, ℕ, ◌+◌, ◌*◌, ◌^◌, ◌<◌, ◌≤◌, ◌⊎◌, true, false, length, IfOk, IfSome};
+ghost use Rattle.bdd_core.specs.Diagram.{Valuation};
+ghost use Rattle.bdd_core.specs.Store.{IsLive, IsSpan};
+ghost use Rattle.plain_paths.specs.FlatCircuits.{IsFlat};
+ghost use Rattle.vrt_model.specs.Lists.{Among};
+ghost use Rattle.vrt_model.specs.Path.{Network};
+ghost use Rattle.vrt_model.specs.declared.circuit.Device.{Device as DeviceValue};
+ghost use Rattle.path_fixpoint.specs.Parts.{IsPart, part_devices};
+ghost use Rattle.path_fixpoint.specs.Reaching.{HasReach, HasReachPaths, HasReachRoots, HasRootWords, PassesSignal, SolvedAt, SpreadsValue, slot_of};
+ghost use Rattle.path_fixpoint.specs.Strengths.{ChangesLevel, word_of};
+ghost use Rattle.path_fixpoint.specs.Words.{IsFilled, Writes};
+
+use crate::Part;
+use crate::signals::{fitting, reached, slot};
+use crate::steps::{place, through, widen, word};
+use bdd_core::{H, Spent, Store};
+use node_pool::Span;
+use vrt_model::{Circuit, Device, Kind};
+
+/// Passes a signal on over one device, in one direction, and says whether anything changed.
+fn pass(
+    store: &mut Store,
+    device: &Device,
+    gate: H,
+    signal: H,
+    out: Span,
+    from: Option<usize>,
+    to: Option<usize>,
+    value: bool,
+) -> Result<bool, Spent>
+    requires gate { IsLive store.old gate }
+    requires signal { IsLive store.old signal }
+    requires out { IsSpan store.old out × IsFilled store.old out }
+    requires len { out.len < 2 ^ 32 }
+    requires from { IfSome from (λ i. 10 * i + 10 ≤ out.len) }
+    requires to { IfSome to (λ i. 10 * i + 10 ≤ out.len) }
+    ensures writes { Writes out store.old store.new }
+    ensures apart { ChangesLevel out (slot_of value) store.old store.new }
+    ensures passes { IfOk result (λ changed. PassesSignal out value device.now.kind gate.0 signal.0 from to device.now.level changed store.old store.new) }
+{
+    let _ends = store.node_count();
+    let Some(to) = to else {
+        return Ok(false);
+    };
+    let passed = match through(store, device.kind, gate, signal) {
+        Ok(passed) => passed,
+        Err(spent) => return Err(spent),
+    };
+    let fits = match fitting(store, out, from, to, device.level, passed) {
+        Ok(fits) => fits,
+        Err(spent) => return Err(spent),
+    };
+    widen(store, out, word(to, slot(value)), fits)
+}
+
+/// Passes a value on over one device, in both directions, and says whether anything changed.
+fn visit(
+    store: &mut Store,
+    circuit: &Circuit,
+    part: &Part,
+    gates: Span,
+    roots: Span,
+    out: Span,
+    device: &Device,
+    value: bool,
+) -> Result<bool, Spent>
+    requires circuit { IsFlat circuit.now }
+    requires part { IsPart circuit.now part.now }
+    requires words { HasRootWords circuit.now part.now gates roots out store.old }
+    requires device { Among (part_devices circuit.now part.now) device.now }
+    ensures writes { Writes out store.old store.new }
+    ensures apart { ChangesLevel out (slot_of value) store.old store.new }
+    ensures spreads { IfOk result (λ changed. SpreadsValue circuit.now part.now gates roots out value (λ d. d ≡ device.now) changed store.old store.new) }
+{
+    let _ends = store.node_count();
+    let gate = H(store.read(gates, device.gate.0));
+    let left = place(part, device.left);
+    let right = place(part, device.right);
+    let there = match reached(store, roots, out, left, device.left, value) {
+        Ok(there) => there,
+        Err(spent) => return Err(spent),
+    };
+    let forth = match pass(store, device, gate, there, out, left, right, value) {
+        Ok(forth) => forth,
+        Err(spent) => return Err(spent),
+    };
+    let here = match reached(store, roots, out, right, device.right, value) {
+        Ok(here) => here,
+        Err(spent) => return Err(spent),
+    };
+    let back = match pass(store, device, gate, here, out, right, left, value) {
+        Ok(back) => back,
+        Err(spent) => return Err(spent),
+    };
+    Ok(forth | back)
+}
+
+/// Goes over the devices of the part once, in place, and says whether anything changed.
+fn round(
+    store: &mut Store,
+    circuit: &Circuit,
+    part: &Part,
+    gates: Span,
+    roots: Span,
+    out: Span,
+    value: bool,
+) -> Result<bool, Spent>
+    requires circuit { IsFlat circuit.now }
+    requires part { IsPart circuit.now part.now }
+    requires words { HasRootWords circuit.now part.now gates roots out store.old }
+    ensures writes { Writes out store.old store.new }
+    ensures apart { ChangesLevel out (slot_of value) store.old store.new }
+    ensures spreads { IfOk result (λ changed. SpreadsValue circuit.now part.now gates roots out value (Among (part_devices circuit.now part.now)) changed store.old store.new) }
+{
+    let _ends = store.node_count();
+    let mut changed = false;
+    for dev in part.devices.as_slice() {
+        let Some(device) = circuit.devices.get(dev.0 as usize) else {
+            unreachable!();
+        };
+        let grew = match visit(store, circuit, part, gates, roots, out, device, value) {
+            Ok(grew) => grew,
+            Err(spent) => return Err(spent),
+        };
+        changed |= grew;
+    }
+    Ok(changed)
+}
+
+/// Spreads the marks of a value in rounds until no word changes, in at most as many rounds as the part has nets.
+pub(crate) fn settle(
+    store: &mut Store,
+    circuit: &Circuit,
+    part: &Part,
+    gates: Span,
+    roots: Span,
+    out: Span,
+    value: bool,
+) -> Result<(), Spent>
+    requires circuit { IsFlat circuit.now }
+    requires part { IsPart circuit.now part.now }
+    requires words { HasRootWords circuit.now part.now gates roots out store.old }
+    ensures writes { Writes out store.old store.new }
+    ensures apart { ChangesLevel out (slot_of value) store.old store.new }
+    ensures reach { IfOk result (λ _. (v : Valuation) (w : Network) (s : ℕ → ℕ) → SolvedAt circuit.now part.now gates roots out store.old v w s → HasReachRoots circuit.now part.now out value store.old v w s → HasReachPaths part.now out value store.old v w s → HasReach part.now out value store.new v w) }
+{
+    let _ends = store.node_count();
+    'rounds: for _count in 0..part.nets.len() {
+        let changed = match round(store, circuit, part, gates, roots, out, value) {
+            Ok(changed) => changed,
+            Err(spent) => return Err(spent),
+        };
+        if !changed {
+            return Ok(());
+        }
+    }
+    Ok(())
+}

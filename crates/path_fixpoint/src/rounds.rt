@@ -1,0 +1,149 @@
+//! Rounds over the devices of a part, at one level of strength.
+
+ghost use Rattle.std.specs.Prelude.{◌≡◌, ℕ, ◌+◌, ◌*◌, ◌^◌, ◌<◌, ◌≤◌, ◌⊎◌, true, false, length, IfOk, IfSome};
+ghost use Rattle.bdd_core.specs.Diagram.{Valuation};
+ghost use Rattle.bdd_core.specs.Store.{IsLive, IsSpan};
+ghost use Rattle.plain_paths.specs.FlatCircuits.{IsFlat};
+ghost use Rattle.vrt_model.specs.Lists.{Among};
+ghost use Rattle.vrt_model.specs.Path.{Network};
+ghost use Rattle.vrt_model.specs.declared.circuit.Device.{Device as DeviceValue};
+ghost use Rattle.path_fixpoint.specs.Parts.{IsPart, part_devices};
+ghost use Rattle.path_fixpoint.specs.Strengths.{ChangesLevel, HasLevel, HasPaths, HasRoots, HasWords, Passes, Spreads, StandsAt, word_of};
+ghost use Rattle.path_fixpoint.specs.Words.{IsFilled, Writes};
+
+use crate::Part;
+use crate::steps::{place, strength, through, widen, word};
+use bdd_core::{H, Spent, Store};
+use node_pool::Span;
+use vrt_model::{Circuit, Device, Kind};
+
+/// Passes the marks of a level on over one device, in one direction, and says whether anything changed.
+fn pass(
+    store: &mut Store,
+    kind: Kind,
+    gate: H,
+    out: Span,
+    from: Option<usize>,
+    to: Option<usize>,
+    level: u32,
+) -> Result<bool, Spent>
+    requires gate { IsLive store.old gate }
+    requires out { IsSpan store.old out × IsFilled store.old out }
+    requires level { (1 ≤ level) × (level ≤ 8) }
+    requires len { out.len < 2 ^ 32 }
+    requires from { IfSome from (λ i. 10 * i + 10 ≤ out.len) }
+    requires to { IfSome to (λ i. 10 * i + 10 ≤ out.len) }
+    ensures writes { Writes out store.old store.new }
+    ensures apart { ChangesLevel out level store.old store.new }
+    ensures passes { IfOk result (λ changed. Passes out level kind gate.0 from to changed store.old store.new) }
+{
+    let _ends = store.node_count();
+    let Some(to) = to else {
+        return Ok(false);
+    };
+    let signal = strength(store, out, from, level);
+    let passed = match through(store, kind, gate, signal) {
+        Ok(passed) => passed,
+        Err(spent) => return Err(spent),
+    };
+    widen(store, out, word(to, level), passed)
+}
+
+/// Passes the marks of a level on over one device, in both directions, and says whether anything changed.
+fn visit(
+    store: &mut Store,
+    circuit: &Circuit,
+    part: &Part,
+    gates: Span,
+    out: Span,
+    device: &Device,
+    level: u32,
+) -> Result<bool, Spent>
+    requires circuit { IsFlat circuit.now }
+    requires part { IsPart circuit.now part.now }
+    requires words { HasWords circuit.now part.now gates out store.old }
+    requires level { (1 ≤ level) × (level ≤ 8) }
+    requires device { Among (part_devices circuit.now part.now) device.now }
+    ensures writes { Writes out store.old store.new }
+    ensures apart { ChangesLevel out level store.old store.new }
+    ensures spreads { IfOk result (λ changed. Spreads circuit.now part.now gates out level (λ d. d ≡ device.now) changed store.old store.new) }
+{
+    let _ends = store.node_count();
+    if (device.level as u32) < level {
+        return Ok(false);
+    }
+    let gate = H(store.read(gates, device.gate.0));
+    let left = place(part, device.left);
+    let right = place(part, device.right);
+    let forth = match pass(store, device.kind, gate, out, left, right, level) {
+        Ok(forth) => forth,
+        Err(spent) => return Err(spent),
+    };
+    let back = match pass(store, device.kind, gate, out, right, left, level) {
+        Ok(back) => back,
+        Err(spent) => return Err(spent),
+    };
+    Ok(forth | back)
+}
+
+/// Goes over the devices of the part once, in place, and says whether anything changed.
+fn round(
+    store: &mut Store,
+    circuit: &Circuit,
+    part: &Part,
+    gates: Span,
+    out: Span,
+    level: u32,
+) -> Result<bool, Spent>
+    requires circuit { IsFlat circuit.now }
+    requires part { IsPart circuit.now part.now }
+    requires words { HasWords circuit.now part.now gates out store.old }
+    requires level { (1 ≤ level) × (level ≤ 8) }
+    ensures writes { Writes out store.old store.new }
+    ensures apart { ChangesLevel out level store.old store.new }
+    ensures spreads { IfOk result (λ changed. Spreads circuit.now part.now gates out level (Among (part_devices circuit.now part.now)) changed store.old store.new) }
+{
+    let _ends = store.node_count();
+    let mut changed = false;
+    for dev in part.devices.as_slice() {
+        let Some(device) = circuit.devices.get(dev.0 as usize) else {
+            unreachable!();
+        };
+        let grew = match visit(store, circuit, part, gates, out, device, level) {
+            Ok(grew) => grew,
+            Err(spent) => return Err(spent),
+        };
+        changed |= grew;
+    }
+    Ok(changed)
+}
+
+/// Spreads the marks of a level in rounds until no word changes, in at most as many rounds as the part has nets.
+pub(crate) fn settle(
+    store: &mut Store,
+    circuit: &Circuit,
+    part: &Part,
+    gates: Span,
+    out: Span,
+    level: u32,
+) -> Result<(), Spent>
+    requires circuit { IsFlat circuit.now }
+    requires part { IsPart circuit.now part.now }
+    requires words { HasWords circuit.now part.now gates out store.old }
+    requires level { (1 ≤ level) × (level ≤ 8) }
+    ensures writes { Writes out store.old store.new }
+    ensures apart { ChangesLevel out level store.old store.new }
+    ensures level { IfOk result (λ _. (v : Valuation) (w : Network) → StandsAt circuit.now part.now gates store.old v w → HasRoots part.now out level store.old v w → HasPaths part.now out level store.old v w → HasLevel part.now out level store.new v w) }
+{
+    let _ends = store.node_count();
+    'rounds: for _count in 0..part.nets.len() {
+        let changed = match round(store, circuit, part, gates, out, level) {
+            Ok(changed) => changed,
+            Err(spent) => return Err(spent),
+        };
+        if !changed {
+            return Ok(());
+        }
+    }
+    Ok(())
+}

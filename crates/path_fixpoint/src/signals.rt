@@ -1,0 +1,124 @@
+//! Signals of one value: what stands at the end of a channel, and where the strengths let it pass.
+
+ghost use Rattle.std.specs.Prelude.{◌≡◌, ◌≢◌, ℕ, ◌+◌, ◌*◌, ◌^◌, ◌<◌, ◌≤◌, ◌⊎◌, ◌↔◌, true, false, cond, length, IfOk, IfSome};
+ghost use Rattle.bdd_core.specs.Diagram.{Valuation};
+ghost use Rattle.bdd_core.specs.Store.{IsLive, IsSpan, Makes, function_of};
+ghost use Rattle.path_fixpoint.specs.Reaching.{FitsAt, bit_is, reached_end, slot_of};
+ghost use Rattle.path_fixpoint.specs.Strengths.{strong, strong_end, word_of};
+ghost use Rattle.node_pool.specs.declared.region.Span.{Span as SpanValue};
+ghost use Rattle.path_fixpoint.specs.Words.{IsFilled, Writes, shows, word_at};
+
+use crate::steps::{strength, word};
+use bdd_core::{H, Spent, Store, ZERO};
+use bdd_ops::{and, implies, not};
+use node_pool::Span;
+use vrt_model::Net;
+
+/// The number of the word of a value, as a level.
+pub(crate) fn slot(value: bool) -> u32
+    ensures { result ≡ slot_of value }
+{
+    if value { 10 } else { 9 }
+}
+
+/// Whether the root of a net has the value.
+pub(crate) fn root_bit(store: &mut Store, roots: Span, net: Net, value: bool) -> Result<H, Spent>
+    requires roots { IsSpan store.old roots × IsFilled store.old roots }
+    requires net { net.0 < roots.len }
+    ensures { Makes store.old store.new (bit_is value (λ v. shows store.old roots net.0 v)) result }
+{
+    let _ends = store.node_count();
+    let bit = H(store.read(roots, net.0));
+    if value {
+        return Ok(bit);
+    }
+    not(store, bit)
+}
+
+/// Whether the value reaches the end of a channel. A net outside the part has a given value.
+pub(crate) fn reached(
+    store: &mut Store,
+    roots: Span,
+    out: Span,
+    place: Option<usize>,
+    net: Net,
+    value: bool,
+) -> Result<H, Spent>
+    requires roots { IsSpan store.old roots × IsFilled store.old roots }
+    requires out { IsSpan store.old out × IsFilled store.old out }
+    requires net { net.0 < roots.len }
+    requires place { IfSome place (λ i. 10 * i + 10 ≤ out.len) }
+    requires len { out.len < 2 ^ 32 }
+    ensures { Makes store.old store.new (λ v. reached_end store.old roots out value place net.0 v) result }
+{
+    let _ends = store.node_count();
+    let Some(place) = place else {
+        return root_bit(store, roots, net, value);
+    };
+    Ok(H(store.read(out, word(place, slot(value)))))
+}
+
+/// The strength of the one end of a channel is at least a level, and so is the device's level.
+fn prefix(store: &Store, out: Span, from: Option<usize>, device: u8, level: u32) -> H
+    requires out { IsSpan store.now out × IsFilled store.now out }
+    requires level { (1 ≤ level) × (level ≤ 8) }
+    requires from { IfSome from (λ i. 10 * i + 10 ≤ out.len) }
+    requires len { out.len < 2 ^ 32 }
+    ensures live { IsLive store.now result }
+    ensures is { (v : Valuation) → (function_of store.now result v ≡ true) ↔ ((level ≤ device) × (strong_end store.now out level from v ≡ true)) }
+{
+    let _ends = store.node_count();
+    if level <= device as u32 {
+        return strength(store, out, from, level);
+    }
+    ZERO
+}
+
+/// A signal where the other end's strength is no more than what the one end and the device give at a level.
+fn limit(store: &mut Store, signal: H, other: H, here: H) -> Result<H, Spent>
+    requires { IsLive store.old signal × IsLive store.old other × IsLive store.old here }
+    ensures writes { (out : SpanValue) → IsFilled store.old out → Writes out store.old store.new }
+    ensures words { store.new.words ≡ store.old.words }
+    ensures live { IfOk result (IsLive store.new) }
+    ensures is { IfOk result (λ r. (v : Valuation) → (function_of store.new r v ≡ true) ↔ ((function_of store.old signal v ≡ true) × (function_of store.old here v ≡ true → function_of store.old other v ≡ true))) }
+{
+    let _ends = store.node_count();
+    let allowed = match implies(store, here, other) {
+        Ok(allowed) => allowed,
+        Err(spent) => return Err(spent),
+    };
+    and(store, signal, allowed)
+}
+
+/// A signal where it fits the strengths: the strength of the net at place `to` is no more than the device's level and
+/// the strength of the one end. Elsewhere a stronger signal blocks it.
+pub(crate) fn fitting(
+    store: &mut Store,
+    out: Span,
+    from: Option<usize>,
+    to: usize,
+    device: u8,
+    signal: H,
+) -> Result<H, Spent>
+    requires out { IsSpan store.old out × IsFilled store.old out }
+    requires from { IfSome from (λ i. 10 * i + 10 ≤ out.len) }
+    requires to { 10 * to + 10 ≤ out.len }
+    requires len { out.len < 2 ^ 32 }
+    requires signal { IsLive store.old signal }
+    ensures writes { Writes out store.old store.new }
+    ensures words { store.new.words ≡ store.old.words }
+    ensures live { IfOk result (IsLive store.new) }
+    ensures is { IfOk result (λ r. (v : Valuation) → (function_of store.new r v ≡ true) ↔ ((function_of store.old signal v ≡ true) × FitsAt store.old out from to device v)) }
+{
+    let _ends = store.node_count();
+    let mut signal = signal;
+    for below in 0..8u32 {
+        let here = strength(store, out, Some(to), below + 1);
+        let other = prefix(store, out, from, device, below + 1);
+        signal = match limit(store, signal, other, here) {
+            Ok(signal) => signal,
+            Err(spent) => return Err(spent),
+        };
+    }
+    Ok(signal)
+}

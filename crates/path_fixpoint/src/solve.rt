@@ -1,0 +1,75 @@
+//! A part solved: the strengths of its nets, and the values that reach them.
+
+ghost use Rattle.std.specs.Prelude.{◌≡◌, ℕ, ◌*◌, ◌<◌, ◌≤◌, length, IfOk};
+ghost use Rattle.bdd_core.specs.Diagram.{Valuation};
+ghost use Rattle.plain_paths.specs.FlatCircuits.{IsFlat};
+ghost use Rattle.vrt_model.specs.Path.{Network};
+ghost use Rattle.path_fixpoint.specs.Parts.{IsPart};
+ghost use Rattle.path_fixpoint.specs.Reaching.{HasReach, HasRootWords, SolvedAt, slot_of};
+ghost use Rattle.path_fixpoint.specs.Solved.{HasRootSpans, TellsReach, network_at};
+ghost use Rattle.path_fixpoint.specs.Strengths.{ChangesLevel, TellsStrengths};
+ghost use Rattle.path_fixpoint.specs.Words.{Writes};
+
+use crate::Part;
+use crate::levels::strengths;
+use crate::reach::settle;
+use crate::sources::open;
+use bdd_core::{Spent, Store};
+use node_pool::Span;
+use vrt_model::Circuit;
+
+/// Writes for each net of the part whether the value reaches it, where the strengths are written.
+fn reaches(
+    store: &mut Store,
+    circuit: &Circuit,
+    part: &Part,
+    gates: Span,
+    roots: Span,
+    out: Span,
+    value: bool,
+) -> Result<(), Spent>
+    requires circuit { IsFlat circuit.now }
+    requires part { IsPart circuit.now part.now }
+    requires words { HasRootWords circuit.now part.now gates roots out store.old }
+    ensures writes { Writes out store.old store.new }
+    ensures apart { ChangesLevel out (slot_of value) store.old store.new }
+    ensures reach { IfOk result (λ _. (v : Valuation) (w : Network) (s : ℕ → ℕ) → SolvedAt circuit.now part.now gates roots out store.old v w s → HasReach part.now out value store.new v w) }
+{
+    match open(store, circuit, part, gates, roots, out, value) {
+        Ok(()) => {}
+        Err(spent) => return Err(spent),
+    }
+    settle(store, circuit, part, gates, roots, out, value)
+}
+
+/// Writes for each net of a part, as diagrams over all valuations, whether its strength is at least 1 to 8, whether a
+/// clear path from a root of value 0 ends at it, and whether one of value 1 does: the ten words of the net at place `i`
+/// are those from number `10 * i` of `out` on. `gates` and `roots` have a handle for each net of the circuit: the bit
+/// of the net at gates, and the bit of the root that stands at it.
+///
+/// Handles from before keep their functions and words outside `out` stay as they are, also where the budget is used up.
+pub fn solve_part(
+    store: &mut Store,
+    circuit: &Circuit,
+    part: &Part,
+    gates: Span,
+    roots: Span,
+    out: Span,
+) -> Result<(), Spent>
+    requires circuit { IsFlat circuit.now }
+    requires part { IsPart circuit.now part.now }
+    requires spans { HasRootSpans circuit.now part.now gates roots out store.old }
+    ensures writes { Writes out store.old store.new }
+    ensures strengths { IfOk result (λ _. (v : Valuation) → TellsStrengths part.now out store.new v (network_at store.old circuit.now part.now gates roots v)) }
+    ensures reaches { IfOk result (λ _. (v : Valuation) → TellsReach part.now out store.new v (network_at store.old circuit.now part.now gates roots v)) }
+{
+    match strengths(store, circuit, part, gates, out) {
+        Ok(()) => {}
+        Err(spent) => return Err(spent),
+    }
+    match reaches(store, circuit, part, gates, roots, out, false) {
+        Ok(()) => {}
+        Err(spent) => return Err(spent),
+    }
+    reaches(store, circuit, part, gates, roots, out, true)
+}

@@ -1,0 +1,200 @@
+//! The roots of one value: the nets of a part at which a root of the value stands, as strong as its net.
+
+ghost use Rattle.std.specs.Prelude.{◌≡◌, ◌≢◌, ℕ, ◌+◌, ◌*◌, ◌^◌, ◌<◌, ◌≤◌, ◌⊎◌, ◌↔◌, true, false, length, IfOk, IfSome};
+ghost use Rattle.bdd_core.specs.Diagram.{Valuation};
+ghost use Rattle.bdd_core.specs.Store.{IsLive, IsSpan, function_of};
+ghost use Rattle.plain_paths.specs.FlatCircuits.{IsFlat};
+ghost use Rattle.vrt_model.specs.Path.{Network};
+ghost use Rattle.path_fixpoint.specs.Openings.{IsGivenAt, IsHoldAt};
+ghost use Rattle.path_fixpoint.specs.Parts.{IsGiven, IsPart, IsPlace};
+ghost use Rattle.path_fixpoint.specs.Reaching.{HasReachPaths, HasReachRoots, HasRootWords, SolvedAt, slot_of};
+ghost use Rattle.path_fixpoint.specs.Sources.{AddsRoots, IsGivenSource, IsHoldSource};
+ghost use Rattle.path_fixpoint.specs.Strengths.{ChangesLevel, strong, word_of};
+ghost use Rattle.path_fixpoint.specs.Words.{IsFilled, Writes, shows, word_at};
+
+use crate::Part;
+use crate::opening::{is_given, set};
+use crate::signals::{root_bit, slot};
+use crate::steps::{place, strength, widen, word};
+use bdd_core::{H, Spent, Store, ZERO};
+use node_pool::Span;
+use vrt_model::{Circuit, Net};
+
+/// Writes the constant 0 into the word of each net for a value.
+fn clear(store: &mut Store, part: &Part, out: Span, value: bool)
+    requires out { IsSpan store.old out × IsFilled store.old out }
+    requires len { (out.len ≡ 10 * length part.now.nets) × (out.len < 2 ^ 32) }
+    ensures writes { Writes out store.old store.new }
+    ensures apart { ChangesLevel out (slot_of value) store.old store.new }
+    ensures zero { (i : ℕ) → i < length part.now.nets → word_at store.new out (word_of (slot_of value) i) ≡ 0 }
+{
+    let _ends = store.node_count();
+    for i in 0..part.nets.len() {
+        set(store, out, word(i, slot(value)), ZERO);
+    }
+}
+
+/// A root's bit where its net is no stronger than the root: where its strength is not one level more.
+fn unblocked(store: &mut Store, out: Span, place: usize, size: u32, bit: H) -> Result<H, Spent>
+    requires out { IsSpan store.old out × IsFilled store.old out }
+    requires place { (10 * place + 10 ≤ out.len) × (out.len < 2 ^ 32) }
+    requires size { (1 ≤ size) × (size ≤ 8) }
+    requires bit { IsLive store.old bit }
+    ensures writes { Writes out store.old store.new }
+    ensures words { store.new.words ≡ store.old.words }
+    ensures live { IfOk result (IsLive store.new) }
+    ensures is { IfOk result (λ r. (v : Valuation) → (function_of store.new r v ≡ true) ↔ ((function_of store.old bit v ≡ true) × (size < 8 → strong store.old out (size + 1) place v ≡ false))) }
+{
+    let _ends = store.node_count();
+    if size == 8 {
+        return Ok(bit);
+    }
+    let above = strength(store, out, Some(place), size + 1);
+    store.ite(above, ZERO, bit)
+}
+
+/// Marks the net of a root of this size, where the root has the value and the net is no stronger.
+fn add_root(
+    store: &mut Store,
+    part: &Part,
+    roots: Span,
+    out: Span,
+    net: Net,
+    size: u32,
+    value: bool,
+) -> Result<(), Spent>
+    requires part { (i j n : ℕ) → IsPlace part.now i n → IsPlace part.now j n → i ≡ j }
+    requires roots { IsSpan store.old roots × IsFilled store.old roots }
+    requires net { net.0 < roots.len }
+    requires out { IsSpan store.old out × IsFilled store.old out }
+    requires len { (out.len ≡ 10 * length part.now.nets) × (out.len < 2 ^ 32) }
+    requires size { (1 ≤ size) × (size ≤ 8) }
+    ensures writes { Writes out store.old store.new }
+    ensures apart { ChangesLevel out (slot_of value) store.old store.new }
+    ensures adds { IfOk result (λ _. AddsRoots part.now roots out value (λ n k. (n ≡ net.0) × (k ≡ size)) store.old store.new) }
+{
+    let _ends = store.node_count();
+    let Some(i) = place(part, net) else {
+        return Ok(());
+    };
+    let bit = match root_bit(store, roots, net, value) {
+        Ok(bit) => bit,
+        Err(spent) => return Err(spent),
+    };
+    let signal = match unblocked(store, out, i, size, bit) {
+        Ok(signal) => signal,
+        Err(spent) => return Err(spent),
+    };
+    match widen(store, out, word(i, slot(value)), signal) {
+        Ok(_) => Ok(()),
+        Err(spent) => Err(spent),
+    }
+}
+
+/// Marks a net that has a given value, where that is the value.
+fn add_net(
+    store: &mut Store,
+    circuit: &Circuit,
+    part: &Part,
+    roots: Span,
+    out: Span,
+    net: Net,
+    value: bool,
+) -> Result<(), Spent>
+    requires part { (i j n : ℕ) → IsPlace part.now i n → IsPlace part.now j n → i ≡ j }
+    requires roots { IsSpan store.old roots × IsFilled store.old roots }
+    requires net { net.0 < roots.len }
+    requires out { IsSpan store.old out × IsFilled store.old out }
+    requires len { (out.len ≡ 10 * length part.now.nets) × (out.len < 2 ^ 32) }
+    ensures writes { Writes out store.old store.new }
+    ensures apart { ChangesLevel out (slot_of value) store.old store.new }
+    ensures adds { IfOk result (λ _. AddsRoots part.now roots out value (λ n k. IsGiven circuit.now n × (n ≡ net.0) × (k ≡ 8)) store.old store.new) }
+{
+    let _ends = store.node_count();
+    if !is_given(circuit, net) {
+        return Ok(());
+    }
+    add_root(store, part, roots, out, net, 8, value)
+}
+
+/// Marks the nets of the part that have given values, where these are the value.
+fn add_given(
+    store: &mut Store,
+    circuit: &Circuit,
+    part: &Part,
+    gates: Span,
+    roots: Span,
+    out: Span,
+    value: bool,
+) -> Result<(), Spent>
+    requires part { IsPart circuit.now part.now }
+    requires circuit { IsFlat circuit.now }
+    requires words { HasRootWords circuit.now part.now gates roots out store.old }
+    ensures writes { Writes out store.old store.new }
+    ensures apart { ChangesLevel out (slot_of value) store.old store.new }
+    ensures adds { IfOk result (λ _. AddsRoots part.now roots out value (IsGivenSource circuit.now part.now) store.old store.new) }
+{
+    let _ends = store.node_count();
+    let _gates = gates;
+    for net in part.nets.as_slice() {
+        match add_net(store, circuit, part, roots, out, *net, value) {
+            Ok(()) => {}
+            Err(spent) => return Err(spent),
+        }
+    }
+    Ok(())
+}
+
+/// Marks the nets of the holds, where these have the value and their nets are no stronger.
+fn add_holds(
+    store: &mut Store,
+    circuit: &Circuit,
+    part: &Part,
+    gates: Span,
+    roots: Span,
+    out: Span,
+    value: bool,
+) -> Result<(), Spent>
+    requires part { IsPart circuit.now part.now }
+    requires circuit { IsFlat circuit.now }
+    requires words { HasRootWords circuit.now part.now gates roots out store.old }
+    ensures writes { Writes out store.old store.new }
+    ensures apart { ChangesLevel out (slot_of value) store.old store.new }
+    ensures adds { IfOk result (λ _. AddsRoots part.now roots out value (IsHoldSource circuit.now) store.old store.new) }
+{
+    let _ends = store.node_count();
+    let _gates = gates;
+    for hold in circuit.holds.as_slice() {
+        match add_root(store, part, roots, out, hold.net, hold.size as u32, value) {
+            Ok(()) => {}
+            Err(spent) => return Err(spent),
+        }
+    }
+    Ok(())
+}
+
+/// Begins a value: with the roots that have it and are as strong as their nets.
+pub(crate) fn open(
+    store: &mut Store,
+    circuit: &Circuit,
+    part: &Part,
+    gates: Span,
+    roots: Span,
+    out: Span,
+    value: bool,
+) -> Result<(), Spent>
+    requires part { IsPart circuit.now part.now }
+    requires circuit { IsFlat circuit.now }
+    requires words { HasRootWords circuit.now part.now gates roots out store.old }
+    ensures writes { Writes out store.old store.new }
+    ensures apart { ChangesLevel out (slot_of value) store.old store.new }
+    ensures roots { IfOk result (λ _. (v : Valuation) (w : Network) (s : ℕ → ℕ) → SolvedAt circuit.now part.now gates roots out store.old v w s → HasReachRoots circuit.now part.now out value store.new v w s) }
+    ensures paths { IfOk result (λ _. (v : Valuation) (w : Network) (s : ℕ → ℕ) → SolvedAt circuit.now part.now gates roots out store.old v w s → HasReachPaths part.now out value store.new v w s) }
+{
+    clear(store, part, out, value);
+    match add_given(store, circuit, part, gates, roots, out, value) {
+        Ok(()) => {}
+        Err(spent) => return Err(spent),
+    }
+    add_holds(store, circuit, part, gates, roots, out, value)
+}
