@@ -10,6 +10,7 @@ mod least;
 mod listing;
 mod opening;
 mod order;
+mod part;
 mod ranking;
 
 pub use cycle::first_cycle;
@@ -17,6 +18,7 @@ pub use known::known_nets;
 pub use least::least_nets;
 pub use listing::in_order;
 pub use order::{Order, order_of};
+pub use part::Part;
 pub use ranking::ranks;
 
 #[cfg(test)]

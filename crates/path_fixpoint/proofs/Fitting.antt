@@ -6,7 +6,7 @@ use Rattle.node_pool.specs.declared.region.Span.{Span}
 use Rattle.bdd_core.specs.Diagram.{Valuation}
 use Rattle.bdd_core.specs.Store.{Diagrams}
 use Rattle.path_fixpoint.specs.Strengths.{strong, strong_end, word_of}
-use Rattle.path_fixpoint.specs.Words.{IsFilled, Writes}
+use Rattle.bdd_core.specs.Words.{IsFilled, Writes}
 use Rattle.path_fixpoint.proofs.Frames.{shows_kept}
 
 -- a bit and an implication

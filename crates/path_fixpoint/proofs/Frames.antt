@@ -9,7 +9,7 @@ use Rattle.bdd_core.specs.declared.handle.Spent.{Spent}
 use Rattle.bdd_core.specs.Diagram.{Function, IsReduced, Valuation, meaning}
 use Rattle.bdd_core.specs.Store.{Diagrams, Makes}
 use Rattle.bdd_core.proofs.Growth.{grows_keeps, grows_length}
-use Rattle.path_fixpoint.specs.Words.{IsApart, IsFilled, Writes, shows, word_at}
+use Rattle.bdd_core.specs.Words.{IsApart, IsFilled, Writes, shows, word_at}
 
 pub writes_none : (out : Span) (d : Diagrams) → IsReduced d.vars d.nodes → length d.nodes ≤ d.budget → IsFilled d out → Writes out d d
 writes_none out d sound within live = record {

@@ -16,11 +16,11 @@ use Rattle.vrt_model.specs.declared.circuit.Circuit.{Circuit}
 use Rattle.vrt_model.specs.declared.circuit.Device.{Device}
 use Rattle.vrt_model.specs.declared.circuit.FlatNet.{FlatNet}
 use Rattle.vrt_model.specs.declared.design.Kind.{Kind}
-use Rattle.path_fixpoint.specs.declared.part.Part.{Part}
+use Rattle.channel_parts.specs.declared.part.Part.{Part}
 use Rattle.path_fixpoint.specs.Parts.{IsGiven, IsPart, IsPlace}
 use Rattle.path_fixpoint.specs.Passed.{IsWider, gated}
 use Rattle.path_fixpoint.specs.Strengths.{HasPaths, HasWords, IsStrong, Passes, strong, strong_end, word_of}
-use Rattle.path_fixpoint.specs.Words.{IsFilled, Writes, word_at}
+use Rattle.bdd_core.specs.Words.{IsFilled, Writes, word_at}
 use Rattle.path_fixpoint.proofs.Frames.{made_words, shows_kept, writes_made}
 use Rattle.path_fixpoint.proofs.Places.{place_once, place_word, words_differ}
 

@@ -6,7 +6,7 @@ use Rattle.node_pool.specs.declared.region.Span.{Span}
 use Rattle.bdd_core.specs.Store.{Diagrams}
 use Rattle.vrt_model.specs.declared.circuit.Circuit.{Circuit}
 use Rattle.vrt_model.specs.declared.ids.Net.{Net}
-use Rattle.path_fixpoint.specs.declared.part.Part.{Part}
+use Rattle.channel_parts.specs.declared.part.Part.{Part}
 use Rattle.path_fixpoint.specs.Parts.{IsPlace}
 use Rattle.path_fixpoint.specs.Strengths.{HasWords, word_of}
 

@@ -23,11 +23,11 @@ use Rattle.vrt_model.specs.declared.circuit.Device.{Device}
 use Rattle.vrt_model.specs.declared.circuit.FlatNet.{FlatNet}
 use Rattle.vrt_model.specs.declared.circuit.Hold.{Hold}
 use Rattle.vrt_model.specs.declared.whole.WholePin.{WholePin}
-use Rattle.path_fixpoint.specs.declared.part.Part.{Part}
+use Rattle.channel_parts.specs.declared.part.Part.{Part}
 use Rattle.path_fixpoint.specs.Parts.{IsGiven, IsPart, IsPlace, part_devices}
 use Rattle.path_fixpoint.specs.Reaching.{FitsAt, HasReach, HasReachPaths, HasReachPassed, HasReachRoots, HasRootWords, IsReached, PassesSignal, SolvedAt, reached_end, slot_of}
 use Rattle.path_fixpoint.specs.Strengths.{ChangesLevel, StandsAt, StrongGrows, strong, strong_end, word_of}
-use Rattle.path_fixpoint.specs.Words.{Writes, shows}
+use Rattle.bdd_core.specs.Words.{Writes, shows}
 use Rattle.path_fixpoint.proofs.Counts.{count, count_all, same_or_more}
 use Rattle.path_fixpoint.proofs.Frames.{filled_beside, shows_beside, shows_kept}
 use Rattle.path_fixpoint.proofs.Passing.{EndIs, given_path}

@@ -11,11 +11,11 @@ use Rattle.vrt_model.specs.Reading.{conducts, conducts_at}
 use Rattle.vrt_model.proofs.Clear.{HopFits}
 use Rattle.vrt_model.specs.declared.circuit.Circuit.{Circuit}
 use Rattle.vrt_model.specs.declared.circuit.Device.{Device}
-use Rattle.path_fixpoint.specs.declared.part.Part.{Part}
+use Rattle.channel_parts.specs.declared.part.Part.{Part}
 use Rattle.path_fixpoint.specs.Parts.{IsGiven, IsPart, IsPlace, part_devices}
 use Rattle.path_fixpoint.specs.Reaching.{HasReachPaths, HasRootWords, IsReached, PassesSignal, SolvedAt, SpreadsValue, reached_end, slot_of}
 use Rattle.path_fixpoint.specs.Strengths.{ChangesLevel, StrongGrows, strong, word_of}
-use Rattle.path_fixpoint.specs.Words.{Writes, word_at}
+use Rattle.bdd_core.specs.Words.{Writes, word_at}
 use Rattle.path_fixpoint.proofs.Frames.{shows_kept}
 use Rattle.path_fixpoint.proofs.Passing.{EndIs}
 use Rattle.path_fixpoint.proofs.ReachLaws.{over_value, over_value_paths, reached_grown, root_words_kept, slot_place, solved_kept}

@@ -10,10 +10,10 @@ use Rattle.vrt_model.specs.Lists.{Among}
 use Rattle.vrt_model.specs.Path.{Network}
 use Rattle.vrt_model.specs.declared.circuit.Circuit.{Circuit}
 use Rattle.vrt_model.specs.declared.circuit.Device.{Device}
-use Rattle.path_fixpoint.specs.declared.part.Part.{Part}
+use Rattle.channel_parts.specs.declared.part.Part.{Part}
 use Rattle.path_fixpoint.specs.Parts.{part_devices}
 use Rattle.path_fixpoint.specs.Strengths.{ChangesLevel, HasLevel, HasPassed, HasPaths, HasRoots, HasSpans, HasWords, IsStrong, StandsAt, StrongGrows, TellsStrengths, strong, word_of}
-use Rattle.path_fixpoint.specs.Words.{Writes}
+use Rattle.bdd_core.specs.Words.{Writes}
 use Rattle.path_fixpoint.proofs.Counts.{count, count_all, same_or_more}
 use Rattle.path_fixpoint.proofs.Frames.{filled_beside, shows_beside, shows_kept}
 use Rattle.path_fixpoint.proofs.Places.{levels_differ, place_in, place_word, word_in}

@@ -12,7 +12,7 @@ use Rattle.vrt_model.specs.declared.design.Kind.{Kind}
 use Rattle.path_fixpoint.specs.Passed.{IsWider, gated}
 use Rattle.path_fixpoint.specs.Reaching.{FitsAt, PassesSignal, slot_of}
 use Rattle.path_fixpoint.specs.Strengths.{strong, word_of}
-use Rattle.path_fixpoint.specs.Words.{IsFilled, Writes, word_at}
+use Rattle.bdd_core.specs.Words.{IsFilled, Writes, word_at}
 use Rattle.path_fixpoint.proofs.Fitting.{end_old, strong_old}
 use Rattle.path_fixpoint.proofs.Frames.{made_words, shows_kept, writes_made, writes_then}
 use Rattle.path_fixpoint.proofs.Passing.{and_both, or_left, or_right}

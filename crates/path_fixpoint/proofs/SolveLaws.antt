@@ -13,12 +13,12 @@ use Rattle.vrt_model.specs.Path.{Network}
 use Rattle.vrt_model.specs.Response.{IsStrength}
 use Rattle.vrt_model.specs.declared.circuit.Circuit.{Circuit}
 use Rattle.vrt_model.specs.declared.circuit.Hold.{Hold}
-use Rattle.path_fixpoint.specs.declared.part.Part.{Part}
+use Rattle.channel_parts.specs.declared.part.Part.{Part}
 use Rattle.path_fixpoint.specs.Parts.{IsPart}
 use Rattle.path_fixpoint.specs.Reaching.{HasReach, HasRootWords, SolvedAt, slot_of}
 use Rattle.path_fixpoint.specs.Solved.{HasRootSpans, TellsReach, net_of, network_at}
 use Rattle.path_fixpoint.specs.Strengths.{ChangesLevel, HasLevel, StandsAt, TellsStrengths, strong, word_of}
-use Rattle.path_fixpoint.specs.Words.{Writes, shows}
+use Rattle.bdd_core.specs.Words.{Writes, shows}
 use Rattle.path_fixpoint.proofs.Frames.{filled_beside, shows_beside, shows_kept}
 use Rattle.path_fixpoint.proofs.Places.{levels_differ, place_word}
 use Rattle.path_fixpoint.proofs.ReachLaws.{levels_of, slot_high, slot_low, slot_place}

@@ -20,13 +20,13 @@ use Rattle.vrt_model.specs.declared.circuit.Circuit.{Circuit}
 use Rattle.vrt_model.specs.declared.circuit.FlatNet.{FlatNet}
 use Rattle.vrt_model.specs.declared.circuit.Hold.{Hold}
 use Rattle.vrt_model.specs.declared.whole.WholePin.{WholePin}
-use Rattle.path_fixpoint.specs.declared.part.Part.{Part}
+use Rattle.channel_parts.specs.declared.part.Part.{Part}
 use Rattle.path_fixpoint.specs.Parts.{IsGiven, IsPart, IsPlace}
 use Rattle.path_fixpoint.specs.Passed.{IsWider}
 use Rattle.path_fixpoint.specs.Reaching.{HasReachPaths, HasReachRoots, HasRootWords, SolvedAt, bit_is, slot_of}
 use Rattle.path_fixpoint.specs.Sources.{AddsRoots, IsGivenSource, IsHoldSource, IsOpen}
 use Rattle.path_fixpoint.specs.Strengths.{ChangesLevel, strong, word_of}
-use Rattle.path_fixpoint.specs.Words.{IsApart, IsFilled, Writes, shows, word_at}
+use Rattle.bdd_core.specs.Words.{IsApart, IsFilled, Writes, shows, word_at}
 use Rattle.path_fixpoint.proofs.Frames.{made_words, shows_beside, shows_kept, writes_made, writes_then}
 use Rattle.path_fixpoint.proofs.Passing.{or_left, or_right}
 use Rattle.path_fixpoint.proofs.Places.{levels_differ, place_in, place_once, words_differ}

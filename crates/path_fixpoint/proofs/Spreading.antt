@@ -17,10 +17,10 @@ use Rattle.vrt_model.specs.declared.circuit.Circuit.{Circuit}
 use Rattle.vrt_model.specs.declared.circuit.Device.{Device}
 use Rattle.vrt_model.specs.declared.ids.Dev.{Dev}
 use Rattle.vrt_model.specs.declared.ids.Net.{Net}
-use Rattle.path_fixpoint.specs.declared.part.Part.{Part}
+use Rattle.channel_parts.specs.declared.part.Part.{Part}
 use Rattle.path_fixpoint.specs.Parts.{IsGiven, IsPart, part_devices}
 use Rattle.path_fixpoint.specs.Strengths.{ChangesLevel, HasWords, IsStrong, Passes, Spreads, StandsAt}
-use Rattle.path_fixpoint.specs.Words.{Writes, word_at}
+use Rattle.bdd_core.specs.Words.{Writes, word_at}
 use Rattle.path_fixpoint.proofs.RoundLaws.{stands_kept, words_kept}
 use Rattle.path_fixpoint.proofs.Passing.{EndIs, given_path, over, over_paths}
 use Rattle.path_fixpoint.proofs.Places.{place_word}

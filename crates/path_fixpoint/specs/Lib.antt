@@ -2,7 +2,6 @@ pub mod Openings
 pub mod Parts
 pub mod Passed
 pub mod Reaching
-pub mod Words
 pub mod Solved
 pub mod Sources
 pub mod Strengths

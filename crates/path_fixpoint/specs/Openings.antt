@@ -5,10 +5,10 @@ use Rattle.bdd_core.specs.Store.{Diagrams}
 use Rattle.vrt_model.specs.Lists.{At}
 use Rattle.vrt_model.specs.declared.circuit.Circuit.{Circuit}
 use Rattle.vrt_model.specs.declared.circuit.Hold.{Hold}
-use Rattle.path_fixpoint.specs.declared.part.Part.{Part}
+use Rattle.channel_parts.specs.declared.part.Part.{Part}
 use Rattle.path_fixpoint.specs.Parts.{IsGiven, IsPlace}
 use Rattle.path_fixpoint.specs.Strengths.{word_of}
-use Rattle.path_fixpoint.specs.Words.{word_at}
+use Rattle.bdd_core.specs.Words.{word_at}
 
 -- the word of the net at place i for a level
 abbrev pub mark_of : Diagrams → Span → ℕ → ℕ → ℕ

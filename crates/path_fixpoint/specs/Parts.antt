@@ -8,7 +8,7 @@ use Rattle.vrt_model.specs.declared.circuit.Device.{Device}
 use Rattle.vrt_model.specs.declared.circuit.FlatNet.{FlatNet}
 use Rattle.vrt_model.specs.declared.ids.Dev.{Dev}
 use Rattle.vrt_model.specs.declared.ids.Net.{Net}
-use Rattle.path_fixpoint.specs.declared.part.Part.{Part}
+use Rattle.channel_parts.specs.declared.part.Part.{Part}
 
 -- the devices of a part
 abbrev pub part_devices : Circuit → Part → List Device

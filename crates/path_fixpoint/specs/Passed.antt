@@ -5,7 +5,7 @@ use Rattle.bdd_core.specs.Diagram.{Function, Valuation}
 use Rattle.bdd_core.specs.Store.{Diagrams}
 use Rattle.vrt_model.specs.Reading.{conducts_at}
 use Rattle.vrt_model.specs.declared.design.Kind.{Kind}
-use Rattle.path_fixpoint.specs.Words.{shows}
+use Rattle.bdd_core.specs.Words.{shows}
 
 -- the signal where the device conducts
 abbrev pub gated : Kind → Function → Function → Function

@@ -13,10 +13,10 @@ use Rattle.vrt_model.specs.declared.circuit.Circuit.{Circuit}
 use Rattle.vrt_model.specs.declared.circuit.Device.{Device}
 use Rattle.vrt_model.specs.declared.circuit.Hold.{Hold}
 use Rattle.vrt_model.specs.declared.design.Kind.{Kind}
-use Rattle.path_fixpoint.specs.declared.part.Part.{Part}
+use Rattle.channel_parts.specs.declared.part.Part.{Part}
 use Rattle.path_fixpoint.specs.Parts.{IsGiven, IsPlace}
 use Rattle.path_fixpoint.specs.Strengths.{HasLevel, HasWords, StandsAt, StrongGrows, strong, strong_end, word_of}
-use Rattle.path_fixpoint.specs.Words.{IsApart, IsFilled, shows}
+use Rattle.bdd_core.specs.Words.{IsApart, IsFilled, shows}
 
 -- behind the words of the eight levels stand those of the values 0 and 1
 abbrev pub slot_of : Bool → ℕ

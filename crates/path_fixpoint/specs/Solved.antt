@@ -7,11 +7,11 @@ use Rattle.vrt_model.specs.Path.{Network}
 use Rattle.vrt_model.specs.Response.{Reaches}
 use Rattle.vrt_model.specs.declared.circuit.Circuit.{Circuit}
 use Rattle.vrt_model.specs.declared.circuit.Hold.{Hold}
-use Rattle.path_fixpoint.specs.declared.part.Part.{Part}
+use Rattle.channel_parts.specs.declared.part.Part.{Part}
 use Rattle.path_fixpoint.specs.Parts.{IsPlace, part_devices}
 use Rattle.path_fixpoint.specs.Reaching.{slot_of}
 use Rattle.path_fixpoint.specs.Strengths.{HasSpans, strong}
-use Rattle.path_fixpoint.specs.Words.{IsApart, IsFilled, shows}
+use Rattle.bdd_core.specs.Words.{IsApart, IsFilled, shows}
 
 abbrev pub net_of : Option Hold → ℕ
 net_of None = 0

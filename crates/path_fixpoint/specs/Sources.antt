@@ -6,11 +6,11 @@ use Rattle.bdd_core.specs.Store.{Diagrams}
 use Rattle.vrt_model.specs.Lists.{At}
 use Rattle.vrt_model.specs.declared.circuit.Circuit.{Circuit}
 use Rattle.vrt_model.specs.declared.circuit.Hold.{Hold}
-use Rattle.path_fixpoint.specs.declared.part.Part.{Part}
+use Rattle.channel_parts.specs.declared.part.Part.{Part}
 use Rattle.path_fixpoint.specs.Parts.{IsGiven, IsPlace}
 use Rattle.path_fixpoint.specs.Reaching.{slot_of}
 use Rattle.path_fixpoint.specs.Strengths.{StrongGrows, strong, word_of}
-use Rattle.path_fixpoint.specs.Words.{shows}
+use Rattle.bdd_core.specs.Words.{shows}
 
 -- at v the root of the net has the value, and the net at place i is no stronger than the root
 abbrev pub IsOpen : Span → Span → Bool → ℕ → ℕ → Diagrams → ℕ → Valuation → Type 0

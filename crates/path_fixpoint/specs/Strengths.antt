@@ -10,9 +10,9 @@ use Rattle.vrt_model.specs.Response.{IsStrength}
 use Rattle.vrt_model.specs.declared.circuit.Circuit.{Circuit}
 use Rattle.vrt_model.specs.declared.circuit.Device.{Device}
 use Rattle.vrt_model.specs.declared.design.Kind.{Kind}
-use Rattle.path_fixpoint.specs.declared.part.Part.{Part}
+use Rattle.channel_parts.specs.declared.part.Part.{Part}
 use Rattle.path_fixpoint.specs.Parts.{IsPlace, part_devices}
-use Rattle.path_fixpoint.specs.Words.{IsApart, IsFilled, shows, word_at}
+use Rattle.bdd_core.specs.Words.{IsApart, IsFilled, shows, word_at}
 
 -- ten words for each net of a part: whether its strength is at least 1 to 8, and whether 0 and 1 reach it
 abbrev pub word_of : ℕ → ℕ → ℕ

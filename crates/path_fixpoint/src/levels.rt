@@ -7,7 +7,7 @@ ghost use Rattle.plain_paths.specs.FlatCircuits.{IsFlat};
 ghost use Rattle.vrt_model.specs.Path.{Network};
 ghost use Rattle.path_fixpoint.specs.Parts.{IsPart};
 ghost use Rattle.path_fixpoint.specs.Strengths.{HasLevel, HasSpans, HasWords, StandsAt, TellsStrengths};
-ghost use Rattle.path_fixpoint.specs.Words.{IsFilled, Writes};
+ghost use Rattle.bdd_core.specs.Words.{IsFilled, Writes};
 
 use crate::Part;
 use crate::opening::open;

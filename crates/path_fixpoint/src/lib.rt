@@ -5,7 +5,6 @@
 
 mod levels;
 mod opening;
-mod part;
 mod reach;
 mod rounds;
 mod signals;
@@ -14,5 +13,5 @@ mod sources;
 mod steps;
 
 pub use levels::strengths;
-pub use part::Part;
+pub use channel_parts::Part;
 pub use solve::solve_part;

@@ -11,7 +11,7 @@ ghost use Rattle.vrt_model.specs.declared.circuit.Hold.{Hold as HoldValue};
 ghost use Rattle.path_fixpoint.specs.Openings.{IsGivenAt, IsHoldAt, OnlyBy, TakesAbove, mark_of};
 ghost use Rattle.path_fixpoint.specs.Parts.{IsGiven, IsPart, IsPlace};
 ghost use Rattle.path_fixpoint.specs.Strengths.{ChangesLevel, HasLevel, HasPaths, HasRoots, HasWords, StandsAt, word_of};
-ghost use Rattle.path_fixpoint.specs.Words.{IsFilled, Writes, word_at};
+ghost use Rattle.bdd_core.specs.Words.{IsFilled, Writes, word_at};
 
 use crate::Part;
 use crate::steps::{place, word};

@@ -10,7 +10,7 @@ ghost use Rattle.vrt_model.specs.declared.circuit.Device.{Device as DeviceValue}
 ghost use Rattle.path_fixpoint.specs.Parts.{IsPart, part_devices};
 ghost use Rattle.path_fixpoint.specs.Reaching.{HasReach, HasReachPaths, HasReachRoots, HasRootWords, PassesSignal, SolvedAt, SpreadsValue, slot_of};
 ghost use Rattle.path_fixpoint.specs.Strengths.{ChangesLevel, word_of};
-ghost use Rattle.path_fixpoint.specs.Words.{IsFilled, Writes};
+ghost use Rattle.bdd_core.specs.Words.{IsFilled, Writes};
 
 use crate::Part;
 use crate::signals::{fitting, reached, slot};

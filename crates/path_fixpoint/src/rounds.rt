@@ -9,7 +9,7 @@ ghost use Rattle.vrt_model.specs.Path.{Network};
 ghost use Rattle.vrt_model.specs.declared.circuit.Device.{Device as DeviceValue};
 ghost use Rattle.path_fixpoint.specs.Parts.{IsPart, part_devices};
 ghost use Rattle.path_fixpoint.specs.Strengths.{ChangesLevel, HasLevel, HasPaths, HasRoots, HasWords, Passes, Spreads, StandsAt, word_of};
-ghost use Rattle.path_fixpoint.specs.Words.{IsFilled, Writes};
+ghost use Rattle.bdd_core.specs.Words.{IsFilled, Writes};
 
 use crate::Part;
 use crate::steps::{place, strength, through, widen, word};

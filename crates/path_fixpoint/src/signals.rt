@@ -6,7 +6,7 @@ ghost use Rattle.bdd_core.specs.Store.{IsLive, IsSpan, Makes, function_of};
 ghost use Rattle.path_fixpoint.specs.Reaching.{FitsAt, bit_is, reached_end, slot_of};
 ghost use Rattle.path_fixpoint.specs.Strengths.{strong, strong_end, word_of};
 ghost use Rattle.node_pool.specs.declared.region.Span.{Span as SpanValue};
-ghost use Rattle.path_fixpoint.specs.Words.{IsFilled, Writes, shows, word_at};
+ghost use Rattle.bdd_core.specs.Words.{IsFilled, Writes, shows, word_at};
 
 use crate::steps::{strength, word};
 use bdd_core::{H, Spent, Store, ZERO};

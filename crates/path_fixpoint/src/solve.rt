@@ -8,7 +8,7 @@ ghost use Rattle.path_fixpoint.specs.Parts.{IsPart};
 ghost use Rattle.path_fixpoint.specs.Reaching.{HasReach, HasRootWords, SolvedAt, slot_of};
 ghost use Rattle.path_fixpoint.specs.Solved.{HasRootSpans, TellsReach, network_at};
 ghost use Rattle.path_fixpoint.specs.Strengths.{ChangesLevel, TellsStrengths};
-ghost use Rattle.path_fixpoint.specs.Words.{Writes};
+ghost use Rattle.bdd_core.specs.Words.{Writes};
 
 use crate::Part;
 use crate::levels::strengths;

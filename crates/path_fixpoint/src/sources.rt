@@ -10,7 +10,7 @@ ghost use Rattle.path_fixpoint.specs.Parts.{IsGiven, IsPart, IsPlace};
 ghost use Rattle.path_fixpoint.specs.Reaching.{HasReachPaths, HasReachRoots, HasRootWords, SolvedAt, slot_of};
 ghost use Rattle.path_fixpoint.specs.Sources.{AddsRoots, IsGivenSource, IsHoldSource};
 ghost use Rattle.path_fixpoint.specs.Strengths.{ChangesLevel, strong, word_of};
-ghost use Rattle.path_fixpoint.specs.Words.{IsFilled, Writes, shows, word_at};
+ghost use Rattle.bdd_core.specs.Words.{IsFilled, Writes, shows, word_at};
 
 use crate::Part;
 use crate::opening::{is_given, set};

@@ -5,7 +5,7 @@ ghost use Rattle.bdd_core.specs.Diagram.{Valuation, IsReduced, meaning};
 ghost use Rattle.bdd_core.specs.Store.{IsLive, IsSpan, Makes, function_of};
 ghost use Rattle.path_fixpoint.specs.Parts.{IsPlace};
 ghost use Rattle.path_fixpoint.specs.Strengths.{strong_end, word_of};
-ghost use Rattle.path_fixpoint.specs.Words.{IsFilled, Writes, shows, word_at};
+ghost use Rattle.bdd_core.specs.Words.{IsFilled, Writes, shows, word_at};
 ghost use Rattle.path_fixpoint.specs.Passed.{gated, IsWider};
 
 use crate::Part;

@@ -1,6 +1,6 @@
 use Rattle.std.proofs.Common.{◌≡◌, ℕ, ◌+◌, ◌≤◌, length, length-set, arith, ap, sym, subst, ◌∙◌, inl, inr, below_more}
 use Rattle.bdd_core.specs.Store.{Diagrams}
-use Rattle.path_fixpoint.specs.Words.{word_at}
+use Rattle.bdd_core.specs.Words.{word_at}
 use Rattle.path_fixpoint.proofs.Frames.{rest_then, word_apart, word_here, word_other, writes_zero}
 use Rattle.path_fixpoint.proofs.levels.clear.Goals as goal
 

@@ -1,5 +1,5 @@
 use Rattle.std.proofs.Common.{◌≡◌, ℕ, ◌+◌, ◌<◌, ◌≤◌, ◌⊎◌, length, slice_index}
-use Rattle.path_fixpoint.specs.Words.{word_at}
+use Rattle.bdd_core.specs.Words.{word_at}
 use Rattle.path_fixpoint.proofs.levels.clear.Given as goal
 
 abbrev pub invariant-loop-at : goal.invariant-loop-at

@@ -2,7 +2,7 @@ use Rattle.std.proofs.Common.{ℕ, ◌<◌, ◌≤◌, ◌+◌}
 use Rattle.bdd_core.specs.Diagram.{Valuation}
 use Rattle.vrt_model.specs.Path.{Network}
 use Rattle.path_fixpoint.specs.Strengths.{HasLevel, StandsAt}
-use Rattle.path_fixpoint.specs.Words.{Writes}
+use Rattle.bdd_core.specs.Words.{Writes}
 use Rattle.path_fixpoint.proofs.levels.levels.Given as goal
 
 abbrev pub invariant-loop-done : goal.invariant-loop-done

@@ -1,6 +1,6 @@
 use Rattle.std.proofs.Common.{◌≡◌, ℕ, arith, ap, refl, sym, subst, ◌∙◌}
 use Rattle.path_fixpoint.specs.Strengths.{word_of}
-use Rattle.path_fixpoint.specs.Words.{word_at}
+use Rattle.bdd_core.specs.Words.{word_at}
 use Rattle.path_fixpoint.proofs.Places.{place_in}
 use Rattle.path_fixpoint.proofs.opening.mark.Goals as goal
 

@@ -4,7 +4,7 @@ use Rattle.vrt_model.specs.declared.ids.Net.{Net}
 use Rattle.path_fixpoint.specs.Openings.{IsGivenAt, OnlyBy, mark_of}
 use Rattle.path_fixpoint.specs.Parts.{IsGiven}
 use Rattle.path_fixpoint.specs.Strengths.{ChangesLevel}
-use Rattle.path_fixpoint.specs.Words.{Writes}
+use Rattle.bdd_core.specs.Words.{Writes}
 use Rattle.path_fixpoint.proofs.opening.mark_given.Given as goal
 
 abbrev pub invariant-loop-net : goal.invariant-loop-net

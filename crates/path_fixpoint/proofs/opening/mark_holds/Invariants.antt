@@ -4,7 +4,7 @@ use Rattle.vrt_model.specs.declared.circuit.Hold.{Hold}
 use Rattle.path_fixpoint.specs.Openings.{IsHoldAt, OnlyBy, mark_of}
 use Rattle.path_fixpoint.specs.Parts.{IsPlace}
 use Rattle.path_fixpoint.specs.Strengths.{ChangesLevel}
-use Rattle.path_fixpoint.specs.Words.{Writes}
+use Rattle.bdd_core.specs.Words.{Writes}
 use Rattle.path_fixpoint.proofs.opening.mark_holds.Given as goal
 
 abbrev pub invariant-loop-hold : goal.invariant-loop-hold

@@ -1,4 +1,4 @@
-use Rattle.path_fixpoint.specs.Words.{Writes}
+use Rattle.bdd_core.specs.Words.{Writes}
 use Rattle.path_fixpoint.proofs.Frames.{writes_then}
 use Rattle.path_fixpoint.proofs.Opened.{open_paths, open_roots}
 use Rattle.path_fixpoint.proofs.opening.open.Goals as goal

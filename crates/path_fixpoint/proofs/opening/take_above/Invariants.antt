@@ -1,7 +1,7 @@
 use Rattle.std.proofs.Common.{ℕ, ◌<◌}
 use Rattle.path_fixpoint.specs.Openings.{TakesAbove}
 use Rattle.path_fixpoint.specs.Strengths.{ChangesLevel}
-use Rattle.path_fixpoint.specs.Words.{Writes}
+use Rattle.bdd_core.specs.Words.{Writes}
 use Rattle.path_fixpoint.proofs.opening.take_above.Given as goal
 
 abbrev pub invariant-loop-i : goal.invariant-loop-i

@@ -1,6 +1,6 @@
 use Rattle.path_fixpoint.specs.Reaching.{SpreadsValue, slot_of}
 use Rattle.path_fixpoint.specs.Strengths.{ChangesLevel}
-use Rattle.path_fixpoint.specs.Words.{Writes}
+use Rattle.bdd_core.specs.Words.{Writes}
 use Rattle.path_fixpoint.proofs.Spreading.{Visited}
 use Rattle.path_fixpoint.proofs.reach.round.Given as goal
 

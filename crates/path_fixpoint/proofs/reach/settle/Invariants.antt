@@ -3,7 +3,7 @@ use Rattle.bdd_core.specs.Diagram.{Valuation}
 use Rattle.vrt_model.specs.Path.{Network}
 use Rattle.path_fixpoint.specs.Reaching.{HasReachPaths, HasReachRoots, SolvedAt, slot_of}
 use Rattle.path_fixpoint.specs.Strengths.{ChangesLevel}
-use Rattle.path_fixpoint.specs.Words.{Writes}
+use Rattle.bdd_core.specs.Words.{Writes}
 use Rattle.path_fixpoint.proofs.ReachLaws.{HasReachProgress}
 use Rattle.path_fixpoint.proofs.reach.settle.Given as goal
 

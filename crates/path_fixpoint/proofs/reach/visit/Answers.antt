@@ -1,6 +1,6 @@
 use Rattle.std.proofs.Common.{◌≡◌, Ok, Err, arith, sym, ◌∙◌}
 use Rattle.path_fixpoint.specs.Reaching.{HasRootWords}
-use Rattle.path_fixpoint.specs.Words.{Writes}
+use Rattle.bdd_core.specs.Words.{Writes}
 use Rattle.path_fixpoint.proofs.Frames.{made_words, writes_made, writes_then}
 use Rattle.path_fixpoint.proofs.Passing.{EndIs}
 use Rattle.path_fixpoint.proofs.Places.{place_fits}

@@ -1,5 +1,5 @@
 use Rattle.path_fixpoint.specs.Strengths.{ChangesLevel, Spreads}
-use Rattle.path_fixpoint.specs.Words.{Writes}
+use Rattle.bdd_core.specs.Words.{Writes}
 use Rattle.path_fixpoint.proofs.Spreading.{Visited}
 use Rattle.path_fixpoint.proofs.rounds.round.Given as goal
 

@@ -1,7 +1,7 @@
 use Rattle.bdd_core.specs.Diagram.{Valuation}
 use Rattle.vrt_model.specs.Path.{Network}
 use Rattle.path_fixpoint.specs.Strengths.{ChangesLevel, HasPaths, HasRoots, StandsAt}
-use Rattle.path_fixpoint.specs.Words.{Writes}
+use Rattle.bdd_core.specs.Words.{Writes}
 use Rattle.path_fixpoint.proofs.RoundLaws.{HasProgress}
 use Rattle.path_fixpoint.proofs.rounds.settle.Given as goal
 

@@ -2,7 +2,7 @@ use Rattle.std.proofs.Common.{◌≡◌, ℕ, ◌+◌, ◌<◌, ◌≤◌, true,
 use Rattle.std.specs.Prelude.{◌↔◌}
 use Rattle.bdd_core.specs.Diagram.{Valuation, meaning}
 use Rattle.path_fixpoint.specs.Strengths.{strong, strong_end}
-use Rattle.path_fixpoint.specs.Words.{Writes}
+use Rattle.bdd_core.specs.Words.{Writes}
 use Rattle.path_fixpoint.proofs.signals.fitting.Given as goal
 
 abbrev pub invariant-loop-below : goal.invariant-loop-below

@@ -3,7 +3,7 @@ use Rattle.path_fixpoint.specs.Parts.{IsGiven, IsPlace}
 use Rattle.path_fixpoint.specs.Reaching.{slot_of}
 use Rattle.path_fixpoint.specs.Sources.{AddsRoots}
 use Rattle.path_fixpoint.specs.Strengths.{ChangesLevel}
-use Rattle.path_fixpoint.specs.Words.{Writes}
+use Rattle.bdd_core.specs.Words.{Writes}
 use Rattle.path_fixpoint.proofs.sources.add_given.Given as goal
 
 abbrev pub invariant-loop-net : goal.invariant-loop-net

@@ -4,7 +4,7 @@ use Rattle.vrt_model.specs.declared.circuit.Hold.{Hold}
 use Rattle.path_fixpoint.specs.Reaching.{slot_of}
 use Rattle.path_fixpoint.specs.Sources.{AddsRoots}
 use Rattle.path_fixpoint.specs.Strengths.{ChangesLevel}
-use Rattle.path_fixpoint.specs.Words.{Writes}
+use Rattle.bdd_core.specs.Words.{Writes}
 use Rattle.path_fixpoint.proofs.sources.add_holds.Given as goal
 
 abbrev pub invariant-loop-hold : goal.invariant-loop-hold

@@ -1,7 +1,7 @@
 use Rattle.std.proofs.Common.{◌≡◌, ℕ, arith, ap, sym, ◌∙◌, below_more}
 use Rattle.path_fixpoint.specs.Reaching.{slot_of}
 use Rattle.path_fixpoint.specs.Strengths.{word_of}
-use Rattle.path_fixpoint.specs.Words.{word_at}
+use Rattle.bdd_core.specs.Words.{word_at}
 use Rattle.path_fixpoint.proofs.Frames.{writes_then}
 use Rattle.path_fixpoint.proofs.Places.{words_differ}
 use Rattle.path_fixpoint.proofs.sources.clear.Goals as goal

@@ -1,7 +1,7 @@
 use Rattle.std.proofs.Common.{◌≡◌, ℕ, ◌<◌}
 use Rattle.path_fixpoint.specs.Reaching.{slot_of}
 use Rattle.path_fixpoint.specs.Strengths.{ChangesLevel, word_of}
-use Rattle.path_fixpoint.specs.Words.{Writes, word_at}
+use Rattle.bdd_core.specs.Words.{Writes, word_at}
 use Rattle.path_fixpoint.proofs.sources.clear.Given as goal
 
 abbrev pub invariant-loop-i : goal.invariant-loop-i

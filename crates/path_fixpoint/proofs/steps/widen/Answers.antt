@@ -1,5 +1,5 @@
 use Rattle.std.proofs.Common.{Err, Ok, arith}
-use Rattle.path_fixpoint.specs.Words.{Writes}
+use Rattle.bdd_core.specs.Words.{Writes}
 use Rattle.path_fixpoint.proofs.Frames.{writes_made, writes_then, writes_word}
 use Rattle.path_fixpoint.proofs.steps.widen.Goals as goal
 
