@@ -1,3 +1,6 @@
--- Lemmas on what the operations make, and on walks down a diagram.
+-- Lemmas on what the operations make, on walks down a diagram, and on counts of operations.
 pub mod BooleanLaws
 pub mod Walk
+pub mod FewFunctions
+pub mod CountingLaws
+pub mod WithinLaws
