@@ -1,15 +1,12 @@
--- Where arcs have no cycle, no rank rises above the number of nets.
-use Rattle.std.proofs.Common.{◌≡◌, ℕ, zero, suc, ◌<◌, ◌≤◌, true, false, List, [], ◌∷◌, ◌++◌, length, eqb, ap, arith, subst, sym, refl, inl, inr, slice_index}
+-- Where arcs have no cycle, there is no set of nets of which each is behind another; and where there are ranks, arcs have
+-- no cycle.
+use Rattle.std.proofs.Common.{◌≡◌, ℕ, zero, suc, ◌<◌, ◌≤◌, true, false, List, [], ◌∷◌, ◌++◌, length, eqb, ap, arith, subst, sym, refl, inl, inr}
 use Rattle.std.specs.List.{AllByRecursion, IsDistinct, list_any}
-use Rattle.std.proofs.lemmas.Bool.{cases_Bool, cond-false, eqb-true, false≢true, ne_eqb, or_cases}
+use Rattle.std.proofs.lemmas.Bool.{eqb-true, false≢true, ne_eqb, or_cases}
 use Rattle.std.proofs.lemmas.Map.Keys.{IsDistinct-cons}
 use Rattle.std.proofs.lemmas.Map.Steps.{length-le_from_distinct_below}
 use Rattle.std.proofs.lemmas.Option.{slice_get_within}
-use Rattle.channel_parts.proofs.Opened.{plain_is}
-use Rattle.channel_parts.proofs.RankLaws.{rank_arc_gate}
 use Rattle.channel_parts.proofs.ReachLaws.{arc_gate}
-use Rattle.channel_parts.specs.OpenNets.{is_plain_at}
-use Rattle.channel_parts.specs.Ranks.{AreReached, rank_by}
 use Rattle.plain_paths.specs.FlatCircuits.{IsFlat}
 use Rattle.vrt_model.specs.Known.{HasArc, HasGateArc, IsCycle, IsPlain, IsRanking, IsWalk}
 use Rattle.vrt_model.specs.declared.circuit.Circuit.{Circuit}
@@ -54,43 +51,34 @@ lead_below c phase m (n ∷ nets) lead q e =
       | inr t ↦ lead_below c phase m nets lead.1 q t
     ]
 
-module _ (c : Circuit) (phase : Phase) (least t : List ℕ) (flat : IsFlat c) (reached : AreReached c phase least t) (acyclic : (nets : List ℕ) → ¬ IsCycle (HasArc c phase) nets) where
-  -- a net of some rank has a plain net
-  plain_rank : (n : ℕ) → 0 < rank_by c least t n → IsPlain c n
-  plain_rank n lt =
-      elim (cases_Bool (is_plain_at c n)) [
-        | inl e ↦ plain_is c n e
-        | inr f ↦ (let z = cond-false (is_plain_at c n) (slice_index t (slice_index least n)) 0 f in absurd (omega (arith, z, lt)))
-      ]
-
-  trail : (k m : ℕ) → IsPlain c m → suc k ≤ rank_by c least t m → Trail c phase m k
+-- plain nets, of which each is behind another
+module _ (c : Circuit) (phase : Phase) (P : ℕ → Type 0) (plain : (m : ℕ) → P m → IsPlain c m) (back : (m : ℕ) → P m → (n : ℕ) × P n × HasGateArc c phase n m)
+    (acyclic : (nets : List ℕ) → ¬ IsCycle (HasArc c phase) nets) where
+  trail : (k m : ℕ) → P m → Trail c phase m k
   unfolding IsDistinct
-  trail zero m p le = record { nets = []; len = refl; apart = tt; lead = tt }
-  trail (suc k) m p le =
-      elim (reached m p).1 [
-        | inl one ↦ absurd (omega (arith, one, le))
-        | inr q ↦ longer q.0 (rank_arc_gate c phase flat q.0 m q.1) (omega (arith, q.2, le)) (λ n pn less. trail k n pn less)
-      ]
+  trail zero m p = record { nets = []; len = refl; apart = tt; lead = tt }
+  trail (suc k) m p = longer (back m p) (λ n q. trail k n q)
     where
-      longer : (n : ℕ) → HasGateArc c phase n m → suc k ≤ rank_by c least t n → ((n : ℕ) → IsPlain c n → suc k ≤ rank_by c least t n → Trail c phase n k) → Trail c phase m (suc k)
-      longer n gate high deeper =
-          let pn = plain_rank n (omega (arith, high)) in
-          let before = deeper n pn high in
+      longer : (n : ℕ) × P n × HasGateArc c phase n m → ((n : ℕ) → P n → Trail c phase n k) → Trail c phase m (suc k)
+      longer from deeper =
+          let n = from.0 in
+          let pn = plain n from.1 in
+          let before = deeper n from.1 in
           let len = before.len in
           record {
             nets = n ∷ before.nets;
             len = omega (arith, len);
             apart = IsDistinct-cons eqb n before.nets (lead_apart c phase n before.nets acyclic before.lead) before.apart;
-            lead = ((([], n, refl, inl gate), slice_get_within c.nets n pn.0 pn.1), lead_further c phase n m before.nets (inl gate) before.lead);
+            lead = ((([], n, refl, inl from.2), slice_get_within c.nets n pn.0 pn.1), lead_further c phase n m before.nets (inl from.2) before.lead);
           }
 
-  -- so no rank is above the number of nets
-  pub rank_bounded : (m : ℕ) → length c.nets < rank_by c least t m → ⊥
-  rank_bounded m high =
-      let p = plain_rank m (omega (arith, high)) in
-      let before = trail (length c.nets) m p high in
+  -- are none, where the arcs have no cycle
+  pub none_behind : (m : ℕ) → P m → ⊥
+  none_behind m p =
+      let pm = plain m p in
+      let before = trail (length c.nets) m p in
       let len = before.len in
-      let inside = slice_get_within c.nets m p.0 p.1 in
+      let inside = slice_get_within c.nets m pm.0 pm.1 in
       let nets : List ℕ = m ∷ before.nets in
       let apart : IsDistinct eqb nets = IsDistinct-cons eqb m before.nets (lead_apart c phase m before.nets acyclic before.lead) before.apart in
       let below : (q : ℕ) → list_any (eqb q) nets ≡ true → q < length c.nets =

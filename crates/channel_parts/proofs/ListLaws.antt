@@ -1,5 +1,5 @@
 -- The plain nets in the order of parts: what is sorted has each plain net once, with its key.
-use Rattle.std.proofs.Common.{◌≡◌, ℕ, zero, suc, ◌+◌, ◌<◌, ◌⊎◌, Bool, true, false, cond, List, [], ◌∷◌, length, map, slice_index, Some, arith, ap, subst, sym, refl, ◌∙◌, inl, inr}
+use Rattle.std.proofs.Common.{◌≡◌, ℕ, zero, suc, ◌+◌, ◌<◌, Bool, true, false, cond, List, [], ◌∷◌, length, map, slice_index, Some, arith, ap, subst, sym, ◌∙◌, inl, inr}
 use Rattle.std.specs.Prelude.{filter, Contains, option_map}
 use Rattle.std.specs.List.{IsDistinct, enumerate_from, AllByRecursion}
 use Rattle.std.specs.List.Sorted.{IsPermutation, IsSorted}

@@ -1,9 +1,13 @@
+pub mod Groups
 pub mod KnownTables
 pub mod Labels
 pub mod Learned
+pub mod Levels
 pub mod Listings
 pub mod OneSolution
 pub mod OpenNets
 pub mod Orders
+pub mod PartLists
 pub mod Ranks
 pub mod Reaches
+pub mod Sources

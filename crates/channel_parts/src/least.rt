@@ -17,7 +17,7 @@ use std::alloc::Global;
 use vrt_model::{Circuit, Device, NoMemory};
 
 /// Whether it is not known that a device does not conduct.
-fn may_conduct(conduction: Option<bool>) -> bool
+pub(crate) fn may_conduct(conduction: Option<bool>) -> bool
     ensures { result ≡ may_conduct conduction }
 {
     match conduction {
@@ -27,7 +27,7 @@ fn may_conduct(conduction: Option<bool>) -> bool
 }
 
 /// Whether a device is in the bare or the kept circuit.
-fn is_in(bare: bool, device: &Device) -> bool
+pub(crate) fn is_in(bare: bool, device: &Device) -> bool
     ensures { result ≡ is_in bare device.now }
 {
     if bare { !device.keeper } else { true }

@@ -20,7 +20,7 @@ fn empty(alloc: Global) -> Circuit {
     }
 }
 
-fn add_net(alloc: Global, circuit: &mut Circuit, kind: NetKind) -> Result<(), NoMemory> {
+pub(crate) fn add_net(alloc: Global, circuit: &mut Circuit, kind: NetKind) -> Result<(), NoMemory> {
     let net = FlatNet {
         name: Text::new(alloc),
         kind,
@@ -31,7 +31,7 @@ fn add_net(alloc: Global, circuit: &mut Circuit, kind: NetKind) -> Result<(), No
     }
 }
 
-fn with_nets(alloc: Global, kinds: &[NetKind]) -> Result<Circuit, NoMemory> {
+pub(crate) fn with_nets(alloc: Global, kinds: &[NetKind]) -> Result<Circuit, NoMemory> {
     let mut circuit = empty(alloc);
     add_net(alloc, &mut circuit, NetKind::Supply(false))?;
     add_net(alloc, &mut circuit, NetKind::Supply(true))?;
@@ -42,7 +42,7 @@ fn with_nets(alloc: Global, kinds: &[NetKind]) -> Result<Circuit, NoMemory> {
 }
 
 /// A device of a kind, with its left net, gate and right net.
-fn add_device(
+pub(crate) fn add_device(
     alloc: Global,
     circuit: &mut Circuit,
     kind: Kind,
@@ -64,7 +64,11 @@ fn add_device(
 }
 
 /// A keeper with its left net, gate and right net.
-fn add_keeper(alloc: Global, circuit: &mut Circuit, nets: [u32; 3]) -> Result<(), NoMemory> {
+pub(crate) fn add_keeper(
+    alloc: Global,
+    circuit: &mut Circuit,
+    nets: [u32; 3],
+) -> Result<(), NoMemory> {
     let device = Device {
         name: Text::new(alloc),
         kind: Kind::N,
@@ -81,12 +85,17 @@ fn add_keeper(alloc: Global, circuit: &mut Circuit, nets: [u32; 3]) -> Result<()
 }
 
 /// An inverter from one net to another.
-fn add_inverter(alloc: Global, circuit: &mut Circuit, from: u32, to: u32) -> Result<(), NoMemory> {
+pub(crate) fn add_inverter(
+    alloc: Global,
+    circuit: &mut Circuit,
+    from: u32,
+    to: u32,
+) -> Result<(), NoMemory> {
     add_device(alloc, circuit, Kind::P, [to, from, 1])?;
     add_device(alloc, circuit, Kind::N, [to, from, 0])
 }
 
-fn add_hold(alloc: Global, circuit: &mut Circuit, net: u32) -> Result<(), NoMemory> {
+pub(crate) fn add_hold(alloc: Global, circuit: &mut Circuit, net: u32) -> Result<(), NoMemory> {
     let hold = Hold {
         net: Net(net),
         size: 2,
@@ -101,7 +110,7 @@ fn add_hold(alloc: Global, circuit: &mut Circuit, net: u32) -> Result<(), NoMemo
 }
 
 /// A phase in which clock 0 is 1.
-fn phase(alloc: Global) -> Result<Phase, NoMemory> {
+pub(crate) fn phase(alloc: Global) -> Result<Phase, NoMemory> {
     let mut bits = Seq::new(alloc);
     match bits.push(true) {
         Ok(()) => Ok(Phase {
@@ -127,9 +136,9 @@ fn knows(
     Ok(())
 }
 
-const LOW: Option<bool> = Some(false);
+pub(crate) const LOW: Option<bool> = Some(false);
 
-const HIGH: Option<bool> = Some(true);
+pub(crate) const HIGH: Option<bool> = Some(true);
 
 #[test]
 fn behind_an_input_nothing_is_known(rt: HostRuntime) -> Result<(), Fail> {

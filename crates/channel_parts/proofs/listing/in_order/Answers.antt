@@ -1,7 +1,7 @@
-use Rattle.std.proofs.Common.{ℕ, List, subst, sym, ◌∙◌}
+use Rattle.std.proofs.Common.{ℕ, List, subst, sym}
 use Rattle.std.specs.List.Sorted.{IsPermutation}
 use Rattle.channel_parts.proofs.ListLaws.{sorted_nets}
-use Rattle.channel_parts.specs.Listings.{AreKeys, plain_pairs_of}
+use Rattle.channel_parts.specs.Listings.{AreKeys}
 use Rattle.channel_parts.proofs.listing.in_order.Goals as goal
 
 pub returns-in-Ok : goal.returns-in-Ok

@@ -4,8 +4,8 @@ use Rattle.std.proofs.lemmas.List.{get_or_past}
 use Rattle.channel_parts.proofs.RankLaws.{rank_past}
 use Rattle.channel_parts.proofs.ranking.by_net.Goals as goal
 
-pub returns : goal.returns
-returns c n =
+pub returns-clause-ranks : goal.returns-clause-ranks
+returns-clause-ranks c n =
     let circuit = c.args.circuit.now in
     let least = c.args.least.now in
     let t = c.loop-net.table.items in

@@ -1,48 +1,45 @@
-use Rattle.std.proofs.Common.{◌≡◌, ℕ, ◌<◌, ◌≤◌, List, false, true, drop, length, slice_index, arith, ap, sym, ◌∙◌}
+use Rattle.std.proofs.Common.{◌≡◌, true, length, slice_index, arith, ap, subst, sym, ◌∙◌}
 use Rattle.std.specs.Prelude.{nat_lt}
 use Rattle.std.specs.List.{list_all}
-use Rattle.std.proofs.lemmas.List.{take_at}
-use Rattle.channel_parts.proofs.RankLaws.{all_below, same_ranking, some_high}
+use Rattle.channel_parts.proofs.Acyclic.{ranks_acyclic}
+use Rattle.channel_parts.proofs.RankLaws.{same_ranking}
+use Rattle.channel_parts.proofs.SourceLaws.{levels_all, levels_none, levels_rank, stuck_around}
+use Rattle.channel_parts.specs.Levels.{AreInside, AreLevels, AreStuck}
 use Rattle.channel_parts.specs.Ranks.{rank_by}
+use Rattle.channel_parts.specs.Sources.{AreSources}
 use Rattle.channel_parts.proofs.ranking.ranked.Goals as goal
 
-pub returns-then-low-clause-ranked : goal.returns-then-low-clause-ranked
-returns-then-low-clause-ranked c phase table are =
-    let circuit = c.args.circuit.now in
-    let least = c.args.least.now in
-    let u = c.fill.new.ranks in
-    let top = c.in-Some.top in
-    let ranks = c.in_ok-ranks.ranks.items in
-    let same : c.as_slice.result.now ≡ u = c.as_slice.ensures.value ∙ take_at u (drop (length u) c.in_ok-table.table.items) c.in_ok-table.table.len (omega arith) in
-    let each : (n : ℕ) → slice_index ranks n ≡ rank_by circuit least u n = λ n. c.in_ok-ranks.ensures n ∙ ap (λ (t : List ℕ). rank_by circuit least t n) same in
-    let all : list_all (λ r. nat_lt r top) ranks ≡ true = ap (list_all (λ r. nat_lt r top)) (sym c.as_slice-2.ensures.value) ∙ (sym c.are_below-low.ensures ∙ c.if-low.true) in
-    let low : (n : ℕ) → rank_by circuit least u n < top = λ n. (let lt = all_below top ranks all (omega (arith, c.in-Some.ensures)) n in omega (arith, lt, each n)) in
-    same_ranking circuit phase (slice_index ranks) (rank_by circuit least u) each (c.fill.ensures.ranked phase table are low)
+pub levels_of-requires : goal.levels_of-requires
+levels_of-requires c = subst AreInside (sym c.as_slice-sources.ensures.value) c.in_ok-table.ensures.inside
 
-pub returns-clause-cyclic : goal.returns-clause-cyclic
-returns-clause-cyclic c none phase table are rank ranking =
+pub returns-then-not-all_levelled-clause-around : goal.returns-then-not-all_levelled-clause-around
+returns-then-not-all_levelled-clause-around c none phase table are acyclic =
     let circuit = c.args.circuit.now in
+    let known = c.args.known.now in
     let least = c.args.least.now in
-    let u = c.fill.new.ranks in
-    let top = c.in-Some.top in
-    let ranks = c.in_ok-ranks.ranks.items in
-    let same : c.as_slice.result.now ≡ u = c.as_slice.ensures.value ∙ take_at u (drop (length u) c.in_ok-table.table.items) c.in_ok-table.table.len (omega arith) in
-    let each : (n : ℕ) → slice_index ranks n ≡ rank_by circuit least u n = λ n. c.in_ok-ranks.ensures n ∙ ap (λ (t : List ℕ). rank_by circuit least t n) same in
-    let some : list_all (λ r. nat_lt r top) ranks ≡ false = ap (list_all (λ r. nat_lt r top)) (sym c.as_slice-2.ensures.value) ∙ (sym c.are_below-low.ensures ∙ c.if-low.false) in
-    let high = some_high top ranks some in
-    let at : top ≤ slice_index ranks high.0 = high.1 in
-    c.fill.ensures.cyclic phase table are high.0 (omega (arith, at, each high.0)) rank ranking
+    let sources = c.as_slice-sources.result.now in
+    let levels = c.as_slice-levels.result.now in
+    let so : AreSources circuit known least (length circuit.devices) sources = subst (AreSources circuit known least (length circuit.devices)) (sym c.as_slice-sources.ensures.value) c.in_ok-table.ensures.sources in
+    let stuck : AreStuck sources levels = subst (AreStuck sources) (sym c.as_slice-levels.ensures.value) c.in_ok-found.ensures.stuck in
+    let size : length levels ≡ length sources = ap length c.as_slice-levels.ensures.value ∙ c.in_ok-found.ensures.size in
+    let some = levels_none levels (sym c.all_levelled.ensures ∙ c.if-not-all_levelled.true) in
+    let lt = some.1 in
+    stuck_around circuit phase known least c.requires.flat table are c.requires.nets c.requires.below sources so levels stuck some.0 (omega (arith, lt, size)) some.2 acyclic
 
-pub returns-clause-around : goal.returns-clause-around
-returns-clause-around c none phase table are =
+pub returns-then-not-all_levelled-clause-cyclic : goal.returns-then-not-all_levelled-clause-cyclic
+returns-then-not-all_levelled-clause-cyclic c none phase table are rank ranking =
+    returns-then-not-all_levelled-clause-around c none phase table are (ranks_acyclic c.args.circuit.now phase rank c.requires.flat ranking)
+
+pub returns-clause-ranked : goal.returns-clause-ranked
+returns-clause-ranked c phase table are =
     let circuit = c.args.circuit.now in
+    let known = c.args.known.now in
     let least = c.args.least.now in
-    let u = c.fill.new.ranks in
-    let top = c.in-Some.top in
-    let ranks = c.in_ok-ranks.ranks.items in
-    let same : c.as_slice.result.now ≡ u = c.as_slice.ensures.value ∙ take_at u (drop (length u) c.in_ok-table.table.items) c.in_ok-table.table.len (omega arith) in
-    let each : (n : ℕ) → slice_index ranks n ≡ rank_by circuit least u n = λ n. c.in_ok-ranks.ensures n ∙ ap (λ (t : List ℕ). rank_by circuit least t n) same in
-    let some : list_all (λ r. nat_lt r top) ranks ≡ false = ap (list_all (λ r. nat_lt r top)) (sym c.as_slice-2.ensures.value) ∙ (sym c.are_below-low.ensures ∙ c.if-low.false) in
-    let high = some_high top ranks some in
-    let at : top ≤ slice_index ranks high.0 = high.1 in
-    c.fill.ensures.around phase table are high.0 (omega (arith, at, each high.0))
+    let sources = c.as_slice-sources.result.now in
+    let levels = c.as_slice-levels.result.now in
+    let so : AreSources circuit known least (length circuit.devices) sources = subst (AreSources circuit known least (length circuit.devices)) (sym c.as_slice-sources.ensures.value) c.in_ok-table.ensures.sources in
+    let found : AreLevels sources levels = subst (AreLevels sources) (sym c.as_slice-levels.ensures.value) c.in_ok-found.ensures.levels in
+    let size : length levels ≡ length sources = ap length c.as_slice-levels.ensures.value ∙ c.in_ok-found.ensures.size in
+    let all : list_all (λ l. nat_lt 0 l) levels ≡ true = sym c.all_levelled.ensures ∙ c.if-not-all_levelled.false in
+    same_ranking circuit phase (slice_index c.in_ok-ranks.ranks.items) (rank_by circuit least levels) c.in_ok-ranks.ensures.ranks
+    (levels_rank circuit phase known least c.requires.flat table are c.requires.nets c.requires.below sources so levels found (λ n lt. levels_all levels all n (omega (arith, lt, size))))

@@ -1,0 +1,13 @@
+use Rattle.std.proofs.Common.{◌≡◌, ◌-◌, length}
+use Rattle.channel_parts.specs.Levels.{IsLevelling}
+use Rattle.channel_parts.proofs.levels.turn.Given as goal
+
+-- no number has got a level yet
+abbrev pub invariant-on : goal.invariant-on
+invariant-on l = record {
+  so_far : IsLevelling l.sources l.levels.items l.waiting.items l.queue l.at;
+  same : l.levels.items ≡ l.initial.levels.items;
+}
+
+abbrev pub decreases-on : goal.decreases-on
+decreases-on l = length l.queue - l.at
