@@ -1,13 +1,17 @@
 pub mod Counts
 pub mod Fitting
 pub mod Frames
+pub mod HoldPlaces
+pub mod Idle
 pub mod Opened
 pub mod Passing
 pub mod Places
+pub mod RangeLaws
 pub mod ReachLaws
 pub mod ReachSpreading
 pub mod RoundLaws
 pub mod SignalLaws
 pub mod SolveLaws
 pub mod SourceLaws
+pub mod SpendingLaws
 pub mod Spreading

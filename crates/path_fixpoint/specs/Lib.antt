@@ -4,4 +4,5 @@ pub mod Passed
 pub mod Reaching
 pub mod Solved
 pub mod Sources
+pub mod Spending
 pub mod Strengths

@@ -30,3 +30,13 @@ pub record IsPart (c : Circuit) (part : Part) : Type 0 where
   pub devices : All (λ (d : Dev). d.0 < length c.devices) part.devices
   pub left : (d : Device) → Among (part_devices c part) d → Among part.nets d.left ⊎ IsGiven c d.left.0
   pub right : (d : Device) → Among (part_devices c part) d → Among part.nets d.right ⊎ IsGiven c d.right.0
+
+-- the nets of a part rise by number
+abbrev pub Rises : Part → Type 0
+Rises part = (i j m n : ℕ) → IsPlace part i m → IsPlace part j n → i < j → m < n
+
+-- a device of the circuit whose channel nets are in the part or have given values
+pub record IsPartDevice (c : Circuit) (part : Part) (dev : Dev) : Type 0 where
+  pub inside : dev.0 < length c.devices
+  pub left : (d : Device) → At c.devices dev.0 d → Among part.nets d.left ⊎ IsGiven c d.left.0
+  pub right : (d : Device) → At c.devices dev.0 d → Among part.nets d.right ⊎ IsGiven c d.right.0

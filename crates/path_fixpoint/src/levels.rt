@@ -1,16 +1,19 @@
 //! The strengths of the nets of a part, level by level.
 
-ghost use Rattle.std.specs.Prelude.{◌≡◌, ℕ, ◌*◌, ◌^◌, ◌<◌, ◌≤◌, length, IfOk};
+ghost use Rattle.std.specs.Prelude.{IsTrue, ◌≡◌, ℕ, ◌*◌, ◌^◌, ◌<◌, ◌≤◌, length, IfOk};
 ghost use Rattle.bdd_core.specs.Diagram.{Valuation};
 ghost use Rattle.bdd_core.specs.Store.{IsSpan};
 ghost use Rattle.plain_paths.specs.FlatCircuits.{IsFlat};
 ghost use Rattle.vrt_model.specs.Path.{Network};
-ghost use Rattle.path_fixpoint.specs.Parts.{IsPart};
+ghost use Rattle.path_fixpoint.specs.Parts.{IsPart, Rises};
 ghost use Rattle.path_fixpoint.specs.Strengths.{HasLevel, HasSpans, HasWords, StandsAt, TellsStrengths};
 ghost use Rattle.bdd_core.specs.Words.{IsFilled, Writes};
+ghost use Rattle.bdd_ops.specs.Counting.{IsSpanWithin};
+ghost use Rattle.path_fixpoint.specs.Spending.{Rewrites, Spends};
 
 use crate::Part;
 use crate::opening::open;
+use crate::ranges::rises;
 use crate::rounds::settle;
 use bdd_core::{Spent, Store};
 use node_pool::Span;
@@ -20,6 +23,7 @@ use vrt_model::Circuit;
 fn clear(store: &mut Store, out: Span)
     requires out { IsSpan store.old out }
     ensures writes { Writes out store.old store.new }
+    ensures few { (u : ℕ) → Rewrites u out store.old store.new }
 {
     let _ends = store.node_count();
     for at in 0..out.len {
@@ -32,20 +36,23 @@ fn levels(
     store: &mut Store,
     circuit: &Circuit,
     part: &Part,
+    rising: bool,
     gates: Span,
     out: Span,
 ) -> Result<(), Spent>
+    requires rising { IsTrue rising → Rises part.now }
     requires circuit { IsFlat circuit.now }
     requires part { IsPart circuit.now part.now }
     requires words { HasWords circuit.now part.now gates out store.old }
     ensures writes { Writes out store.old store.new }
     ensures levels { IfOk result (λ _. (v : Valuation) (w : Network) → StandsAt circuit.now part.now gates store.old v w → (level : ℕ) → 1 ≤ level → level ≤ 8 → HasLevel part.now out level store.new v w) }
+    ensures few { (u : ℕ) → IsSpanWithin u store.old gates → IsSpanWithin u store.old out → Spends u (8 * (length part.now.nets * (length part.now.devices * 4))) out store.old store.new result }
 {
     let _ends = store.node_count();
     for done in 0..8u32 {
         let level = 8 - done;
-        open(store, circuit, part, gates, out, level);
-        match settle(store, circuit, part, gates, out, level) {
+        open(store, circuit, part, rising, gates, out, level);
+        match settle(store, circuit, part, rising, gates, out, level) {
             Ok(()) => {}
             Err(spent) => return Err(spent),
         }
@@ -70,7 +77,9 @@ pub fn strengths(
     requires spans { HasSpans circuit.now part.now gates out store.old }
     ensures writes { Writes out store.old store.new }
     ensures strengths { IfOk result (λ _. (v : Valuation) (w : Network) → StandsAt circuit.now part.now gates store.old v w → TellsStrengths part.now out store.new v w) }
+    ensures few { (u : ℕ) → IsSpanWithin u store.old gates → Spends u (8 * (length part.now.nets * (length part.now.devices * 4))) out store.old store.new result }
 {
     clear(store, out);
-    levels(store, circuit, part, gates, out)
+    let rising = rises(part);
+    levels(store, circuit, part, rising, gates, out)
 }

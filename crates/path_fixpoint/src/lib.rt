@@ -5,6 +5,7 @@
 
 mod levels;
 mod opening;
+mod ranges;
 mod reach;
 mod rounds;
 mod signals;
@@ -12,6 +13,10 @@ mod solve;
 mod sources;
 mod steps;
 
-pub use levels::strengths;
 pub use channel_parts::Part;
+pub use levels::strengths;
+pub use ranges::{are_spans, is_part};
 pub use solve::solve_part;
+
+#[cfg(test)]
+mod tests;

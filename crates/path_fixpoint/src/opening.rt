@@ -1,17 +1,19 @@
 //! Where the marks of a level begin.
 
 ghost use Rattle.std.specs.Prelude.{◌≡◌, ◌≢◌, ℕ, ◌+◌, ◌*◌, ◌^◌, ◌<◌, ◌≤◌, ◌⊎◌, ◌↔◌, IsTrue, true, false, length, IfSome, IfOk};
-ghost use Rattle.bdd_core.specs.Diagram.{Valuation};
-ghost use Rattle.bdd_core.specs.Store.{IsLive, IsSpan};
+ghost use Rattle.bdd_core.specs.Diagram.{IsWithin, Valuation};
+ghost use Rattle.bdd_core.specs.Store.{IsLive, IsSpan, function_of};
 ghost use Rattle.plain_paths.specs.FlatCircuits.{IsFlat};
 ghost use Rattle.vrt_model.specs.Circuits.{IsNet};
 ghost use Rattle.vrt_model.specs.Lists.{At};
 ghost use Rattle.vrt_model.specs.Path.{Network};
 ghost use Rattle.vrt_model.specs.declared.circuit.Hold.{Hold as HoldValue};
 ghost use Rattle.path_fixpoint.specs.Openings.{IsGivenAt, IsHoldAt, OnlyBy, TakesAbove, mark_of};
-ghost use Rattle.path_fixpoint.specs.Parts.{IsGiven, IsPart, IsPlace};
+ghost use Rattle.path_fixpoint.specs.Parts.{IsGiven, IsPart, IsPlace, Rises};
 ghost use Rattle.path_fixpoint.specs.Strengths.{ChangesLevel, HasLevel, HasPaths, HasRoots, HasWords, StandsAt, word_of};
 ghost use Rattle.bdd_core.specs.Words.{IsFilled, Writes, word_at};
+ghost use Rattle.bdd_ops.specs.Counting.{IsSpanWithin};
+ghost use Rattle.path_fixpoint.specs.Spending.{Rewrites};
 
 use crate::Part;
 use crate::steps::{place, word};
@@ -27,6 +29,7 @@ pub(crate) fn set(store: &mut Store, out: Span, at: u32, handle: H)
     ensures writes { Writes out store.old store.new }
     ensures here { word_at store.new out at ≡ handle.0 }
     ensures apart { (k : ℕ) → k ≢ at → word_at store.new out k ≡ word_at store.old out k }
+    ensures few { (u : ℕ) → IsSpanWithin u store.old out → IsWithin u (function_of store.old handle) → Rewrites u out store.old store.new }
 {
     let _ends = store.node_count();
     store.write(out, at, handle.0);
@@ -40,6 +43,7 @@ fn above(store: &Store, out: Span, place: usize, level: u32) -> H
     ensures live { IsLive store.now result }
     ensures below { level < 8 → result.0 ≡ mark_of store.now out (level + 1) place }
     ensures highest { level ≡ 8 → result.0 ≡ 0 }
+    ensures few { (u : ℕ) → IsSpanWithin u store.now out → IsWithin u (function_of store.now result) }
 {
     let _ends = store.node_count();
     if level < 8 {
@@ -56,6 +60,7 @@ fn take_above(store: &mut Store, part: &Part, out: Span, level: u32)
     ensures writes { Writes out store.old store.new }
     ensures apart { ChangesLevel out level store.old store.new }
     ensures taken { (i : ℕ) → i < length part.now.nets → TakesAbove out level store.old store.new i }
+    ensures few { (u : ℕ) → IsSpanWithin u store.old out → Rewrites u out store.old store.new }
 {
     let _ends = store.node_count();
     for i in 0..part.nets.len() {
@@ -65,7 +70,8 @@ fn take_above(store: &mut Store, part: &Part, out: Span, level: u32)
 }
 
 /// Marks a net of the part, by the constant 1, where the test says so.
-fn mark(store: &mut Store, part: &Part, out: Span, net: Net, level: u32, fits: bool)
+fn mark(store: &mut Store, part: &Part, rising: bool, out: Span, net: Net, level: u32, fits: bool)
+    requires rising { IsTrue rising → Rises part.now }
     requires part { (i j n : ℕ) → IsPlace part.now i n → IsPlace part.now j n → i ≡ j }
     requires out { IsSpan store.old out × IsFilled store.old out }
     requires level { (1 ≤ level) × (level ≤ 8) }
@@ -74,12 +80,13 @@ fn mark(store: &mut Store, part: &Part, out: Span, net: Net, level: u32, fits: b
     ensures apart { ChangesLevel out level store.old store.new }
     ensures marked { fits ≡ true → (i : ℕ) → IsPlace part.now i net.0 → mark_of store.new out level i ≡ 1 }
     ensures only { OnlyBy out level (λ i. (fits ≡ true) × IsPlace part.now i net.0) store.old store.new }
+    ensures few { (u : ℕ) → IsSpanWithin u store.old out → Rewrites u out store.old store.new }
 {
     let _ends = store.node_count();
     if !fits {
         return;
     }
-    let Some(i) = place(part, net) else {
+    let Some(i) = place(part, rising, net) else {
         return;
     };
     set(store, out, word(i, level), ONE);
@@ -99,7 +106,15 @@ pub(crate) fn is_given(circuit: &Circuit, net: Net) -> bool
 }
 
 /// Marks the nets of the part that have given values.
-fn mark_given(store: &mut Store, circuit: &Circuit, part: &Part, out: Span, level: u32)
+fn mark_given(
+    store: &mut Store,
+    circuit: &Circuit,
+    part: &Part,
+    rising: bool,
+    out: Span,
+    level: u32,
+)
+    requires rising { IsTrue rising → Rises part.now }
     requires part { (i j n : ℕ) → IsPlace part.now i n → IsPlace part.now j n → i ≡ j }
     requires out { IsSpan store.old out × IsFilled store.old out }
     requires level { (1 ≤ level) × (level ≤ 8) }
@@ -108,11 +123,12 @@ fn mark_given(store: &mut Store, circuit: &Circuit, part: &Part, out: Span, leve
     ensures apart { ChangesLevel out level store.old store.new }
     ensures marked { (i : ℕ) → IsGivenAt circuit.now part.now i → mark_of store.new out level i ≡ 1 }
     ensures only { OnlyBy out level (IsGivenAt circuit.now part.now) store.old store.new }
+    ensures few { (u : ℕ) → IsSpanWithin u store.old out → Rewrites u out store.old store.new }
 {
     let _ends = store.node_count();
     for net in part.nets.as_slice() {
         let fits = is_given(circuit, *net);
-        mark(store, part, out, *net, level, fits);
+        mark(store, part, rising, out, *net, level, fits);
     }
 }
 
@@ -124,7 +140,15 @@ fn has_level(size: u8, level: u32) -> bool
 }
 
 /// Marks the nets of the holds of at least this level.
-fn mark_holds(store: &mut Store, circuit: &Circuit, part: &Part, out: Span, level: u32)
+fn mark_holds(
+    store: &mut Store,
+    circuit: &Circuit,
+    part: &Part,
+    rising: bool,
+    out: Span,
+    level: u32,
+)
+    requires rising { IsTrue rising → Rises part.now }
     requires part { (i j n : ℕ) → IsPlace part.now i n → IsPlace part.now j n → i ≡ j }
     requires out { IsSpan store.old out × IsFilled store.old out }
     requires level { (1 ≤ level) × (level ≤ 8) }
@@ -133,11 +157,12 @@ fn mark_holds(store: &mut Store, circuit: &Circuit, part: &Part, out: Span, leve
     ensures apart { ChangesLevel out level store.old store.new }
     ensures marked { (i : ℕ) → IsHoldAt circuit.now part.now level i → mark_of store.new out level i ≡ 1 }
     ensures only { OnlyBy out level (IsHoldAt circuit.now part.now level) store.old store.new }
+    ensures few { (u : ℕ) → IsSpanWithin u store.old out → Rewrites u out store.old store.new }
 {
     let _ends = store.node_count();
     for hold in circuit.holds.as_slice() {
         let fits = has_level(hold.size, level);
-        mark(store, part, out, hold.net, level, fits);
+        mark(store, part, rising, out, hold.net, level, fits);
     }
 }
 
@@ -146,10 +171,12 @@ pub(crate) fn open(
     store: &mut Store,
     circuit: &Circuit,
     part: &Part,
+    rising: bool,
     gates: Span,
     out: Span,
     level: u32,
 )
+    requires rising { IsTrue rising → Rises part.now }
     requires part { IsPart circuit.now part.now }
     requires words { HasWords circuit.now part.now gates out store.old }
     requires level { (1 ≤ level) × (level ≤ 8) }
@@ -157,9 +184,10 @@ pub(crate) fn open(
     ensures apart { ChangesLevel out level store.old store.new }
     ensures roots { (v : Valuation) (w : Network) → StandsAt circuit.now part.now gates store.old v w → HasRoots part.now out level store.new v w }
     ensures paths { (v : Valuation) (w : Network) → StandsAt circuit.now part.now gates store.old v w → (level < 8 → HasLevel part.now out (level + 1) store.old v w) → HasPaths part.now out level store.new v w }
+    ensures few { (u : ℕ) → IsSpanWithin u store.old out → Rewrites u out store.old store.new }
 {
     let _gates = gates;
     take_above(store, part, out, level);
-    mark_given(store, circuit, part, out, level);
-    mark_holds(store, circuit, part, out, level);
+    mark_given(store, circuit, part, rising, out, level);
+    mark_holds(store, circuit, part, rising, out, level);
 }

@@ -1,20 +1,22 @@
 //! Rounds over the devices of a part, for the nets that a value reaches.
 
-ghost use Rattle.std.specs.Prelude.{◌≡◌, ℕ, ◌+◌, ◌*◌, ◌^◌, ◌<◌, ◌≤◌, ◌⊎◌, true, false, length, IfOk, IfSome};
-ghost use Rattle.bdd_core.specs.Diagram.{Valuation};
-ghost use Rattle.bdd_core.specs.Store.{IsLive, IsSpan};
+ghost use Rattle.std.specs.Prelude.{IsTrue, ◌≡◌, ℕ, ◌+◌, ◌*◌, ◌^◌, ◌<◌, ◌≤◌, ◌⊎◌, true, false, length, IfOk, IfSome};
+ghost use Rattle.bdd_core.specs.Diagram.{IsWithin, Valuation};
+ghost use Rattle.bdd_core.specs.Store.{IsLive, IsSpan, function_of};
 ghost use Rattle.plain_paths.specs.FlatCircuits.{IsFlat};
 ghost use Rattle.vrt_model.specs.Lists.{Among};
 ghost use Rattle.vrt_model.specs.Path.{Network};
 ghost use Rattle.vrt_model.specs.declared.circuit.Device.{Device as DeviceValue};
-ghost use Rattle.path_fixpoint.specs.Parts.{IsPart, part_devices};
+ghost use Rattle.path_fixpoint.specs.Parts.{IsPart, Rises, part_devices};
 ghost use Rattle.path_fixpoint.specs.Reaching.{HasReach, HasReachPaths, HasReachRoots, HasRootWords, PassesSignal, SolvedAt, SpreadsValue, slot_of};
 ghost use Rattle.path_fixpoint.specs.Strengths.{ChangesLevel, word_of};
 ghost use Rattle.bdd_core.specs.Words.{IsFilled, Writes};
+ghost use Rattle.bdd_ops.specs.Counting.{IsSpanWithin};
+ghost use Rattle.path_fixpoint.specs.Spending.{Spends};
 
 use crate::Part;
 use crate::signals::{fitting, reached, slot};
-use crate::steps::{place, through, widen, word};
+use crate::steps::{blocks, is_full, place, through, widen, word};
 use bdd_core::{H, Spent, Store};
 use node_pool::Span;
 use vrt_model::{Circuit, Device, Kind};
@@ -39,11 +41,19 @@ fn pass(
     ensures writes { Writes out store.old store.new }
     ensures apart { ChangesLevel out (slot_of value) store.old store.new }
     ensures passes { IfOk result (λ changed. PassesSignal out value device.now.kind gate.0 signal.0 from to device.now.level changed store.old store.new) }
+    ensures few { (u : ℕ) → IsSpanWithin u store.old out → IsWithin u (function_of store.old gate) → IsWithin u (function_of store.old signal) → Spends u 18 out store.old store.new result }
 {
     let _ends = store.node_count();
     let Some(to) = to else {
         return Ok(false);
     };
+    if signal.0 == 0 {
+        return Ok(false);
+    }
+    let at = word(to, slot(value));
+    if is_full(store, out, at) {
+        return Ok(false);
+    }
     let passed = match through(store, device.kind, gate, signal) {
         Ok(passed) => passed,
         Err(spent) => return Err(spent),
@@ -52,7 +62,7 @@ fn pass(
         Ok(fits) => fits,
         Err(spent) => return Err(spent),
     };
-    widen(store, out, word(to, slot(value)), fits)
+    widen(store, out, at, fits)
 }
 
 /// Passes a value on over one device, in both directions, and says whether anything changed.
@@ -60,12 +70,14 @@ fn visit(
     store: &mut Store,
     circuit: &Circuit,
     part: &Part,
+    rising: bool,
     gates: Span,
     roots: Span,
     out: Span,
     device: &Device,
     value: bool,
 ) -> Result<bool, Spent>
+    requires rising { IsTrue rising → Rises part.now }
     requires circuit { IsFlat circuit.now }
     requires part { IsPart circuit.now part.now }
     requires words { HasRootWords circuit.now part.now gates roots out store.old }
@@ -73,11 +85,15 @@ fn visit(
     ensures writes { Writes out store.old store.new }
     ensures apart { ChangesLevel out (slot_of value) store.old store.new }
     ensures spreads { IfOk result (λ changed. SpreadsValue circuit.now part.now gates roots out value (λ d. d ≡ device.now) changed store.old store.new) }
+    ensures few { (u : ℕ) → IsSpanWithin u store.old gates → IsSpanWithin u store.old roots → IsSpanWithin u store.old out → Spends u 38 out store.old store.new result }
 {
     let _ends = store.node_count();
     let gate = H(store.read(gates, device.gate.0));
-    let left = place(part, device.left);
-    let right = place(part, device.right);
+    if blocks(device.kind, gate) {
+        return Ok(false);
+    }
+    let left = place(part, rising, device.left);
+    let right = place(part, rising, device.right);
     let there = match reached(store, roots, out, left, device.left, value) {
         Ok(there) => there,
         Err(spent) => return Err(spent),
@@ -102,17 +118,20 @@ fn round(
     store: &mut Store,
     circuit: &Circuit,
     part: &Part,
+    rising: bool,
     gates: Span,
     roots: Span,
     out: Span,
     value: bool,
 ) -> Result<bool, Spent>
+    requires rising { IsTrue rising → Rises part.now }
     requires circuit { IsFlat circuit.now }
     requires part { IsPart circuit.now part.now }
     requires words { HasRootWords circuit.now part.now gates roots out store.old }
     ensures writes { Writes out store.old store.new }
     ensures apart { ChangesLevel out (slot_of value) store.old store.new }
     ensures spreads { IfOk result (λ changed. SpreadsValue circuit.now part.now gates roots out value (Among (part_devices circuit.now part.now)) changed store.old store.new) }
+    ensures few { (u : ℕ) → IsSpanWithin u store.old gates → IsSpanWithin u store.old roots → IsSpanWithin u store.old out → Spends u (length part.now.devices * 38) out store.old store.new result }
 {
     let _ends = store.node_count();
     let mut changed = false;
@@ -120,7 +139,9 @@ fn round(
         let Some(device) = circuit.devices.get(dev.0 as usize) else {
             unreachable!();
         };
-        let grew = match visit(store, circuit, part, gates, roots, out, device, value) {
+        let grew = match visit(
+            store, circuit, part, rising, gates, roots, out, device, value,
+        ) {
             Ok(grew) => grew,
             Err(spent) => return Err(spent),
         };
@@ -134,21 +155,24 @@ pub(crate) fn settle(
     store: &mut Store,
     circuit: &Circuit,
     part: &Part,
+    rising: bool,
     gates: Span,
     roots: Span,
     out: Span,
     value: bool,
 ) -> Result<(), Spent>
+    requires rising { IsTrue rising → Rises part.now }
     requires circuit { IsFlat circuit.now }
     requires part { IsPart circuit.now part.now }
     requires words { HasRootWords circuit.now part.now gates roots out store.old }
     ensures writes { Writes out store.old store.new }
     ensures apart { ChangesLevel out (slot_of value) store.old store.new }
     ensures reach { IfOk result (λ _. (v : Valuation) (w : Network) (s : ℕ → ℕ) → SolvedAt circuit.now part.now gates roots out store.old v w s → HasReachRoots circuit.now part.now out value store.old v w s → HasReachPaths part.now out value store.old v w s → HasReach part.now out value store.new v w) }
+    ensures few { (u : ℕ) → IsSpanWithin u store.old gates → IsSpanWithin u store.old roots → IsSpanWithin u store.old out → Spends u (length part.now.nets * (length part.now.devices * 38)) out store.old store.new result }
 {
     let _ends = store.node_count();
     'rounds: for _count in 0..part.nets.len() {
-        let changed = match round(store, circuit, part, gates, roots, out, value) {
+        let changed = match round(store, circuit, part, rising, gates, roots, out, value) {
             Ok(changed) => changed,
             Err(spent) => return Err(spent),
         };

@@ -1,18 +1,20 @@
 //! Rounds over the devices of a part, at one level of strength.
 
-ghost use Rattle.std.specs.Prelude.{◌≡◌, ℕ, ◌+◌, ◌*◌, ◌^◌, ◌<◌, ◌≤◌, ◌⊎◌, true, false, length, IfOk, IfSome};
-ghost use Rattle.bdd_core.specs.Diagram.{Valuation};
-ghost use Rattle.bdd_core.specs.Store.{IsLive, IsSpan};
+ghost use Rattle.std.specs.Prelude.{IsTrue, ◌≡◌, ℕ, ◌+◌, ◌*◌, ◌^◌, ◌<◌, ◌≤◌, ◌⊎◌, true, false, length, IfOk, IfSome};
+ghost use Rattle.bdd_core.specs.Diagram.{IsWithin, Valuation};
+ghost use Rattle.bdd_core.specs.Store.{IsLive, IsSpan, function_of};
 ghost use Rattle.plain_paths.specs.FlatCircuits.{IsFlat};
 ghost use Rattle.vrt_model.specs.Lists.{Among};
 ghost use Rattle.vrt_model.specs.Path.{Network};
 ghost use Rattle.vrt_model.specs.declared.circuit.Device.{Device as DeviceValue};
-ghost use Rattle.path_fixpoint.specs.Parts.{IsPart, part_devices};
+ghost use Rattle.path_fixpoint.specs.Parts.{IsPart, Rises, part_devices};
 ghost use Rattle.path_fixpoint.specs.Strengths.{ChangesLevel, HasLevel, HasPaths, HasRoots, HasWords, Passes, Spreads, StandsAt, word_of};
 ghost use Rattle.bdd_core.specs.Words.{IsFilled, Writes};
+ghost use Rattle.bdd_ops.specs.Counting.{IsSpanWithin};
+ghost use Rattle.path_fixpoint.specs.Spending.{Spends};
 
 use crate::Part;
-use crate::steps::{place, strength, through, widen, word};
+use crate::steps::{blocks, is_full, place, strength, through, widen, word};
 use bdd_core::{H, Spent, Store};
 use node_pool::Span;
 use vrt_model::{Circuit, Device, Kind};
@@ -36,17 +38,22 @@ fn pass(
     ensures writes { Writes out store.old store.new }
     ensures apart { ChangesLevel out level store.old store.new }
     ensures passes { IfOk result (λ changed. Passes out level kind gate.0 from to changed store.old store.new) }
+    ensures few { (u : ℕ) → IsSpanWithin u store.old out → IsWithin u (function_of store.old gate) → Spends u 2 out store.old store.new result }
 {
     let _ends = store.node_count();
     let Some(to) = to else {
         return Ok(false);
     };
+    let at = word(to, level);
+    if is_full(store, out, at) {
+        return Ok(false);
+    }
     let signal = strength(store, out, from, level);
     let passed = match through(store, kind, gate, signal) {
         Ok(passed) => passed,
         Err(spent) => return Err(spent),
     };
-    widen(store, out, word(to, level), passed)
+    widen(store, out, at, passed)
 }
 
 /// Passes the marks of a level on over one device, in both directions, and says whether anything changed.
@@ -54,11 +61,13 @@ fn visit(
     store: &mut Store,
     circuit: &Circuit,
     part: &Part,
+    rising: bool,
     gates: Span,
     out: Span,
     device: &Device,
     level: u32,
 ) -> Result<bool, Spent>
+    requires rising { IsTrue rising → Rises part.now }
     requires circuit { IsFlat circuit.now }
     requires part { IsPart circuit.now part.now }
     requires words { HasWords circuit.now part.now gates out store.old }
@@ -67,14 +76,18 @@ fn visit(
     ensures writes { Writes out store.old store.new }
     ensures apart { ChangesLevel out level store.old store.new }
     ensures spreads { IfOk result (λ changed. Spreads circuit.now part.now gates out level (λ d. d ≡ device.now) changed store.old store.new) }
+    ensures few { (u : ℕ) → IsSpanWithin u store.old gates → IsSpanWithin u store.old out → Spends u 4 out store.old store.new result }
 {
     let _ends = store.node_count();
     if (device.level as u32) < level {
         return Ok(false);
     }
     let gate = H(store.read(gates, device.gate.0));
-    let left = place(part, device.left);
-    let right = place(part, device.right);
+    if blocks(device.kind, gate) {
+        return Ok(false);
+    }
+    let left = place(part, rising, device.left);
+    let right = place(part, rising, device.right);
     let forth = match pass(store, device.kind, gate, out, left, right, level) {
         Ok(forth) => forth,
         Err(spent) => return Err(spent),
@@ -91,10 +104,12 @@ fn round(
     store: &mut Store,
     circuit: &Circuit,
     part: &Part,
+    rising: bool,
     gates: Span,
     out: Span,
     level: u32,
 ) -> Result<bool, Spent>
+    requires rising { IsTrue rising → Rises part.now }
     requires circuit { IsFlat circuit.now }
     requires part { IsPart circuit.now part.now }
     requires words { HasWords circuit.now part.now gates out store.old }
@@ -102,6 +117,7 @@ fn round(
     ensures writes { Writes out store.old store.new }
     ensures apart { ChangesLevel out level store.old store.new }
     ensures spreads { IfOk result (λ changed. Spreads circuit.now part.now gates out level (Among (part_devices circuit.now part.now)) changed store.old store.new) }
+    ensures few { (u : ℕ) → IsSpanWithin u store.old gates → IsSpanWithin u store.old out → Spends u (length part.now.devices * 4) out store.old store.new result }
 {
     let _ends = store.node_count();
     let mut changed = false;
@@ -109,7 +125,7 @@ fn round(
         let Some(device) = circuit.devices.get(dev.0 as usize) else {
             unreachable!();
         };
-        let grew = match visit(store, circuit, part, gates, out, device, level) {
+        let grew = match visit(store, circuit, part, rising, gates, out, device, level) {
             Ok(grew) => grew,
             Err(spent) => return Err(spent),
         };
@@ -123,10 +139,12 @@ pub(crate) fn settle(
     store: &mut Store,
     circuit: &Circuit,
     part: &Part,
+    rising: bool,
     gates: Span,
     out: Span,
     level: u32,
 ) -> Result<(), Spent>
+    requires rising { IsTrue rising → Rises part.now }
     requires circuit { IsFlat circuit.now }
     requires part { IsPart circuit.now part.now }
     requires words { HasWords circuit.now part.now gates out store.old }
@@ -134,10 +152,11 @@ pub(crate) fn settle(
     ensures writes { Writes out store.old store.new }
     ensures apart { ChangesLevel out level store.old store.new }
     ensures level { IfOk result (λ _. (v : Valuation) (w : Network) → StandsAt circuit.now part.now gates store.old v w → HasRoots part.now out level store.old v w → HasPaths part.now out level store.old v w → HasLevel part.now out level store.new v w) }
+    ensures few { (u : ℕ) → IsSpanWithin u store.old gates → IsSpanWithin u store.old out → Spends u (length part.now.nets * (length part.now.devices * 4)) out store.old store.new result }
 {
     let _ends = store.node_count();
     'rounds: for _count in 0..part.nets.len() {
-        let changed = match round(store, circuit, part, gates, out, level) {
+        let changed = match round(store, circuit, part, rising, gates, out, level) {
             Ok(changed) => changed,
             Err(spent) => return Err(spent),
         };

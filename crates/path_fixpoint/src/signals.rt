@@ -1,12 +1,14 @@
 //! Signals of one value: what stands at the end of a channel, and where the strengths let it pass.
 
 ghost use Rattle.std.specs.Prelude.{◌≡◌, ◌≢◌, ℕ, ◌+◌, ◌*◌, ◌^◌, ◌<◌, ◌≤◌, ◌⊎◌, ◌↔◌, true, false, cond, length, IfOk, IfSome};
-ghost use Rattle.bdd_core.specs.Diagram.{Valuation};
+ghost use Rattle.bdd_core.specs.Diagram.{IsWithin, Valuation};
 ghost use Rattle.bdd_core.specs.Store.{IsLive, IsSpan, Makes, function_of};
 ghost use Rattle.path_fixpoint.specs.Reaching.{FitsAt, bit_is, reached_end, slot_of};
 ghost use Rattle.path_fixpoint.specs.Strengths.{strong, strong_end, word_of};
 ghost use Rattle.node_pool.specs.declared.region.Span.{Span as SpanValue};
 ghost use Rattle.bdd_core.specs.Words.{IsFilled, Writes, shows, word_at};
+ghost use Rattle.bdd_ops.specs.Counting.{IsSpanWithin};
+ghost use Rattle.path_fixpoint.specs.Spending.{Finds};
 
 use crate::steps::{strength, word};
 use bdd_core::{H, Spent, Store, ZERO};
@@ -66,6 +68,7 @@ fn prefix(store: &Store, out: Span, from: Option<usize>, device: u8, level: u32)
     requires len { out.len < 2 ^ 32 }
     ensures live { IsLive store.now result }
     ensures is { (v : Valuation) → (function_of store.now result v ≡ true) ↔ ((level ≤ device) × (strong_end store.now out level from v ≡ true)) }
+    ensures few { (u : ℕ) → IsSpanWithin u store.now out → IsWithin u (function_of store.now result) }
 {
     let _ends = store.node_count();
     if level <= device as u32 {
@@ -81,6 +84,7 @@ fn limit(store: &mut Store, signal: H, other: H, here: H) -> Result<H, Spent>
     ensures words { store.new.words ≡ store.old.words }
     ensures live { IfOk result (IsLive store.new) }
     ensures is { IfOk result (λ r. (v : Valuation) → (function_of store.new r v ≡ true) ↔ ((function_of store.old signal v ≡ true) × (function_of store.old here v ≡ true → function_of store.old other v ≡ true))) }
+    ensures few { (u : ℕ) → IsWithin u (function_of store.old signal) → IsWithin u (function_of store.old other) → IsWithin u (function_of store.old here) → Finds u 2 store.old store.new result }
 {
     let _ends = store.node_count();
     let allowed = match implies(store, here, other) {
@@ -109,6 +113,7 @@ pub(crate) fn fitting(
     ensures words { store.new.words ≡ store.old.words }
     ensures live { IfOk result (IsLive store.new) }
     ensures is { IfOk result (λ r. (v : Valuation) → (function_of store.new r v ≡ true) ↔ ((function_of store.old signal v ≡ true) × FitsAt store.old out from to device v)) }
+    ensures few { (u : ℕ) → IsSpanWithin u store.old out → IsWithin u (function_of store.old signal) → Finds u 16 store.old store.new result }
 {
     let _ends = store.node_count();
     let mut signal = signal;

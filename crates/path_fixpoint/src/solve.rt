@@ -1,17 +1,20 @@
 //! A part solved: the strengths of its nets, and the values that reach them.
 
-ghost use Rattle.std.specs.Prelude.{◌≡◌, ℕ, ◌*◌, ◌<◌, ◌≤◌, length, IfOk};
+ghost use Rattle.std.specs.Prelude.{IsTrue, ◌≡◌, ℕ, ◌+◌, ◌*◌, ◌<◌, ◌≤◌, length, IfOk};
 ghost use Rattle.bdd_core.specs.Diagram.{Valuation};
 ghost use Rattle.plain_paths.specs.FlatCircuits.{IsFlat};
 ghost use Rattle.vrt_model.specs.Path.{Network};
-ghost use Rattle.path_fixpoint.specs.Parts.{IsPart};
+ghost use Rattle.path_fixpoint.specs.Parts.{IsPart, Rises};
 ghost use Rattle.path_fixpoint.specs.Reaching.{HasReach, HasRootWords, SolvedAt, slot_of};
 ghost use Rattle.path_fixpoint.specs.Solved.{HasRootSpans, TellsReach, network_at};
 ghost use Rattle.path_fixpoint.specs.Strengths.{ChangesLevel, TellsStrengths};
 ghost use Rattle.bdd_core.specs.Words.{Writes};
+ghost use Rattle.bdd_ops.specs.Counting.{Counts, IsSpanWithin};
+ghost use Rattle.path_fixpoint.specs.Spending.{HasOneHold, Spends};
 
 use crate::Part;
 use crate::levels::strengths;
+use crate::ranges::rises;
 use crate::reach::settle;
 use crate::sources::open;
 use bdd_core::{Spent, Store};
@@ -23,23 +26,26 @@ fn reaches(
     store: &mut Store,
     circuit: &Circuit,
     part: &Part,
+    rising: bool,
     gates: Span,
     roots: Span,
     out: Span,
     value: bool,
 ) -> Result<(), Spent>
+    requires rising { IsTrue rising → Rises part.now }
     requires circuit { IsFlat circuit.now }
     requires part { IsPart circuit.now part.now }
     requires words { HasRootWords circuit.now part.now gates roots out store.old }
     ensures writes { Writes out store.old store.new }
     ensures apart { ChangesLevel out (slot_of value) store.old store.new }
     ensures reach { IfOk result (λ _. (v : Valuation) (w : Network) (s : ℕ → ℕ) → SolvedAt circuit.now part.now gates roots out store.old v w s → HasReach part.now out value store.new v w) }
+    ensures few { HasOneHold circuit.now → (u : ℕ) → IsSpanWithin u store.old gates → IsSpanWithin u store.old roots → IsSpanWithin u store.old out → Spends u (length part.now.nets * 6 + length part.now.nets * (length part.now.devices * 38)) out store.old store.new result }
 {
-    match open(store, circuit, part, gates, roots, out, value) {
+    match open(store, circuit, part, rising, gates, roots, out, value) {
         Ok(()) => {}
         Err(spent) => return Err(spent),
     }
-    settle(store, circuit, part, gates, roots, out, value)
+    settle(store, circuit, part, rising, gates, roots, out, value)
 }
 
 /// Writes for each net of a part, as diagrams over all valuations, whether its strength is at least 1 to 8, whether a
@@ -62,14 +68,16 @@ pub fn solve_part(
     ensures writes { Writes out store.old store.new }
     ensures strengths { IfOk result (λ _. (v : Valuation) → TellsStrengths part.now out store.new v (network_at store.old circuit.now part.now gates roots v)) }
     ensures reaches { IfOk result (λ _. (v : Valuation) → TellsReach part.now out store.new v (network_at store.old circuit.now part.now gates roots v)) }
+    ensures few { HasOneHold circuit.now → (u : ℕ) → IsSpanWithin u store.old gates → IsSpanWithin u store.old roots → Counts u (400 * (length part.now.nets + 1) * (length part.now.devices + 1)) store.old store.new result }
 {
+    let rising = rises(part);
     match strengths(store, circuit, part, gates, out) {
         Ok(()) => {}
         Err(spent) => return Err(spent),
     }
-    match reaches(store, circuit, part, gates, roots, out, false) {
+    match reaches(store, circuit, part, rising, gates, roots, out, false) {
         Ok(()) => {}
         Err(spent) => return Err(spent),
     }
-    reaches(store, circuit, part, gates, roots, out, true)
+    reaches(store, circuit, part, rising, gates, roots, out, true)
 }

@@ -1,16 +1,18 @@
 //! The roots of one value: the nets of a part at which a root of the value stands, as strong as its net.
 
-ghost use Rattle.std.specs.Prelude.{◌≡◌, ◌≢◌, ℕ, ◌+◌, ◌*◌, ◌^◌, ◌<◌, ◌≤◌, ◌⊎◌, ◌↔◌, true, false, length, IfOk, IfSome};
-ghost use Rattle.bdd_core.specs.Diagram.{Valuation};
+ghost use Rattle.std.specs.Prelude.{IsTrue, ◌≡◌, ◌≢◌, ℕ, ◌+◌, ◌*◌, ◌^◌, ◌<◌, ◌≤◌, ◌⊎◌, ◌↔◌, true, false, length, IfOk, IfSome};
+ghost use Rattle.bdd_core.specs.Diagram.{IsWithin, Valuation};
 ghost use Rattle.bdd_core.specs.Store.{IsLive, IsSpan, function_of};
 ghost use Rattle.plain_paths.specs.FlatCircuits.{IsFlat};
 ghost use Rattle.vrt_model.specs.Path.{Network};
 ghost use Rattle.path_fixpoint.specs.Openings.{IsGivenAt, IsHoldAt};
-ghost use Rattle.path_fixpoint.specs.Parts.{IsGiven, IsPart, IsPlace};
+ghost use Rattle.path_fixpoint.specs.Parts.{IsGiven, IsPart, IsPlace, Rises};
 ghost use Rattle.path_fixpoint.specs.Reaching.{HasReachPaths, HasReachRoots, HasRootWords, SolvedAt, slot_of};
 ghost use Rattle.path_fixpoint.specs.Sources.{AddsRoots, IsGivenSource, IsHoldSource};
 ghost use Rattle.path_fixpoint.specs.Strengths.{ChangesLevel, strong, word_of};
 ghost use Rattle.bdd_core.specs.Words.{IsFilled, Writes, shows, word_at};
+ghost use Rattle.bdd_ops.specs.Counting.{IsSpanWithin};
+ghost use Rattle.path_fixpoint.specs.Spending.{Finds, HasOneHold, Rewrites, Spends};
 
 use crate::Part;
 use crate::opening::{is_given, set};
@@ -27,6 +29,7 @@ fn clear(store: &mut Store, part: &Part, out: Span, value: bool)
     ensures writes { Writes out store.old store.new }
     ensures apart { ChangesLevel out (slot_of value) store.old store.new }
     ensures zero { (i : ℕ) → i < length part.now.nets → word_at store.new out (word_of (slot_of value) i) ≡ 0 }
+    ensures few { (u : ℕ) → IsSpanWithin u store.old out → Rewrites u out store.old store.new }
 {
     let _ends = store.node_count();
     for i in 0..part.nets.len() {
@@ -44,6 +47,7 @@ fn unblocked(store: &mut Store, out: Span, place: usize, size: u32, bit: H) -> R
     ensures words { store.new.words ≡ store.old.words }
     ensures live { IfOk result (IsLive store.new) }
     ensures is { IfOk result (λ r. (v : Valuation) → (function_of store.new r v ≡ true) ↔ ((function_of store.old bit v ≡ true) × (size < 8 → strong store.old out (size + 1) place v ≡ false))) }
+    ensures few { (u : ℕ) → IsSpanWithin u store.old out → IsWithin u (function_of store.old bit) → Finds u 1 store.old store.new result }
 {
     let _ends = store.node_count();
     if size == 8 {
@@ -57,12 +61,14 @@ fn unblocked(store: &mut Store, out: Span, place: usize, size: u32, bit: H) -> R
 fn add_root(
     store: &mut Store,
     part: &Part,
+    rising: bool,
     roots: Span,
     out: Span,
     net: Net,
     size: u32,
     value: bool,
 ) -> Result<(), Spent>
+    requires rising { IsTrue rising → Rises part.now }
     requires part { (i j n : ℕ) → IsPlace part.now i n → IsPlace part.now j n → i ≡ j }
     requires roots { IsSpan store.old roots × IsFilled store.old roots }
     requires net { net.0 < roots.len }
@@ -72,9 +78,10 @@ fn add_root(
     ensures writes { Writes out store.old store.new }
     ensures apart { ChangesLevel out (slot_of value) store.old store.new }
     ensures adds { IfOk result (λ _. AddsRoots part.now roots out value (λ n k. (n ≡ net.0) × (k ≡ size)) store.old store.new) }
+    ensures few { (u : ℕ) → IsSpanWithin u store.old roots → IsSpanWithin u store.old out → Spends u 0 out store.old store.new result ⊎ ((i : ℕ) × IsPlace part.now i net.0 × Spends u 3 out store.old store.new result) }
 {
     let _ends = store.node_count();
-    let Some(i) = place(part, net) else {
+    let Some(i) = place(part, rising, net) else {
         return Ok(());
     };
     let bit = match root_bit(store, roots, net, value) {
@@ -96,11 +103,13 @@ fn add_net(
     store: &mut Store,
     circuit: &Circuit,
     part: &Part,
+    rising: bool,
     roots: Span,
     out: Span,
     net: Net,
     value: bool,
 ) -> Result<(), Spent>
+    requires rising { IsTrue rising → Rises part.now }
     requires part { (i j n : ℕ) → IsPlace part.now i n → IsPlace part.now j n → i ≡ j }
     requires roots { IsSpan store.old roots × IsFilled store.old roots }
     requires net { net.0 < roots.len }
@@ -109,12 +118,13 @@ fn add_net(
     ensures writes { Writes out store.old store.new }
     ensures apart { ChangesLevel out (slot_of value) store.old store.new }
     ensures adds { IfOk result (λ _. AddsRoots part.now roots out value (λ n k. IsGiven circuit.now n × (n ≡ net.0) × (k ≡ 8)) store.old store.new) }
+    ensures few { (u : ℕ) → IsSpanWithin u store.old roots → IsSpanWithin u store.old out → Spends u 3 out store.old store.new result }
 {
     let _ends = store.node_count();
     if !is_given(circuit, net) {
         return Ok(());
     }
-    add_root(store, part, roots, out, net, 8, value)
+    add_root(store, part, rising, roots, out, net, 8, value)
 }
 
 /// Marks the nets of the part that have given values, where these are the value.
@@ -122,22 +132,25 @@ fn add_given(
     store: &mut Store,
     circuit: &Circuit,
     part: &Part,
+    rising: bool,
     gates: Span,
     roots: Span,
     out: Span,
     value: bool,
 ) -> Result<(), Spent>
+    requires rising { IsTrue rising → Rises part.now }
     requires part { IsPart circuit.now part.now }
     requires circuit { IsFlat circuit.now }
     requires words { HasRootWords circuit.now part.now gates roots out store.old }
     ensures writes { Writes out store.old store.new }
     ensures apart { ChangesLevel out (slot_of value) store.old store.new }
     ensures adds { IfOk result (λ _. AddsRoots part.now roots out value (IsGivenSource circuit.now part.now) store.old store.new) }
+    ensures few { (u : ℕ) → IsSpanWithin u store.old roots → IsSpanWithin u store.old out → Spends u (length part.now.nets * 3) out store.old store.new result }
 {
     let _ends = store.node_count();
     let _gates = gates;
     for net in part.nets.as_slice() {
-        match add_net(store, circuit, part, roots, out, *net, value) {
+        match add_net(store, circuit, part, rising, roots, out, *net, value) {
             Ok(()) => {}
             Err(spent) => return Err(spent),
         }
@@ -150,22 +163,34 @@ fn add_holds(
     store: &mut Store,
     circuit: &Circuit,
     part: &Part,
+    rising: bool,
     gates: Span,
     roots: Span,
     out: Span,
     value: bool,
 ) -> Result<(), Spent>
+    requires rising { IsTrue rising → Rises part.now }
     requires part { IsPart circuit.now part.now }
     requires circuit { IsFlat circuit.now }
     requires words { HasRootWords circuit.now part.now gates roots out store.old }
     ensures writes { Writes out store.old store.new }
     ensures apart { ChangesLevel out (slot_of value) store.old store.new }
     ensures adds { IfOk result (λ _. AddsRoots part.now roots out value (IsHoldSource circuit.now) store.old store.new) }
+    ensures few { HasOneHold circuit.now → (u : ℕ) → IsSpanWithin u store.old roots → IsSpanWithin u store.old out → Spends u (length part.now.nets * 3) out store.old store.new result }
 {
     let _ends = store.node_count();
     let _gates = gates;
     for hold in circuit.holds.as_slice() {
-        match add_root(store, part, roots, out, hold.net, hold.size as u32, value) {
+        match add_root(
+            store,
+            part,
+            rising,
+            roots,
+            out,
+            hold.net,
+            hold.size as u32,
+            value,
+        ) {
             Ok(()) => {}
             Err(spent) => return Err(spent),
         }
@@ -178,11 +203,13 @@ pub(crate) fn open(
     store: &mut Store,
     circuit: &Circuit,
     part: &Part,
+    rising: bool,
     gates: Span,
     roots: Span,
     out: Span,
     value: bool,
 ) -> Result<(), Spent>
+    requires rising { IsTrue rising → Rises part.now }
     requires part { IsPart circuit.now part.now }
     requires circuit { IsFlat circuit.now }
     requires words { HasRootWords circuit.now part.now gates roots out store.old }
@@ -190,11 +217,12 @@ pub(crate) fn open(
     ensures apart { ChangesLevel out (slot_of value) store.old store.new }
     ensures roots { IfOk result (λ _. (v : Valuation) (w : Network) (s : ℕ → ℕ) → SolvedAt circuit.now part.now gates roots out store.old v w s → HasReachRoots circuit.now part.now out value store.new v w s) }
     ensures paths { IfOk result (λ _. (v : Valuation) (w : Network) (s : ℕ → ℕ) → SolvedAt circuit.now part.now gates roots out store.old v w s → HasReachPaths part.now out value store.new v w s) }
+    ensures few { HasOneHold circuit.now → (u : ℕ) → IsSpanWithin u store.old roots → IsSpanWithin u store.old out → Spends u (length part.now.nets * 6) out store.old store.new result }
 {
     clear(store, part, out, value);
-    match add_given(store, circuit, part, gates, roots, out, value) {
+    match add_given(store, circuit, part, rising, gates, roots, out, value) {
         Ok(()) => {}
         Err(spent) => return Err(spent),
     }
-    add_holds(store, circuit, part, gates, roots, out, value)
+    add_holds(store, circuit, part, rising, gates, roots, out, value)
 }

@@ -1,12 +1,14 @@
 //! Single steps: what a conducting device passes on, and the word that it is added to.
 
-ghost use Rattle.std.specs.Prelude.{◌≡◌, ◌≢◌, ℕ, ◌+◌, ◌-◌, ◌*◌, ◌^◌, ◌<◌, ◌≤◌, ◌⊎◌, ◌||◌, Bool, true, false, cond, eqb, length, IfOk, IfSome, IsNone, option_map};
-ghost use Rattle.bdd_core.specs.Diagram.{Valuation, IsReduced, meaning};
+ghost use Rattle.std.specs.Prelude.{IsTrue, ◌≡◌, ◌≢◌, ℕ, ◌+◌, ◌-◌, ◌*◌, ◌^◌, ◌<◌, ◌≤◌, ◌⊎◌, ◌||◌, Bool, true, false, cond, eqb, length, IfOk, IfSome, IsNone, option_map};
+ghost use Rattle.bdd_core.specs.Diagram.{Valuation, IsReduced, IsWithin, meaning};
 ghost use Rattle.bdd_core.specs.Store.{IsLive, IsSpan, Makes, function_of};
-ghost use Rattle.path_fixpoint.specs.Parts.{IsPlace};
+ghost use Rattle.path_fixpoint.specs.Parts.{IsPlace, Rises};
 ghost use Rattle.path_fixpoint.specs.Strengths.{strong_end, word_of};
 ghost use Rattle.bdd_core.specs.Words.{IsFilled, Writes, shows, word_at};
-ghost use Rattle.path_fixpoint.specs.Passed.{gated, IsWider};
+ghost use Rattle.path_fixpoint.specs.Passed.{blocking, gated, IsWider};
+ghost use Rattle.bdd_ops.specs.Counting.{IsSpanWithin};
+ghost use Rattle.path_fixpoint.specs.Spending.{Spends};
 
 use crate::Part;
 use bdd_core::{H, ONE, Spent, Store, ZERO};
@@ -14,11 +16,39 @@ use bdd_ops::{and, or};
 use node_pool::Span;
 use vrt_model::{Kind, Net};
 
-/// Where a net stands in a part.
-pub(crate) fn place(part: &Part, net: Net) -> Option<usize>
+/// Where a net stands in a part whose nets rise, found by halves.
+fn search(part: &Part, net: Net) -> Option<usize>
+    requires { Rises part.now }
     ensures some { IfSome result (λ i. IsPlace part.now i net.0) }
     ensures none { IsNone result → (i : ℕ) → IsPlace part.now i net.0 → ⊥ }
 {
+    let nets = part.nets.as_slice();
+    let mut low = 0;
+    let mut high = nets.len();
+    'halves: while low < high {
+        let middle = low + (high - low) / 2;
+        let here = nets[middle].0;
+        if here == net.0 {
+            return Some(middle);
+        }
+        if here < net.0 {
+            low = middle + 1;
+        } else {
+            high = middle;
+        }
+    }
+    None
+}
+
+/// Where a net stands in a part: by halves where the nets are known to rise, else one by one.
+pub(crate) fn place(part: &Part, rising: bool, net: Net) -> Option<usize>
+    requires rising { IsTrue rising → Rises part.now }
+    ensures some { IfSome result (λ i. IsPlace part.now i net.0) }
+    ensures none { IsNone result → (i : ℕ) → IsPlace part.now i net.0 → ⊥ }
+{
+    if rising {
+        return search(part, net);
+    }
     part.nets
         .as_slice()
         .iter()
@@ -41,12 +71,32 @@ pub(crate) fn strength(store: &Store, out: Span, place: Option<usize>, level: u3
     requires place { IfSome place (λ i. (10 * i + 10 ≤ out.len) × (out.len < 2 ^ 32)) }
     ensures live { IsLive store.now result }
     ensures is { (v : Valuation) → function_of store.now result v ≡ strong_end store.now out level place v }
+    ensures few { (u : ℕ) → IsSpanWithin u store.now out → IsWithin u (function_of store.now result) }
 {
     let _ends = store.node_count();
     match place {
         Some(place) => H(store.read(out, word(place, level))),
         None => ONE,
     }
+}
+
+/// Whether a gate is the constant that keeps a device from conducting.
+pub(crate) fn blocks(kind: Kind, gate: H) -> bool
+    ensures { result ≡ true → gate.0 ≡ blocking kind }
+{
+    match kind {
+        Kind::N => gate.0 == 0,
+        Kind::P => gate.0 == 1,
+    }
+}
+
+/// Whether a word is the constant 1, so that nothing can be added to it.
+pub(crate) fn is_full(store: &Store, out: Span, at: u32) -> bool
+    requires out { IsSpan store.now out }
+    requires at { at < out.len }
+    ensures { result ≡ true → word_at store.now out at ≡ 1 }
+{
+    store.read(out, at) == 1
 }
 
 /// What a device passes on of a signal: nothing where it does not conduct.
@@ -69,6 +119,7 @@ pub(crate) fn widen(store: &mut Store, out: Span, at: u32, signal: H) -> Result<
     ensures writes { Writes out store.old store.new }
     ensures wider { IfOk result (λ changed. IsWider out at (function_of store.old signal) changed store.old store.new) }
     ensures apart { (k : ℕ) → k ≢ at → word_at store.new out k ≡ word_at store.old out k }
+    ensures few { (u : ℕ) → IsSpanWithin u store.old out → IsWithin u (function_of store.old signal) → Spends u 1 out store.old store.new result }
 {
     let _ends = store.node_count();
     let before = H(store.read(out, at));

@@ -2,6 +2,7 @@ use Rattle.std.proofs.Common.{◌≡◌, ℕ, ◌+◌, ◌≤◌, length, length
 use Rattle.bdd_core.specs.Store.{Diagrams}
 use Rattle.bdd_core.specs.Words.{word_at}
 use Rattle.path_fixpoint.proofs.Frames.{rest_then, word_apart, word_here, word_other, writes_zero}
+use Rattle.path_fixpoint.proofs.SpendingLaws.{rewrites_zero}
 use Rattle.path_fixpoint.proofs.levels.clear.Goals as goal
 
 pub write-requires-clause-live : goal.write-requires-clause-live
@@ -33,4 +34,5 @@ returns c =
     record {
       writes = writes_zero c.args.out c.args.store.now c.loop-at.store i.rest c.node_count-ends.ensures.sound c.node_count-ends.ensures.within i.len i.others
           (λ k lt. i.zero k (omega (arith, lt, c.loop-at-test.false)));
+      few = λ u. rewrites_zero u c.args.out c.args.store.now c.loop-at.store i.rest (λ k lt. i.zero k (omega (arith, lt, c.loop-at-test.false)));
     }

@@ -1,4 +1,7 @@
-use Rattle.std.proofs.Common.{ℕ, ◌+◌, ◌-◌, ◌≤◌, arith, sym, subst, inl, inr}
+use Rattle.std.proofs.Common.{ℕ, ◌+◌, ◌-◌, ◌*◌, ◌≤◌, length, Ok, Err, arith, sym, subst, inl, inr}
+use Rattle.std.proofs.Math.Nat.{mul-le-mul_right}
+use Rattle.bdd_ops.proofs.CountingLaws.{counted_more, counted_then, counts_more, counts_ok}
+use Rattle.path_fixpoint.proofs.SpendingLaws.{one_more, span_beside, spends_behind, spends_more, times_most}
 use Rattle.std.proofs.lemmas.Bool.{cases_eq}
 use Rattle.path_fixpoint.specs.Strengths.{HasLevel, HasWords, StandsAt}
 use Rattle.path_fixpoint.proofs.Frames.{writes_then}
@@ -35,7 +38,51 @@ loop-done-preserved c =
                 (level_stays circuit part gates out l level old mid v w (omega (arith, gt, c.loop-done-test.true)) le low (omega (arith, high)) ne words c.open.ensures.writes c.open.ensures.apart
                 (i.levels v w st l (omega (arith, gt, ne, c.loop-done-test.true)) le))
           ];
+      few = λ u gates_in all.
+          let size = length part.nets * (length part.devices * 4) in
+          let q = i.few u gates_in all in
+          let o = c.open.ensures.few u q.1 in
+          let held = span_beside u out gates old mid c.open.ensures.writes words.apart words.gates_live (span_beside u out gates first old i.writes c.requires.words.apart c.requires.words.gates_live gates_in) in
+          let f = c.in-Ok.ensures.few u held o.within in (
+            counted_more u (done * size + size) ((done + 1) * size) first new (one_more done size)
+                (counted_then u (done * size) size first mid new (counted_more u (done * size + 0) (done * size) first mid (omega arith) (counted_then u (done * size) 0 first old mid q.0 o.counted)) f.counts.added),
+            f.within,
+          );
     }
 
 pub returns-clause-levels : goal.returns-clause-levels
 returns-clause-levels c v w st level low high = c.loop-done.invariant.levels v w st level (omega (arith, low, c.loop-done-test.false)) high
+
+pub returns-in-Err-clause-few : goal.returns-in-Err-clause-few
+returns-in-Err-clause-few c u gates_in all =
+    let circuit = c.args.circuit.now in
+    let part = c.args.part.now in
+    let gates = c.args.gates in
+    let out = c.args.out in
+    let done = c.loop-done.done in
+    let first = c.args.store.now in
+    let old = c.loop-done.store in
+    let mid = c.open.new.store in
+    let new = c.settle.new.store in
+    let i = c.loop-done.invariant in
+    let words : HasWords circuit part gates out old = words_kept circuit part gates out first old c.requires.words i.writes in
+    let size = length part.nets * (length part.devices * 4) in
+    let q = i.few u gates_in all in
+    let o = c.open.ensures.few u q.1 in
+    let held = span_beside u out gates old mid c.open.ensures.writes words.apart words.gates_live (span_beside u out gates first old i.writes c.requires.words.apart c.requires.words.gates_live gates_in) in
+    spends_more u out (done * size + size) (8 * size) first new (Err c.in-Err.spent) (times_most done 8 size (omega (arith, c.loop-done-test.true)))
+    (spends_behind u out (done * size) size first mid new (Err c.in-Err.spent)
+    (counted_more u (done * size + 0) (done * size) first mid (omega arith) (counted_then u (done * size) 0 first old mid q.0 o.counted)) (c.in-Err.ensures.few u held o.within))
+
+pub returns-clause-few : goal.returns-clause-few
+returns-clause-few c u gates_in all =
+    let part = c.args.part.now in
+    let done = c.loop-done.done in
+    let first = c.args.store.now in
+    let new = c.loop-done.store in
+    let size = length part.nets * (length part.devices * 4) in
+    let q = c.loop-done.invariant.few u gates_in all in
+    record {
+      counts = counts_more u (done * size) (8 * size) first new (Ok tt) (mul-le-mul_right {m = done} {n = 8} size (omega (arith, c.loop-done.auto.done-end))) (counts_ok u (done * size) first new tt q.0);
+      within = q.1;
+    }

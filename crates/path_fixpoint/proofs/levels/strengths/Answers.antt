@@ -1,4 +1,6 @@
+use Rattle.std.proofs.Common.{◌+◌, ◌*◌, length, arith}
 use Rattle.bdd_core.proofs.Results.{if_ok_more}
+use Rattle.path_fixpoint.proofs.SpendingLaws.{span_beside, spends_behind, spends_more}
 use Rattle.path_fixpoint.proofs.Frames.{writes_then}
 use Rattle.path_fixpoint.proofs.RoundLaws.{stands_from, tells_from, words_from}
 use Rattle.path_fixpoint.proofs.levels.strengths.Goals as goal
@@ -15,3 +17,14 @@ returns-clause-strengths c =
     (λ u h v w st. tells_from c.args.circuit.now c.args.part.now c.args.gates c.args.out c.levels.new.store v w
     (h v w (stands_from c.args.circuit.now c.args.part.now c.args.gates c.args.out c.args.store.now c.clear.new.store v w c.requires.spans c.clear.ensures.writes st)))
     c.levels.ensures.levels
+
+pub returns-clause-few : goal.returns-clause-few
+returns-clause-few c u gates =
+    let out = c.args.out in
+    let size = 8 * (length c.args.part.now.nets * (length c.args.part.now.devices * 4)) in
+    let first = c.args.store.now in
+    let mid = c.clear.new.store in
+    let cleared = c.clear.ensures.few u in
+    spends_more u out (0 + size) size first c.levels.new.store c.levels.result (omega arith)
+    (spends_behind u out 0 size first mid c.levels.new.store c.levels.result cleared.counted
+    (c.levels.ensures.few u (span_beside u out c.args.gates first mid c.clear.ensures.writes c.requires.spans.apart c.requires.spans.gates_live gates) cleared.within))

@@ -2,6 +2,7 @@ use Rattle.std.proofs.Common.{◌≡◌, ℕ, arith, ap, refl, sym, subst, ◌�
 use Rattle.path_fixpoint.specs.Strengths.{word_of}
 use Rattle.bdd_core.specs.Words.{word_at}
 use Rattle.path_fixpoint.proofs.Places.{place_in}
+use Rattle.bdd_ops.proofs.WithinLaws.{within_one}
 use Rattle.path_fixpoint.proofs.opening.mark.Goals as goal
 
 pub returns-in_default-clause-marked : goal.returns-in_default-clause-marked
@@ -24,3 +25,6 @@ pub returns-clause-marked : goal.returns-clause-marked
 returns-clause-marked c fits i p =
     let same : i ≡ c.in-Some.i = c.requires.part i c.in-Some.i c.args.net.0 p c.in-Some.ensures.some in
     subst (λ (x : ℕ). word_at c.set.new.store c.args.out x ≡ 1) (c.word.ensures ∙ ap (λ (x : ℕ). word_of c.args.level x) (sym same)) c.set.ensures.here
+
+pub returns-clause-few : goal.returns-clause-few
+returns-clause-few c u all = c.set.ensures.few u all (within_one u c.args.store.now)

@@ -6,6 +6,7 @@ use Rattle.path_fixpoint.specs.Openings.{IsGivenAt, mark_of}
 use Rattle.path_fixpoint.specs.Parts.{IsGiven}
 use Rattle.path_fixpoint.proofs.Frames.{writes_then}
 use Rattle.path_fixpoint.proofs.Opened.{one_stays, only_then}
+use Rattle.path_fixpoint.proofs.SpendingLaws.{rewrites_then}
 use Rattle.path_fixpoint.proofs.opening.mark_given.Goals as goal
 
 pub loop-net-preserved : goal.loop-net-preserved
@@ -29,6 +30,7 @@ loop-net-preserved c =
           (λ k lt x e g. one_stays out level _ old new k c.mark.ensures.only (i.marked k lt x e g))
           (λ x e g. c.mark.ensures.marked (c.is_given-fits.ensures.1 (subst (λ (y : Net). IsGiven circuit y.0) (same_Some x net (sym e ∙ there)) g)) at (net, there, refl));
       only = only_then out level (IsGivenAt circuit part) _ c.args.store.now old new (λ k q. (net.0, q.1, c.is_given-fits.ensures.0 q.0)) i.only c.mark.ensures.only;
+      few = λ u all. let r = i.few u all in rewrites_then u out c.args.store.now old new r (c.mark.ensures.few u r.within);
     }
 
 pub returns-clause-marked : goal.returns-clause-marked

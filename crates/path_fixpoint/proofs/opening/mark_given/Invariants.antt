@@ -1,3 +1,5 @@
+use Rattle.bdd_ops.specs.Counting.{IsSpanWithin}
+use Rattle.path_fixpoint.specs.Spending.{Rewrites}
 use Rattle.std.proofs.Common.{◌≡◌, ℕ, ◌<◌}
 use Rattle.vrt_model.specs.Lists.{At}
 use Rattle.vrt_model.specs.declared.ids.Net.{Net}
@@ -13,4 +15,5 @@ invariant-loop-net l = record {
   apart : ChangesLevel l.fn.out l.fn.level l.fn.store l.store;
   marked : (k : ℕ) → k < l.net-index → (net : Net) → At l.part.nets k net → IsGiven l.circuit net.0 → mark_of l.store l.fn.out l.fn.level k ≡ 1;
   only : OnlyBy l.fn.out l.fn.level (IsGivenAt l.circuit l.part) l.fn.store l.store;
+  few : (u : ℕ) → IsSpanWithin u l.fn.store l.fn.out → Rewrites u l.fn.out l.fn.store l.store;
 }

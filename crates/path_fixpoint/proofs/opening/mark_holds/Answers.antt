@@ -7,6 +7,7 @@ use Rattle.path_fixpoint.specs.Openings.{IsHoldAt, mark_of}
 use Rattle.path_fixpoint.specs.Parts.{IsPlace}
 use Rattle.path_fixpoint.proofs.Frames.{writes_then}
 use Rattle.path_fixpoint.proofs.Opened.{one_stays, only_then}
+use Rattle.path_fixpoint.proofs.SpendingLaws.{rewrites_then}
 use Rattle.path_fixpoint.proofs.opening.mark_holds.Goals as goal
 
 pub loop-hold-preserved : goal.loop-hold-preserved
@@ -31,6 +32,7 @@ loop-hold-preserved c =
           let same : h ≡ hold = same_Some h hold (sym e ∙ there) in
           c.mark.ensures.marked (c.has_level-fits.ensures.1 (subst (λ (x : Hold). level ≤ x.size) same le)) j (subst (λ (x : Hold). IsPlace part j x.net.0) same p));
       only = only_then out level (IsHoldAt circuit part level) _ c.args.store.now old new (λ k q. (at, hold, there, c.has_level-fits.ensures.0 q.0, q.1)) i.only c.mark.ensures.only;
+      few = λ u all. let r = i.few u all in rewrites_then u out c.args.store.now old new r (c.mark.ensures.few u r.within);
     }
 
 pub returns-clause-marked : goal.returns-clause-marked

@@ -1,6 +1,7 @@
 use Rattle.bdd_core.specs.Words.{Writes}
 use Rattle.path_fixpoint.proofs.Frames.{writes_then}
 use Rattle.path_fixpoint.proofs.Opened.{open_paths, open_roots}
+use Rattle.path_fixpoint.proofs.SpendingLaws.{rewrites_then}
 use Rattle.path_fixpoint.proofs.opening.open.Goals as goal
 
 pub returns-clause-roots : goal.returns-clause-roots
@@ -20,3 +21,11 @@ returns-clause-paths c =
     open_paths c.args.circuit.now c.args.part.now c.args.gates c.args.out c.args.level c.requires.level.0 c.requires.level.1
     c.args.store.now c.take_above.new.store c.mark_given.new.store c.mark_holds.new.store c.requires.words whole
     c.take_above.ensures.taken c.mark_given.ensures.marked c.mark_given.ensures.only c.mark_holds.ensures.marked c.mark_holds.ensures.only
+
+pub returns-clause-few : goal.returns-clause-few
+returns-clause-few c u all =
+    let out = c.args.out in
+    let taken = c.take_above.ensures.few u all in
+    let given = c.mark_given.ensures.few u taken.within in
+    rewrites_then u out c.args.store.now c.mark_given.new.store c.mark_holds.new.store
+    (rewrites_then u out c.args.store.now c.take_above.new.store c.mark_given.new.store taken given) (c.mark_holds.ensures.few u given.within)

@@ -4,6 +4,7 @@ use Rattle.path_fixpoint.specs.Strengths.{word_of}
 use Rattle.bdd_core.specs.Words.{word_at}
 use Rattle.path_fixpoint.proofs.Frames.{writes_then}
 use Rattle.path_fixpoint.proofs.Places.{levels_differ, words_differ}
+use Rattle.path_fixpoint.proofs.SpendingLaws.{rewrites_then}
 use Rattle.path_fixpoint.proofs.opening.take_above.Goals as goal
 
 pub loop-i-preserved : goal.loop-i-preserved
@@ -26,4 +27,5 @@ loop-i-preserved c =
           let same : mark_of new out level k ≡ mark_of old out level k = c.set.ensures.apart (word_of level k) (λ e. omega (arith, lt, words_differ level k at (e ∙ c.word.ensures))) in
           (λ below. same ∙ (i.taken k lt).0 below, λ top. same ∙ (i.taken k lt).1 top))
           (λ below. here ∙ c.above-handle.ensures.below below ∙ upper, λ top. here ∙ c.above-handle.ensures.highest top);
+      few = λ u all. let r = i.few u all in rewrites_then u out first old new r (c.set.ensures.few u r.within (c.above-handle.ensures.few u r.within));
     }

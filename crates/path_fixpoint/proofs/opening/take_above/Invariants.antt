@@ -1,3 +1,5 @@
+use Rattle.bdd_ops.specs.Counting.{IsSpanWithin}
+use Rattle.path_fixpoint.specs.Spending.{Rewrites}
 use Rattle.std.proofs.Common.{ℕ, ◌<◌}
 use Rattle.path_fixpoint.specs.Openings.{TakesAbove}
 use Rattle.path_fixpoint.specs.Strengths.{ChangesLevel}
@@ -9,4 +11,5 @@ invariant-loop-i l = record {
   writes : Writes l.fn.out l.fn.store l.store;
   apart : ChangesLevel l.fn.out l.fn.level l.fn.store l.store;
   taken : (i : ℕ) → i < l.i → TakesAbove l.fn.out l.fn.level l.fn.store l.store i;
+  few : (u : ℕ) → IsSpanWithin u l.fn.store l.fn.out → Rewrites u l.fn.out l.fn.store l.store;
 }

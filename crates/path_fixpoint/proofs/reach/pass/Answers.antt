@@ -1,13 +1,17 @@
-use Rattle.std.proofs.Common.{◌≡◌, ℕ, ◌+◌, ◌*◌, ◌<◌, ◌≤◌, List, Ok, Err, Option, slice_index, arith, ap, sym, subst, ◌∙◌}
+use Rattle.std.proofs.Common.{false, ◌≡◌, ℕ, ◌+◌, ◌*◌, ◌<◌, ◌≤◌, List, Ok, Err, Option, slice_index, arith, ap, sym, subst, ◌∙◌}
 use Rattle.std.specs.Prelude.{IfSome}
-use Rattle.bdd_core.specs.Diagram.{meaning}
+use Rattle.bdd_core.specs.Diagram.{Function, meaning}
+use Rattle.bdd_core.specs.Words.{word_at}
 use Rattle.bdd_core.proofs.Results.{if_ok_more}
-use Rattle.path_fixpoint.specs.Passed.{IsWider}
+use Rattle.bdd_ops.proofs.CountingLaws.{counted_then, counts_made, counts_more}
+use Rattle.path_fixpoint.specs.Passed.{IsWider, gated}
 use Rattle.path_fixpoint.specs.Reaching.{PassesSignal, slot_of}
 use Rattle.path_fixpoint.specs.Strengths.{word_of}
 use Rattle.path_fixpoint.proofs.Frames.{made_words, writes_made, writes_then}
+use Rattle.path_fixpoint.proofs.Idle.{signal_full, signal_none}
 use Rattle.path_fixpoint.proofs.ReachLaws.{slot_high, slot_low}
 use Rattle.path_fixpoint.proofs.SignalLaws.{passes_signal}
+use Rattle.path_fixpoint.proofs.SpendingLaws.{finds_made, finds_then, span_still, spends_behind, spends_refused, within_gated}
 use Rattle.path_fixpoint.proofs.reach.pass.Goals as goal
 
 pub returns-in-Err-clause-writes : goal.returns-in-Err-clause-writes
@@ -26,7 +30,7 @@ returns-clause-writes c =
 
 pub returns-clause-apart : goal.returns-clause-apart
 returns-clause-apart c k away =
-    let at : c.word.result ≡ word_of (slot_of c.args.value) c.in-Some.to = c.word.ensures ∙ ap (λ (l : ℕ). word_of l c.in-Some.to) c.slot.ensures in
+    let at : c.word-at.result ≡ word_of (slot_of c.args.value) c.in-Some.to = c.word-at.ensures ∙ ap (λ (l : ℕ). word_of l c.in-Some.to) c.slot.ensures in
     c.widen.ensures.apart k (λ e. away c.in-Some.to (e ∙ at))
     ∙ ap (λ (ws : List ℕ). slice_index ws (c.args.out.start + k)) (c.in-Ok-fitting.ensures.words ∙ made_words c.args.store.now c.through.new.store _ (Ok c.in-Ok.passed) c.in-Ok.ensures)
 
@@ -45,8 +49,8 @@ returns-clause-passes c =
     let fits = c.in-Ok-fitting.fits in
     let to_fits : 10 * to + 10 ≤ out.len = subst (λ (o : Option ℕ). IfSome o (λ i. 10 * i + 10 ≤ out.len)) c.in-Some.is c.requires.to in
     let inside : word_of (slot_of value) to < out.len = omega (arith, to_fits, slot_low value, slot_high value) in
-    let at : c.word.result ≡ word_of (slot_of value) to = c.word.ensures ∙ ap (λ (l : ℕ). word_of l to) c.slot.ensures in
-    if_ok_more (λ changed. IsWider out c.word.result (meaning late.nodes fits.0) changed late new)
+    let at : c.word-at.result ≡ word_of (slot_of value) to = c.word-at.ensures ∙ ap (λ (l : ℕ). word_of l to) c.slot.ensures in
+    if_ok_more (λ changed. IsWider out c.word-at.result (meaning late.nodes fits.0) changed late new)
     (λ changed. PassesSignal out value kind c.args.gate.0 c.args.signal.0 c.args.from c.args.to level changed old new) c.widen.result
     (λ changed wider.
     subst (λ (o : Option ℕ). PassesSignal out value kind c.args.gate.0 c.args.signal.0 c.args.from o level changed old new) (sym c.in-Some.is)
@@ -55,3 +59,64 @@ returns-clause-passes c =
     (subst (λ (x : ℕ). IsWider out x (meaning late.nodes fits.0) changed late new) at wider)
     c.widen.ensures.writes (λ k ne. c.widen.ensures.apart k (λ e. ne (e ∙ at))) inside to_fits c.requires.from))
     c.widen.ensures.wider
+
+pub returns-in-Err-clause-few : goal.returns-in-Err-clause-few
+returns-in-Err-clause-few c u all gate signal =
+    let old = c.args.store.now in
+    let f : Function = gated c.args.device.now.kind (meaning old.nodes c.args.gate.0) (meaning old.nodes c.args.signal.0) in
+    spends_refused u c.args.out 18 old c.through.new.store c.in-Err.spent
+    (counts_more u 1 18 old c.through.new.store (Err c.in-Err.spent) (omega arith)
+    (counts_made u old c.through.new.store c.node_count-ends.ensures.sound.ends f (Err c.in-Err.spent) c.in-Err.ensures
+    (within_gated u c.args.device.now.kind (meaning old.nodes c.args.gate.0) (meaning old.nodes c.args.signal.0) gate signal)))
+
+pub returns-in-Err-fitting-clause-few : goal.returns-in-Err-fitting-clause-few
+returns-in-Err-fitting-clause-few c u all gate signal =
+    let out = c.args.out in
+    let old = c.args.store.now in
+    let mid = c.through.new.store in
+    let f : Function = gated c.args.device.now.kind (meaning old.nodes c.args.gate.0) (meaning old.nodes c.args.signal.0) in
+    let made = finds_made u old mid f (Ok c.in-Ok.passed) c.node_count-ends.ensures.sound.ends c.in-Ok.ensures
+    (within_gated u c.args.device.now.kind (meaning old.nodes c.args.gate.0) (meaning old.nodes c.args.signal.0) gate signal) in
+    let held = span_still u out out old mid (writes_made out old mid f (Ok c.in-Ok.passed) c.requires.out.1 c.in-Ok.ensures) (made_words old mid f (Ok c.in-Ok.passed) c.in-Ok.ensures) c.requires.out.1 all in
+    spends_refused u out 18 old c.fitting.new.store c.in-Err-fitting.spent
+    (counts_more u 17 18 old c.fitting.new.store (Err c.in-Err-fitting.spent) (omega arith)
+    (finds_then u 1 16 old mid c.fitting.new.store (Err c.in-Err-fitting.spent) made.counts.added (c.in-Err-fitting.ensures.few u held made.within)).counts)
+
+pub returns-clause-few : goal.returns-clause-few
+returns-clause-few c u all gate signal =
+    let out = c.args.out in
+    let old = c.args.store.now in
+    let mid = c.through.new.store in
+    let late = c.fitting.new.store in
+    let f : Function = gated c.args.device.now.kind (meaning old.nodes c.args.gate.0) (meaning old.nodes c.args.signal.0) in
+    let made = finds_made u old mid f (Ok c.in-Ok.passed) c.node_count-ends.ensures.sound.ends c.in-Ok.ensures
+    (within_gated u c.args.device.now.kind (meaning old.nodes c.args.gate.0) (meaning old.nodes c.args.signal.0) gate signal) in
+    let wrote = writes_made out old mid f (Ok c.in-Ok.passed) c.requires.out.1 c.in-Ok.ensures in
+    let held = span_still u out out old mid wrote (made_words old mid f (Ok c.in-Ok.passed) c.in-Ok.ensures) c.requires.out.1 all in
+    let found = c.in-Ok-fitting.ensures.few u held made.within in
+    let held' = span_still u out out mid late c.in-Ok-fitting.ensures.writes c.in-Ok-fitting.ensures.words wrote.live held in
+    spends_behind u out 17 1 old late c.widen.new.store c.widen.result (counted_then u 1 16 old mid late made.counts.added found.counts.added) (c.widen.ensures.few u held' found.within)
+
+pub is_full-requires-clause-at : goal.is_full-requires-clause-at
+is_full-requires-clause-at c =
+    let out = c.args.out in
+    let fits : 10 * c.in-Some.to + 10 ≤ out.len = subst (λ (o : Option ℕ). IfSome o (λ i. 10 * i + 10 ≤ out.len)) c.in-Some.is c.requires.to in
+    omega (arith, c.word-at.ensures, c.slot.ensures, fits, slot_low c.args.value, slot_high c.args.value)
+
+pub returns-then-signal-eq0-clause-passes : goal.returns-then-signal-eq0-clause-passes
+returns-then-signal-eq0-clause-passes c =
+    let kind = c.args.device.now.kind in
+    let level = c.args.device.now.level in
+    let d = c.args.store.now in
+    subst (λ (o : Option ℕ). PassesSignal c.args.out c.args.value kind c.args.gate.0 c.args.signal.0 c.args.from o level false d d) (sym c.in-Some.is)
+    (signal_none c.args.out c.args.value kind c.args.gate.0 c.args.signal.0 c.args.from c.in-Some.to level d (omega (arith, c.if-signal-eq0.true)))
+
+pub returns-then-is_full-clause-passes : goal.returns-then-is_full-clause-passes
+returns-then-is_full-clause-passes c =
+    let kind = c.args.device.now.kind in
+    let level = c.args.device.now.level in
+    let d = c.args.store.now in
+    let at : c.word-at.result ≡ word_of (slot_of c.args.value) c.in-Some.to = c.word-at.ensures ∙ ap (λ (l : ℕ). word_of l c.in-Some.to) c.slot.ensures in
+    let full : word_at d c.args.out (word_of (slot_of c.args.value) c.in-Some.to) ≡ 1 = ap (λ (x : ℕ). word_at d c.args.out x) (sym at) ∙ c.is_full.ensures c.if-is_full.true in
+    subst (λ (o : Option ℕ). PassesSignal c.args.out c.args.value kind c.args.gate.0 c.args.signal.0 c.args.from o level false d d) (sym c.in-Some.is)
+    (signal_full c.args.out c.args.value kind c.args.gate.0 c.args.signal.0 c.args.from c.in-Some.to level d full)

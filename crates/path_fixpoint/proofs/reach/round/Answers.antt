@@ -1,4 +1,6 @@
-use Rattle.std.proofs.Common.{◌≡◌, ◌+◌, List, length, get_or, slice_get, arith, ap, sym, subst, ◌∙◌}
+use Rattle.std.proofs.Common.{◌≡◌, ◌+◌, ◌*◌, ◌≤◌, Ok, Err, List, length, get_or, slice_get, arith, ap, sym, subst, ◌∙◌}
+use Rattle.bdd_ops.proofs.CountingLaws.{counted_more, counted_then, counts_more, counts_ok}
+use Rattle.path_fixpoint.proofs.SpendingLaws.{span_beside, spends_behind, spends_err, spends_more}
 use Rattle.std.proofs.lemmas.Option.{slice_get-get_or}
 use Rattle.vrt_model.specs.Lists.{At, Among}
 use Rattle.vrt_model.specs.declared.circuit.Device.{Device}
@@ -42,6 +44,10 @@ loop-dev-preserved c =
       apart = λ k away. c.in-Ok.ensures.apart k away ∙ i.apart k away;
       spreads = spreads_value_then circuit part c.requires.part c.requires.circuit c.args.gates c.args.roots out c.args.value (Visited circuit part at) (λ d. d ≡ device) (Visited circuit part (at + 1))
           c.loop-dev.changed c.in-Ok.grew first old new c.requires.words i.writes i.apart (visited_more circuit part at dev device there (sym c.in-Some.ensures)) i.spreads c.in-Ok.ensures.spreads;
+      few = λ u gates roots all.
+          let q = i.few u gates roots all in
+          let f = c.in-Ok.ensures.few u (span_beside u out c.args.gates first old i.writes c.requires.words.words.apart c.requires.words.words.gates_live gates) (span_beside u out c.args.roots first old i.writes c.requires.words.roots_apart c.requires.words.roots_live roots) q.1 in
+          (counted_more u (at * 38 + 38) ((at + 1) * 38) first new (omega arith) (counted_then u (at * 38) 38 first old new q.0 f.counts.added), f.within);
     }
 
 pub returns-clause-spreads : goal.returns-clause-spreads
@@ -51,3 +57,30 @@ returns-clause-spreads c =
     let shown : length c.as_slice-dev-items.result.now ≡ length part.devices = ap (λ (xs : List Dev). length xs) c.as_slice-dev-items.ensures in
     spreads_value_less circuit part c.requires.part c.requires.circuit c.args.gates c.args.roots c.args.out c.args.value (Visited circuit part c.loop-dev.dev-index) (Among (part_devices circuit part))
     c.loop-dev.changed c.args.store.now c.loop-dev.store (all_visited circuit part c.loop-dev.dev-index (omega (arith, shown, c.loop-dev-test.false))) c.loop-dev.invariant.spreads
+
+pub returns-in-Err-clause-few : goal.returns-in-Err-clause-few
+returns-in-Err-clause-few c u gates roots all =
+    let out = c.args.out in
+    let part = c.args.part.now in
+    let at = c.loop-dev.dev-index in
+    let first = c.args.store.now in
+    let old = c.loop-dev.store in
+    let new = c.visit.new.store in
+    let i = c.loop-dev.invariant in
+    let shown : length c.as_slice-dev-items.result.now ≡ length part.devices = ap (λ (xs : List Dev). length xs) c.as_slice-dev-items.ensures in
+    let q = i.few u gates roots all in
+    let f = c.in-Err.ensures.few u (span_beside u out c.args.gates first old i.writes c.requires.words.words.apart c.requires.words.words.gates_live gates) (span_beside u out c.args.roots first old i.writes c.requires.words.roots_apart c.requires.words.roots_live roots) q.1 in
+    spends_more u out (at * 38 + 38) (length part.devices * 38) first new (Err c.in-Err.spent) (omega (arith, shown, c.loop-dev-test.true))
+    (spends_err u out (at * 38 + 38) first new c.in-Err.spent (spends_behind u out (at * 38) 38 first old new (Err c.in-Err.spent) q.0 f))
+
+pub returns-clause-few : goal.returns-clause-few
+returns-clause-few c u gates roots all =
+    let out = c.args.out in
+    let part = c.args.part.now in
+    let at = c.loop-dev.dev-index in
+    let first = c.args.store.now in
+    let new = c.loop-dev.store in
+    let shown : length c.as_slice-dev-items.result.now ≡ length part.devices = ap (λ (xs : List Dev). length xs) c.as_slice-dev-items.ensures in
+    let q = c.loop-dev.invariant.few u gates roots all in
+    let enough : at * 38 ≤ length part.devices * 38 = omega (arith, shown, c.loop-dev.auto.dev-index-end) in
+    record { counts = counts_more u (at * 38) (length part.devices * 38) first new (Ok c.loop-dev.changed) enough (counts_ok u (at * 38) first new c.loop-dev.changed q.0); within = q.1 }

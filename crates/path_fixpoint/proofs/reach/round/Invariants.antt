@@ -1,3 +1,5 @@
+use Rattle.std.proofs.Common.{ℕ, ◌*◌}
+use Rattle.bdd_ops.specs.Counting.{IsCounted, IsSpanWithin}
 use Rattle.path_fixpoint.specs.Reaching.{SpreadsValue, slot_of}
 use Rattle.path_fixpoint.specs.Strengths.{ChangesLevel}
 use Rattle.bdd_core.specs.Words.{Writes}
@@ -9,4 +11,5 @@ invariant-loop-dev l = record {
   writes : Writes l.fn.out l.fn.store l.store;
   apart : ChangesLevel l.fn.out (slot_of l.fn.value) l.fn.store l.store;
   spreads : SpreadsValue l.circuit l.part l.fn.gates l.fn.roots l.fn.out l.fn.value (Visited l.circuit l.part l.dev-index) l.changed l.fn.store l.store;
+  few : (u : ℕ) → IsSpanWithin u l.fn.store l.fn.gates → IsSpanWithin u l.fn.store l.fn.roots → IsSpanWithin u l.fn.store l.fn.out → IsCounted u (l.dev-index * 38) l.fn.store l.store × IsSpanWithin u l.store l.fn.out;
 }

@@ -1,3 +1,7 @@
+use Rattle.std.proofs.Common.{◌+◌, ◌*◌, Ok, Err}
+use Rattle.std.proofs.Math.Nat.{mul-le-mul_right}
+use Rattle.bdd_ops.proofs.CountingLaws.{counted_more, counted_same, counted_then, counts_more, counts_ok}
+use Rattle.path_fixpoint.proofs.SpendingLaws.{one_more, span_beside, spends_behind, spends_err, spends_more, spends_value, times_most}
 use Rattle.std.proofs.Common.{◌≤◌, length, arith, refl, sym, ◌∙◌, inr}
 use Rattle.path_fixpoint.specs.Reaching.{HasReachRoots, HasRootWords, SolvedAt}
 use Rattle.path_fixpoint.proofs.Frames.{writes_none, writes_then}
@@ -41,6 +45,7 @@ rounds-init c = record {
   roots = λ v w s st r. r;
   paths = λ v w s st p. p;
   progress = λ v w s st r. inr (omega arith);
+  few = λ u gates roots all. (counted_more u 0 _ c.args.store.now c.args.store.now (omega arith) (counted_same u c.args.store.now c.args.store.now refl refl), all);
 }
 
 pub rounds-preserved : goal.rounds-preserved
@@ -66,6 +71,11 @@ rounds-preserved c =
       paths = λ v w s st p. spreads.paths v w s (solved_kept circuit part is_part flat gates rs out value first old v w s c.requires.words i.writes i.apart st) (i.paths v w s st p);
       progress = λ v w s st r. reach_progress circuit part is_part flat gates rs out value c.rounds._count old new v w s words st.stands.devices spreads.grown
           (λ dev m. spreads.passed dev m v w s (solved_kept circuit part is_part flat gates rs out value first old v w s c.requires.words i.writes i.apart st)) (i.roots v w s st r) (i.progress v w s st r);
+      few = λ u gates roots all.
+          let q = i.few u gates roots all in
+          let size = length part.devices * 38 in
+          let f = c.in-Ok.ensures.few u (span_beside u out c.args.gates first old i.writes c.requires.words.words.apart c.requires.words.words.gates_live gates) (span_beside u out c.args.roots first old i.writes c.requires.words.roots_apart c.requires.words.roots_live roots) q.1 in
+          (counted_more u (c.rounds._count * size + size) ((c.rounds._count + 1) * size) first new (one_more c.rounds._count size) (counted_then u (c.rounds._count * size) size first old new q.0 f.counts.added), f.within);
     }
 
 pub returns-clause-reach : goal.returns-clause-reach
@@ -76,3 +86,47 @@ returns-clause-reach c v w s st roots paths =
     let enough : length part.nets ≤ c.rounds._count = omega (arith, c.rounds-test.false, c.len-count-end.ensures) in
     reach_from_marks circuit part c.requires.part c.requires.circuit c.args.gates c.args.roots c.args.out c.args.value c.rounds.store v w s st.strength (i.paths v w s st paths)
     (reach_all circuit part c.requires.part c.requires.circuit c.args.gates c.args.roots c.args.out c.args.value c.rounds._count c.rounds.store v w s enough (i.progress v w s st roots))
+
+pub returns-in-Err-clause-few : goal.returns-in-Err-clause-few
+returns-in-Err-clause-few c u gates roots all =
+    let out = c.args.out in
+    let part = c.args.part.now in
+    let first = c.args.store.now in
+    let old = c.rounds.store in
+    let new = c.round.new.store in
+    let i = c.rounds.invariant in
+    let size = length part.devices * 38 in
+    let q = i.few u gates roots all in
+    let enough : c.rounds._count + 1 ≤ length part.nets = omega (arith, c.rounds-test.true, c.len-count-end.ensures) in
+    let f = c.in-Err.ensures.few u (span_beside u out c.args.gates first old i.writes c.requires.words.words.apart c.requires.words.words.gates_live gates) (span_beside u out c.args.roots first old i.writes c.requires.words.roots_apart c.requires.words.roots_live roots) q.1 in
+    spends_more u out (c.rounds._count * size + size) (length part.nets * size) first new (Err c.in-Err.spent) (times_most c.rounds._count (length part.nets) size enough)
+    (spends_err u out (c.rounds._count * size + size) first new c.in-Err.spent (spends_behind u out (c.rounds._count * size) size first old new (Err c.in-Err.spent) q.0 f))
+
+pub returns-then-not-changed-clause-few : goal.returns-then-not-changed-clause-few
+returns-then-not-changed-clause-few c u gates roots all =
+    let out = c.args.out in
+    let part = c.args.part.now in
+    let first = c.args.store.now in
+    let old = c.rounds.store in
+    let new = c.round.new.store in
+    let i = c.rounds.invariant in
+    let size = length part.devices * 38 in
+    let q = i.few u gates roots all in
+    let enough : c.rounds._count + 1 ≤ length part.nets = omega (arith, c.rounds-test.true, c.len-count-end.ensures) in
+    let f = c.in-Ok.ensures.few u (span_beside u out c.args.gates first old i.writes c.requires.words.words.apart c.requires.words.words.gates_live gates) (span_beside u out c.args.roots first old i.writes c.requires.words.roots_apart c.requires.words.roots_live roots) q.1 in
+    spends_more u out (c.rounds._count * size + size) (length part.nets * size) first new (Ok tt) (times_most c.rounds._count (length part.nets) size enough)
+    (spends_value u out (c.rounds._count * size + size) first new c.in-Ok.changed tt (spends_behind u out (c.rounds._count * size) size first old new (Ok c.in-Ok.changed) q.0 f))
+
+pub returns-clause-few : goal.returns-clause-few
+returns-clause-few c u gates roots all =
+    let part = c.args.part.now in
+    let first = c.args.store.now in
+    let new = c.rounds.store in
+    let size = length part.devices * 38 in
+    let q = c.rounds.invariant.few u gates roots all in
+    let enough : c.rounds._count ≤ length part.nets = omega (arith, c.rounds.auto._count-end, c.len-count-end.ensures) in
+    record {
+      counts = counts_more u (c.rounds._count * size) (length part.nets * size) first new (Ok tt) (mul-le-mul_right {m = c.rounds._count} {n = length part.nets} size enough)
+          (counts_ok u (c.rounds._count * size) first new tt q.0);
+      within = q.1;
+    }

@@ -1,4 +1,5 @@
-use Rattle.std.proofs.Common.{ℕ}
+use Rattle.std.proofs.Common.{ℕ, ◌*◌, length}
+use Rattle.bdd_ops.specs.Counting.{IsCounted, IsSpanWithin}
 use Rattle.bdd_core.specs.Diagram.{Valuation}
 use Rattle.vrt_model.specs.Path.{Network}
 use Rattle.path_fixpoint.specs.Reaching.{HasReachPaths, HasReachRoots, SolvedAt, slot_of}
@@ -17,4 +18,5 @@ invariant-rounds l = record {
       → HasReachPaths l.part l.fn.out l.fn.value l.store v w s;
   progress : (v : Valuation) (w : Network) (s : ℕ → ℕ) → SolvedAt l.circuit l.part l.fn.gates l.fn.roots l.fn.out l.fn.store v w s → HasReachRoots l.circuit l.part l.fn.out l.fn.value l.fn.store v w s
       → HasReachProgress l.circuit l.part l.fn.out l.fn.value l._count l.store v w s;
+  few : (u : ℕ) → IsSpanWithin u l.fn.store l.fn.gates → IsSpanWithin u l.fn.store l.fn.roots → IsSpanWithin u l.fn.store l.fn.out → IsCounted u (l._count * (length l.part.devices * 38)) l.fn.store l.store × IsSpanWithin u l.store l.fn.out;
 }

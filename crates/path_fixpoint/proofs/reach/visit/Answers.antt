@@ -1,12 +1,16 @@
-use Rattle.std.proofs.Common.{◌≡◌, Ok, Err, arith, sym, ◌∙◌}
-use Rattle.path_fixpoint.specs.Reaching.{HasRootWords}
+use Rattle.std.proofs.Common.{◌≡◌, ℕ, ◌<◌, ◌≤◌, ◌||◌, length, Ok, Err, arith, sym, subst, ◌∙◌}
+use Rattle.bdd_core.specs.Diagram.{Function, IsWithin, meaning}
+use Rattle.bdd_ops.proofs.CountingLaws.{counted_then, counts_made, counts_more, counts_then}
+use Rattle.path_fixpoint.specs.Reaching.{HasRootWords, reached_end}
 use Rattle.bdd_core.specs.Words.{Writes}
-use Rattle.path_fixpoint.proofs.Frames.{made_words, writes_made, writes_then}
+use Rattle.path_fixpoint.proofs.Frames.{filled_beside, made_words, writes_made, writes_then}
 use Rattle.path_fixpoint.proofs.Passing.{EndIs}
 use Rattle.path_fixpoint.proofs.Places.{place_fits}
 use Rattle.path_fixpoint.proofs.ReachLaws.{end_kept, root_words_kept}
 use Rattle.path_fixpoint.proofs.ReachSpreading.{spreads_value_both}
 use Rattle.path_fixpoint.proofs.Spreading.{device_ranges}
+use Rattle.path_fixpoint.proofs.SpendingLaws.{finds_made, handle_kept, reached_within, span_beside, span_still, spends_behind, spends_more, spends_refused, spends_value}
+use Rattle.path_fixpoint.proofs.Idle.{spreads_value_off}
 use Rattle.path_fixpoint.proofs.reach.visit.Goals as goal
 
 pub read-requires-clause-within : goal.read-requires-clause-within
@@ -113,3 +117,179 @@ returns-clause-spreads c =
     (λ v. c.in-Ok.ensures.ok.same v ∙ sym (end_kept circuit part c.requires.part c.requires.circuit gates roots out value old a v left d.left.0 c.requires.words wa sa left_is ranges.left))
     (λ v. c.in-Ok-reached.ensures.ok.same v ∙ sym (end_kept circuit part c.requires.part c.requires.circuit gates roots out value mid b v right d.right.0 words_m wb sb right_is ranges.right))
     c.in-Ok-pass.ensures.passes c.in-Ok-pass-2.ensures.passes
+
+pub returns-in-Err-clause-few : goal.returns-in-Err-clause-few
+returns-in-Err-clause-few c u gates roots all =
+    let circuit = c.args.circuit.now in
+    let part = c.args.part.now in
+    let out = c.args.out in
+    let d = c.args.device.now in
+    let words = c.requires.words in
+    let ranges = device_ranges circuit part d c.requires.circuit c.requires.device in
+    let left_fits = place_fits part out c.place-left.result d.left.0 words.words.out_len c.place-left.ensures.some in
+    let right_fits = place_fits part out c.place-right.result d.right.0 words.words.out_len c.place-right.ensures.some in
+    let old = c.args.store.now in
+    let a = c.reached.new.store in
+    let reads = reached_within u old c.args.roots out c.args.value c.place-left.result d.left.0 (omega (arith, ranges.left, words.roots_len)) left_fits roots all in
+    spends_refused u out 38 old a c.in-Err.spent
+    (counts_more u 1 38 old a (Err c.in-Err.spent) (omega arith) (counts_made u old a c.node_count-ends.ensures.sound.ends _ (Err c.in-Err.spent) c.in-Err.ensures reads))
+
+pub returns-in-Err-pass-clause-few : goal.returns-in-Err-pass-clause-few
+returns-in-Err-pass-clause-few c u gates roots all =
+    let circuit = c.args.circuit.now in
+    let part = c.args.part.now in
+    let out = c.args.out in
+    let d = c.args.device.now in
+    let words = c.requires.words in
+    let ranges = device_ranges circuit part d c.requires.circuit c.requires.device in
+    let left_fits = place_fits part out c.place-left.result d.left.0 words.words.out_len c.place-left.ensures.some in
+    let right_fits = place_fits part out c.place-right.result d.right.0 words.words.out_len c.place-right.ensures.some in
+    let old = c.args.store.now in
+    let a = c.reached.new.store in
+    let reads = reached_within u old c.args.roots out c.args.value c.place-left.result d.left.0 (omega (arith, ranges.left, words.roots_len)) left_fits roots all in
+    let f : Function = λ v. reached_end old c.args.roots out c.args.value c.place-left.result d.left.0 v in
+    let made = finds_made u old a f (Ok c.in-Ok.there) c.node_count-ends.ensures.sound.ends c.in-Ok.ensures reads in
+    let wa : Writes out old a = writes_made out old a f (Ok c.in-Ok.there) words.words.out_live c.in-Ok.ensures in
+    let sa = made_words old a f (Ok c.in-Ok.there) c.in-Ok.ensures in
+    let live : c.read.result < length old.nodes = omega (arith, c.read.ensures, words.words.gates_live d.gate.0 (omega (arith, ranges.gate, words.words.gates_len))) in
+    let gate : IsWithin u (meaning old.nodes c.read.result) =
+    subst (λ (h : ℕ). IsWithin u (meaning old.nodes h)) (sym c.read.ensures) (gates d.gate.0 (omega (arith, ranges.gate, words.words.gates_len))) in
+    let gate_a = handle_kept u out old a c.read.result wa live gate in
+    let all_a = span_still u out out old a wa sa words.words.out_live all in
+    let roots_a = span_beside u out c.args.roots old a wa words.roots_apart words.roots_live roots in
+    let roots_live_a = filled_beside out c.args.roots old a wa words.roots_apart words.roots_live in
+    let live_a : c.read.result < length a.nodes = omega (arith, live, wa.longer) in
+    spends_more u out 19 38 old c.pass.new.store (Err c.in-Err-pass.spent) (omega arith)
+    (spends_behind u out 1 18 old a c.pass.new.store (Err c.in-Err-pass.spent) made.counts.added (c.in-Err-pass.ensures.few u all_a gate_a made.within))
+
+pub returns-in-Err-reached-clause-few : goal.returns-in-Err-reached-clause-few
+returns-in-Err-reached-clause-few c u gates roots all =
+    let circuit = c.args.circuit.now in
+    let part = c.args.part.now in
+    let out = c.args.out in
+    let d = c.args.device.now in
+    let words = c.requires.words in
+    let ranges = device_ranges circuit part d c.requires.circuit c.requires.device in
+    let left_fits = place_fits part out c.place-left.result d.left.0 words.words.out_len c.place-left.ensures.some in
+    let right_fits = place_fits part out c.place-right.result d.right.0 words.words.out_len c.place-right.ensures.some in
+    let old = c.args.store.now in
+    let a = c.reached.new.store in
+    let reads = reached_within u old c.args.roots out c.args.value c.place-left.result d.left.0 (omega (arith, ranges.left, words.roots_len)) left_fits roots all in
+    let f : Function = λ v. reached_end old c.args.roots out c.args.value c.place-left.result d.left.0 v in
+    let made = finds_made u old a f (Ok c.in-Ok.there) c.node_count-ends.ensures.sound.ends c.in-Ok.ensures reads in
+    let wa : Writes out old a = writes_made out old a f (Ok c.in-Ok.there) words.words.out_live c.in-Ok.ensures in
+    let sa = made_words old a f (Ok c.in-Ok.there) c.in-Ok.ensures in
+    let live : c.read.result < length old.nodes = omega (arith, c.read.ensures, words.words.gates_live d.gate.0 (omega (arith, ranges.gate, words.words.gates_len))) in
+    let gate : IsWithin u (meaning old.nodes c.read.result) =
+    subst (λ (h : ℕ). IsWithin u (meaning old.nodes h)) (sym c.read.ensures) (gates d.gate.0 (omega (arith, ranges.gate, words.words.gates_len))) in
+    let gate_a = handle_kept u out old a c.read.result wa live gate in
+    let all_a = span_still u out out old a wa sa words.words.out_live all in
+    let roots_a = span_beside u out c.args.roots old a wa words.roots_apart words.roots_live roots in
+    let roots_live_a = filled_beside out c.args.roots old a wa words.roots_apart words.roots_live in
+    let live_a : c.read.result < length a.nodes = omega (arith, live, wa.longer) in
+    let mid = c.pass.new.store in
+    let b = c.reached-2.new.store in
+    let forth = c.in-Ok-pass.ensures.few u all_a gate_a made.within in
+    let wm : Writes out a mid = c.in-Ok-pass.ensures.writes in
+    let two : 2 ≤ length mid.nodes = wm.sound.ends in
+    let roots_m = span_beside u out c.args.roots a mid wm words.roots_apart roots_live_a roots_a in
+    let gate_m = handle_kept u out a mid c.read.result wm live_a gate_a in
+    let live_m : c.read.result < length mid.nodes = omega (arith, live_a, wm.longer) in
+    let reads' = reached_within u mid c.args.roots out c.args.value c.place-right.result d.right.0 (omega (arith, ranges.right, words.roots_len)) right_fits roots_m forth.within in
+    let g : Function = λ v. reached_end mid c.args.roots out c.args.value c.place-right.result d.right.0 v in
+    let count_m = counted_then u 1 18 old a mid made.counts.added forth.counts.added in
+    spends_refused u out 38 old b c.in-Err-reached.spent
+    (counts_more u 20 38 old b (Err c.in-Err-reached.spent) (omega arith)
+    (counts_then u 19 1 old mid b (Err c.in-Err-reached.spent) count_m (counts_made u mid b two g (Err c.in-Err-reached.spent) c.in-Err-reached.ensures reads')))
+
+pub returns-in-Err-pass-2-clause-few : goal.returns-in-Err-pass-2-clause-few
+returns-in-Err-pass-2-clause-few c u gates roots all =
+    let circuit = c.args.circuit.now in
+    let part = c.args.part.now in
+    let out = c.args.out in
+    let d = c.args.device.now in
+    let words = c.requires.words in
+    let ranges = device_ranges circuit part d c.requires.circuit c.requires.device in
+    let left_fits = place_fits part out c.place-left.result d.left.0 words.words.out_len c.place-left.ensures.some in
+    let right_fits = place_fits part out c.place-right.result d.right.0 words.words.out_len c.place-right.ensures.some in
+    let old = c.args.store.now in
+    let a = c.reached.new.store in
+    let reads = reached_within u old c.args.roots out c.args.value c.place-left.result d.left.0 (omega (arith, ranges.left, words.roots_len)) left_fits roots all in
+    let f : Function = λ v. reached_end old c.args.roots out c.args.value c.place-left.result d.left.0 v in
+    let made = finds_made u old a f (Ok c.in-Ok.there) c.node_count-ends.ensures.sound.ends c.in-Ok.ensures reads in
+    let wa : Writes out old a = writes_made out old a f (Ok c.in-Ok.there) words.words.out_live c.in-Ok.ensures in
+    let sa = made_words old a f (Ok c.in-Ok.there) c.in-Ok.ensures in
+    let live : c.read.result < length old.nodes = omega (arith, c.read.ensures, words.words.gates_live d.gate.0 (omega (arith, ranges.gate, words.words.gates_len))) in
+    let gate : IsWithin u (meaning old.nodes c.read.result) =
+    subst (λ (h : ℕ). IsWithin u (meaning old.nodes h)) (sym c.read.ensures) (gates d.gate.0 (omega (arith, ranges.gate, words.words.gates_len))) in
+    let gate_a = handle_kept u out old a c.read.result wa live gate in
+    let all_a = span_still u out out old a wa sa words.words.out_live all in
+    let roots_a = span_beside u out c.args.roots old a wa words.roots_apart words.roots_live roots in
+    let roots_live_a = filled_beside out c.args.roots old a wa words.roots_apart words.roots_live in
+    let live_a : c.read.result < length a.nodes = omega (arith, live, wa.longer) in
+    let mid = c.pass.new.store in
+    let b = c.reached-2.new.store in
+    let forth = c.in-Ok-pass.ensures.few u all_a gate_a made.within in
+    let wm : Writes out a mid = c.in-Ok-pass.ensures.writes in
+    let two : 2 ≤ length mid.nodes = wm.sound.ends in
+    let roots_m = span_beside u out c.args.roots a mid wm words.roots_apart roots_live_a roots_a in
+    let gate_m = handle_kept u out a mid c.read.result wm live_a gate_a in
+    let live_m : c.read.result < length mid.nodes = omega (arith, live_a, wm.longer) in
+    let reads' = reached_within u mid c.args.roots out c.args.value c.place-right.result d.right.0 (omega (arith, ranges.right, words.roots_len)) right_fits roots_m forth.within in
+    let g : Function = λ v. reached_end mid c.args.roots out c.args.value c.place-right.result d.right.0 v in
+    let count_m = counted_then u 1 18 old a mid made.counts.added forth.counts.added in
+    let made' = finds_made u mid b g (Ok c.in-Ok-reached.here) two c.in-Ok-reached.ensures reads' in
+    let wb : Writes out mid b = writes_made out mid b g (Ok c.in-Ok-reached.here) wm.live c.in-Ok-reached.ensures in
+    let all_b = span_still u out out mid b wb (made_words mid b g (Ok c.in-Ok-reached.here) c.in-Ok-reached.ensures) wm.live forth.within in
+    let gate_b = handle_kept u out mid b c.read.result wb live_m gate_m in
+    let count_b = counted_then u 19 1 old mid b count_m made'.counts.added in
+    spends_behind u out 20 18 old b c.pass-2.new.store (Err c.in-Err-pass-2.spent) count_b (c.in-Err-pass-2.ensures.few u all_b gate_b made'.within)
+
+pub returns-clause-few : goal.returns-clause-few
+returns-clause-few c u gates roots all =
+    let circuit = c.args.circuit.now in
+    let part = c.args.part.now in
+    let out = c.args.out in
+    let d = c.args.device.now in
+    let words = c.requires.words in
+    let ranges = device_ranges circuit part d c.requires.circuit c.requires.device in
+    let left_fits = place_fits part out c.place-left.result d.left.0 words.words.out_len c.place-left.ensures.some in
+    let right_fits = place_fits part out c.place-right.result d.right.0 words.words.out_len c.place-right.ensures.some in
+    let old = c.args.store.now in
+    let a = c.reached.new.store in
+    let reads = reached_within u old c.args.roots out c.args.value c.place-left.result d.left.0 (omega (arith, ranges.left, words.roots_len)) left_fits roots all in
+    let f : Function = λ v. reached_end old c.args.roots out c.args.value c.place-left.result d.left.0 v in
+    let made = finds_made u old a f (Ok c.in-Ok.there) c.node_count-ends.ensures.sound.ends c.in-Ok.ensures reads in
+    let wa : Writes out old a = writes_made out old a f (Ok c.in-Ok.there) words.words.out_live c.in-Ok.ensures in
+    let sa = made_words old a f (Ok c.in-Ok.there) c.in-Ok.ensures in
+    let live : c.read.result < length old.nodes = omega (arith, c.read.ensures, words.words.gates_live d.gate.0 (omega (arith, ranges.gate, words.words.gates_len))) in
+    let gate : IsWithin u (meaning old.nodes c.read.result) =
+    subst (λ (h : ℕ). IsWithin u (meaning old.nodes h)) (sym c.read.ensures) (gates d.gate.0 (omega (arith, ranges.gate, words.words.gates_len))) in
+    let gate_a = handle_kept u out old a c.read.result wa live gate in
+    let all_a = span_still u out out old a wa sa words.words.out_live all in
+    let roots_a = span_beside u out c.args.roots old a wa words.roots_apart words.roots_live roots in
+    let roots_live_a = filled_beside out c.args.roots old a wa words.roots_apart words.roots_live in
+    let live_a : c.read.result < length a.nodes = omega (arith, live, wa.longer) in
+    let mid = c.pass.new.store in
+    let b = c.reached-2.new.store in
+    let forth = c.in-Ok-pass.ensures.few u all_a gate_a made.within in
+    let wm : Writes out a mid = c.in-Ok-pass.ensures.writes in
+    let two : 2 ≤ length mid.nodes = wm.sound.ends in
+    let roots_m = span_beside u out c.args.roots a mid wm words.roots_apart roots_live_a roots_a in
+    let gate_m = handle_kept u out a mid c.read.result wm live_a gate_a in
+    let live_m : c.read.result < length mid.nodes = omega (arith, live_a, wm.longer) in
+    let reads' = reached_within u mid c.args.roots out c.args.value c.place-right.result d.right.0 (omega (arith, ranges.right, words.roots_len)) right_fits roots_m forth.within in
+    let g : Function = λ v. reached_end mid c.args.roots out c.args.value c.place-right.result d.right.0 v in
+    let count_m = counted_then u 1 18 old a mid made.counts.added forth.counts.added in
+    let made' = finds_made u mid b g (Ok c.in-Ok-reached.here) two c.in-Ok-reached.ensures reads' in
+    let wb : Writes out mid b = writes_made out mid b g (Ok c.in-Ok-reached.here) wm.live c.in-Ok-reached.ensures in
+    let all_b = span_still u out out mid b wb (made_words mid b g (Ok c.in-Ok-reached.here) c.in-Ok-reached.ensures) wm.live forth.within in
+    let gate_b = handle_kept u out mid b c.read.result wb live_m gate_m in
+    let count_b = counted_then u 19 1 old mid b count_m made'.counts.added in
+    spends_value u out 38 old c.pass-2.new.store c.in-Ok-pass-2.back (c.in-Ok-pass.forth || c.in-Ok-pass-2.back)
+    (spends_behind u out 20 18 old b c.pass-2.new.store (Ok c.in-Ok-pass-2.back) count_b (c.in-Ok-pass-2.ensures.few u all_b gate_b made'.within))
+
+pub returns-then-blocks-clause-spreads : goal.returns-then-blocks-clause-spreads
+returns-then-blocks-clause-spreads c =
+    spreads_value_off c.args.circuit.now c.args.part.now c.requires.circuit c.args.gates c.args.out c.args.device.now c.requires.device c.args.store.now
+    (sym c.read.ensures ∙ c.blocks-2.ensures c.if-blocks.true) c.args.roots c.args.value

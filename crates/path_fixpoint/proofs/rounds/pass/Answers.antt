@@ -1,11 +1,15 @@
-use Rattle.std.proofs.Common.{ℕ, ◌+◌, ◌*◌, ◌<◌, ◌≤◌, List, Ok, Err, Option, slice_index, arith, ap, sym, subst, ◌∙◌}
+use Rattle.std.proofs.Common.{◌≡◌, false, ℕ, ◌+◌, ◌*◌, ◌<◌, ◌≤◌, List, Ok, Err, Option, slice_index, arith, ap, sym, subst, ◌∙◌}
 use Rattle.std.specs.Prelude.{IfSome}
-use Rattle.bdd_core.specs.Diagram.{meaning}
+use Rattle.bdd_core.specs.Diagram.{Function, meaning}
+use Rattle.bdd_core.specs.Words.{word_at}
 use Rattle.bdd_core.proofs.Results.{if_ok_more}
-use Rattle.path_fixpoint.specs.Passed.{IsWider}
+use Rattle.bdd_ops.proofs.CountingLaws.{counts_made, counts_more}
+use Rattle.path_fixpoint.specs.Passed.{IsWider, gated}
 use Rattle.path_fixpoint.specs.Strengths.{Passes, word_of}
 use Rattle.path_fixpoint.proofs.Frames.{made_words, writes_made, writes_then}
 use Rattle.path_fixpoint.proofs.Passing.{passes_from}
+use Rattle.path_fixpoint.proofs.SpendingLaws.{finds_made, span_still, spends_behind, spends_refused, within_gated}
+use Rattle.path_fixpoint.proofs.Idle.{passes_full}
 use Rattle.path_fixpoint.proofs.rounds.pass.Goals as goal
 
 pub returns-in-Err-clause-writes : goal.returns-in-Err-clause-writes
@@ -18,7 +22,7 @@ returns-clause-writes c =
 
 pub returns-clause-apart : goal.returns-clause-apart
 returns-clause-apart c k away =
-    c.widen.ensures.apart k (λ e. away c.in-Some.to (e ∙ c.word.ensures))
+    c.widen.ensures.apart k (λ e. away c.in-Some.to (e ∙ c.word-at.ensures))
     ∙ ap (λ (ws : List ℕ). slice_index ws (c.args.out.start + k)) (made_words c.args.store.now c.through.new.store _ (Ok c.in-Ok.passed) c.in-Ok.ensures)
 
 pub returns-clause-passes : goal.returns-clause-passes
@@ -32,10 +36,46 @@ returns-clause-passes c =
     let passed = c.in-Ok.passed in
     let fits : 10 * to + 10 ≤ out.len = subst (λ (o : Option ℕ). IfSome o (λ i. 10 * i + 10 ≤ out.len)) c.in-Some.is c.requires.to in
     let inside : word_of level to < out.len = omega (arith, fits, c.requires.level.0, c.requires.level.1) in
-    if_ok_more (λ changed. IsWider out c.word.result (meaning mid.nodes passed.0) changed mid new) (λ changed. Passes out level c.args.kind c.args.gate.0 c.args.from c.args.to changed old new) c.widen.result
+    if_ok_more (λ changed. IsWider out c.word-at.result (meaning mid.nodes passed.0) changed mid new) (λ changed. Passes out level c.args.kind c.args.gate.0 c.args.from c.args.to changed old new) c.widen.result
     (λ changed wider.
     subst (λ (o : Option ℕ). Passes out level c.args.kind c.args.gate.0 c.args.from o changed old new) (sym c.in-Some.is)
     (passes_from out level c.args.kind c.args.gate.0 c.args.from to old mid new c.strength-signal.result passed changed c.strength-signal.ensures.is c.in-Ok.ensures c.requires.out.1
-    (subst (λ (at : ℕ). IsWider out at (meaning mid.nodes passed.0) changed mid new) c.word.ensures wider)
-    c.widen.ensures.writes (λ k ne. c.widen.ensures.apart k (λ e. ne (e ∙ c.word.ensures))) inside))
+    (subst (λ (at : ℕ). IsWider out at (meaning mid.nodes passed.0) changed mid new) c.word-at.ensures wider)
+    c.widen.ensures.writes (λ k ne. c.widen.ensures.apart k (λ e. ne (e ∙ c.word-at.ensures))) inside))
     c.widen.ensures.wider
+
+pub returns-in-Err-clause-few : goal.returns-in-Err-clause-few
+returns-in-Err-clause-few c u all gate =
+    let old = c.args.store.now in
+    let f : Function = gated c.args.kind (meaning old.nodes c.args.gate.0) (meaning old.nodes c.strength-signal.result.0) in
+    spends_refused u c.args.out 2 old c.through.new.store c.in-Err.spent
+    (counts_more u 1 2 old c.through.new.store (Err c.in-Err.spent) (omega arith)
+    (counts_made u old c.through.new.store c.node_count-ends.ensures.sound.ends f (Err c.in-Err.spent) c.in-Err.ensures
+    (within_gated u c.args.kind (meaning old.nodes c.args.gate.0) (meaning old.nodes c.strength-signal.result.0) gate (c.strength-signal.ensures.few u all))))
+
+pub returns-clause-few : goal.returns-clause-few
+returns-clause-few c u all gate =
+    let out = c.args.out in
+    let old = c.args.store.now in
+    let mid = c.through.new.store in
+    let f : Function = gated c.args.kind (meaning old.nodes c.args.gate.0) (meaning old.nodes c.strength-signal.result.0) in
+    let made = finds_made u old mid f (Ok c.in-Ok.passed) c.node_count-ends.ensures.sound.ends c.in-Ok.ensures
+    (within_gated u c.args.kind (meaning old.nodes c.args.gate.0) (meaning old.nodes c.strength-signal.result.0) gate (c.strength-signal.ensures.few u all)) in
+    spends_behind u out 1 1 old mid c.widen.new.store c.widen.result made.counts.added
+    (c.widen.ensures.few u
+    (span_still u out out old mid (writes_made out old mid f (Ok c.in-Ok.passed) c.requires.out.1 c.in-Ok.ensures) (made_words old mid f (Ok c.in-Ok.passed) c.in-Ok.ensures) c.requires.out.1 all) made.within)
+
+pub is_full-requires-clause-at : goal.is_full-requires-clause-at
+is_full-requires-clause-at c =
+    let out = c.args.out in
+    let fits : 10 * c.in-Some.to + 10 ≤ out.len = subst (λ (o : Option ℕ). IfSome o (λ i. 10 * i + 10 ≤ out.len)) c.in-Some.is c.requires.to in
+    omega (arith, c.word-at.ensures, fits, c.requires.level.0, c.requires.level.1)
+
+pub returns-then-is_full-clause-passes : goal.returns-then-is_full-clause-passes
+returns-then-is_full-clause-passes c =
+    let out = c.args.out in
+    let level = c.args.level in
+    let d = c.args.store.now in
+    let full : word_at d out (word_of level c.in-Some.to) ≡ 1 = ap (λ (x : ℕ). word_at d out x) (sym c.word-at.ensures) ∙ c.is_full.ensures c.if-is_full.true in
+    subst (λ (o : Option ℕ). Passes out level c.args.kind c.args.gate.0 c.args.from o false d d) (sym c.in-Some.is)
+    (passes_full out level d c.in-Some.to full c.args.kind c.args.gate.0 c.args.from)

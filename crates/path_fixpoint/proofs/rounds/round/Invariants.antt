@@ -1,3 +1,5 @@
+use Rattle.std.proofs.Common.{ℕ, ◌*◌}
+use Rattle.bdd_ops.specs.Counting.{IsCounted, IsSpanWithin}
 use Rattle.path_fixpoint.specs.Strengths.{ChangesLevel, Spreads}
 use Rattle.bdd_core.specs.Words.{Writes}
 use Rattle.path_fixpoint.proofs.Spreading.{Visited}
@@ -8,4 +10,5 @@ invariant-loop-dev l = record {
   writes : Writes l.fn.out l.fn.store l.store;
   apart : ChangesLevel l.fn.out l.fn.level l.fn.store l.store;
   spreads : Spreads l.circuit l.part l.fn.gates l.fn.out l.fn.level (Visited l.circuit l.part l.dev-index) l.changed l.fn.store l.store;
+  few : (u : ℕ) → IsSpanWithin u l.fn.store l.fn.gates → IsSpanWithin u l.fn.store l.fn.out → IsCounted u (l.dev-index * 4) l.fn.store l.store × IsSpanWithin u l.store l.fn.out;
 }

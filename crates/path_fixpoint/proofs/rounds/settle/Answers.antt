@@ -1,3 +1,7 @@
+use Rattle.std.proofs.Common.{◌+◌, ◌*◌, Ok, Err}
+use Rattle.std.proofs.Math.Nat.{mul-le-mul_right}
+use Rattle.bdd_ops.proofs.CountingLaws.{counted_more, counted_then, counts_more, counts_ok}
+use Rattle.path_fixpoint.proofs.SpendingLaws.{one_more, span_beside, spends_behind, spends_err, spends_more, spends_value, times_most}
 use Rattle.std.proofs.Common.{◌≤◌, length, arith, sym, ◌∙◌}
 use Rattle.path_fixpoint.specs.Strengths.{HasRoots, HasWords, StandsAt}
 use Rattle.path_fixpoint.proofs.Frames.{writes_then}
@@ -49,6 +53,11 @@ rounds-preserved c =
       paths = λ v w st p. s.paths v w (stands_kept circuit part gates out first old v w c.requires.words i.writes st) (i.paths v w st p);
       progress = λ v w st r. progress_more circuit part gates out level low high c.rounds._count old new v w words st.devices s.grown
           (λ dev m. s.passed dev m v w (stands_kept circuit part gates out first old v w c.requires.words i.writes st)) (i.roots v w st r) (i.progress v w st r);
+      few = λ u gates all.
+          let q = i.few u gates all in
+          let size = length part.devices * 4 in
+          let f = c.in-Ok.ensures.few u (span_beside u out c.args.gates first old i.writes c.requires.words.apart c.requires.words.gates_live gates) q.1 in
+          (counted_more u (c.rounds._count * size + size) ((c.rounds._count + 1) * size) first new (one_more c.rounds._count size) (counted_then u (c.rounds._count * size) size first old new q.0 f.counts.added), f.within);
     }
 
 pub returns-clause-level : goal.returns-clause-level
@@ -59,3 +68,47 @@ returns-clause-level c v w st roots paths =
     let enough : length part.nets ≤ c.rounds._count = omega (arith, c.rounds-test.false, c.len-count-end.ensures) in
     level_from circuit part c.args.gates c.args.out c.args.level c.requires.level.0 c.requires.level.1 c.rounds.store v w (i.paths v w st paths)
     (progress_all circuit part c.args.gates c.args.out c.args.level c.requires.level.0 c.requires.level.1 c.rounds._count c.rounds.store v w enough (i.progress v w st roots))
+
+pub returns-in-Err-clause-few : goal.returns-in-Err-clause-few
+returns-in-Err-clause-few c u gates all =
+    let out = c.args.out in
+    let part = c.args.part.now in
+    let first = c.args.store.now in
+    let old = c.rounds.store in
+    let new = c.round.new.store in
+    let i = c.rounds.invariant in
+    let size = length part.devices * 4 in
+    let q = i.few u gates all in
+    let enough : c.rounds._count + 1 ≤ length part.nets = omega (arith, c.rounds-test.true, c.len-count-end.ensures) in
+    let f = c.in-Err.ensures.few u (span_beside u out c.args.gates first old i.writes c.requires.words.apart c.requires.words.gates_live gates) q.1 in
+    spends_more u out (c.rounds._count * size + size) (length part.nets * size) first new (Err c.in-Err.spent) (times_most c.rounds._count (length part.nets) size enough)
+    (spends_err u out (c.rounds._count * size + size) first new c.in-Err.spent (spends_behind u out (c.rounds._count * size) size first old new (Err c.in-Err.spent) q.0 f))
+
+pub returns-then-not-changed-clause-few : goal.returns-then-not-changed-clause-few
+returns-then-not-changed-clause-few c u gates all =
+    let out = c.args.out in
+    let part = c.args.part.now in
+    let first = c.args.store.now in
+    let old = c.rounds.store in
+    let new = c.round.new.store in
+    let i = c.rounds.invariant in
+    let size = length part.devices * 4 in
+    let q = i.few u gates all in
+    let enough : c.rounds._count + 1 ≤ length part.nets = omega (arith, c.rounds-test.true, c.len-count-end.ensures) in
+    let f = c.in-Ok.ensures.few u (span_beside u out c.args.gates first old i.writes c.requires.words.apart c.requires.words.gates_live gates) q.1 in
+    spends_more u out (c.rounds._count * size + size) (length part.nets * size) first new (Ok tt) (times_most c.rounds._count (length part.nets) size enough)
+    (spends_value u out (c.rounds._count * size + size) first new c.in-Ok.changed tt (spends_behind u out (c.rounds._count * size) size first old new (Ok c.in-Ok.changed) q.0 f))
+
+pub returns-clause-few : goal.returns-clause-few
+returns-clause-few c u gates all =
+    let part = c.args.part.now in
+    let first = c.args.store.now in
+    let new = c.rounds.store in
+    let size = length part.devices * 4 in
+    let q = c.rounds.invariant.few u gates all in
+    let enough : c.rounds._count ≤ length part.nets = omega (arith, c.rounds.auto._count-end, c.len-count-end.ensures) in
+    record {
+      counts = counts_more u (c.rounds._count * size) (length part.nets * size) first new (Ok tt) (mul-le-mul_right {m = c.rounds._count} {n = length part.nets} size enough)
+          (counts_ok u (c.rounds._count * size) first new tt q.0);
+      within = q.1;
+    }

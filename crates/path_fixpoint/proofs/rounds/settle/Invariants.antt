@@ -1,3 +1,5 @@
+use Rattle.std.proofs.Common.{ℕ, ◌*◌, length}
+use Rattle.bdd_ops.specs.Counting.{IsCounted, IsSpanWithin}
 use Rattle.bdd_core.specs.Diagram.{Valuation}
 use Rattle.vrt_model.specs.Path.{Network}
 use Rattle.path_fixpoint.specs.Strengths.{ChangesLevel, HasPaths, HasRoots, StandsAt}
@@ -12,4 +14,5 @@ invariant-rounds l = record {
   roots : (v : Valuation) (w : Network) → StandsAt l.circuit l.part l.fn.gates l.fn.store v w → HasRoots l.part l.fn.out l.fn.level l.fn.store v w → HasRoots l.part l.fn.out l.fn.level l.store v w;
   paths : (v : Valuation) (w : Network) → StandsAt l.circuit l.part l.fn.gates l.fn.store v w → HasPaths l.part l.fn.out l.fn.level l.fn.store v w → HasPaths l.part l.fn.out l.fn.level l.store v w;
   progress : (v : Valuation) (w : Network) → StandsAt l.circuit l.part l.fn.gates l.fn.store v w → HasRoots l.part l.fn.out l.fn.level l.fn.store v w → HasProgress l.part l.fn.out l.fn.level l._count l.store v w;
+  few : (u : ℕ) → IsSpanWithin u l.fn.store l.fn.gates → IsSpanWithin u l.fn.store l.fn.out → IsCounted u (l._count * (length l.part.devices * 4)) l.fn.store l.store × IsSpanWithin u l.store l.fn.out;
 }

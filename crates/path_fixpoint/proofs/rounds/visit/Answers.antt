@@ -1,7 +1,10 @@
-use Rattle.std.proofs.Common.{arith}
+use Rattle.std.proofs.Common.{ℕ, ◌<◌, ◌||◌, length, Ok, Err, arith, sym, subst, ◌∙◌}
+use Rattle.bdd_core.specs.Diagram.{IsWithin, meaning}
+use Rattle.path_fixpoint.proofs.SpendingLaws.{handle_kept, spends_behind, spends_more, spends_value}
 use Rattle.path_fixpoint.proofs.Passing.{EndIs}
 use Rattle.path_fixpoint.proofs.Places.{place_fits}
 use Rattle.path_fixpoint.proofs.Spreading.{device_ranges, spreads_both}
+use Rattle.path_fixpoint.proofs.Idle.{spreads_off}
 use Rattle.path_fixpoint.proofs.rounds.visit.Goals as goal
 
 pub read-requires-clause-within : goal.read-requires-clause-within
@@ -37,3 +40,43 @@ returns-clause-spreads c =
     c.args.device.now c.requires.device c.place-left.result c.place-right.result left_is right_is c.if-device-level.false
     c.args.store.now c.pass.new.store c.pass-2.new.store c.read.result c.in-Ok.forth c.in-Ok-pass.back c.requires.words c.read.ensures
     c.in-Ok.ensures.writes c.in-Ok-pass.ensures.writes c.in-Ok.ensures.passes c.in-Ok-pass.ensures.passes
+
+pub returns-in-Err-clause-few : goal.returns-in-Err-clause-few
+returns-in-Err-clause-few c u gates all =
+    let old = c.args.store.now in
+    let lt = (device_ranges c.args.circuit.now c.args.part.now c.args.device.now c.requires.circuit c.requires.device).gate in
+    let gate : IsWithin u (meaning old.nodes c.read.result) =
+    subst (λ (h : ℕ). IsWithin u (meaning old.nodes h)) (sym c.read.ensures) (gates c.args.device.now.gate.0 (omega (arith, lt, c.requires.words.gates_len))) in
+    spends_more u c.args.out 2 4 old c.pass.new.store (Err c.in-Err.spent) (omega arith) (c.in-Err.ensures.few u all gate)
+
+pub returns-in-Err-pass-clause-few : goal.returns-in-Err-pass-clause-few
+returns-in-Err-pass-clause-few c u gates all =
+    let out = c.args.out in
+    let old = c.args.store.now in
+    let mid = c.pass.new.store in
+    let lt = (device_ranges c.args.circuit.now c.args.part.now c.args.device.now c.requires.circuit c.requires.device).gate in
+    let live : c.read.result < length old.nodes = omega (arith, c.read.ensures, c.requires.words.gates_live c.args.device.now.gate.0 (omega (arith, lt, c.requires.words.gates_len))) in
+    let gate : IsWithin u (meaning old.nodes c.read.result) =
+    subst (λ (h : ℕ). IsWithin u (meaning old.nodes h)) (sym c.read.ensures) (gates c.args.device.now.gate.0 (omega (arith, lt, c.requires.words.gates_len))) in
+    let forth = c.in-Ok.ensures.few u all gate in
+    spends_behind u out 2 2 old mid c.pass-2.new.store (Err c.in-Err-pass.spent) forth.counts.added
+    (c.in-Err-pass.ensures.few u forth.within (handle_kept u out old mid c.read.result c.in-Ok.ensures.writes live gate))
+
+pub returns-clause-few : goal.returns-clause-few
+returns-clause-few c u gates all =
+    let out = c.args.out in
+    let old = c.args.store.now in
+    let mid = c.pass.new.store in
+    let lt = (device_ranges c.args.circuit.now c.args.part.now c.args.device.now c.requires.circuit c.requires.device).gate in
+    let live : c.read.result < length old.nodes = omega (arith, c.read.ensures, c.requires.words.gates_live c.args.device.now.gate.0 (omega (arith, lt, c.requires.words.gates_len))) in
+    let gate : IsWithin u (meaning old.nodes c.read.result) =
+    subst (λ (h : ℕ). IsWithin u (meaning old.nodes h)) (sym c.read.ensures) (gates c.args.device.now.gate.0 (omega (arith, lt, c.requires.words.gates_len))) in
+    let forth = c.in-Ok.ensures.few u all gate in
+    spends_value u out 4 old c.pass-2.new.store c.in-Ok-pass.back (c.in-Ok.forth || c.in-Ok-pass.back)
+    (spends_behind u out 2 2 old mid c.pass-2.new.store (Ok c.in-Ok-pass.back) forth.counts.added
+    (c.in-Ok-pass.ensures.few u forth.within (handle_kept u out old mid c.read.result c.in-Ok.ensures.writes live gate)))
+
+pub returns-then-blocks-clause-spreads : goal.returns-then-blocks-clause-spreads
+returns-then-blocks-clause-spreads c =
+    spreads_off c.args.circuit.now c.args.part.now c.requires.circuit c.args.gates c.args.out c.args.device.now c.requires.device c.args.store.now
+    (sym c.read.ensures ∙ c.blocks-2.ensures c.if-blocks.true) c.args.level

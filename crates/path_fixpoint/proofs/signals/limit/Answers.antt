@@ -1,10 +1,12 @@
-use Rattle.std.proofs.Common.{◌≡◌, Bool, not, ◌||◌, ◌&&◌, Ok, Err, true, ap₂, sym, ◌∙◌}
+use Rattle.std.proofs.Common.{◌≡◌, Bool, not, ◌||◌, ◌&&◌, Ok, Err, true, arith, ap₂, sym, ◌∙◌}
 use Rattle.std.specs.Prelude.{◌↔◌}
-use Rattle.bdd_core.specs.Diagram.{Function, Valuation, meaning}
+use Rattle.bdd_core.specs.Diagram.{Function, IsWithin, Valuation, meaning}
 use Rattle.bdd_core.specs.Store.{Means, function_of}
 use Rattle.bdd_core.proofs.Growth.{grows_keeps}
 use Rattle.bdd_core.proofs.Results.{if_ok_more}
-use Rattle.bdd_ops.specs.Ops.{and_of}
+use Rattle.bdd_ops.specs.Ops.{and_of, implies_of}
+use Rattle.bdd_ops.proofs.WithinLaws.{within_and, within_implies, within_same}
+use Rattle.path_fixpoint.proofs.SpendingLaws.{finds_made, finds_more, finds_then}
 use Rattle.path_fixpoint.proofs.Fitting.{limit_bits}
 use Rattle.path_fixpoint.proofs.Frames.{writes_made, writes_then}
 use Rattle.path_fixpoint.proofs.signals.limit.Goals as goal
@@ -33,3 +35,23 @@ returns-clause-is c =
     m.same v ∙ ap₂ (λ (a b : Bool). a && b) (grows_keeps old.nodes mid.nodes _ c.in-Ok.ensures.makes.grows c.args.signal.0 c.requires.0 v) (c.in-Ok.ensures.makes.ok.same v) in
     (λ e. (limit_bits x h o).0 (sym is ∙ e), λ q. is ∙ (limit_bits x h o).1 q))
     c.and.ensures.makes.ok
+
+pub returns-in-Err-clause-few : goal.returns-in-Err-clause-few
+returns-in-Err-clause-few c u signal other here =
+    let old = c.args.store.now in
+    finds_more u 1 2 old c.implies.new.store (Err c.in-Err.spent) (omega arith)
+    (finds_made u old c.implies.new.store (implies_of (meaning old.nodes c.args.here.0) (meaning old.nodes c.args.other.0)) (Err c.in-Err.spent) c.node_count-ends.ensures.sound.ends c.in-Err.ensures.makes
+    (within_implies u (meaning old.nodes c.args.here.0) (meaning old.nodes c.args.other.0) here other))
+
+pub returns-clause-few : goal.returns-clause-few
+returns-clause-few c u signal other here =
+    let old = c.args.store.now in
+    let mid = c.implies.new.store in
+    let new = c.and.new.store in
+    let f : Function = implies_of (meaning old.nodes c.args.here.0) (meaning old.nodes c.args.other.0) in
+    let g : Function = and_of (meaning mid.nodes c.args.signal.0) (meaning mid.nodes c.in-Ok.allowed.0) in
+    let made = finds_made u old mid f (Ok c.in-Ok.allowed) c.node_count-ends.ensures.sound.ends c.in-Ok.ensures.makes (within_implies u (meaning old.nodes c.args.here.0) (meaning old.nodes c.args.other.0) here other) in
+    let later : IsWithin u (meaning mid.nodes c.args.signal.0) =
+    within_same u (meaning old.nodes c.args.signal.0) (meaning mid.nodes c.args.signal.0) (grows_keeps old.nodes mid.nodes f c.in-Ok.ensures.makes.grows c.args.signal.0 c.requires.0) signal in
+    finds_then u 1 1 old mid new c.and.result made.counts.added
+    (finds_made u mid new g c.and.result c.in-Ok.ensures.makes.sound.ends c.and.ensures.makes (within_and u (meaning mid.nodes c.args.signal.0) (meaning mid.nodes c.in-Ok.allowed.0) later made.within))

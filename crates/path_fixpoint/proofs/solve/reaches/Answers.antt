@@ -1,4 +1,6 @@
+use Rattle.std.proofs.Common.{◌+◌, ◌*◌, length, Err, arith}
 use Rattle.bdd_core.proofs.Results.{if_ok_more}
+use Rattle.path_fixpoint.proofs.SpendingLaws.{span_beside, spends_behind, spends_more}
 use Rattle.path_fixpoint.proofs.Frames.{writes_then}
 use Rattle.path_fixpoint.proofs.ReachLaws.{root_words_kept, solved_kept}
 use Rattle.path_fixpoint.proofs.solve.reaches.Goals as goal
@@ -18,3 +20,22 @@ returns-clause-reach c =
     c.requires.words c.in-Ok.ensures.writes c.in-Ok.ensures.apart is)
     (c.in-Ok.ensures.roots v w s is) (c.in-Ok.ensures.paths v w s is))
     c.settle.ensures.reach
+
+pub returns-in-Err-clause-few : goal.returns-in-Err-clause-few
+returns-in-Err-clause-few c one u gates roots all =
+    let n = length c.args.part.now.nets in
+    let size = n * (length c.args.part.now.devices * 38) in
+    spends_more u c.args.out (n * 6) (n * 6 + size) c.args.store.now c.open.new.store (Err c.in-Err.spent) (omega arith) (c.in-Err.ensures.few one u roots all)
+
+pub returns-clause-few : goal.returns-clause-few
+returns-clause-few c one u gates roots all =
+    let out = c.args.out in
+    let n = length c.args.part.now.nets in
+    let size = n * (length c.args.part.now.devices * 38) in
+    let words = c.requires.words in
+    let old = c.args.store.now in
+    let mid = c.open.new.store in
+    let wrote = c.in-Ok.ensures.writes in
+    let opened = c.in-Ok.ensures.few one u roots all in
+    spends_behind u out (n * 6) size old mid c.settle.new.store c.settle.result opened.counts.added
+    (c.settle.ensures.few u (span_beside u out c.args.gates old mid wrote words.words.apart words.words.gates_live gates) (span_beside u out c.args.roots old mid wrote words.roots_apart words.roots_live roots) opened.within)

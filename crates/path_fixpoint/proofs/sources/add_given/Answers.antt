@@ -1,4 +1,4 @@
-use Rattle.std.proofs.Common.{◌≡◌, ℕ, ◌+◌, ◌<◌, List, length, get_or, arith, ap, refl, sym, subst, ◌∙◌, inl, inr}
+use Rattle.std.proofs.Common.{◌≡◌, ℕ, ◌+◌, ◌*◌, ◌<◌, Ok, Err, List, length, get_or, arith, ap, refl, sym, subst, ◌∙◌, inl, inr}
 use Rattle.std.proofs.lemmas.Bool.{cases_lt}
 use Rattle.std.proofs.lemmas.Option.{slice_get-get_or, slice_get_within}
 use Rattle.vrt_model.specs.Lists.{At}
@@ -8,6 +8,8 @@ use Rattle.path_fixpoint.specs.Sources.{IsGivenSource}
 use Rattle.path_fixpoint.proofs.Frames.{writes_then}
 use Rattle.path_fixpoint.proofs.Places.{place_in, place_once}
 use Rattle.path_fixpoint.proofs.SourceLaws.{adds_same, adds_then}
+use Rattle.bdd_ops.proofs.CountingLaws.{counted_more, counted_then, counts_more, counts_ok}
+use Rattle.path_fixpoint.proofs.SpendingLaws.{span_beside, spends_behind, spends_more}
 use Rattle.path_fixpoint.proofs.sources.add_given.Goals as goal
 
 pub loop-net-preserved : goal.loop-net-preserved
@@ -39,6 +41,10 @@ loop-net-preserved c =
           (λ n size q. ((at, omega arith, (net, there, sym q.1)), q.0, q.2))
           (λ n size r. (omega (arith, slice_get_within circuit.nets n r.1.0 r.1.1, words.roots_len), omega (arith, r.2)))
           i.adds c.in-Ok.ensures.adds;
+      few = λ u roots all.
+          let q = i.few u roots all in
+          let f = c.in-Ok.ensures.few u (span_beside u out c.args.roots first old i.writes words.roots_apart words.roots_live roots) q.1 in
+          (counted_more u (at * 3 + 3) ((at + 1) * 3) first new (omega arith) (counted_then u (at * 3) 3 first old new q.0 f.counts.added), f.within);
     }
 
 pub returns-clause-adds : goal.returns-clause-adds
@@ -50,3 +56,28 @@ returns-clause-adds c =
     adds_same part c.args.roots c.args.out c.args.value (λ n size. ((j : ℕ) × (j < at) × IsPlace part j n) × IsGiven circuit n × (size ≡ 8)) (IsGivenSource circuit part) c.args.store.now c.loop-net.store
     (λ n size g. ((g.0.0, omega (arith, place_in part g.0.0 n g.0.1, shown, c.loop-net-test.false), g.0.1), g.1, g.2))
     (λ n size g. ((g.0.0, g.0.2), g.1, g.2)) c.loop-net.invariant.adds
+
+pub returns-in-Err-clause-few : goal.returns-in-Err-clause-few
+returns-in-Err-clause-few c u roots all =
+    let out = c.args.out in
+    let part = c.args.part.now in
+    let at = c.loop-net.net-index in
+    let first = c.args.store.now in
+    let old = c.loop-net.store in
+    let new = c.add_net.new.store in
+    let i = c.loop-net.invariant in
+    let shown : length c.as_slice-net-items.result.now ≡ length part.nets = ap (λ (xs : List Net). length xs) c.as_slice-net-items.ensures in
+    let q = i.few u roots all in
+    let f = c.in-Err.ensures.few u (span_beside u out c.args.roots first old i.writes c.requires.words.roots_apart c.requires.words.roots_live roots) q.1 in
+    spends_more u out (at * 3 + 3) (length part.nets * 3) first new (Err c.in-Err.spent) (omega (arith, shown, c.loop-net-test.true))
+    (spends_behind u out (at * 3) 3 first old new (Err c.in-Err.spent) q.0 f)
+
+pub returns-clause-few : goal.returns-clause-few
+returns-clause-few c u roots all =
+    let part = c.args.part.now in
+    let at = c.loop-net.net-index in
+    let first = c.args.store.now in
+    let new = c.loop-net.store in
+    let shown : length c.as_slice-net-items.result.now ≡ length part.nets = ap (λ (xs : List Net). length xs) c.as_slice-net-items.ensures in
+    let q = c.loop-net.invariant.few u roots all in
+    record { counts = counts_more u (at * 3) (length part.nets * 3) first new (Ok tt) (omega (arith, shown, c.loop-net.auto.net-index-end)) (counts_ok u (at * 3) first new tt q.0); within = q.1 }

@@ -1,4 +1,5 @@
-use Rattle.std.proofs.Common.{◌≡◌, ℕ, ◌<◌}
+use Rattle.bdd_ops.specs.Counting.{IsCounted, IsSpanWithin}
+use Rattle.std.proofs.Common.{◌≡◌, ℕ, ◌*◌, ◌<◌}
 use Rattle.path_fixpoint.specs.Parts.{IsGiven, IsPlace}
 use Rattle.path_fixpoint.specs.Reaching.{slot_of}
 use Rattle.path_fixpoint.specs.Sources.{AddsRoots}
@@ -11,4 +12,5 @@ invariant-loop-net l = record {
   writes : Writes l.fn.out l.fn.store l.store;
   apart : ChangesLevel l.fn.out (slot_of l.fn.value) l.fn.store l.store;
   adds : AddsRoots l.part l.fn.roots l.fn.out l.fn.value (λ n size. ((i : ℕ) × (i < l.net-index) × IsPlace l.part i n) × IsGiven l.circuit n × (size ≡ 8)) l.fn.store l.store;
+  few : (u : ℕ) → IsSpanWithin u l.fn.store l.fn.roots → IsSpanWithin u l.fn.store l.fn.out → IsCounted u (l.net-index * 3) l.fn.store l.store × IsSpanWithin u l.store l.fn.out;
 }

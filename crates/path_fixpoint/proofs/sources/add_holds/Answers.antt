@@ -1,4 +1,4 @@
-use Rattle.std.proofs.Common.{◌≡◌, ℕ, ◌+◌, ◌<◌, List, length, arith, ap, sym, subst, ◌∙◌, inl, inr}
+use Rattle.std.proofs.Common.{◌≡◌, ℕ, ◌+◌, ◌*◌, ◌<◌, Ok, Err, List, length, arith, ap, refl, sym, subst, ◌∙◌, inl, inr}
 use Rattle.std.proofs.lemmas.Bool.{cases_lt}
 use Rattle.std.proofs.lemmas.Option.{same_Some, slice_get_within}
 use Rattle.plain_paths.proofs.Items.{item_at}
@@ -7,9 +7,21 @@ use Rattle.vrt_model.specs.Circuits.{IsHold}
 use Rattle.vrt_model.specs.Lists.{At}
 use Rattle.vrt_model.specs.declared.circuit.Hold.{Hold}
 use Rattle.path_fixpoint.specs.Sources.{IsHoldSource}
-use Rattle.path_fixpoint.proofs.Frames.{writes_then}
-use Rattle.path_fixpoint.proofs.SourceLaws.{adds_same, adds_then}
+use Rattle.path_fixpoint.proofs.Frames.{writes_none, writes_then}
+use Rattle.path_fixpoint.proofs.SourceLaws.{adds_none, adds_same, adds_then}
+use Rattle.bdd_ops.proofs.CountingLaws.{counted_more, counted_same, counted_then, counts_more, counts_ok}
+use Rattle.path_fixpoint.proofs.HoldPlaces.{places_few, places_less, places_more, places_none}
+use Rattle.path_fixpoint.proofs.SpendingLaws.{span_beside, spends_behind, spends_more}
 use Rattle.path_fixpoint.proofs.sources.add_holds.Goals as goal
+
+pub loop-hold-init : goal.loop-hold-init
+loop-hold-init c = record {
+  writes = writes_none c.args.out c.args.store.now c.node_count-ends.ensures.sound c.node_count-ends.ensures.within c.requires.words.words.out_live;
+  apart = λ k away. refl;
+  adds = adds_none c.args.part.now c.args.roots c.args.out c.args.value
+      (λ n size. (k : ℕ) × (k < 0) × (h : Hold) × At c.args.circuit.now.holds k h × (h.net.0 ≡ n) × (h.size ≡ size)) c.args.store.now (λ n k q i p. absurd (omega (arith, q.1)));
+  few = λ one u roots all. (0, places_none c.args.circuit.now c.args.part.now, counted_same u c.args.store.now c.args.store.now refl refl, all);
+}
 
 pub loop-hold-preserved : goal.loop-hold-preserved
 loop-hold-preserved c =
@@ -44,6 +56,18 @@ loop-hold-preserved c =
           let range = all_among (IsHold circuit) circuit.holds r.2 c.requires.circuit.holds (r.0, r.3) in
           (omega (arith, range.net, r.4, words.roots_len), omega (arith, range.size.0, r.5)))
           i.adds c.in-Ok.ensures.adds;
+      few = λ one u roots all.
+          let q = i.few one u roots all in
+          let k = q.0 in
+          elim (c.in-Ok.ensures.few u (span_beside u out c.args.roots first old i.writes words.roots_apart words.roots_live roots) q.3) [
+            | inl none ↦ (k, places_less circuit part at (at + 1) k (omega arith) q.1, counted_more u (k * 3 + 0) (k * 3) first new (omega arith) (counted_then u (k * 3) 0 first old new q.2 none.counts.added), none.within)
+            | inr some ↦ (
+              k + 1,
+              places_more circuit part one at k some.0 hold there some.1 q.1,
+              counted_more u (k * 3 + 3) ((k + 1) * 3) first new (omega arith) (counted_then u (k * 3) 3 first old new q.2 some.2.counts.added),
+              some.2.within,
+            )
+          ];
     }
 
 pub returns-clause-adds : goal.returns-clause-adds
@@ -54,3 +78,36 @@ returns-clause-adds c =
     adds_same c.args.part.now c.args.roots c.args.out c.args.value (λ n size. (k : ℕ) × (k < at) × (h : Hold) × At circuit.holds k h × (h.net.0 ≡ n) × (h.size ≡ size)) (IsHoldSource circuit) c.args.store.now c.loop-hold.store
     (λ n size h. (h.0, omega (arith, slice_get_within circuit.holds h.0 h.1 h.2, shown, c.loop-hold-test.false), h.1, h.2, h.3, h.4))
     (λ n size h. (h.0, h.2, h.3, h.4, h.5)) c.loop-hold.invariant.adds
+
+pub returns-in-Err-clause-few : goal.returns-in-Err-clause-few
+returns-in-Err-clause-few c one u roots all =
+    let out = c.args.out in
+    let circuit = c.args.circuit.now in
+    let part = c.args.part.now in
+    let at = c.loop-hold.hold-index in
+    let first = c.args.store.now in
+    let old = c.loop-hold.store in
+    let new = c.add_root.new.store in
+    let i = c.loop-hold.invariant in
+    let hold : Hold = c.hold-item.result in
+    let there : At circuit.holds at hold = item_at circuit.holds c.as_slice-hold-items.result.now at hold c.as_slice-hold-items.ensures c.loop-hold-test.true c.hold-item.is in
+    let q = i.few one u roots all in
+    let k = q.0 in
+    elim (c.in-Err.ensures.few u (span_beside u out c.args.roots first old i.writes c.requires.words.roots_apart c.requires.words.roots_live roots) q.3) [
+      | inl none ↦ spends_more u out (k * 3 + 0) (length part.nets * 3) first new (Err c.in-Err.spent) (omega (arith, places_few circuit part at k q.1))
+          (spends_behind u out (k * 3) 0 first old new (Err c.in-Err.spent) q.2 none)
+      | inr some ↦ spends_more u out (k * 3 + 3) (length part.nets * 3) first new (Err c.in-Err.spent)
+          (omega (arith, places_few circuit part (at + 1) (k + 1) (places_more circuit part one at k some.0 hold there some.1 q.1)))
+          (spends_behind u out (k * 3) 3 first old new (Err c.in-Err.spent) q.2 some.2)
+    ]
+
+pub returns-clause-few : goal.returns-clause-few
+returns-clause-few c one u roots all =
+    let part = c.args.part.now in
+    let first = c.args.store.now in
+    let new = c.loop-hold.store in
+    let q = c.loop-hold.invariant.few one u roots all in
+    record {
+      counts = counts_more u (q.0 * 3) (length part.nets * 3) first new (Ok tt) (omega (arith, places_few c.args.circuit.now part c.loop-hold.hold-index q.0 q.1)) (counts_ok u (q.0 * 3) first new tt q.2);
+      within = q.3;
+    }

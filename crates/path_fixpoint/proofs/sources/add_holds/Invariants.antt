@@ -1,4 +1,7 @@
-use Rattle.std.proofs.Common.{◌≡◌, ℕ, ◌<◌}
+use Rattle.bdd_ops.specs.Counting.{IsCounted, IsSpanWithin}
+use Rattle.path_fixpoint.specs.Spending.{HasOneHold}
+use Rattle.path_fixpoint.proofs.HoldPlaces.{HoldPlaces}
+use Rattle.std.proofs.Common.{◌≡◌, ℕ, ◌*◌, ◌<◌}
 use Rattle.vrt_model.specs.Lists.{At}
 use Rattle.vrt_model.specs.declared.circuit.Hold.{Hold}
 use Rattle.path_fixpoint.specs.Reaching.{slot_of}
@@ -12,4 +15,6 @@ invariant-loop-hold l = record {
   writes : Writes l.fn.out l.fn.store l.store;
   apart : ChangesLevel l.fn.out (slot_of l.fn.value) l.fn.store l.store;
   adds : AddsRoots l.part l.fn.roots l.fn.out l.fn.value (λ n size. (at : ℕ) × (at < l.hold-index) × (hold : Hold) × At l.circuit.holds at hold × (hold.net.0 ≡ n) × (hold.size ≡ size)) l.fn.store l.store;
+  few : HasOneHold l.circuit → (u : ℕ) → IsSpanWithin u l.fn.store l.fn.roots → IsSpanWithin u l.fn.store l.fn.out
+      → (count : ℕ) × HoldPlaces l.circuit l.part l.hold-index count × IsCounted u (count * 3) l.fn.store l.store × IsSpanWithin u l.store l.fn.out;
 }

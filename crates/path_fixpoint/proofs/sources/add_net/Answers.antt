@@ -1,8 +1,9 @@
-use Rattle.std.proofs.Common.{◌≡◌, sym, subst}
+use Rattle.std.proofs.Common.{◌≡◌, arith, sym, subst, inl, inr}
 use Rattle.bdd_core.proofs.Results.{if_ok_more}
 use Rattle.path_fixpoint.specs.Parts.{IsGiven}
 use Rattle.path_fixpoint.specs.Sources.{AddsRoots}
 use Rattle.path_fixpoint.proofs.SourceLaws.{adds_same}
+use Rattle.path_fixpoint.proofs.SpendingLaws.{spends_more}
 use Rattle.path_fixpoint.proofs.sources.add_net.Goals as goal
 
 pub returns-clause-adds : goal.returns-clause-adds
@@ -13,3 +14,9 @@ returns-clause-adds c =
     (λ u a. adds_same c.args.part.now c.args.roots c.args.out c.args.value (λ n k. (n ≡ c.args.net.0) × (k ≡ 8)) (λ n k. IsGiven circuit n × (n ≡ c.args.net.0) × (k ≡ 8))
     c.args.store.now c.add_root.new.store (λ n k q. (q.1, q.2)) (λ n k q. (subst (IsGiven circuit) (sym q.0) (c.is_given.ensures.0 c.if-not-is_given.false), q.0, q.1)) a)
     c.add_root.ensures.adds
+
+pub returns-clause-few : goal.returns-clause-few
+returns-clause-few c u roots all = elim (c.add_root.ensures.few u roots all) [
+  | inl none ↦ spends_more u c.args.out 0 3 c.args.store.now c.add_root.new.store c.add_root.result (omega arith) none
+  | inr some ↦ some.2
+]

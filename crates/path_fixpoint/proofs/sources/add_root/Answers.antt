@@ -1,4 +1,4 @@
-use Rattle.std.proofs.Common.{◌≡◌, ℕ, ◌+◌, List, Ok, Err, slice_index, arith, ap, refl, subst, ◌∙◌}
+use Rattle.std.proofs.Common.{◌≡◌, ℕ, ◌+◌, inr, List, Ok, Err, slice_index, arith, ap, refl, subst, ◌∙◌}
 use Rattle.bdd_core.specs.Diagram.{meaning}
 use Rattle.path_fixpoint.specs.Parts.{IsPlace}
 use Rattle.path_fixpoint.specs.Passed.{IsWider}
@@ -8,6 +8,8 @@ use Rattle.path_fixpoint.proofs.Frames.{made_words, writes_made, writes_then}
 use Rattle.path_fixpoint.proofs.Places.{place_in}
 use Rattle.path_fixpoint.proofs.ReachLaws.{slot_high, slot_low}
 use Rattle.path_fixpoint.proofs.SourceLaws.{adds_none, adds_one}
+use Rattle.bdd_ops.proofs.CountingLaws.{counted_then, counts_made, counts_more}
+use Rattle.path_fixpoint.proofs.SpendingLaws.{finds_made, finds_then, root_within, span_still, spends_behind, spends_err, spends_refused, spends_value}
 use Rattle.path_fixpoint.proofs.sources.add_root.Goals as goal
 
 pub returns-in_default-clause-adds : goal.returns-in_default-clause-adds
@@ -71,3 +73,67 @@ returns-in-Ok-widen-clause-adds c =
     c.requires.len.0 c.requires.size.0 c.requires.out.1 c.in-Some.ensures.some c.in-Ok.ensures c.in-Ok-unblocked.ensures.writes c.in-Ok-unblocked.ensures.words c.in-Ok-unblocked.ensures.is
     (subst (λ (x : ℕ). IsWider out x (meaning b.nodes signal.0) c.in-Ok-widen.field-0 b new) at c.in-Ok-widen.ensures.wider)
     c.in-Ok-widen.ensures.writes (λ k ne. c.in-Ok-widen.ensures.apart k (λ e. ne (e ∙ at)))
+
+pub returns-in-Err-clause-few : goal.returns-in-Err-clause-few
+returns-in-Err-clause-few c u roots all =
+    let old = c.args.store.now in
+    inr (
+      c.in-Some.i,
+      c.in-Some.ensures.some,
+      spends_refused u c.args.out 3 old c.root_bit.new.store c.in-Err.spent
+          (counts_more u 1 3 old c.root_bit.new.store (Err c.in-Err.spent) (omega arith)
+          (counts_made u old c.root_bit.new.store c.node_count-ends.ensures.sound.ends _ (Err c.in-Err.spent) c.in-Err.ensures (root_within u old c.args.roots c.args.net.0 c.args.value c.requires.net roots))),
+    )
+
+pub returns-in-Err-unblocked-clause-few : goal.returns-in-Err-unblocked-clause-few
+returns-in-Err-unblocked-clause-few c u roots all =
+    let out = c.args.out in
+    let old = c.args.store.now in
+    let mid = c.root_bit.new.store in
+    let made = finds_made u old mid _ (Ok c.in-Ok.bit) c.node_count-ends.ensures.sound.ends c.in-Ok.ensures (root_within u old c.args.roots c.args.net.0 c.args.value c.requires.net roots) in
+    let held = span_still u out out old mid (writes_made out old mid _ (Ok c.in-Ok.bit) c.requires.out.1 c.in-Ok.ensures) (made_words old mid _ (Ok c.in-Ok.bit) c.in-Ok.ensures) c.requires.out.1 all in
+    inr (
+      c.in-Some.i,
+      c.in-Some.ensures.some,
+      spends_refused u out 3 old c.unblocked.new.store c.in-Err-unblocked.spent
+          (counts_more u 2 3 old c.unblocked.new.store (Err c.in-Err-unblocked.spent) (omega arith)
+          (finds_then u 1 1 old mid c.unblocked.new.store (Err c.in-Err-unblocked.spent) made.counts.added (c.in-Err-unblocked.ensures.few u held made.within)).counts),
+    )
+
+pub returns-in-Ok-widen-clause-few : goal.returns-in-Ok-widen-clause-few
+returns-in-Ok-widen-clause-few c u roots all =
+    let out = c.args.out in
+    let old = c.args.store.now in
+    let mid = c.root_bit.new.store in
+    let late = c.unblocked.new.store in
+    let new = c.widen.new.store in
+    let made = finds_made u old mid _ (Ok c.in-Ok.bit) c.node_count-ends.ensures.sound.ends c.in-Ok.ensures (root_within u old c.args.roots c.args.net.0 c.args.value c.requires.net roots) in
+    let wrote = writes_made out old mid _ (Ok c.in-Ok.bit) c.requires.out.1 c.in-Ok.ensures in
+    let held = span_still u out out old mid wrote (made_words old mid _ (Ok c.in-Ok.bit) c.in-Ok.ensures) c.requires.out.1 all in
+    let found = c.in-Ok-unblocked.ensures.few u held made.within in
+    let held' = span_still u out out mid late c.in-Ok-unblocked.ensures.writes c.in-Ok-unblocked.ensures.words wrote.live held in
+    inr (
+      c.in-Some.i,
+      c.in-Some.ensures.some,
+      spends_value u out 3 old new c.in-Ok-widen.field-0 tt
+          (spends_behind u out 2 1 old late new (Ok c.in-Ok-widen.field-0) (counted_then u 1 1 old mid late made.counts.added found.counts.added) (c.in-Ok-widen.ensures.few u held' found.within)),
+    )
+
+pub returns-in-Err-widen-clause-few : goal.returns-in-Err-widen-clause-few
+returns-in-Err-widen-clause-few c u roots all =
+    let out = c.args.out in
+    let old = c.args.store.now in
+    let mid = c.root_bit.new.store in
+    let late = c.unblocked.new.store in
+    let new = c.widen.new.store in
+    let made = finds_made u old mid _ (Ok c.in-Ok.bit) c.node_count-ends.ensures.sound.ends c.in-Ok.ensures (root_within u old c.args.roots c.args.net.0 c.args.value c.requires.net roots) in
+    let wrote = writes_made out old mid _ (Ok c.in-Ok.bit) c.requires.out.1 c.in-Ok.ensures in
+    let held = span_still u out out old mid wrote (made_words old mid _ (Ok c.in-Ok.bit) c.in-Ok.ensures) c.requires.out.1 all in
+    let found = c.in-Ok-unblocked.ensures.few u held made.within in
+    let held' = span_still u out out mid late c.in-Ok-unblocked.ensures.writes c.in-Ok-unblocked.ensures.words wrote.live held in
+    inr (
+      c.in-Some.i,
+      c.in-Some.ensures.some,
+      spends_err u out 3 old new c.in-Err-widen.spent
+          (spends_behind u out 2 1 old late new (Err c.in-Err-widen.spent) (counted_then u 1 1 old mid late made.counts.added found.counts.added) (c.in-Err-widen.ensures.few u held' found.within)),
+    )

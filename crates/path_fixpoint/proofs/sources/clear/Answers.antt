@@ -4,6 +4,8 @@ use Rattle.path_fixpoint.specs.Strengths.{word_of}
 use Rattle.bdd_core.specs.Words.{word_at}
 use Rattle.path_fixpoint.proofs.Frames.{writes_then}
 use Rattle.path_fixpoint.proofs.Places.{words_differ}
+use Rattle.bdd_ops.proofs.WithinLaws.{within_zero}
+use Rattle.path_fixpoint.proofs.SpendingLaws.{rewrites_then}
 use Rattle.path_fixpoint.proofs.sources.clear.Goals as goal
 
 pub loop-i-preserved : goal.loop-i-preserved
@@ -20,4 +22,5 @@ loop-i-preserved c =
       zero = below_more (λ k. word_at new out (word_of (slot_of value) k) ≡ 0) at
           (λ k lt. c.set.ensures.apart (word_of (slot_of value) k) (λ e. omega (arith, lt, words_differ (slot_of value) k at (e ∙ place))) ∙ i.zero k lt)
           (ap (λ (x : ℕ). word_at new out x) (sym place) ∙ c.set.ensures.here);
+      few = λ u all. let r = i.few u all in rewrites_then u out c.args.store.now c.loop-i.store new r (c.set.ensures.few u r.within (within_zero u c.loop-i.store));
     }

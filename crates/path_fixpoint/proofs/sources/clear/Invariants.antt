@@ -1,3 +1,5 @@
+use Rattle.bdd_ops.specs.Counting.{IsSpanWithin}
+use Rattle.path_fixpoint.specs.Spending.{Rewrites}
 use Rattle.std.proofs.Common.{◌≡◌, ℕ, ◌<◌}
 use Rattle.path_fixpoint.specs.Reaching.{slot_of}
 use Rattle.path_fixpoint.specs.Strengths.{ChangesLevel, word_of}
@@ -9,4 +11,5 @@ invariant-loop-i l = record {
   writes : Writes l.fn.out l.fn.store l.store;
   apart : ChangesLevel l.fn.out (slot_of l.fn.value) l.fn.store l.store;
   zero : (i : ℕ) → i < l.i → word_at l.store l.fn.out (word_of (slot_of l.fn.value) i) ≡ 0;
+  few : (u : ℕ) → IsSpanWithin u l.fn.store l.fn.out → Rewrites u l.fn.out l.fn.store l.store;
 }

@@ -1,4 +1,8 @@
+use Rattle.std.proofs.Common.{◌+◌, ◌*◌, length, Err, arith}
 use Rattle.bdd_core.proofs.Results.{if_ok_more}
+use Rattle.bdd_ops.proofs.CountingLaws.{counted_then}
+use Rattle.path_fixpoint.proofs.Frames.{filled_beside}
+use Rattle.path_fixpoint.proofs.SpendingLaws.{span_beside, spends_behind, spends_more}
 use Rattle.path_fixpoint.proofs.SourceLaws.{source_paths, source_roots}
 use Rattle.path_fixpoint.proofs.sources.open.Goals as goal
 
@@ -17,3 +21,31 @@ returns-clause-paths c =
     c.args.store.now c.clear.new.store c.add_given.new.store c.add_holds.new.store c.requires.words c.clear.ensures.zero c.clear.ensures.writes c.clear.ensures.apart
     c.in-Ok.ensures.writes c.in-Ok.ensures.apart c.in-Ok.ensures.adds h v w s is)
     c.add_holds.ensures.adds
+
+pub returns-in-Err-clause-few : goal.returns-in-Err-clause-few
+returns-in-Err-clause-few c one u roots all =
+    let out = c.args.out in
+    let n = length c.args.part.now.nets in
+    let old = c.args.store.now in
+    let mid = c.clear.new.store in
+    let cleared = c.clear.ensures.few u all in
+    let held = span_beside u out c.args.roots old mid c.clear.ensures.writes c.requires.words.roots_apart c.requires.words.roots_live roots in
+    spends_more u out (0 + n * 3) (n * 6) old c.add_given.new.store (Err c.in-Err.spent) (omega arith)
+    (spends_behind u out 0 (n * 3) old mid c.add_given.new.store (Err c.in-Err.spent) cleared.counted (c.in-Err.ensures.few u held cleared.within))
+
+pub returns-clause-few : goal.returns-clause-few
+returns-clause-few c one u roots all =
+    let out = c.args.out in
+    let n = length c.args.part.now.nets in
+    let old = c.args.store.now in
+    let mid = c.clear.new.store in
+    let late = c.add_given.new.store in
+    let cleared = c.clear.ensures.few u all in
+    let wrote = c.clear.ensures.writes in
+    let held = span_beside u out c.args.roots old mid wrote c.requires.words.roots_apart c.requires.words.roots_live roots in
+    let live = filled_beside out c.args.roots old mid wrote c.requires.words.roots_apart c.requires.words.roots_live in
+    let given = c.in-Ok.ensures.few u held cleared.within in
+    let held' = span_beside u out c.args.roots mid late c.in-Ok.ensures.writes c.requires.words.roots_apart live held in
+    spends_more u out (0 + n * 3 + n * 3) (n * 6) old c.add_holds.new.store c.add_holds.result (omega arith)
+    (spends_behind u out (0 + n * 3) (n * 3) old late c.add_holds.new.store c.add_holds.result (counted_then u 0 (n * 3) old mid late cleared.counted given.counts.added)
+    (c.add_holds.ensures.few one u held' given.within))

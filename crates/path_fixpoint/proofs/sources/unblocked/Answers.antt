@@ -7,6 +7,8 @@ use Rattle.bdd_core.proofs.Results.{if_ok_more}
 use Rattle.path_fixpoint.specs.Strengths.{strong}
 use Rattle.path_fixpoint.proofs.Frames.{writes_made}
 use Rattle.path_fixpoint.proofs.SourceLaws.{block_bits}
+use Rattle.bdd_ops.proofs.WithinLaws.{within_choice, within_zero}
+use Rattle.path_fixpoint.proofs.SpendingLaws.{finds_made}
 use Rattle.path_fixpoint.proofs.sources.unblocked.Goals as goal
 
 pub returns-clause-writes : goal.returns-clause-writes
@@ -27,3 +29,10 @@ returns-clause-is c =
     m.same v ∙ ap (λ (x : Bool). cond x (meaning old.nodes 0 v) b) (c.strength-above.ensures.is v) ∙ ap (λ (x : Bool). cond s x b) (meaning_zero old.nodes v) in
     (λ e. let q = (block_bits s b).0 (sym is ∙ e) in (q.0, λ l. q.1), λ q. is ∙ (block_bits s b).1 (q.0, q.1 lt)))
     c.ite.ensures.makes.ok
+
+pub returns-clause-few : goal.returns-clause-few
+returns-clause-few c u all bit =
+    let old = c.args.store.now in
+    let f : Function = choice (meaning old.nodes c.strength-above.result.0) (meaning old.nodes 0) (meaning old.nodes c.args.bit.0) in
+    finds_made u old c.ite.new.self f c.ite.result c.node_count-ends.ensures.sound.ends c.ite.ensures.makes
+    (within_choice u (meaning old.nodes c.strength-above.result.0) (meaning old.nodes 0) (meaning old.nodes c.args.bit.0) (c.strength-above.ensures.few u all) (within_zero u old) bit)

@@ -1,6 +1,11 @@
-use Rattle.std.proofs.Common.{Err, Ok, arith}
+use Rattle.std.proofs.Common.{ℕ, true, false, Err, Ok, arith, sym, subst}
+use Rattle.bdd_core.specs.Diagram.{Function, IsWithin, meaning}
+use Rattle.bdd_ops.specs.Ops.{or_of}
+use Rattle.bdd_ops.proofs.CountingLaws.{counts_made, counts_value}
+use Rattle.bdd_ops.proofs.WithinLaws.{within_or}
 use Rattle.bdd_core.specs.Words.{Writes}
-use Rattle.path_fixpoint.proofs.Frames.{writes_made, writes_then, writes_word}
+use Rattle.path_fixpoint.proofs.Frames.{made_words, writes_made, writes_then, writes_word}
+use Rattle.path_fixpoint.proofs.SpendingLaws.{finds_made, rewrites_word, span_still, spends_refused, spends_rewrites}
 use Rattle.path_fixpoint.proofs.steps.widen.Goals as goal
 
 pub returns-in-Err-clause-writes : goal.returns-in-Err-clause-writes
@@ -16,3 +21,37 @@ returns-clause-writes c =
     writes_then out c.args.store.now c.or.new.store c.write.new.self first
     (writes_word out c.or.new.store c.write.new.self c.args.at c.in-Ok.after.0 c.write.ensures c.requires.at (omega (arith, c.requires.out.0.1, first.len))
     c.in-Ok.ensures.makes.ok.live first.sound first.within first.live)
+
+pub returns-in-Err-clause-few : goal.returns-in-Err-clause-few
+returns-in-Err-clause-few c u all signal =
+    let old = c.args.store.now in
+    let before : IsWithin u (meaning old.nodes c.read.result) = subst (λ (h : ℕ). IsWithin u (meaning old.nodes h)) (sym c.read.ensures) (all c.args.at c.requires.at) in
+    spends_refused u c.args.out 1 old c.or.new.store c.in-Err.spent
+    (counts_made u old c.or.new.store c.node_count-ends.ensures.sound.ends (or_of (meaning old.nodes c.read.result) (meaning old.nodes c.args.signal.0)) (Err c.in-Err.spent) c.in-Err.ensures.makes
+    (within_or u (meaning old.nodes c.read.result) (meaning old.nodes c.args.signal.0) before signal))
+
+pub returns-then-after-before-clause-few : goal.returns-then-after-before-clause-few
+returns-then-after-before-clause-few c u all signal =
+    let out = c.args.out in
+    let old = c.args.store.now in
+    let new = c.or.new.store in
+    let before : IsWithin u (meaning old.nodes c.read.result) = subst (λ (h : ℕ). IsWithin u (meaning old.nodes h)) (sym c.read.ensures) (all c.args.at c.requires.at) in
+    let f : Function = or_of (meaning old.nodes c.read.result) (meaning old.nodes c.args.signal.0) in
+    record {
+      counts = counts_value u 1 old new c.in-Ok.after false
+          (counts_made u old new c.node_count-ends.ensures.sound.ends f (Ok c.in-Ok.after) c.in-Ok.ensures.makes (within_or u (meaning old.nodes c.read.result) (meaning old.nodes c.args.signal.0) before signal));
+      within = span_still u out out old new (writes_made out old new f (Ok c.in-Ok.after) c.requires.out.1 c.in-Ok.ensures.makes) (made_words old new f (Ok c.in-Ok.after) c.in-Ok.ensures.makes) c.requires.out.1 all;
+    }
+
+pub returns-clause-few : goal.returns-clause-few
+returns-clause-few c u all signal =
+    let out = c.args.out in
+    let old = c.args.store.now in
+    let mid = c.or.new.store in
+    let before : IsWithin u (meaning old.nodes c.read.result) = subst (λ (h : ℕ). IsWithin u (meaning old.nodes h)) (sym c.read.ensures) (all c.args.at c.requires.at) in
+    let f : Function = or_of (meaning old.nodes c.read.result) (meaning old.nodes c.args.signal.0) in
+    let first : Writes out old mid = writes_made out old mid f (Ok c.in-Ok.after) c.requires.out.1 c.in-Ok.ensures.makes in
+    let made = finds_made u old mid f (Ok c.in-Ok.after) c.node_count-ends.ensures.sound.ends c.in-Ok.ensures.makes (within_or u (meaning old.nodes c.read.result) (meaning old.nodes c.args.signal.0) before signal) in
+    spends_rewrites u out 1 old mid c.write.new.self true made.counts.added
+    (rewrites_word u out mid c.write.new.self c.args.at c.in-Ok.after.0 c.write.ensures c.requires.at (omega (arith, c.requires.out.0.1, first.len)) made.within
+    (span_still u out out old mid first (made_words old mid f (Ok c.in-Ok.after) c.in-Ok.ensures.makes) c.requires.out.1 all))

@@ -1,0 +1,147 @@
+-- Counts of the operations on the words of a part, one step after another.
+use Rattle.std.proofs.Common.{◌≡◌, ℕ, ◌+◌, ◌*◌, ◌<◌, ◌≤◌, Bool, not, ◌&&◌, Option, Some, None, List, length, Result, Ok, Err, slice_index, arith, ap, ap₂, refl, sym, subst, inl, inr}
+use Rattle.std.specs.Prelude.{IfSome, slice_set}
+use Rattle.std.proofs.Math.Nat.{add-mul, mul-add, mul_assoc, mul-le-mul_right}
+use Rattle.std.proofs.lemmas.Bool.{cases_eq}
+use Rattle.node_pool.specs.declared.region.Node.{Node}
+use Rattle.node_pool.specs.declared.region.Span.{Span}
+use Rattle.bdd_core.specs.declared.handle.H.{H}
+use Rattle.bdd_core.specs.declared.handle.Spent.{Spent}
+use Rattle.bdd_core.specs.Diagram.{Function, IsWithin, meaning}
+use Rattle.bdd_core.specs.Store.{Diagrams, Makes, Means, function_of}
+use Rattle.bdd_core.specs.Words.{IsApart, IsFilled, Writes, shows, word_at}
+use Rattle.bdd_core.proofs.Results.{if_ok_more}
+use Rattle.bdd_ops.specs.Counting.{Counts, IsCounted, IsSpanWithin}
+use Rattle.bdd_ops.proofs.CountingLaws.{counted_same, counted_then, counts_err, counts_made, counts_more, counts_none, counts_ok, counts_then, counts_value}
+use Rattle.bdd_ops.proofs.WithinLaws.{span_kept, within_same, within_zero}
+use Rattle.vrt_model.specs.Lists.{differ}
+use Rattle.vrt_model.specs.Reading.{conducts_at}
+use Rattle.vrt_model.specs.declared.design.Kind.{Kind}
+use Rattle.path_fixpoint.specs.Passed.{gated}
+use Rattle.path_fixpoint.specs.Reaching.{bit_is, reached_end, slot_of}
+use Rattle.path_fixpoint.specs.Strengths.{word_of}
+use Rattle.path_fixpoint.specs.Spending.{Finds, Rewrites, Spends}
+use Rattle.path_fixpoint.proofs.Frames.{word_apart, word_beside, word_here}
+use Rattle.path_fixpoint.proofs.ReachLaws.{slot_high, slot_low}
+
+module _ (u : ℕ) where
+  pub within_gated : (kind : Kind) (gate signal : Function) → IsWithin u gate → IsWithin u signal → IsWithin u (gated kind gate signal)
+  within_gated kind gate signal g s v w same = ap₂ (λ (x y : Bool). conducts_at kind x && y) (g v w same) (s v w same)
+
+  -- a handle from before
+  pub handle_kept : (out : Span) (old new : Diagrams) (h : ℕ) → Writes out old new → h < length old.nodes → IsWithin u (meaning old.nodes h) → IsWithin u (meaning new.nodes h)
+  handle_kept out old new h wr live w = within_same u (meaning old.nodes h) (meaning new.nodes h) (wr.kept h live) w
+
+  -- a span beside the one that is written
+  pub span_beside : (out span : Span) (old new : Diagrams) → Writes out old new → IsApart span out → IsFilled old span → IsSpanWithin u old span → IsSpanWithin u new span
+  span_beside out span old new wr apart live all =
+      span_kept u span old new (λ k lt. word_beside out span old new k wr apart lt) (λ k lt. wr.kept (word_at old span k) (live k lt)) all
+
+  -- the span itself, where no word changed
+  pub span_still : (out span : Span) (old new : Diagrams) → Writes out old new → new.words ≡ old.words → IsFilled old span → IsSpanWithin u old span → IsSpanWithin u new span
+  span_still out span old new wr words live all =
+      span_kept u span old new (λ k lt. ap (λ (ws : List ℕ). slice_index ws (span.start + k)) words) (λ k lt. wr.kept (word_at old span k) (live k lt)) all
+
+  -- the constant 0 stands in each word
+  pub rewrites_zero : (out : Span) (old new : Diagrams) → new ≡ record old { words = new.words } → ((k : ℕ) → k < out.len → word_at new out k ≡ 0) → Rewrites u out old new
+  rewrites_zero out old new is zero = record {
+    counted = counted_same u old new (ap (λ (d : Diagrams). d.budget) is) (ap (λ (d : Diagrams). d.nodes) is);
+    within = λ k lt. subst (λ (h : ℕ). IsWithin u (meaning new.nodes h)) (sym (zero k lt)) (within_zero u new);
+  }
+
+  -- whether a root has a value
+  pub root_within : (d : Diagrams) (roots : Span) (n : ℕ) (value : Bool) → n < roots.len → IsSpanWithin u d roots → IsWithin u (bit_is value (λ v. shows d roots n v))
+  root_within d roots n value lt all v w same = ap (λ (b : Bool). differ (not value) b) (all n lt v w same)
+
+  -- whether a value reaches the end of a channel
+  pub reached_within : (d : Diagrams) (roots out : Span) (value : Bool) (place : Option ℕ) (n : ℕ) → n < roots.len → IfSome place (λ i. 10 * i + 10 ≤ out.len)
+      → IsSpanWithin u d roots → IsSpanWithin u d out → IsWithin u (λ v. reached_end d roots out value place n v)
+  reached_within d roots out value None n lt fits roots_in all = λ v w same. ap (λ (b : Bool). differ (not value) b) (roots_in n lt v w same)
+  reached_within d roots out value (Some i) n lt fits roots_in all = all (word_of (slot_of value) i) (omega (arith, fits, slot_low value, slot_high value))
+
+  module _ (out : Span) where
+    pub rewrites_none : (d : Diagrams) → IsSpanWithin u d out → Rewrites u out d d
+    rewrites_none d all = record { counted = counted_same u d d refl refl; within = all }
+
+    pub rewrites_then : (x y z : Diagrams) → Rewrites u out x y → Rewrites u out y z → Rewrites u out x z
+    rewrites_then x y z f s = record { counted = counted_then u 0 0 x y z f.counted s.counted; within = s.within }
+
+    pub rewrites_word : (old new : Diagrams) (at h : ℕ) → new ≡ record old { words = slice_set old.words (out.start + at) h } → at < out.len → out.start + out.len ≤ length old.words
+        → IsWithin u (meaning old.nodes h) → IsSpanWithin u old out → Rewrites u out old new
+    rewrites_word old new at h is at_in span handle all =
+        let nodes : new.nodes ≡ old.nodes = ap (λ (d : Diagrams). d.nodes) is in
+        let same : (x : ℕ) → IsWithin u (meaning old.nodes x) → IsWithin u (meaning new.nodes x) = λ x w. subst (λ (ns : List Node). IsWithin u (meaning ns x)) (sym nodes) w in
+        record {
+          counted = counted_same u old new (ap (λ (d : Diagrams). d.budget) is) nodes;
+          within = λ k lt. elim (cases_eq k at) [
+            | inl e ↦
+                let here : word_at new out k ≡ h = subst (λ (x : ℕ). word_at new out x ≡ h) (sym e) (word_here out old new at h is at_in span) in
+                subst (λ (x : ℕ). IsWithin u (meaning new.nodes x)) (sym here) (same h handle)
+            | inr ne ↦ subst (λ (x : ℕ). IsWithin u (meaning new.nodes x)) (sym (word_apart out old new at h is at_in span k ne)) (same (word_at old out k) (all k lt))
+          ];
+        }
+
+    module _ {A : Type 0} where
+      pub spends_none : (d : Diagrams) (x : A) → IsSpanWithin u d out → Spends u 0 out d d (Ok x)
+      spends_none d x all = record { counts = counts_none u d x; within = all }
+
+      pub spends_more : (a b : ℕ) (old new : Diagrams) (r : Result A Spent) → a ≤ b → Spends u a out old new r → Spends u b out old new r
+      spends_more a b old new r le s = record { counts = counts_more u a b old new r le s.counts; within = s.within }
+
+      -- operations before a step
+      pub spends_behind : (a b : ℕ) (x y z : Diagrams) (r : Result A Spent) → IsCounted u a x y → Spends u b out y z r → Spends u (a + b) out x z r
+      spends_behind a b x y z r f s = record { counts = counts_then u a b x y z r f s.counts; within = s.within }
+
+      -- words that are written after a step
+      pub spends_rewrites : (a : ℕ) (x y z : Diagrams) (v : A) → IsCounted u a x y → Rewrites u out y z → Spends u a out x z (Ok v)
+      spends_rewrites a x y z v f s = record {
+        counts = counts_more u (a + 0) a x z (Ok v) (omega arith) (counts_ok u (a + 0) x z v (counted_then u a 0 x y z f s.counted));
+        within = s.within;
+      }
+
+    pub spends_err : {A B : Type 0} (a : ℕ) (old new : Diagrams) (e : Spent) → Spends {A = A} u a out old new (Err e) → Spends {A = B} u a out old new (Err e)
+    spends_err a old new e s = record { counts = counts_err u a old new e s.counts; within = tt }
+
+    pub spends_value : {A B : Type 0} (a : ℕ) (old new : Diagrams) (x : A) (y : B) → Spends u a out old new (Ok x) → Spends u a out old new (Ok y)
+    spends_value a old new x y s = record { counts = counts_value u a old new x y s.counts; within = s.within }
+
+    -- a refusal before any word was written
+    pub spends_refused : {A B : Type 0} (a : ℕ) (old new : Diagrams) (e : Spent) → Counts {A = A} u a old new (Err e) → Spends {A = B} u a out old new (Err e)
+    spends_refused a old new e s = record { counts = counts_err u a old new e s; within = tt }
+
+  pub finds_made : (old new : Diagrams) (f : Function) (r : Result H Spent) → 2 ≤ length old.nodes → Makes old new f r → IsWithin u f → Finds u 1 old new r
+  finds_made old new f r two m w = record {
+    counts = counts_made u old new two f r m w;
+    within = if_ok_more (λ h. Means new h f) (λ h. IsWithin u (function_of new h)) r (λ h is. within_same u f (meaning new.nodes h.0) is.same w) m.ok;
+  }
+
+  pub finds_then : (a b : ℕ) (x y z : Diagrams) (r : Result H Spent) → IsCounted u a x y → Finds u b y z r → Finds u (a + b) x z r
+  finds_then a b x y z r f s = record { counts = counts_then u a b x y z r f s.counts; within = s.within }
+
+  pub finds_more : (a b : ℕ) (old new : Diagrams) (r : Result H Spent) → a ≤ b → Finds u a old new r → Finds u b old new r
+  finds_more a b old new r le s = record { counts = counts_more u a b old new r le s.counts; within = s.within }
+
+pub one_more : (n size : ℕ) → n * size + size ≤ (n + 1) * size
+one_more n size = omega (arith, add-mul n 1 size)
+
+pub times_most : (n most size : ℕ) → n + 1 ≤ most → n * size + size ≤ most * size
+times_most n most size le = omega (arith, add-mul n 1 size, mul-le-mul_right {m = n + 1} {n = most} size le)
+
+-- the operations of the levels and of the two values, for n nets and m devices
+part_levels : (n m : ℕ) → 8 * (n * (m * 4)) ≡ 32 * (n * m)
+part_levels n m = omega (arith, mul_assoc n m 4)
+
+part_values : (n m : ℕ) → n * (m * 38) ≡ 38 * (n * m)
+part_values n m = omega (arith, mul_assoc n m 38)
+
+part_bound : (n m : ℕ) → 400 * (n * m) + 400 * n ≤ 400 * (n + 1) * (m + 1)
+part_bound n m = omega (arith, mul_assoc 400 (n + 1) (m + 1), add-mul n 1 (m + 1), mul-add n m 1)
+
+pub part_most_levels : (n m : ℕ) → 8 * (n * (m * 4)) ≤ 400 * (n + 1) * (m + 1)
+part_most_levels n m = omega (arith, part_levels n m, part_bound n m)
+
+pub part_most_one : (n m : ℕ) → 8 * (n * (m * 4)) + (n * 6 + n * (m * 38)) ≤ 400 * (n + 1) * (m + 1)
+part_most_one n m = omega (arith, part_levels n m, part_values n m, part_bound n m)
+
+pub part_most : (n m : ℕ) → 8 * (n * (m * 4)) + (n * 6 + n * (m * 38)) + (n * 6 + n * (m * 38)) ≤ 400 * (n + 1) * (m + 1)
+part_most n m = omega (arith, part_levels n m, part_values n m, part_bound n m)

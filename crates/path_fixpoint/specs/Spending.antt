@@ -1,0 +1,30 @@
+-- How many nodes the steps of a part add, by counts of their operations.
+use Rattle.std.specs.Prelude.{◌≡◌, ℕ, Result, IfOk}
+use Rattle.node_pool.specs.declared.region.Span.{Span}
+use Rattle.bdd_core.specs.declared.handle.H.{H}
+use Rattle.bdd_core.specs.declared.handle.Spent.{Spent}
+use Rattle.bdd_core.specs.Diagram.{IsWithin}
+use Rattle.bdd_core.specs.Store.{Diagrams, function_of}
+use Rattle.bdd_ops.specs.Counting.{Counts, IsCounted, IsSpanWithin}
+use Rattle.vrt_model.specs.Lists.{At}
+use Rattle.vrt_model.specs.declared.circuit.Circuit.{Circuit}
+use Rattle.vrt_model.specs.declared.circuit.Hold.{Hold}
+
+-- no net has two holds
+abbrev pub HasOneHold : Circuit → Type 0
+HasOneHold c = (i j : ℕ) (g h : Hold) → At c.holds i g → At c.holds j h → g.net ≡ h.net → i ≡ j
+
+-- words of a span were written and no node was made; the span's handles read only the first u variables
+pub record Rewrites (u : ℕ) (out : Span) (old new : Diagrams) : Type 0 where
+  pub counted : IsCounted u 0 old new
+  pub within : IsSpanWithin u new out
+
+-- at most so many operations; if they were not refused, the span's handles read only the first u variables
+pub record Spends {A : Type 0} (u operations : ℕ) (out : Span) (old new : Diagrams) (result : Result A Spent) : Type 0 where
+  pub counts : Counts u operations old new result
+  pub within : IfOk result (λ _. IsSpanWithin u new out)
+
+-- at most so many operations; if they were not refused, the handle that they found reads only the first u variables
+pub record Finds (u operations : ℕ) (old new : Diagrams) (result : Result H Spent) : Type 0 where
+  pub counts : Counts u operations old new result
+  pub within : IfOk result (λ r. IsWithin u (function_of new r))
