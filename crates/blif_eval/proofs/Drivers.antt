@@ -1,7 +1,7 @@
 -- What one driver for each signal says of a model without latches.
 use Rattle.std.proofs.Common.{◌≡◌, ℕ, zero, suc, ◌+◌, ◌<◌, ◌≤◌, ◌⊎◌, ◌++◌, ◌∷◌, [], List, Bool, cond, map, length, eqb, ap, arith, subst, sym, refl, ◌∙◌, inl, inr, Some}
 use Rattle.std.specs.Prelude.{count_by, slice_get, ◌==◌}
-use Rattle.std.proofs.lemmas.Bool.{cases_Bool, cases_lt, eq-eqb, eqb-true}
+use Rattle.std.proofs.lemmas.Bool.{cases_Bool, cases_lt, eq-eqb, eqb-true, ne_eqb}
 use Rattle.std.proofs.lemmas.List.Sums.{sum_by-cons}
 use Rattle.std.proofs.lemmas.Option.{same_Some, none-some}
 use Rattle.vrt_model.proofs.Members.{among_later, among_map, all_among}
@@ -17,13 +17,13 @@ abbrev pub times : ℕ → List ℕ → ℕ
 times s xs = count_by (λ d. d == s) xs
 
 -- how much an element counts
-abbrev counts : ℕ → ℕ → ℕ
+abbrev pub counts : ℕ → ℕ → ℕ
 counts s x = cond (eqb x s) 1 0
 
-times_more : (s x : ℕ) (xs : List ℕ) → times s (x ∷ xs) ≡ counts s x + times s xs
+pub times_more : (s x : ℕ) (xs : List ℕ) → times s (x ∷ xs) ≡ counts s x + times s xs
 times_more s x xs = sum_by-cons (λ (d : ℕ). cond (d == s) 1 0) x xs
 
-times_joined : (s : ℕ) (xs ys : List ℕ) → times s (xs ++ ys) ≡ times s xs + times s ys
+pub times_joined : (s : ℕ) (xs ys : List ℕ) → times s (xs ++ ys) ≡ times s xs + times s ys
 times_joined s [] ys = omega arith
 times_joined s (x ∷ xs) ys =
     let rest = times_joined s xs ys in
@@ -31,8 +31,11 @@ times_joined s (x ∷ xs) ys =
     let two = times_more s x xs in
     omega (arith, rest, one, two)
 
-test_one : (s x : ℕ) → x ≡ s → counts s x ≡ 1
+pub test_one : (s x : ℕ) → x ≡ s → counts s x ≡ 1
 test_one s x e = let amount : Bool → ℕ = λ b. cond b 1 0 in ap amount (eq-eqb x s e)
+
+pub test_other : (s x : ℕ) → (x ≡ s → ⊥) → counts s x ≡ 0
+test_other s x ne = let amount : Bool → ℕ = λ b. cond b 1 0 in ap amount (ne_eqb x s ne)
 
 times_among : (s : ℕ) (xs : List ℕ) → Among xs s → 1 ≤ times s xs
 times_among s [] m = absurd (none-some s m.1)
@@ -45,7 +48,7 @@ times_among s (x ∷ xs) (suc i, e) =
     let more = times_more s x xs in
     omega (arith, rest, more)
 
-among_times : (s : ℕ) (xs : List ℕ) → 1 ≤ times s xs → Among xs s
+pub among_times : (s : ℕ) (xs : List ℕ) → 1 ≤ times s xs → Among xs s
 among_times s [] le = absurd (omega (arith, le))
 among_times s (x ∷ xs) le =
     elim (cases_Bool (eqb x s)) [

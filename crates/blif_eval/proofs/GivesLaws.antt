@@ -11,7 +11,8 @@ use Rattle.bdd_core.specs.Diagram.{Function, IsReduced, IsSame, Valuation, meani
 use Rattle.bdd_core.specs.Store.{Diagrams, IsExact, IsLive, IsSpan, Makes, function_of}
 use Rattle.bdd_core.specs.declared.handle.H.{H}
 use Rattle.bdd_core.specs.declared.handle.Spent.{Spent}
-use Rattle.blif_eval.specs.Gives.{AreLive, Gives, bits_in, handle_in}
+use Rattle.bdd_core.specs.Words.{IsFilled, word_at}
+use Rattle.blif_eval.specs.Gives.{Gives, bits_in}
 use Rattle.node_pool.specs.declared.region.Node.{Node}
 use Rattle.node_pool.specs.declared.region.Span.{Span}
 use Rattle.vrt_model.specs.Covers.{byte_fits, cover_bit, is_empty, row_fits, some_row_fits}
@@ -21,16 +22,18 @@ pub gives_made : (old new : Diagrams) (f g : Function) (r : Result H Spent) → 
 gives_made old new f g (Ok r) same m x = record {
   rest = m.rest;
   sound = m.sound;
+  within = m.within;
   kept = x.kept;
   ok = record { live = m.ok.live; same = λ v. m.ok.same v ∙ same v };
   spent = tt;
 }
-gives_made old new f g (Err s) same m x = record { rest = m.rest; sound = m.sound; kept = x.kept; ok = tt; spent = (m.spent.number, m.spent.full) }
+gives_made old new f g (Err s) same m x = record { rest = m.rest; sound = m.sound; within = m.within; kept = x.kept; ok = tt; spent = (m.spent.number, m.spent.full) }
 
-pub gives_none : (d : Diagrams) (f : Function) (r : H) → IsReduced d.vars d.nodes → IsLive d r → IsSame (function_of d r) f → Gives d d f (Ok r)
-gives_none d f r sound live same = record {
+pub gives_none : (d : Diagrams) (f : Function) (r : H) → IsReduced d.vars d.nodes → length d.nodes ≤ d.budget → IsLive d r → IsSame (function_of d r) f → Gives d d f (Ok r)
+gives_none d f r sound within live same = record {
   rest = refl;
   sound = sound;
+  within = within;
   kept = λ h l. (l, λ v. refl);
   ok = record { live = live; same = same };
   spent = tt;
@@ -43,6 +46,7 @@ pub gives_next : (a b c : Diagrams) (f g h : Function) (p : H) (r : Result H Spe
 gives_next a b c f g h p (Ok r) first second same = record {
   rest = second.rest ∙ ap (with_nodes c.nodes) first.rest;
   sound = second.sound;
+  within = second.within;
   kept = λ x live. let one = first.kept x live in let two = second.kept x one.0 in (two.0, λ v. two.1 v ∙ one.1 v);
   ok = record { live = second.ok.live; same = λ v. second.ok.same v ∙ same v };
   spent = tt;
@@ -50,6 +54,7 @@ gives_next a b c f g h p (Ok r) first second same = record {
 gives_next a b c f g h p (Err s) first second same = record {
   rest = second.rest ∙ ap (with_nodes c.nodes) first.rest;
   sound = second.sound;
+  within = second.within;
   kept = λ x live. let one = first.kept x live in let two = second.kept x one.0 in (two.0, λ v. two.1 v ∙ one.1 v);
   ok = tt;
   spent = second.spent;
@@ -70,19 +75,19 @@ one_literal false b = refl
 pub span_kept : (a b : Diagrams) (f : Function) (r : Result H Spent) (span : Span) → Gives a b f r → IsSpan a span → IsSpan b span
 span_kept a b f r span g is = subst (λ (d : Diagrams). IsSpan d span) (sym g.rest) is
 
-pub handle_kept : (a b : Diagrams) (f : Function) (r : Result H Spent) (span : Span) (s : ℕ) → Gives a b f r → handle_in b span s ≡ handle_in a span s
-handle_kept a b f r span s g = ap (λ (d : Diagrams). handle_in d span s) g.rest
+pub handle_kept : (a b : Diagrams) (f : Function) (r : Result H Spent) (span : Span) (s : ℕ) → Gives a b f r → word_at b span s ≡ word_at a span s
+handle_kept a b f r span s g = ap (λ (d : Diagrams). word_at d span s) g.rest
 
-pub live_kept : (a b : Diagrams) (f : Function) (r : Result H Spent) (span : Span) → Gives a b f r → AreLive a span → AreLive b span
+pub live_kept : (a b : Diagrams) (f : Function) (r : Result H Spent) (span : Span) → Gives a b f r → IsFilled a span → IsFilled b span
 live_kept a b f r span g live s lt =
     let same = handle_kept a b f r span s g in
-    let there = (g.kept (record { 0 = handle_in a span s }) (live s lt)).0 in
+    let there = (g.kept (record { 0 = word_at a span s }) (live s lt)).0 in
     omega (arith, same, there)
 
-pub bits_kept : (a b : Diagrams) (f : Function) (r : Result H Spent) (span : Span) (s : ℕ) (v : Valuation) → Gives a b f r → AreLive a span → s < span.len
+pub bits_kept : (a b : Diagrams) (f : Function) (r : Result H Spent) (span : Span) (s : ℕ) (v : Valuation) → Gives a b f r → IsFilled a span → s < span.len
     → bits_in b span v s ≡ bits_in a span v s
 bits_kept a b f r span s v g live lt =
-    ap (λ (k : ℕ). meaning b.nodes k v) (handle_kept a b f r span s g) ∙ (g.kept (record { 0 = handle_in a span s }) (live s lt)).1 v
+    ap (λ (k : ℕ). meaning b.nodes k v) (handle_kept a b f r span s g) ∙ (g.kept (record { 0 = word_at a span s }) (live s lt)).1 v
 
 -- ---- a row, from its last input to its first
 
@@ -94,13 +99,13 @@ abbrev pub row_from : Diagrams → Span → List ℕ → List ℕ → ℕ → Fu
 row_from d span inputs row at = λ v. row_fits (bits_in d span v) (drop at inputs) (drop at row)
 
 pub row_last : (d : Diagrams) (span : Span) (inputs row : List ℕ) (at : ℕ) → at ≡ length inputs → IsReduced d.vars d.nodes
-    → Gives d d (row_from d span inputs row at) (Ok (record { 0 = 1 }))
-row_last d span inputs row at is sound =
-    gives_none d (row_from d span inputs row at) (record { 0 = 1 }) sound (let ends = sound.ends in omega (arith, ends))
+    → length d.nodes ≤ d.budget → Gives d d (row_from d span inputs row at) (Ok (record { 0 = 1 }))
+row_last d span inputs row at is sound within =
+    gives_none d (row_from d span inputs row at) (record { 0 = 1 }) sound within (let ends = sound.ends in omega (arith, ends))
     (λ v. meaning_one d.nodes v ∙ sym (ap (λ (xs : List ℕ). row_fits (bits_in d span v) xs (drop at row)) (ap (λ (k : ℕ). drop k inputs) is ∙ drop_all inputs)))
 
-pub row_next : (a b c : Diagrams) (span : Span) (inputs row : List ℕ) (before at : ℕ) (value p : H) (r : Result H Spent) → before ≡ suc at → AreLive a span
-    → at < length inputs → at < length row → get_or inputs at 0 < span.len → value.0 ≡ handle_in b span (get_or inputs at 0)
+pub row_next : (a b c : Diagrams) (span : Span) (inputs row : List ℕ) (before at : ℕ) (value p : H) (r : Result H Spent) → before ≡ suc at → IsFilled a span
+    → at < length inputs → at < length row → get_or inputs at 0 < span.len → value.0 ≡ word_at b span (get_or inputs at 0)
     → Gives a b (row_from a span inputs row before) (Ok p) → Gives b c (λ v. byte_fits (get_or row at 0) (function_of b value v) && function_of b p v) r
     → Gives a c (row_from a span inputs row at) r
 row_next a b c span inputs row before at value p r next live lt within low is first second =
@@ -121,6 +126,7 @@ pub gives_refused : (a b c : Diagrams) (f g h : Function) (p : H) (s : Spent) �
 gives_refused a b c f g h p s first second = record {
   rest = second.rest ∙ ap (with_nodes c.nodes) first.rest;
   sound = second.sound;
+  within = second.within;
   kept = λ x live. let one = first.kept x live in let two = second.kept x one.0 in (two.0, λ v. two.1 v ∙ one.1 v);
   ok = tt;
   spent = second.spent;
@@ -131,12 +137,13 @@ gives_refused a b c f g h p s first second = record {
 abbrev pub rows_upto : Diagrams → Span → List ℕ → List (List ℕ) → ℕ → Function
 rows_upto d span inputs rows k = λ v. some_row_fits (bits_in d span v) inputs (take k rows)
 
-pub rows_none : (d : Diagrams) (span : Span) (inputs : List ℕ) (rows : List (List ℕ)) → IsReduced d.vars d.nodes → Gives d d (rows_upto d span inputs rows 0) (Ok (record { 0 = 0 }))
-rows_none d span inputs rows sound =
-    gives_none d (rows_upto d span inputs rows 0) (record { 0 = 0 }) sound (let ends = sound.ends in omega (arith, ends)) (λ v. meaning_zero d.nodes v)
+pub rows_none : (d : Diagrams) (span : Span) (inputs : List ℕ) (rows : List (List ℕ)) → IsReduced d.vars d.nodes → length d.nodes ≤ d.budget
+    → Gives d d (rows_upto d span inputs rows 0) (Ok (record { 0 = 0 }))
+rows_none d span inputs rows sound within =
+    gives_none d (rows_upto d span inputs rows 0) (record { 0 = 0 }) sound within (let ends = sound.ends in omega (arith, ends)) (λ v. meaning_zero d.nodes v)
 
 -- the same bits of the inputs, the same rows fit
-row_bits : (a b : Diagrams) (f : Function) (r : Result H Spent) (span : Span) (v : Valuation) (inputs row : List ℕ) → Gives a b f r → AreLive a span
+row_bits : (a b : Diagrams) (f : Function) (r : Result H Spent) (span : Span) (v : Valuation) (inputs row : List ℕ) → Gives a b f r → IsFilled a span
     → All (λ s. s < span.len) inputs → row_fits (bits_in b span v) inputs row ≡ row_fits (bits_in a span v) inputs row
 row_bits a b f r span v inputs row g live low =
     row_same (bits_in b span v) (bits_in a span v) inputs row (λ s m. bits_kept a b f r span s v g live (all_among (λ (k : ℕ). k < span.len) inputs s low m))
@@ -150,7 +157,7 @@ added_row a b c span inputs row sum one r there first second =
     (λ v. ap₂ (λ (x y : Bool). x || y) ((first.kept sum there).1 v) (first.ok.same v))
 
 -- a row more
-pub rows_next : (a b c : Diagrams) (span : Span) (inputs : List ℕ) (rows : List (List ℕ)) (k : ℕ) (sum : H) (r : Result H Spent) → AreLive a span
+pub rows_next : (a b c : Diagrams) (span : Span) (inputs : List ℕ) (rows : List (List ℕ)) (k : ℕ) (sum : H) (r : Result H Spent) → IsFilled a span
     → All (λ s. s < span.len) inputs → k < length rows → Gives a b (rows_upto a span inputs rows k) (Ok sum)
     → Gives b c (λ v. function_of b sum v || row_fits (bits_in b span v) inputs (get_or rows k [])) r → Gives a c (rows_upto a span inputs rows (k + 1)) r
 rows_next a b c span inputs rows k sum r live low lt first second =
@@ -168,6 +175,7 @@ pub rows_all : (a b : Diagrams) (span : Span) (inputs : List ℕ) (rows : List (
 rows_all a b span inputs rows k sum le g = record {
   rest = g.rest;
   sound = g.sound;
+  within = g.within;
   kept = g.kept;
   ok = record { live = g.ok.live; same = λ v. g.ok.same v ∙ ap (λ (xs : List (List ℕ)). some_row_fits (bits_in a span v) inputs xs) (take_all rows k le) };
   spent = tt;
@@ -189,11 +197,12 @@ pub cover_rows : (a b : Diagrams) (span : Span) (cover : Cover) (r : Result H Sp
 cover_rows a b span cover (Ok p) e g = record {
   rest = g.rest;
   sound = g.sound;
+  within = g.within;
   kept = g.kept;
   ok = record { live = g.ok.live; same = λ v. g.ok.same v ∙ cover_as_rows (bits_in a span v) cover e };
   spent = tt;
 }
-cover_rows a b span cover (Err s) e g = record { rest = g.rest; sound = g.sound; kept = g.kept; ok = tt; spent = g.spent }
+cover_rows a b span cover (Err s) e g = record { rest = g.rest; sound = g.sound; within = g.within; kept = g.kept; ok = tt; spent = g.spent }
 
 pub cover_none : (a b c : Diagrams) (span : Span) (cover : Cover) (sum : H) (r : Result H Spent) → (cover.on || is_empty cover.rows) ≡ false
     → Gives a b (λ v. some_row_fits (bits_in a span v) cover.inputs cover.rows) (Ok sum) → Makes b c (not_of (function_of b sum)) r → IsExact b c (not_of (function_of b sum)) r

@@ -106,7 +106,7 @@ module _ (flat : FlatModel) (model : IsFlatModel flat) (latchless : flat.latches
       at_none m.0 part
       (subst (λ (ls : List FlatLatch). At (flat_map (λ (l : Numbered). parts_by (length flat.signals) l l.latch.kind) (numbered_from 0 ls)) m.0 part) latchless m.1)
 
-  no_latch : (l : Numbered) → Among (numbered_latches flat) l → ⊥
+  pub no_latch : (l : Numbered) → Among (numbered_latches flat) l → ⊥
   no_latch l m = at_none m.0 l (subst (λ (ls : List FlatLatch). At (numbered_from 0 ls) m.0 l) latchless m.1)
 
   pub no_elements : length (element_names flat) ≡ 0
@@ -166,10 +166,11 @@ first_over A B over back (n ∷ nodes) first = (cycle_over A B over (n ∷ nodes
 
 -- an order of the graph, or its first cycle, is that of the model; and with an order there is one assignment
 pub plan_gives : (flat : FlatModel) → IsFlatModel flat → flat.latches ≡ [] → (graph : List (List ℕ)) (known : List (Option Bool)) → length graph ≡ length flat.signals
-    → HasArcs (ArcOf flat known) graph → (o : Order) → OrderGives graph o → PlanGives flat known (plan_by o)
-plan_gives flat model latchless graph known size arcs (Cycle nodes) first =
+    → HasArcs (ArcOf flat known) graph → (drivers : List ℕ) → AreDrivers (length flat.signals) flat.covers (length flat.covers) drivers → (o : Order) → OrderGives graph o
+    → PlanGives flat known (plan_by drivers o)
+plan_gives flat model latchless graph known size arcs drivers are (Cycle nodes) first =
     first_over (ArcIn graph) (ArcOf flat known) (λ f t. (arcs f t).0) (λ f t. (arcs f t).1) nodes first
-plan_gives flat model latchless graph known size arcs (Steps steps) order = record {
+plan_gives flat model latchless graph known size arcs drivers are (Steps steps) order = record {
   lists = record {
     all = λ n lt. order.lists.all n (omega (arith, lt, size, none));
     below = λ n m. let low = order.lists.below n m in omega (arith, low, size, none);
@@ -177,7 +178,8 @@ plan_gives flat model latchless graph known size arcs (Steps steps) order = reco
   };
   follows = λ from to k at arc. order.follows from to k at ((arcs from to).1 arc);
   acyclic = λ nodes cycle. order.acyclic nodes (cycle_over (ArcOf flat known) (ArcIn graph) (λ f t. (arcs f t).1) nodes cycle);
-  assigned = λ default_clock held inputs given default.
+  drivers = are;
+  assigned = λ default_clock held inputs as_known.
       one_assignment flat model latchless default_clock held inputs steps
       (λ s lt. order.lists.all s (omega (arith, lt, size)))
       (λ c input k m i at. order.follows input c.output k at ((arcs input c.output).1 (inl (c, m, i, refl))));

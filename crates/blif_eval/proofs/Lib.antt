@@ -7,4 +7,9 @@ pub mod TrailLaws
 pub mod GraphLaws
 pub mod OrderLaws
 pub mod GivesLaws
+pub mod Frames
+pub mod EvalLaws
+pub mod CountLaws
+pub mod OperationLaws
+pub mod CheckLaws
 pub mod CoverRows

@@ -1,5 +1,6 @@
 -- An order of the signals and elements of a model that follows its arcs.
-use Rattle.std.specs.Prelude.{◌≡◌, ℕ, ◌+◌, ◌<◌, Bool, List, length, Option, Some, None, Result, Ok, Err, slice_get, unwrap_or}
+use Rattle.std.specs.Prelude.{◌≡◌, ℕ, ◌+◌, ◌++◌, ◌<◌, Bool, List, length, Option, Some, None, Result, Ok, Err, slice_get, unwrap_or}
+use Rattle.blif_eval.specs.Drivers.{AreDrivers}
 use Rattle.blif_eval.specs.OneAssignment.{HasOneAssignment}
 use Rattle.blif_eval.specs.declared.order.Order.{Order}
 use Rattle.blif_eval.specs.declared.order.Order.TheVariants.{Steps, Cycle}
@@ -9,7 +10,7 @@ use Rattle.blif_eval.specs.declared.plan.PlanFault.TheVariants.{ModelCycle, NoMe
 use Rattle.vrt_model.specs.Elements.{element_names}
 use Rattle.vrt_model.specs.Known.{IsCycle, IsFirstCycle}
 use Rattle.vrt_model.specs.Lists.{At, Among}
-use Rattle.vrt_model.specs.ModelArcs.{AreGiven, HasModelArc}
+use Rattle.vrt_model.specs.ModelArcs.{HasModelArc}
 use Rattle.vrt_model.specs.declared.flat_model.FlatModel.{FlatModel}
 
 -- each number below a count stands once, and no other
@@ -33,25 +34,31 @@ entry_of known s = unwrap_or (slice_get known s) None
 abbrev pub ArcOf : FlatModel → List (Option Bool) → ℕ → ℕ → Type 0
 ArcOf flat known = HasModelArc flat (entry_of known) (entry_of known (length flat.signals))
 
+-- each known bit is the one of an input or a clock, or, behind the signals, that of the default clock
+pub record HasKnownBits (flat : FlatModel) (known : List (Option Bool)) (default_clock : Bool) (inputs : ℕ → Bool) : Type 0 where
+  pub signals : (s : ℕ) (v : Bool) → s < length flat.signals → entry_of known s ≡ Some v → Among (flat.inputs ++ flat.clocks) s × (inputs s ≡ v)
+  pub clock : (v : Bool) → entry_of known (length flat.signals) ≡ Some v → default_clock ≡ v
+
 -- exactly one assignment, at any bits that are as is known
 abbrev pub IsAssignedOnce : FlatModel → List (Option Bool) → Type 0
 IsAssignedOnce flat known =
-    (default_clock : Bool) (held inputs : ℕ → Bool) → AreGiven flat (entry_of known) inputs
-    → ((v : Bool) → entry_of known (length flat.signals) ≡ Some v → v ≡ default_clock) → HasOneAssignment flat default_clock held inputs
+    (default_clock : Bool) (held inputs : ℕ → Bool) → HasKnownBits flat known default_clock inputs → HasOneAssignment flat default_clock held inputs
 
--- a plan of a model: an order that follows the arcs, which have no cycle; and then there is one assignment
-pub record IsPlan (flat : FlatModel) (known : List (Option Bool)) (steps : List ℕ) : Type 0 where
-  pub lists : ListsOnce (node_count flat) steps
-  pub follows : Follows (ArcOf flat known) steps
+-- a plan of a model: an order that follows the arcs, which have no cycle; then there is one assignment; and the place of
+-- the cover of each signal
+pub record IsPlan (flat : FlatModel) (known : List (Option Bool)) (plan : ModelPlan) : Type 0 where
+  pub lists : ListsOnce (node_count flat) plan.steps
+  pub follows : Follows (ArcOf flat known) plan.steps
   pub acyclic : (nodes : List ℕ) → ¬ IsCycle (ArcOf flat known) nodes
   pub assigned : IsAssignedOnce flat known
+  pub drivers : AreDrivers (length flat.signals) flat.covers (length flat.covers) plan.drivers
 
 abbrev pub PlanGives : FlatModel → List (Option Bool) → Result ModelPlan PlanFault → Type 0
-PlanGives flat known (Ok plan) = IsPlan flat known plan.steps
+PlanGives flat known (Ok plan) = IsPlan flat known plan
 PlanGives flat known (Err (ModelCycle signals)) = IsFirstCycle (ArcOf flat known) signals
 PlanGives flat known (Err NoMemory) = Unit {0}
 
--- the answer by the order of a graph
-abbrev pub plan_by : Order → Result ModelPlan PlanFault
-plan_by (Steps steps) = Ok (record { steps = steps })
-plan_by (Cycle nodes) = Err (ModelCycle nodes)
+-- the answer by the order of a graph and by the places of covers
+abbrev pub plan_by : List ℕ → Order → Result ModelPlan PlanFault
+plan_by drivers (Steps steps) = Ok (record { steps = steps; drivers = drivers })
+plan_by drivers (Cycle nodes) = Err (ModelCycle nodes)

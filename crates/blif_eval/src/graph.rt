@@ -49,7 +49,7 @@ fn no_drivers(alloc: Global, signals: usize, place: usize) -> Result<Vec<usize>,
 }
 
 /// The place of the cover that gives each signal, or the number of covers where none does.
-fn drivers_of(alloc: Global, flat: &FlatModel) -> Result<Vec<usize>, NoMemory>
+fn find_drivers(alloc: Global, flat: &FlatModel) -> Result<Vec<usize>, NoMemory>
     requires model { IsFlatModel flat.now }
     requires latchless { flat.now.latches ≡ [] }
     ensures { IfOk result (λ drivers. AreDrivers (length flat.now.signals) flat.now.covers (length flat.now.covers) drivers.items) }
@@ -57,6 +57,30 @@ fn drivers_of(alloc: Global, flat: &FlatModel) -> Result<Vec<usize>, NoMemory>
     let mut drivers = no_drivers(alloc, flat.signals.len(), flat.covers.len())?;
     for (place, cover) in flat.covers.as_slice().iter().enumerate() {
         note(&mut drivers, cover.output, place);
+    }
+    Ok(drivers)
+}
+
+/// Adds a place at the end.
+fn append_place(places: &mut Seq<usize>, place: usize) -> Result<(), NoMemory>
+    ensures { OnOk result (places.new ≡ places.old ++ place ∷ []) }
+{
+    match places.push(place) {
+        Ok(()) => Ok(()),
+        Err(_) => Err(NoMemory),
+    }
+}
+
+/// The place of the cover that gives each signal, or the number of covers where none does, as a list.
+pub(crate) fn drivers_of(alloc: Global, flat: &FlatModel) -> Result<Seq<usize>, NoMemory>
+    requires model { IsFlatModel flat.now }
+    requires latchless { flat.now.latches ≡ [] }
+    ensures { IfOk result (λ drivers. AreDrivers (length flat.now.signals) flat.now.covers (length flat.now.covers) drivers) }
+{
+    let found = find_drivers(alloc, flat)?;
+    let mut drivers = Seq::new(alloc);
+    for place in found.as_slice() {
+        append_place(&mut drivers, *place)?;
     }
     Ok(drivers)
 }
@@ -105,15 +129,19 @@ fn graph_by(alloc: Global, flat: &FlatModel, drivers: &[usize]) -> Result<Seq<Se
     Ok(graph)
 }
 
-/// What depends on what in a model without latches.
-pub(crate) fn graph_of(alloc: Global, flat: &FlatModel) -> Result<Seq<Seq<u32>>, NoMemory>
+/// What depends on what in a model without latches, by the places of its covers.
+pub(crate) fn graph_of(
+    alloc: Global,
+    flat: &FlatModel,
+    drivers: &[usize],
+) -> Result<Seq<Seq<u32>>, NoMemory>
     requires model { IsFlatModel flat.now }
     requires latchless { flat.now.latches ≡ [] }
+    requires drivers { AreDrivers (length flat.now.signals) flat.now.covers (length flat.now.covers) drivers.now }
     ensures arcs { IfOk result (λ graph. (known : List (Option Bool)) → HasArcs (ArcOf flat.now known) graph) }
     ensures size { IfOk result (λ graph. length graph ≡ length flat.now.signals) }
     ensures inside { IfOk result (λ graph. AreInside graph) }
 {
-    let drivers = drivers_of(alloc, flat)?;
-    let graph = graph_by(alloc, flat, drivers.as_slice())?;
+    let graph = graph_by(alloc, flat, drivers)?;
     Ok(graph)
 }

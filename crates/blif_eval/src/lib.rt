@@ -1,16 +1,22 @@
-//! A model evaluated by diagrams: an order of its signals and elements that follows what depends on what, and the
-//! diagram of a cover from those of its inputs.
+//! A model evaluated by diagrams: an order of its signals and elements that follows what depends on what, the diagram
+//! of a cover from those of its inputs, and the diagrams of all signals.
 #![tactic(auto)]
 
 mod cover;
 mod cycle;
+mod eval;
 mod graph;
 mod order;
 mod placing;
 mod plan;
 
 pub use cover::cover_diagram;
+pub use eval::eval_model;
 pub use plan::{ModelPlan, PlanFault, model_plan};
 
+#[cfg(test)]
+mod checks;
+#[cfg(test)]
+mod models;
 #[cfg(test)]
 mod tests;

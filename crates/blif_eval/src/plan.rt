@@ -1,19 +1,21 @@
 //! The order in which the signals and elements of a model take their values.
 
 ghost use Rattle.std.specs.Prelude.{◌≡◌, ◌+◌, [], Bool, List, Option, length, IfOk};
+ghost use Rattle.blif_eval.specs.Drivers.{AreDrivers};
 ghost use Rattle.blif_eval.specs.Plans.{PlanGives, plan_by};
 ghost use Rattle.vrt_model.specs.FlatModels.{IsFlatModel};
 
-use crate::graph::graph_of;
+use crate::graph::{drivers_of, graph_of};
 use crate::order::{Order, order_of};
 use std::alloc::Global;
 use vrt_model::{FlatModel, NoMemory, Seq};
 
 /// The signals and elements of a model in an order that follows what depends on what. Elements are numbered after the
-/// signals.
+/// signals. `drivers` has for each signal the place of the cover that gives it, or the number of covers where none does.
 #[derive(Debug, Drop)]
 pub struct ModelPlan {
     pub steps: Seq<u32>,
+    pub drivers: Seq<usize>,
 }
 
 /// Why a model has no plan: what depends on what leads around. The cycle begins with the least number on any.
@@ -24,12 +26,13 @@ pub enum PlanFault {
 }
 
 /// The order of what depends on what in a model, or the first cycle.
-fn planned(alloc: Global, flat: &FlatModel) -> Result<Order, NoMemory>
+fn planned(alloc: Global, flat: &FlatModel, drivers: &[usize]) -> Result<Order, NoMemory>
     requires model { IsFlatModel flat.now }
     requires latchless { flat.now.latches ≡ [] }
-    ensures { IfOk result (λ o. (known : List (Option Bool)) → PlanGives flat.now known (plan_by o)) }
+    requires drivers { AreDrivers (length flat.now.signals) flat.now.covers (length flat.now.covers) drivers.now }
+    ensures { IfOk result (λ o. (known : List (Option Bool)) → PlanGives flat.now known (plan_by drivers.now o)) }
 {
-    let graph = graph_of(alloc, flat)?;
+    let graph = graph_of(alloc, flat, drivers)?;
     let order = order_of(alloc, graph.as_slice())?;
     Ok(order)
 }
@@ -49,8 +52,11 @@ pub fn model_plan(
     ensures { PlanGives flat.now known.now result }
 {
     let _no_control = known;
-    match planned(alloc, flat) {
-        Ok(Order::Steps(steps)) => Ok(ModelPlan { steps }),
+    let Ok(drivers) = drivers_of(alloc, flat) else {
+        return Err(PlanFault::NoMemory);
+    };
+    match planned(alloc, flat, drivers.as_slice()) {
+        Ok(Order::Steps(steps)) => Ok(ModelPlan { steps, drivers }),
         Ok(Order::Cycle(signals)) => Err(PlanFault::ModelCycle { signals }),
         Err(_) => Err(PlanFault::NoMemory),
     }

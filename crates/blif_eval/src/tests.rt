@@ -2,7 +2,7 @@
 
 ghost use Rattle.std.specs.Prelude.{◌≡◌, ◌<◌, ◌≤◌, ◌⊎◌, All, true, length};
 ghost use Rattle.bdd_core.specs.Store.{IsSpan};
-ghost use Rattle.blif_eval.specs.Gives.{AreLive};
+ghost use Rattle.bdd_core.specs.Words.{IsFilled};
 ghost use Rattle.vrt_model.specs.FlatModels.{IsCover, IsRow};
 
 use crate::cover_diagram;
@@ -31,13 +31,13 @@ fn are_rows(rows: &[Text], width: usize) -> bool
     rows.iter().all(|row| is_row(row, width))
 }
 
-fn are_below(numbers: &[u32], count: u32) -> bool
+pub(crate) fn are_below(numbers: &[u32], count: u32) -> bool
     ensures { result ≡ true → All (λ s. s < count) numbers.now }
 {
     numbers.iter().all(|s| *s < count)
 }
 
-fn is_cover(cover: &Cover, count: u32) -> bool
+pub(crate) fn is_cover(cover: &Cover, count: u32) -> bool
     ensures { result ≡ true → IsCover count cover.now }
 {
     are_below(cover.inputs.as_slice(), count)
@@ -46,7 +46,7 @@ fn is_cover(cover: &Cover, count: u32) -> bool
 }
 
 // Whether a span is live in a store.
-fn is_span(store: &Store, span: Span) -> bool
+pub(crate) fn is_span(store: &Store, span: Span) -> bool
     ensures { result ≡ true → IsSpan store.now span }
 {
     let words = store.mark().words as u64;
@@ -54,9 +54,9 @@ fn is_span(store: &Store, span: Span) -> bool
 }
 
 // Whether each word of a span is a live handle.
-fn are_live(store: &Store, span: Span) -> bool
+pub(crate) fn are_live(store: &Store, span: Span) -> bool
     requires { IsSpan store.now span }
-    ensures { result ≡ true → AreLive store.now span }
+    ensures { result ≡ true → IsFilled store.now span }
 {
     let count = store.node_count();
     for s in 0..span.len {
@@ -144,7 +144,7 @@ fn cover(alloc: Global, on: bool, numbers: &[u8]) -> Result<Cover, NoMemory> {
     })
 }
 
-fn valuation(alloc: Global, at: u8) -> Result<Valuation, NoMemory> {
+pub(crate) fn valuation(alloc: Global, at: u8) -> Result<Valuation, NoMemory> {
     let mut bits = Seq::new(alloc);
     for place in [4u8, 2, 1] {
         if let Err((_, fault)) = bits.push(at & place != 0) {
@@ -154,7 +154,7 @@ fn valuation(alloc: Global, at: u8) -> Result<Valuation, NoMemory> {
     Ok(Valuation { bits })
 }
 
-fn value(store: &Store, f: H, at: &Valuation) -> Option<bool> {
+pub(crate) fn value(store: &Store, f: H, at: &Valuation) -> Option<bool> {
     if f.0 >= store.node_count() || (store.vars() as usize) > at.bits.len() {
         return None;
     }

@@ -1,12 +1,16 @@
-use Rattle.std.proofs.Common.{◌&&◌, ℕ, ap, sym, ◌∙◌}
+use Rattle.std.proofs.Common.{◌&&◌, ℕ, ap, arith, sym, subst, ◌∙◌}
 use Rattle.bdd_core.proofs.Meaning.{meaning_zero}
 use Rattle.bdd_core.specs.Diagram.{Function, IsSame, choice, meaning}
+use Rattle.bdd_ops.proofs.CountingLaws.{counts_made, counts_more, counts_none}
+use Rattle.bdd_ops.proofs.WithinLaws.{within_choice, within_zero}
+use Rattle.bdd_ops.specs.Counting.{Counts}
 use Rattle.blif_eval.proofs.GivesLaws.{gives_made, one_literal, zero_literal}
+use Rattle.blif_eval.specs.Operations.{literal_count}
 use Rattle.vrt_model.specs.Covers.{byte_fits}
 use Rattle.blif_eval.proofs.cover.literal.Goals as goal
 
-pub returns-in-48 : goal.returns-in-48
-returns-in-48 c =
+pub returns-in-48-clause-gives : goal.returns-in-48-clause-gives
+returns-in-48-clause-gives c =
     let ns = c.args.store.now.nodes in
     let whole : Function = choice (meaning ns c.args.value.0) (meaning ns 0) (meaning ns c.args.rest.0) in
     let goal_of : Function = λ v. byte_fits c.args.byte (meaning ns c.args.value.0 v) && meaning ns c.args.rest.0 v in
@@ -15,8 +19,17 @@ returns-in-48 c =
     ∙ ap (λ (b : ℕ). byte_fits b (meaning ns c.args.value.0 v) && meaning ns c.args.rest.0 v) (sym c.in-48.is)) in
     gives_made c.args.store.now c.ite.new.self whole goal_of c.ite.result same c.ite.ensures.makes c.ite.ensures.exact
 
-pub returns-in-49 : goal.returns-in-49
-returns-in-49 c =
+pub returns-in-48-clause-counts : goal.returns-in-48-clause-counts
+returns-in-48-clause-counts c u value rest =
+    let old = c.args.store.now in
+    let f = meaning old.nodes c.args.value.0 in
+    let zero = meaning old.nodes 0 in
+    let g = meaning old.nodes c.args.rest.0 in
+    subst (λ (b : ℕ). Counts u (literal_count b) old c.ite.new.self c.ite.result) (sym c.in-48.is)
+    (counts_made u old c.ite.new.self c.node_count-ends.ensures.sound.ends (choice f zero g) c.ite.result c.ite.ensures.makes (within_choice u f zero g value (within_zero u old) rest))
+
+pub returns-in-49-clause-gives : goal.returns-in-49-clause-gives
+returns-in-49-clause-gives c =
     let ns = c.args.store.now.nodes in
     let whole : Function = choice (meaning ns c.args.value.0) (meaning ns c.args.rest.0) (meaning ns 0) in
     let goal_of : Function = λ v. byte_fits c.args.byte (meaning ns c.args.value.0 v) && meaning ns c.args.rest.0 v in
@@ -24,3 +37,16 @@ returns-in-49 c =
     λ v. rw (meaning_zero ns v) (one_literal (meaning ns c.args.value.0 v) (meaning ns c.args.rest.0 v)
     ∙ ap (λ (b : ℕ). byte_fits b (meaning ns c.args.value.0 v) && meaning ns c.args.rest.0 v) (sym c.in-49.is)) in
     gives_made c.args.store.now c.ite-in-49.new.self whole goal_of c.ite-in-49.result same c.ite-in-49.ensures.makes c.ite-in-49.ensures.exact
+
+pub returns-in-49-clause-counts : goal.returns-in-49-clause-counts
+returns-in-49-clause-counts c u value rest =
+    let old = c.args.store.now in
+    let f = meaning old.nodes c.args.value.0 in
+    let zero = meaning old.nodes 0 in
+    let g = meaning old.nodes c.args.rest.0 in
+    subst (λ (b : ℕ). Counts u (literal_count b) old c.ite-in-49.new.self c.ite-in-49.result) (sym c.in-49.is)
+    (counts_made u old c.ite-in-49.new.self c.node_count-ends.ensures.sound.ends (choice f g zero) c.ite-in-49.result c.ite-in-49.ensures.makes
+    (within_choice u f g zero value rest (within_zero u old)))
+
+pub returns-in_default-clause-counts : goal.returns-in_default-clause-counts
+returns-in_default-clause-counts c u value rest = counts_more u 0 (literal_count c.args.byte) c.args.store.now c.args.store.now _ (omega arith) (counts_none u c.args.store.now c.args.rest)

@@ -1,11 +1,17 @@
-use Rattle.std.proofs.Common.{◌≤◌, Ok, length}
+use Rattle.std.proofs.Common.{ℕ, ◌≤◌, Ok, drop, length}
+use Rattle.bdd_ops.specs.Counting.{IsCounted, IsSpanWithin}
 use Rattle.blif_eval.proofs.GivesLaws.{row_from}
 use Rattle.blif_eval.specs.Gives.{Gives}
+use Rattle.vrt_model.specs.Budget.{literals_in}
 use Rattle.blif_eval.proofs.cover.row_diagram.Given as goal
 
 -- the part of the row from a place on
 abbrev pub invariant-back : goal.invariant-back
-invariant-back l = (l.at ≤ length l.inputs) × Gives l.fn.store l.store (row_from l.fn.store l.values l.inputs l.row l.at) (Ok l.fits)
+invariant-back l = record {
+  most : l.at ≤ length l.inputs;
+  gives : Gives l.fn.store l.store (row_from l.fn.store l.values l.inputs l.row l.at) (Ok l.fits);
+  counted : (u : ℕ) → IsSpanWithin u l.fn.store l.values → IsCounted u (literals_in (drop l.at l.row)) l.fn.store l.store;
+}
 
 abbrev pub decreases-back : goal.decreases-back
 decreases-back l = l.at

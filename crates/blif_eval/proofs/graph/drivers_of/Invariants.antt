@@ -1,7 +1,6 @@
-use Rattle.std.proofs.Common.{length}
-use Rattle.blif_eval.specs.Drivers.{AreDrivers}
+use Rattle.std.proofs.Common.{◌≡◌, take}
 use Rattle.blif_eval.proofs.graph.drivers_of.Given as goal
 
--- the covers so far are found
+-- the places so far
 abbrev pub invariant-loop-place : goal.invariant-loop-place
-invariant-loop-place l = AreDrivers (length l.flat.signals) l.flat.covers l.place l.drivers.items
+invariant-loop-place l = l.drivers ≡ take l.place-index l.place-items

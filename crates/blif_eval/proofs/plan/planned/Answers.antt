@@ -9,5 +9,5 @@ order_of-requires-clause-inside c = subst AreInside (sym c.as_slice.ensures) c.i
 
 pub returns : goal.returns
 returns c =
-    λ known. plan_gives c.args.flat.now c.requires.model c.requires.latchless c.in_ok-graph.graph known c.in_ok-graph.ensures.size (c.in_ok-graph.ensures.arcs known) c.in_ok-order.order
+    λ known. plan_gives c.args.flat.now c.requires.model c.requires.latchless c.in_ok-graph.graph known c.in_ok-graph.ensures.size (c.in_ok-graph.ensures.arcs known) c.args.drivers.now c.requires.drivers c.in_ok-order.order
     (subst (λ (g : List (List ℕ)). OrderGives g c.in_ok-order.order) c.as_slice.ensures c.in_ok-order.ensures)

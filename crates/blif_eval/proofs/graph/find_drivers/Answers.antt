@@ -5,7 +5,7 @@ use Rattle.blif_eval.proofs.GraphLaws.{drivers_next, drivers_none}
 use Rattle.blif_eval.proofs.Lists.{item_at}
 use Rattle.blif_eval.specs.Drivers.{AreDrivers}
 use Rattle.vrt_model.specs.Lists.{At}
-use Rattle.blif_eval.proofs.graph.drivers_of.Goals as goal
+use Rattle.blif_eval.proofs.graph.find_drivers.Goals as goal
 
 pub loop-place-init : goal.loop-place-init
 loop-place-init c =
