@@ -34,7 +34,7 @@ listed_there (x ∷ names) (l ∷ lines) name (suc n) line here before lt at =
     ap (λ b. option_map (λ (o : OnLine). o.line) (cond b (Some (on_line l x)) (find (λ (o : OnLine). bytes_eq o.name name) (on_lines names lines)))) (bytes_eq-sym x name ∙ before 0 (omega arith))
     ∙ listed_there names lines name n line here (λ k lt. before (suc k) (omega arith)) (omega arith) at
 
-none_listed : (names : List (List ℕ)) (lines : List ℕ) (name : List ℕ) → length lines ≡ length names → is_none (line_in (on_lines names lines) name) ≡ not (is_among names name)
+pub none_listed : (names : List (List ℕ)) (lines : List ℕ) (name : List ℕ) → length lines ≡ length names → is_none (line_in (on_lines names lines) name) ≡ not (is_among names name)
 none_listed [] lines name e = refl
 none_listed (x ∷ names) [] name e = absurd (omega (arith, e))
 none_listed (x ∷ names) (l ∷ lines) name e =

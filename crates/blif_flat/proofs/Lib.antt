@@ -9,3 +9,16 @@ pub mod LeastLaws
 pub mod DriverLaws
 pub mod JudgeLaws
 pub mod CheckLaws
+pub mod OnceLaws
+pub mod CountLaws
+pub mod PlaceLaws
+pub mod FlatLaws
+pub mod OneDriverCounts
+pub mod RangeLaws
+pub mod OneDriverLines
+pub mod OneDriverNames
+pub mod OneDriverPlaces
+pub mod OneDriverDepths
+pub mod OneDriverSubs
+pub mod OneDriverWhole
+pub mod OneDriverLaws

@@ -10,3 +10,6 @@ pub mod Drivers
 pub mod Signals
 pub mod Least
 pub mod Checked
+pub mod Counts
+pub mod Places
+pub mod Flat
