@@ -1,10 +1,20 @@
-//! Which model a cell pairs with.
+//! Which model a cell pairs with, and how its ports pair with the signals of the model.
 #![tactic(auto)]
 
+mod counts;
+mod facts;
+mod faults;
+mod lookups;
 mod models;
 mod names;
+mod numbers;
+mod ports;
+mod signals;
+mod table;
 
+pub use faults::PairFault;
 pub use models::model_of;
+pub use ports::pair_ports;
 
 #[cfg(test)]
 mod tests;

@@ -1,8 +1,8 @@
-use crate::model_of;
+use crate::{PairFault, model_of, pair_ports};
 use blif_reader::read_blif;
 use spice_reader::read_spice;
 use std::rt::HostRuntime;
-use vrt_model::{NoMemory, PairRule, Rules, Seq, Text};
+use vrt_model::{FlatModel, NoMemory, PairRule, Pairing, PortRole, Rules, Seq, Text};
 
 // No rules.
 fn no_rules(rt: &HostRuntime) -> Rules {
@@ -81,5 +81,159 @@ fn pairs_by_rules(rt: HostRuntime) -> anyhow::Result<()> {
         let found = paired(&rt, &rules, cell)?;
         assert!(rt; found == want);
     }
+    Ok(())
+}
+
+// A text.
+fn text(rt: &HostRuntime, bytes: &[u8]) -> anyhow::Result<Text> {
+    Text::from_bytes(rt.alloc(), bytes).map_err(|_| anyhow::anyhow!("memory"))
+}
+
+// Adds an item.
+fn add<T: Drop>(list: &mut Seq<T>, item: T) -> anyhow::Result<()> {
+    list.push(item).map_err(|_| anyhow::anyhow!("memory"))
+}
+
+// A model of the signals A, B, Y, a and c, with these inputs, clocks and outputs.
+fn model(
+    rt: &HostRuntime,
+    inputs: &[u32],
+    clocks: &[u32],
+    outputs: &[u32],
+) -> anyhow::Result<FlatModel> {
+    let alloc = rt.alloc();
+    let mut model = FlatModel {
+        signals: Seq::new(alloc),
+        inputs: Seq::new(alloc),
+        clocks: Seq::new(alloc),
+        outputs: Seq::new(alloc),
+        covers: Seq::new(alloc),
+        latches: Seq::new(alloc),
+    };
+    for name in [
+        b"A".as_slice(),
+        b"B".as_slice(),
+        b"Y".as_slice(),
+        b"a".as_slice(),
+        b"c".as_slice(),
+    ] {
+        add(&mut model.signals, text(rt, name)?)?;
+    }
+    for number in inputs {
+        add(&mut model.inputs, *number)?;
+    }
+    for number in clocks {
+        add(&mut model.clocks, *number)?;
+    }
+    for number in outputs {
+        add(&mut model.outputs, *number)?;
+    }
+    Ok(model)
+}
+
+// The pairing of the only cell of a netlist.
+fn pairing(
+    rt: &HostRuntime,
+    spice: &[u8],
+    model: &FlatModel,
+    rules: &Rules,
+) -> anyhow::Result<Result<Pairing, PairFault>> {
+    if spice.len() > 16_777_216 {
+        return Err(anyhow::anyhow!("length"));
+    }
+    let design = read_spice(rt.alloc(), spice).map_err(|_| anyhow::anyhow!("spice"))?;
+    if design.cells.is_empty() || rules.clocks.len() > 16 {
+        return Err(anyhow::anyhow!("sizes"));
+    }
+    Ok(pair_ports(rt.alloc(), &design, 0, 7, model, rules))
+}
+
+// Whether the answer is that this port or signal is in the way.
+fn is_in_way(answer: &Result<Pairing, PairFault>, wanted: &[u8]) -> bool {
+    match answer {
+        Err(PairFault::Ports { name }) => name.as_bytes() == wanted,
+        _ => false,
+    }
+}
+
+// Whether the answer is that this output is an input.
+fn is_output_fault(answer: &Result<Pairing, PairFault>, wanted: &[u8]) -> bool {
+    match answer {
+        Err(PairFault::OutputIsInput { signal }) => signal.as_bytes() == wanted,
+        _ => false,
+    }
+}
+
+// The roles of a pairing with model 7 that carries no clock, in its ports.
+fn is_paired(answer: &Result<Pairing, PairFault>, ports: &[PortRole]) -> bool {
+    match answer {
+        Ok(pairing) => {
+            pairing.model == 7 && pairing.ports.as_slice() == ports && pairing.clocked.is_empty()
+        }
+        Err(_) => false,
+    }
+}
+
+// The answer for the only cell of a netlist and a model with these inputs and outputs.
+fn paired_with(
+    rt: &HostRuntime,
+    spice: &[u8],
+    inputs: &[u32],
+    outputs: &[u32],
+    rules: &Rules,
+) -> anyhow::Result<Result<Pairing, PairFault>> {
+    let model = model(rt, inputs, [].as_slice(), outputs)?;
+    pairing(rt, spice, &model, rules)
+}
+
+// An inverter with a supply: `0` is one without a rule.
+#[test]
+fn pairs_an_inverter(rt: HostRuntime) -> anyhow::Result<()> {
+    let rules = no_rules(&rt);
+    let spice = b"* t\n.subckt inv a 0 Y\n.ends\n".as_slice();
+    let answer = paired_with(&rt, spice, [0].as_slice(), [2].as_slice(), &rules)?;
+    let ports = [
+        PortRole::Input(0),
+        PortRole::Supply(false),
+        PortRole::Output(2),
+    ];
+    assert!(rt; is_paired(&answer, ports.as_slice()));
+    Ok(())
+}
+
+// Without rules: no signal for `z`; no port for `B`; two signals for `a`.
+#[test]
+fn names_what_is_in_the_way(rt: HostRuntime) -> anyhow::Result<()> {
+    let rules = no_rules(&rt);
+    for (spice, inputs, wanted) in [
+        (
+            b"* t\n.subckt k a y z\n.ends\n".as_slice(),
+            [0].as_slice(),
+            b"z".as_slice(),
+        ),
+        (
+            b"* t\n.subckt k a y\n.ends\n".as_slice(),
+            [0, 1].as_slice(),
+            b"B".as_slice(),
+        ),
+        (
+            b"* t\n.subckt k a y\n.ends\n".as_slice(),
+            [0, 3].as_slice(),
+            b"a".as_slice(),
+        ),
+    ] {
+        let answer = paired_with(&rt, spice, inputs, [2].as_slice(), &rules)?;
+        assert!(rt; is_in_way(&answer, wanted));
+    }
+    Ok(())
+}
+
+// An output that is an input too.
+#[test]
+fn names_an_output_that_is_an_input(rt: HostRuntime) -> anyhow::Result<()> {
+    let rules = no_rules(&rt);
+    let spice = b"* t\n.subckt k a\n.ends\n".as_slice();
+    let answer = paired_with(&rt, spice, [0].as_slice(), [0].as_slice(), &rules)?;
+    assert!(rt; is_output_fault(&answer, b"A".as_slice()));
     Ok(())
 }

@@ -1,0 +1,83 @@
+-- What the tables of a cell say is what the rules and the signals say.
+use Rattle.std.proofs.Common.{◌≡◌, ◌∷◌, ◌&&◌, [], ℕ, List, Bool, true, false, cond, map, Option, Some, None, option_map, refl, ap, ap₂, sym, subst, ◌∙◌}
+use Rattle.std.specs.Prelude.{bytes_eq, codes, filter, filter_map, find, is_some, slice_get, unwrap_or}
+use Rattle.std.specs.List.{list_any}
+use Rattle.std.specs.Option.{option_or}
+use Rattle.std.specs.Str.{str_to_ascii_lowercase}
+use mathlib.Core.Path.{fun_ext}
+use Rattle.text_lines.specs.Names.{is_among}
+use Rattle.vrt_model.specs.CellRules.{clock_of_port, supply_of}
+use Rattle.vrt_model.specs.Elements.{signal_name}
+use Rattle.vrt_model.specs.Expressions.{names_in}
+use Rattle.vrt_model.specs.Lists.{has_name}
+use Rattle.vrt_model.specs.PairedPorts.{interface, is_assumed, port_rule, signal_by, signal_of_port, signals_like}
+use Rattle.vrt_model.specs.declared.flat_model.FlatModel.{FlatModel}
+use Rattle.vrt_model.specs.declared.rules.AssumeRule.{AssumeRule}
+use Rattle.vrt_model.specs.declared.rules.ClockRef.{ClockRef}
+use Rattle.vrt_model.specs.declared.rules.ClockportRule.{ClockportRule}
+use Rattle.vrt_model.specs.declared.rules.PortRule.{PortRule}
+use Rattle.vrt_model.specs.declared.rules.Rules.{Rules}
+use Rattle.vrt_model.specs.declared.rules.SupplyRule.{SupplyRule}
+use Rattle.latch_match.specs.Facts.{port_facts}
+use Rattle.latch_match.specs.Looked.{AreLookups, by_lower_name, by_name, clock_named, facts_in, signal_at, signal_ruled, supply_named}
+use Rattle.latch_match.specs.Tables.{IsTable, first_in}
+use Rattle.latch_match.specs.declared.facts.PortFacts.{PortFacts}
+use Rattle.latch_match.specs.declared.lookups.Lookups.{Lookups}
+use Rattle.latch_match.specs.declared.table.Table.{Table}
+use Rattle.latch_match.proofs.TableLaws.{first_item, first_kept, first_rule, second_item}
+
+some_mapped : {X Y : Type 0} (f : X → Y) (o : Option X) → is_some (option_map f o) ≡ is_some o
+some_mapped f None = refl
+some_mapped f (Some x) = refl
+
+head_found : {X : Type 0} (p : X → Bool) (xs : List X) → slice_get (filter p xs) 0 ≡ find p xs
+head_found p [] = refl
+head_found {X} p (x ∷ xs) = by_test (p x) (filter p xs) (find p xs) (head_found p xs) where
+  by_test : (b : Bool) (ys : List X) (o : Option X) → slice_get ys 0 ≡ o → slice_get (cond b (x ∷ ys) ys) 0 ≡ cond b (Some x) o
+  by_test true ys o e = refl
+  by_test false ys o e = e
+
+-- a name finds the interface signal of that name
+pub signals_named : (flat : FlatModel) (signals : List ℕ) (names : Table ℕ) → signals ≡ interface flat → IsTable (map (by_name flat) signals) names → first_in names ≡ signal_at flat
+signals_named flat signals names e is =
+    fun_ext (λ name. first_kept (signal_name flat) signals names name is ∙ head_found (λ s. bytes_eq (signal_name flat s) name) signals ∙ ap (find (λ s. bytes_eq (signal_name flat s) name)) e)
+
+-- the signal of a port, by its rule or by its name
+signal_is : (flat : FlatModel) (port : List ℕ) (rule : Option PortRule) (ruled : Option (Option ℕ)) (like : Option ℕ) → ruled ≡ option_map (λ (r : PortRule). signal_at flat r.signal) rule
+    → like ≡ slice_get (signals_like flat port) 0 → unwrap_or ruled like ≡ signal_by flat port rule
+signal_is flat port None ruled like e f = ap (λ o. unwrap_or o like) e ∙ f
+signal_is flat port (Some r) ruled like e f = ap (λ o. unwrap_or o like) e
+
+same_facts : (s s' : Option Bool) (c c' : Option ClockRef) (r r' : Bool) (g g' : Option ℕ) (f f' a a' : Bool) → s ≡ s' → c ≡ c' → r ≡ r' → g ≡ g' → f ≡ f' → a ≡ a'
+    → (let one : PortFacts = record { supply = s; clock = c; is_ruled = r; signal = g; fits_again = f; is_assumed = a } in one)
+    ≡ (let one : PortFacts = record { supply = s'; clock = c'; is_ruled = r'; signal = g'; fits_again = f'; is_assumed = a' } in one)
+same_facts s s' c c' r r' g g' f f' a a' p q t u v w = cc
+
+pub facts_are : (flat : FlatModel) (rules : Rules) (cell : List ℕ) (l : Lookups) (port : List ℕ) → AreLookups flat rules cell l → facts_in l port ≡ port_facts flat rules cell port
+facts_are flat rules cell l port are =
+    let ruled : first_in l.ruled port ≡ option_map (λ (r : PortRule). signal_at flat r.signal) (port_rule rules cell port) =
+    first_rule (λ (r : PortRule). bytes_eq r.cell cell) (λ (r : PortRule). r.port) (λ (r : PortRule). signal_at flat r.signal) rules.ports l.ruled port are.ruled in
+    same_facts _ (supply_of rules port) _ (clock_of_port rules cell port) _ (is_some (port_rule rules cell port)) _ (signal_of_port flat rules cell port) _ _ _ (is_assumed rules cell port)
+    (ap (λ (o : Option Bool). option_or o (cond (bytes_eq port (codes "0")) (Some false) None))
+    (first_item (λ (r : SupplyRule). r.net) (λ (r : SupplyRule). r.value) rules.supplies l.supplies port are.supplies))
+    (first_rule (λ (r : ClockportRule). bytes_eq r.cell cell) (λ (r : ClockportRule). r.port) (λ (r : ClockportRule). r.clock) rules.clockports l.clocks port are.clocks)
+    (ap is_some ruled ∙ some_mapped (λ (r : PortRule). signal_at flat r.signal) (port_rule rules cell port))
+    (signal_is flat port (port_rule rules cell port) _ _ ruled (first_kept (λ s. str_to_ascii_lowercase (signal_name flat s)) (interface flat) l.signals port are.signals))
+    (second_item (λ s. str_to_ascii_lowercase (signal_name flat s)) (interface flat) l.signals port are.signals)
+    (are.assumed port)
+
+-- the tables of a cell
+pub lookups_are : (flat : FlatModel) (rules : Rules) (cell : List ℕ) (signals : List ℕ) (supplies : List SupplyRule) (clockports : List ClockportRule) (ports : List PortRule) (assumes : List AssumeRule) (names : Table ℕ) (l : Lookups)
+    → signals ≡ interface flat → supplies ≡ rules.supplies → clockports ≡ rules.clockports → ports ≡ rules.ports → assumes ≡ rules.assumes → IsTable (map (by_name flat) signals) names
+    → IsTable (map (by_lower_name flat) signals) l.signals → IsTable (map supply_named supplies) l.supplies → IsTable (filter_map (clock_named cell) clockports) l.clocks
+    → IsTable (filter_map (signal_ruled (first_in names) cell) ports) l.ruled
+    → ((m : List ℕ) → is_among l.assumed m ≡ list_any (λ (r : AssumeRule). bytes_eq r.cell cell && has_name (names_in r.expression) m) assumes) → AreLookups flat rules cell l
+lookups_are flat rules cell signals supplies clockports ports assumes names l e s c p a n by_low by_supply by_clock by_rule by_assume = record {
+  signals = subst (λ (xs : List ℕ). IsTable (map (by_lower_name flat) xs) l.signals) e by_low;
+  supplies = subst (λ (xs : List SupplyRule). IsTable (map supply_named xs) l.supplies) s by_supply;
+  clocks = subst (λ (xs : List ClockportRule). IsTable (filter_map (clock_named cell) xs) l.clocks) c by_clock;
+  ruled =
+      subst (λ (xs : List PortRule). IsTable (filter_map (signal_ruled (signal_at flat) cell) xs) l.ruled) p
+      (subst (λ (f : List ℕ → Option ℕ). IsTable (filter_map (signal_ruled f cell) ports) l.ruled) (signals_named flat signals names e n) by_rule);
+  assumed = λ m. by_assume m ∙ ap (list_any (λ (r : AssumeRule). bytes_eq r.cell cell && has_name (names_in r.expression) m)) a;
+}

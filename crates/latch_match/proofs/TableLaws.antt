@@ -1,0 +1,243 @@
+-- Tables of values by name.
+use Rattle.std.proofs.Common.{◌≡◌, ◌++◌, ◌∷◌, ◌||◌, ◌+◌, [], ℕ, zero, suc, not, nat_lt, List, Bool, true, false, cond, map, take, length, Option, Some, None, option_map, refl, ap, ap₂, sym, subst, ◌∙◌, append-nil, length-append, arith}
+use Rattle.std.specs.Prelude.{bytes_eq, find, filter, filter_map, slice_get, is_some, option_and_then, ◌&&◌}
+use Rattle.std.specs.List.{cons_option, list_any, position, position_or_len}
+use Rattle.std.specs.Option.{option_or}
+use Rattle.std.proofs.lemmas.Bool.Decides.{nat_tests}
+use Rattle.std.proofs.lemmas.List.{take_more}
+use Rattle.std.proofs.lemmas.List.Elements.{filter_map-append}
+use Rattle.std.proofs.lemmas.Option.{get_or_from_slice_get, slice_get_within}
+use Rattle.std.proofs.lemmas.List.Folds.{list_any-append}
+use Rattle.std.proofs.lemmas.Slice.Eq.{bytes_eq-Decides}
+use Rattle.text_lines.specs.Names.{is_among, with_name}
+use Rattle.latch_match.specs.Looked.{Grows}
+use Rattle.latch_match.specs.Tables.{HasEntries, IsTable, Named, first_in, first_of, named, values_of}
+use Rattle.latch_match.specs.declared.table.Table.{Table}
+
+same_tests : (r s : Bool) → (r ≡ true → s ≡ true) → (s ≡ true → r ≡ true) → r ≡ s
+same_tests true true f g = refl
+same_tests true false f g = let h = f refl in cc
+same_tests false true f g = let h = g refl in cc
+same_tests false false f g = refl
+
+pub bytes_eq-sym : (a b : List ℕ) → bytes_eq a b ≡ bytes_eq b a
+bytes_eq-sym a b =
+    same_tests (bytes_eq a b) (bytes_eq b a) (λ e. (bytes_eq-Decides b a).1 (sym ((bytes_eq-Decides a b).0 e))) (λ e. (bytes_eq-Decides a b).1 (sym ((bytes_eq-Decides b a).0 e)))
+
+or_swap : (p q : Bool) → (p || (q || false)) ≡ (q || p)
+or_swap true true = refl
+or_swap true false = refl
+or_swap false true = refl
+or_swap false false = refl
+
+-- one name more
+pub with_front : (names : List (List ℕ)) (n name : List ℕ) → is_among (with_name names n) name ≡ (bytes_eq name n || is_among names name)
+with_front names n name = by_test (is_among names n) refl where
+  there : (b : Bool) → bytes_eq name n ≡ b → is_among names n ≡ true → is_among names name ≡ (b || is_among names name)
+  there true e h = ap (is_among names) ((bytes_eq-Decides name n).0 e) ∙ h
+  there false e h = refl
+
+  by_test : (b : Bool) → is_among names n ≡ b → is_among (cond b names (names ++ n ∷ [])) name ≡ (bytes_eq name n || is_among names name)
+  by_test true h = there (bytes_eq name n) refl h
+  by_test false h = list_any-append (bytes_eq name) names (n ∷ []) ∙ or_swap (is_among names name) (bytes_eq name n)
+
+-- ---- places
+
+shifted : (t : Bool) (n : ℕ) → cond t (Some (1 + n)) None ≡ option_map suc (cond t (Some n) None)
+shifted true n = ap Some (omega arith)
+shifted false n = refl
+
+lt_shifted : (n count : ℕ) → nat_lt (1 + n) (suc count) ≡ nat_lt n count
+lt_shifted n count = grind (arith, nat_tests)
+
+lt_first : (count : ℕ) → nat_lt 0 (suc count) ≡ true
+lt_first count = grind (arith, nat_tests)
+
+pub place_cons : {X : Type 0} (p : X → Bool) (x : X) (xs : List X) → position p (x ∷ xs) ≡ cond (p x) (Some 0) (option_map suc (position p xs))
+place_cons p x xs = by_test (p x) (position_or_len p xs) (length xs) where
+  by_test : (b : Bool) (n count : ℕ) → cond (nat_lt (cond (not b) (1 + n) 0) (suc count)) (Some (cond (not b) (1 + n) 0)) None ≡ cond b (Some 0) (option_map suc (cond (nat_lt n count) (Some n) None))
+  by_test true n count = ap (λ (t : Bool). cond t (Some 0) None) (lt_first count)
+  by_test false n count = ap (λ (t : Bool). cond t (Some (1 + n)) None) (lt_shifted n count) ∙ shifted (nat_lt n count) n
+
+-- the value beside the first name that is sought
+abbrev beside : {V : Type 0} → List (List ℕ) → List V → List ℕ → Option V
+beside [] fs name = None
+beside (n ∷ ns) [] name = None
+beside (n ∷ ns) (f ∷ fs) name = cond (bytes_eq name n) (Some f) (beside ns fs name)
+
+beside_is : {V : Type 0} (ns : List (List ℕ)) (fs : List V) (name : List ℕ) → length fs ≡ length ns → first_of ns fs name ≡ beside ns fs name
+beside_is [] fs name e = refl
+beside_is (n ∷ ns) [] name e = absurd (omega arith)
+beside_is {V} (n ∷ ns) (f ∷ fs) name e =
+    ap (option_and_then (slice_get (f ∷ fs))) (place_cons (bytes_eq name) n ns) ∙ by_test (bytes_eq name n) (position (bytes_eq name) ns) (beside ns fs name) (beside_is ns fs name (omega arith)) where
+      by_test : (b : Bool) (o : Option ℕ) (l : Option V) → option_and_then (slice_get fs) o ≡ l → option_and_then (slice_get (f ∷ fs)) (cond b (Some 0) (option_map suc o)) ≡ cond b (Some f) l
+      by_test true o l e = refl
+      by_test false None l e = e
+      by_test false (Some i) l e = e
+
+beside_more : {V : Type 0} (ns : List (List ℕ)) (fs : List V) (n : List ℕ) (v : V) (name : List ℕ) → length fs ≡ length ns
+    → beside (ns ++ n ∷ []) (fs ++ v ∷ []) name ≡ option_or (beside ns fs name) (cond (bytes_eq name n) (Some v) None)
+beside_more [] [] n v name e = refl
+beside_more [] (f ∷ fs) n v name e = absurd (omega arith)
+beside_more (m ∷ ns) [] n v name e = absurd (omega arith)
+beside_more {V} (m ∷ ns) (f ∷ fs) n v name e =
+    ap (λ (o : Option V). cond (bytes_eq name m) (Some f) o) (beside_more ns fs n v name (omega arith)) ∙ by_test (bytes_eq name m) (beside ns fs name) (cond (bytes_eq name n) (Some v) None) where
+      by_test : (b : Bool) (l o : Option V) → cond b (Some f) (option_or l o) ≡ option_or (cond b (Some f) l) o
+      by_test true l o = refl
+      by_test false l o = refl
+
+beside_among : {V : Type 0} (ns : List (List ℕ)) (fs : List V) (name : List ℕ) → length fs ≡ length ns → is_some (beside ns fs name) ≡ is_among ns name
+beside_among [] fs name e = refl
+beside_among (n ∷ ns) [] name e = absurd (omega arith)
+beside_among {V} (n ∷ ns) (f ∷ fs) name e =
+    by_test (bytes_eq name n) (beside ns fs name) ∙ ap (λ (b : Bool). bytes_eq name n || b) (beside_among ns fs name (omega arith)) where
+      by_test : (b : Bool) (l : Option V) → is_some (cond b (Some f) l) ≡ (b || is_some l)
+      by_test true l = refl
+      by_test false l = refl
+
+-- ---- one value more
+
+value_more : {V : Type 0} (entries : List (Named V)) (n : List ℕ) (v : V) (name : List ℕ)
+    → values_of (entries ++ named n v ∷ []) name ≡ values_of entries name ++ cons_option (cond (bytes_eq n name) (Some v) None) []
+value_more {V} entries n v name = filter_map-append (λ (e : Named V). cond (bytes_eq e.name name) (Some e.value) None) entries (named n v ∷ [])
+
+-- a name has a value exactly where it is there
+pub has_value : {V : Type 0} (entries : List (Named V)) (names : List (List ℕ)) (firsts : List V) (seconds : List (List ℕ)) (name : List ℕ) → HasEntries entries names firsts seconds
+    → is_some (slice_get (values_of entries name) 0) ≡ is_among names name
+has_value entries names firsts seconds name t =
+    ap is_some (sym (t.first name) ∙ beside_is names firsts name t.count) ∙ beside_among names firsts name t.count
+
+-- so too where the name is another that is the same
+same_value : {V : Type 0} (entries : List (Named V)) (names : List (List ℕ)) (firsts : List V) (seconds : List (List ℕ)) (n name : List ℕ) (b : Bool) → HasEntries entries names firsts seconds
+    → is_among names n ≡ b → bytes_eq n name ≡ true → is_some (slice_get (values_of entries name) 0) ≡ b
+same_value entries names firsts seconds n name b t h e = has_value entries names firsts seconds name t ∙ ap (is_among names) (sym ((bytes_eq-Decides n name).0 e)) ∙ h
+
+head_kept : {V : Type 0} (vs : List V) (b : Bool) (v : V) → (b ≡ true → is_some (slice_get vs 0) ≡ true) → slice_get vs 0 ≡ slice_get (vs ++ cons_option (cond b (Some v) None) []) 0
+head_kept (x ∷ vs) b v h = refl
+head_kept [] true v h = let e = h refl in cc
+head_kept [] false v h = refl
+
+two_there : {V : Type 0} (x v : V) (vs : List V) → true ≡ nat_lt 1 (suc (length (vs ++ v ∷ [])))
+two_there x v vs = rw (length-append vs (v ∷ [])) (grind (arith, nat_tests))
+
+second_kept : {V : Type 0} (vs : List V) (b : Bool) (v : V) → (b ≡ true → is_some (slice_get vs 0) ≡ true) → (b || nat_lt 1 (length vs)) ≡ nat_lt 1 (length (vs ++ cons_option (cond b (Some v) None) []))
+second_kept vs false v h = ap (λ l. nat_lt 1 (length l)) (sym (append-nil vs))
+second_kept [] true v h = let e = h refl in cc
+second_kept (x ∷ vs) true v h = two_there x v vs
+
+-- a value under a name that is there
+pub kept : {V : Type 0} (entries : List (Named V)) (names : List (List ℕ)) (firsts : List V) (seconds : List (List ℕ)) (n : List ℕ) (v : V) → is_among names n ≡ true → HasEntries entries names firsts seconds
+    → HasEntries (entries ++ named n v ∷ []) names firsts (with_name seconds n)
+kept {V} entries names firsts seconds n v h t = record {
+  count = t.count;
+  first = λ name.
+      t.first name ∙ head_kept (values_of entries name) (bytes_eq n name) v (same_value entries names firsts seconds n name true t h) ∙ ap (λ (vs : List V). slice_get vs 0) (sym (value_more entries n v name));
+  second = λ name.
+      with_front seconds n name ∙ ap₂ ◌||◌ (bytes_eq-sym name n) (t.second name) ∙ second_kept (values_of entries name) (bytes_eq n name) v (same_value entries names firsts seconds n name true t h)
+      ∙ ap (λ (vs : List V). nat_lt 1 (length vs)) (sym (value_more entries n v name));
+}
+
+head_more : {V : Type 0} (vs : List V) (o : Option V) → option_or (slice_get vs 0) o ≡ slice_get (vs ++ cons_option o []) 0
+head_more [] None = refl
+head_more [] (Some v) = refl
+head_more (x ∷ vs) o = refl
+
+second_more : {V : Type 0} (vs : List V) (b : Bool) (v : V) → (b ≡ true → is_some (slice_get vs 0) ≡ false) → nat_lt 1 (length vs) ≡ nat_lt 1 (length (vs ++ cons_option (cond b (Some v) None) []))
+second_more vs false v h = ap (λ l. nat_lt 1 (length l)) (sym (append-nil vs))
+second_more [] true v h = refl
+second_more (x ∷ vs) true v h = let e = h refl in cc
+
+-- a value under a name that is not there
+pub added : {V : Type 0} (entries : List (Named V)) (names : List (List ℕ)) (firsts : List V) (seconds : List (List ℕ)) (n : List ℕ) (v : V) → is_among names n ≡ false → HasEntries entries names firsts seconds
+    → HasEntries (entries ++ named n v ∷ []) (with_name names n) (firsts ++ v ∷ []) seconds
+added {V} entries names firsts seconds n v h t =
+    subst (λ (ns : List (List ℕ)). HasEntries (entries ++ named n v ∷ []) ns (firsts ++ v ∷ []) seconds) (ap (λ (b : Bool). cond b names (names ++ n ∷ [])) (sym h)) record {
+      count = longer;
+      first = λ name.
+          beside_is (names ++ n ∷ []) (firsts ++ v ∷ []) name longer ∙ beside_more names firsts n v name t.count
+          ∙ ap₂ (λ (o p : Option V). option_or o p) (sym (beside_is names firsts name t.count) ∙ t.first name) (ap (λ (b : Bool). cond b (Some v) None) (bytes_eq-sym name n))
+          ∙ head_more (values_of entries name) (cond (bytes_eq n name) (Some v) None) ∙ ap (λ (vs : List V). slice_get vs 0) (sym (value_more entries n v name));
+      second = λ name.
+          t.second name ∙ second_more (values_of entries name) (bytes_eq n name) v (same_value entries names firsts seconds n name false t h) ∙ ap (λ (vs : List V). nat_lt 1 (length vs)) (sym (value_more entries n v name));
+    }
+  where
+    longer : length (firsts ++ v ∷ []) ≡ length (names ++ n ∷ [])
+    longer = length-append firsts (v ∷ []) ∙ ap (λ k. k + 1) t.count ∙ sym (length-append names (n ∷ []))
+
+pub moved : {V : Type 0} (entries : List (Named V)) (a : List (List ℕ)) (b : List V) (c a' : List (List ℕ)) (b' : List V) (c' : List (List ℕ)) → HasEntries entries a b c
+    → a' ≡ a → b' ≡ b → c' ≡ c → HasEntries entries a' b' c'
+moved {V} entries a b c a' b' c' t e f g =
+    subst (λ (x : List (List ℕ)). HasEntries entries x b' c') (sym e) (subst (λ (x : List V). HasEntries entries a x c') (sym f) (subst (λ (x : List (List ℕ)). HasEntries entries a b x) (sym g) t))
+
+-- ---- tables that grow rule by rule
+
+taken : {X : Type 0} (xs : List X) (i : ℕ) (x : X) → slice_get xs i ≡ Some x → take (i + 1) xs ≡ take i xs ++ x ∷ []
+taken {X} xs i x e = take_more xs i x (slice_get_within xs i x e) ∙ ap (λ (z : X). take i xs ++ z ∷ []) (get_or_from_slice_get xs i x x e)
+
+map_end : {X Y : Type 0} (f : X → Y) (xs : List X) (x : X) → map f (xs ++ x ∷ []) ≡ map f xs ++ f x ∷ []
+map_end f [] x = refl
+map_end f (y ∷ xs) x = ap (λ rest. f y ∷ rest) (map_end f xs x)
+
+-- one more item gives a value
+pub more_named : {X V : Type 0} (f : X → Named V) (xs : List X) (i : ℕ) (x : X) (name : List ℕ) (value : V) (t u : Table V) → slice_get xs i ≡ Some x → named name value ≡ f x
+    → IsTable (map f (take i xs)) t → ((entries : List (Named V)) → IsTable entries t → IsTable (entries ++ named name value ∷ []) u) → IsTable (map f (take (i + 1) xs)) u
+more_named {X} {V} f xs i x name value t u at is before grows =
+    subst (λ (es : List (Named V)). IsTable es u) (ap (λ (e : Named V). map f (take i xs) ++ e ∷ []) is ∙ sym (map_end f (take i xs) x) ∙ ap (map f) (sym (taken xs i x at))) (grows (map f (take i xs)) before)
+
+-- one more item may give one
+pub more_ruled : {X V : Type 0} (h : X → Option (Named V)) (xs : List X) (i : ℕ) (x : X) (t u : Table V) → slice_get xs i ≡ Some x
+    → IsTable (filter_map h (take i xs)) t → Grows h x t u → IsTable (filter_map h (take (i + 1) xs)) u
+more_ruled {X} {V} h xs i x t u at before grows =
+    subst (λ (es : List (Named V)). IsTable es u) (sym (filter_map-append h (take i xs) (x ∷ [])) ∙ ap (filter_map h) (sym (taken xs i x at))) (grows (filter_map h (take i xs)) before)
+
+-- a rule that is for this cell gives a value
+pub ruled : {V : Type 0} (entries : List (Named V)) (test : Bool) (name name' : List ℕ) (value : V) (u : Table V) → test ≡ true → name ≡ name' → IsTable (entries ++ named name value ∷ []) u
+    → IsTable (entries ++ cons_option (cond test (Some (named name' value)) None) []) u
+ruled {V} entries test name name' value u t e is =
+    subst (λ (b : Bool). IsTable (entries ++ cons_option (cond b (Some (named name' value)) None) []) u) (sym t) (subst (λ (n : List ℕ). IsTable (entries ++ named n value ∷ []) u) e is)
+
+-- ---- what a table of items says
+
+first_named : {X V : Type 0} (key : X → List ℕ) (value : X → V) (xs : List X) (name : List ℕ)
+    → slice_get (values_of (map (λ x. named (key x) (value x)) xs) name) 0 ≡ option_map value (find (λ x. bytes_eq (key x) name) xs)
+first_named key value [] name = refl
+first_named {X} {V} key value (x ∷ xs) name = by_test (bytes_eq (key x) name) _ (find (λ (y : X). bytes_eq (key y) name) xs) (first_named key value xs name) where
+  by_test : (b : Bool) (vs : List V) (o : Option X) → slice_get vs 0 ≡ option_map value o → slice_get (cons_option (cond b (Some (value x)) None) vs) 0 ≡ option_map value (cond b (Some x) o)
+  by_test true vs o e = refl
+  by_test false vs o e = e
+
+first_ruled : {X V : Type 0} (test : X → Bool) (key : X → List ℕ) (value : X → V) (xs : List X) (name : List ℕ)
+    → slice_get (values_of (filter_map (λ x. cond (test x) (Some (named (key x) (value x))) None) xs) name) 0 ≡ option_map value (find (λ x. test x && bytes_eq (key x) name) xs)
+first_ruled test key value [] name = refl
+first_ruled {X} {V} test key value (x ∷ xs) name =
+    by_test (test x) (bytes_eq (key x) name) refl (filter_map (λ (y : X). cond (test y) (Some (named (key y) (value y))) None) xs) (find (λ (y : X). test y && bytes_eq (key y) name) xs) (first_ruled test key value xs name) where
+      by_test : (b d : Bool) → bytes_eq (key x) name ≡ d → (es : List (Named V)) (o : Option X) → slice_get (values_of es name) 0 ≡ option_map value o
+          → slice_get (values_of (cons_option (cond b (Some (named (key x) (value x))) None) es) name) 0 ≡ option_map value (cond (b && d) (Some x) o)
+      by_test false d same es o e = e
+      by_test true true same es o e = ap (λ (t : Bool). slice_get (cons_option (cond t (Some (value x)) None) (values_of es name)) 0) same
+      by_test true false same es o e = ap (λ (t : Bool). slice_get (cons_option (cond t (Some (value x)) None) (values_of es name)) 0) same ∙ e
+
+count_named : {X : Type 0} (key : X → List ℕ) (xs : List X) (name : List ℕ) → values_of (map (λ x. named (key x) x) xs) name ≡ filter (λ x. bytes_eq (key x) name) xs
+count_named key [] name = refl
+count_named {X} key (x ∷ xs) name = by_test (bytes_eq (key x) name) _ _ (count_named key xs name) where
+  by_test : (b : Bool) (vs ws : List X) → vs ≡ ws → cons_option (cond b (Some x) None) vs ≡ cond b (x ∷ ws) ws
+  by_test true vs ws e = ap (λ rest. x ∷ rest) e
+  by_test false vs ws e = e
+
+-- the first value of a table is that of the first item
+pub first_item : {X V : Type 0} (key : X → List ℕ) (value : X → V) (xs : List X) (t : Table V) (name : List ℕ) → IsTable (map (λ x. named (key x) (value x)) xs) t
+    → first_in t name ≡ option_map value (find (λ x. bytes_eq (key x) name) xs)
+first_item key value xs t name is = is.first name ∙ first_named key value xs name
+
+pub first_rule : {X V : Type 0} (test : X → Bool) (key : X → List ℕ) (value : X → V) (xs : List X) (t : Table V) (name : List ℕ)
+    → IsTable (filter_map (λ x. cond (test x) (Some (named (key x) (value x))) None) xs) t → first_in t name ≡ option_map value (find (λ x. test x && bytes_eq (key x) name) xs)
+first_rule test key value xs t name is = is.first name ∙ first_ruled test key value xs name
+
+-- whether there is a second item
+pub second_item : {X : Type 0} (key : X → List ℕ) (xs : List X) (t : Table X) (name : List ℕ) → IsTable (map (λ x. named (key x) x) xs) t
+    → is_among t.seconds name ≡ nat_lt 1 (length (filter (λ x. bytes_eq (key x) name) xs))
+second_item {X} key xs t name is = is.second name ∙ ap (λ (vs : List X). nat_lt 1 (length vs)) (count_named key xs name)
+
+pub first_kept : {X : Type 0} (key : X → List ℕ) (xs : List X) (t : Table X) (name : List ℕ) → IsTable (map (λ x. named (key x) x) xs) t
+    → first_in t name ≡ slice_get (filter (λ x. bytes_eq (key x) name) xs) 0
+first_kept {X} key xs t name is = is.first name ∙ ap (λ (vs : List X). slice_get vs 0) (count_named key xs name)

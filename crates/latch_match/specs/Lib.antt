@@ -1,0 +1,5 @@
+pub mod Facts
+pub mod Looked
+pub mod Marked
+pub mod Paired
+pub mod Tables
