@@ -1,0 +1,6 @@
+pub mod Circuits
+pub mod Firsts
+pub mod NetTables
+pub mod Sizes
+pub mod Structures
+pub mod Tables

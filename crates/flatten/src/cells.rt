@@ -1,0 +1,32 @@
+//! Cells by their numbers.
+
+ghost use Rattle.std.specs.Prelude.{◌≡◌, ◌<◌, [], true, length};
+ghost use Rattle.vrt_model.specs.Comparison.{cell_at};
+
+use vrt_model::{Cell, Design, Rules};
+
+/// A cell by its number.
+pub fn cell_of(design: &Design, cell: u32) -> &Cell
+    requires { cell < length design.now.cells }
+    ensures { result.now ≡ cell_at design.now cell }
+{
+    &design.cells.as_slice()[cell as usize]
+}
+
+/// Whether a cell is there and has no instances.
+pub fn is_leaf(design: &Design, cell: u32) -> bool
+    ensures there { result ≡ true → cell < length design.now.cells }
+    ensures leaf { result ≡ true → (cell_at design.now cell).instances ≡ [] }
+{
+    match design.cells.get(cell as usize) {
+        Some(found) => found.instances.is_empty(),
+        None => false,
+    }
+}
+
+/// Whether no rule declares a hold.
+pub fn has_no_hold(rules: &Rules) -> bool
+    ensures { result ≡ true → rules.now.holds ≡ [] }
+{
+    rules.holds.is_empty()
+}

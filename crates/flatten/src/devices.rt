@@ -1,0 +1,75 @@
+//! The devices of a circuit.
+
+ghost use Rattle.std.specs.Prelude.{◌≡◌, ◌≤◌, ◌+◌, IfOk, find, is_none, length, map, unwrap_or};
+ghost use Rattle.std.specs.Option.{option_copied};
+ghost use Rattle.flatten.specs.NetTables.{device_in};
+ghost use Rattle.flatten.specs.Tables.{kind_in};
+ghost use Rattle.vrt_model.specs.declared.design.DeviceCard.{DeviceCard as CardValue};
+
+use crate::lists::append;
+use crate::names::net;
+use crate::rule_tables::{ModelTable, RuleTables, kind, level};
+use std::alloc::Global;
+use text_lines::Names;
+use vrt_model::{Device, DeviceCard, Kind, NoMemory, Seq, Text};
+
+/// Whether the model of a card has no kind.
+fn has_no_kind(models: &ModelTable, card: &DeviceCard) -> bool
+    ensures { result ≡ is_none (kind_in models.now card.now.model) }
+{
+    kind(models, card.model.as_bytes()).is_none()
+}
+
+/// The first card whose model has no kind.
+pub fn without_kind<'a>(models: &ModelTable, cards: &'a [DeviceCard]) -> Option<&'a DeviceCard>
+    ensures { option_copied result ≡ find (λ (d : CardValue). is_none (kind_in models.now d.model)) cards.entry.now }
+{
+    cards.iter().find(|card| has_no_kind(models, card))
+}
+
+/// The kind of the devices of a model, N where it has none.
+fn kind_or_n(models: &ModelTable, model: &[u8]) -> Kind
+    ensures { result ≡ unwrap_or (kind_in models.now model.now) Kind.N }
+{
+    kind(models, model).unwrap_or(Kind::N)
+}
+
+/// The device of a card, by the names of nets.
+fn device(
+    alloc: Global,
+    tables: &RuleTables,
+    names: &Names,
+    card: &DeviceCard,
+) -> Result<Device, NoMemory>
+    requires few { length names.now + 2 ≤ 20000 }
+    ensures { IfOk result (λ device. device ≡ device_in tables.now names.now card.now) }
+{
+    let name = Text::from_bytes(alloc, card.name.as_bytes())?;
+    Ok(Device {
+        name,
+        kind: kind_or_n(&tables.models, card.model.as_bytes()),
+        gate: net(names, &tables.supplies, card.gate.as_bytes()),
+        left: net(names, &tables.supplies, card.drain.as_bytes()),
+        right: net(names, &tables.supplies, card.source.as_bytes()),
+        level: level(tables, card.name.as_bytes(), card.model.as_bytes()),
+        keeper: tables.devices.keepers.contains(card.name.as_bytes()),
+    })
+}
+
+/// The devices of some cards.
+pub fn devices(
+    alloc: Global,
+    tables: &RuleTables,
+    names: &Names,
+    cards: &[DeviceCard],
+) -> Result<Seq<Device>, NoMemory>
+    requires few { length names.now + 2 ≤ 20000 }
+    ensures { IfOk result (λ found. found ≡ map (device_in tables.now names.now) cards.now) }
+{
+    let mut found = Seq::new(alloc);
+    for card in cards {
+        let one = device(alloc, tables, names, card)?;
+        append(&mut found, one)?;
+    }
+    Ok(found)
+}

@@ -1,0 +1,54 @@
+//! What was noted first under a name.
+
+ghost use Rattle.std.specs.Prelude.{◌≡◌, ℕ, List, Some, None, OnOk, bytes_eq, cond};
+ghost use Rattle.std.specs.Option.{option_copied, option_or};
+ghost use Rattle.flatten.specs.Firsts.{IsEven, value_in};
+
+use crate::lists::append;
+use std::alloc::Global;
+use text_lines::Names;
+use vrt_model::{NoMemory, Seq};
+
+/// For each name the value that was noted first under it. A name is found by its hash, in a time that does not grow with
+/// the number of names.
+#[derive(Drop)]
+pub struct FirstValues<T> {
+    names: Names,
+    values: Seq<T>,
+}
+
+impl<T: Drop> FirstValues<T> {
+    /// With no name. It takes no memory.
+    pub fn new(alloc: Global) -> Self
+        ensures even { IsEven result }
+        ensures none { (name : List ℕ) → value_in result name ≡ None }
+    {
+        FirstValues {
+            names: Names::new(alloc),
+            values: Seq::new(alloc),
+        }
+    }
+
+    /// Notes a value under a name, unless the name has one.
+    pub fn note(&mut self, name: &[u8], value: T) -> Result<(), NoMemory>
+        requires { IsEven self.old }
+        ensures even { OnOk result (IsEven self.new) }
+        ensures first { OnOk result ((other : List ℕ) → value_in self.new other ≡ option_or (value_in self.old other) (cond (bytes_eq name.now other) (Some value) None)) }
+    {
+        if !self.names.contains(name) {
+            self.names.number(name)?;
+            append(&mut self.values, value)?;
+        }
+        Ok(())
+    }
+
+    /// The value under a name. None exactly where none was noted.
+    pub fn get(&self, name: &[u8]) -> Option<&T>
+        ensures { option_copied result ≡ value_in self.now name.now }
+    {
+        match self.names.place(name) {
+            Some(place) => self.values.get(place),
+            None => None,
+        }
+    }
+}

@@ -1,0 +1,23 @@
+//! The flat circuit of a cell without instances.
+#![tactic(auto)]
+
+mod cells;
+mod circuit;
+mod devices;
+mod faults;
+mod firsts;
+mod lists;
+mod names;
+mod nets;
+mod rule_tables;
+mod sizes_of;
+mod structures;
+
+pub use cells::{has_no_hold, is_leaf};
+pub use circuit::flat;
+pub use faults::FlatFault;
+pub use sizes_of::{FlatSizes, sizes};
+pub use structures::structure;
+
+#[cfg(test)]
+mod tests;

@@ -1,0 +1,179 @@
+//! The nets of a circuit.
+
+ghost use Rattle.std.specs.Prelude.{◌≡◌, ◌≤◌, ◌++◌, ◌∷◌, [], false, true, IfOk, OnOk, codes, cond, drop, find, length, map, not, slice_get};
+ghost use Rattle.std.specs.Option.{option_copied};
+ghost use Rattle.flatten.specs.NetTables.{nets_in, port_nets_in, port_net_in};
+ghost use Rattle.flatten.specs.Tables.{supply_in};
+ghost use Rattle.vrt_model.specs.FlatCircuit.{kind_by, kind_by_role, plain_net, supply_flat, supply_name};
+ghost use Rattle.vrt_model.specs.Lists.{differ};
+ghost use Rattle.vrt_model.specs.declared.rules.SupplyRule.{SupplyRule as RuleValue};
+
+use crate::firsts::FirstValues;
+use crate::lists::append;
+use crate::names::NetTable;
+use crate::rule_tables::supply;
+use std::alloc::Global;
+use vrt_model::{FlatNet, NetKind, NoMemory, PortRole, Rules, Seq, SupplyRule, Text};
+
+/// Whether a rule declares a supply of this value.
+fn is_of(rule: &SupplyRule, value: bool) -> bool
+    ensures { result ≡ not (differ rule.now.value value) }
+{
+    rule.value == value
+}
+
+/// The first rule that declares a supply of this value.
+fn first_of(rules: &[SupplyRule], value: bool) -> Option<&SupplyRule>
+    ensures { option_copied result ≡ find (λ (r : RuleValue). not (differ r.value value)) rules.now }
+{
+    rules.iter().find(|rule| is_of(rule, value))
+}
+
+/// The digit of a value.
+fn digit(value: bool) -> &'static [u8]
+    ensures { result.now ≡ cond value (codes "1") (codes "0") }
+{
+    if value { b"1" } else { b"0" }
+}
+
+/// The name of a supply: of the first rule that declares one of this value, else its digit.
+fn supply_name(rules: &Rules, value: bool) -> &[u8]
+    ensures { result.now ≡ supply_name rules.now value }
+{
+    match first_of(rules.supplies.as_slice(), value) {
+        Some(rule) => rule.net.as_bytes(),
+        None => digit(value),
+    }
+}
+
+/// The net of a supply.
+fn supply_net(alloc: Global, rules: &Rules, value: bool) -> Result<FlatNet, NoMemory>
+    ensures { IfOk result (λ net. net ≡ supply_flat rules.now value) }
+{
+    Ok(FlatNet {
+        name: Text::from_bytes(alloc, supply_name(rules, value))?,
+        kind: NetKind::Supply(value),
+    })
+}
+
+/// The kind of a port's net: an output is plain.
+fn kind_of_role(role: PortRole) -> NetKind
+    ensures { result ≡ kind_by_role role }
+{
+    match role {
+        PortRole::Supply(value) => NetKind::Supply(value),
+        PortRole::Clock(clock) => NetKind::Clock(clock),
+        PortRole::Input(_) => NetKind::Input,
+        PortRole::Output(_) => NetKind::Plain,
+    }
+}
+
+/// The kind of the net of a port with the first of some roles; plain where there is none.
+fn first_kind(roles: &[PortRole]) -> NetKind
+    ensures { result ≡ kind_by (slice_get roles.now 0) }
+{
+    match roles.first() {
+        Some(role) => kind_of_role(*role),
+        None => NetKind::Plain,
+    }
+}
+
+/// The roles behind the first.
+fn behind(roles: &[PortRole]) -> &[PortRole]
+    ensures { result.now ≡ drop 1 roles.now }
+{
+    match roles.split_first() {
+        Some((_, behind)) => behind,
+        None => &[],
+    }
+}
+
+/// Adds the net of a port with the first of some roles, unless the port is a supply.
+fn add_port(
+    alloc: Global,
+    nets: &mut Seq<FlatNet>,
+    supplies: &FirstValues<bool>,
+    port: &[u8],
+    roles: &[PortRole],
+) -> Result<(), NoMemory>
+    ensures { OnOk result (nets.new ≡ nets.old ++ port_net_in (supply_in supplies.now) port.now roles.now) }
+{
+    if supply(supplies, port).is_none() {
+        let net = FlatNet {
+            name: Text::from_bytes(alloc, port)?,
+            kind: first_kind(roles),
+        };
+        append(nets, net)?;
+    }
+    Ok(())
+}
+
+/// Adds the nets of the ports that are no supplies, by their roles.
+fn add_ports(
+    alloc: Global,
+    nets: &mut Seq<FlatNet>,
+    supplies: &FirstValues<bool>,
+    ports: &[Text],
+    roles: &[PortRole],
+) -> Result<(), NoMemory>
+    ensures { OnOk result (nets.new ≡ nets.old ++ port_nets_in (supply_in supplies.now) ports.now roles.now) }
+{
+    let mut ports_left = ports;
+    let mut roles_left = roles;
+    'ports: while let Some((port, ports_behind)) = ports_left.split_first() {
+        add_port(alloc, nets, supplies, port.as_bytes(), roles_left)?;
+        ports_left = ports_behind;
+        roles_left = behind(roles_left);
+    }
+    Ok(())
+}
+
+/// A plain net.
+fn plain(alloc: Global, name: &[u8]) -> Result<FlatNet, NoMemory>
+    ensures { IfOk result (λ net. net ≡ plain_net name.now) }
+{
+    Ok(FlatNet {
+        name: Text::from_bytes(alloc, name)?,
+        kind: NetKind::Plain,
+    })
+}
+
+/// Adds plain nets of these names.
+fn add_plain(alloc: Global, nets: &mut Seq<FlatNet>, names: &[Text]) -> Result<(), NoMemory>
+    ensures { OnOk result (nets.new ≡ nets.old ++ map plain_net names.now) }
+{
+    'names: for name in names {
+        let net = plain(alloc, name.as_bytes())?;
+        append(nets, net)?;
+    }
+    Ok(())
+}
+
+/// The two supplies.
+fn supplies_of(alloc: Global, rules: &Rules) -> Result<Seq<FlatNet>, NoMemory>
+    ensures { IfOk result (λ nets. nets ≡ supply_flat rules.now false ∷ supply_flat rules.now true ∷ []) }
+{
+    let mut nets = Seq::new(alloc);
+    append(&mut nets, supply_net(alloc, rules, false)?)?;
+    append(&mut nets, supply_net(alloc, rules, true)?)?;
+    Ok(nets)
+}
+
+/// The nets of a cell: the two supplies, the other ports by their roles, and the nets behind these in the table.
+pub fn nets(
+    alloc: Global,
+    rules: &Rules,
+    supplies: &FirstValues<bool>,
+    ports: &[Text],
+    roles: &[PortRole],
+    table: &NetTable,
+) -> Result<Seq<FlatNet>, NoMemory>
+    requires within { table.now.port_count ≤ length table.now.names }
+    ensures { IfOk result (λ nets. nets ≡ nets_in rules.now (supply_in supplies.now) ports.now roles.now table.now) }
+{
+    let names = table.names.to_texts(alloc)?;
+    let mut nets = supplies_of(alloc, rules)?;
+    add_ports(alloc, &mut nets, supplies, ports, roles)?;
+    add_plain(alloc, &mut nets, &names.as_slice()[table.port_count..])?;
+    Ok(nets)
+}
