@@ -8,7 +8,7 @@ use Rattle.std.proofs.lemmas.List.{length-map, map-append}
 use Rattle.std.proofs.lemmas.Slice.Eq.{bytes_eq-Decides}
 use Rattle.text_lines.specs.Bytes.{is_word}
 use Rattle.text_lines.specs.Names.{is_among}
-use Rattle.verity_run.proofs.NameLists.{at_filter, name_eq-sym}
+use Rattle.verity_run.proofs.NameLists.{at_filter}
 use Rattle.verity_run.proofs.NetNumbers.{number_is}
 use Rattle.verity_run.proofs.NetTables.{Alone, all_names, cell_of, design_of, first_names, global_names, globals_are, is_mine, is_named, is_plain, mine_is, named_is, own_names, owns_are, port_names, shared_names, supply_is}
 use Rattle.verity_run.specs.CellCircuits.{AreRolesBy, circuit_by, device_by, kind_by_model, kind_of_port, net_by, nets_named, size_fault, supply_names, supply_value, top_with}
@@ -32,6 +32,7 @@ use Rattle.vrt_model.specs.declared.design.Kind.TheVariants.{N, P}
 use Rattle.vrt_model.specs.declared.design.ModelCard.{ModelCard}
 use Rattle.vrt_model.specs.declared.pairing.PortRole.{PortRole}
 use Rattle.vrt_model.specs.declared.rules.DeviceRule.{DeviceRule}
+use Rattle.verity_run.proofs.SameNames.{bytes_eq-sym}
 
 -- the cell itself is the one place
 pub one_place : (s : Alone) (roles : List PortRole) → all_places (top_with (design_of s) roles) ≡ top_place (top_with (design_of s) roles) ∷ []
@@ -182,7 +183,7 @@ kind_is : (s : Alone) (model : List ℕ) → not (is_word (codes "n") model || i
 kind_is s model e =
     let o = option_map (λ (m : ModelCard). m.kind) (find (λ (m : ModelCard). bytes_eq m.name model) s.models) in
     ap₂ (λ (n p : Bool). unwrap_or (option_or (option_map (λ (r : DeviceRule). r.kind) (cond n (Some n_rule) (cond p (Some p_rule) None))) o) N)
-    (name_eq-sym (codes "n") model) (name_eq-sym (codes "p") model)
+    (bytes_eq-sym (codes "n") model) (bytes_eq-sym (codes "p") model)
     ∙ model_tests (bytes_eq model (codes "n")) (bytes_eq model (codes "p")) e o
 
 level_tests : (n p : Bool) → unwrap_or (option_map (λ (r : DeviceRule). r.level) (cond n (Some n_rule) (cond p (Some p_rule) None))) 6 ≡ 6

@@ -10,23 +10,9 @@ use Rattle.text_lines.specs.Names.{is_among}
 use Rattle.vrt_model.proofs.Members.{among_any, among_left, among_right, any_among}
 use Rattle.vrt_model.specs.Inputs.{AllApart}
 use Rattle.vrt_model.specs.Lists.{At, Among, place_of}
+use Rattle.verity_run.proofs.SameNames.{same_bytes, bytes_same}
 
 -- ---- names
-
-pub same_bytes : (a b : List ℕ) → bytes_eq a b ≡ true → a ≡ b
-same_bytes a b e = (bytes_eq-Decides a b).0 e
-
-pub bytes_same : (a b : List ℕ) → a ≡ b → bytes_eq a b ≡ true
-bytes_same a b e = (bytes_eq-Decides a b).1 e
-
-pub same_tests : (r s : Bool) → (r ≡ true → s ≡ true) → (s ≡ true → r ≡ true) → r ≡ s
-same_tests true s f g = sym (f refl)
-same_tests false true f g = g refl
-same_tests false false f g = refl
-
-pub bytes_sym : (a b : List ℕ) → bytes_eq a b ≡ bytes_eq b a
-bytes_sym a b =
-    same_tests (bytes_eq a b) (bytes_eq b a) (λ e. bytes_same b a (sym (same_bytes a b e))) (λ e. bytes_same a b (sym (same_bytes b a e)))
 
 -- a name that a test finds stands in the list, and the other way round
 pub name_among : (names : List (List ℕ)) (name : List ℕ) → is_among names name ≡ true → Among names name

@@ -10,7 +10,7 @@ use Rattle.std.proofs.lemmas.Map.Keys.{IsDistinct-cons, IsDistinct-from_apart, I
 use Rattle.std.proofs.lemmas.Map.Made.{length-from_same_keys}
 use Rattle.std.proofs.lemmas.Option.{slice_get-get_or}
 use Rattle.text_lines.specs.Names.{is_among}
-use Rattle.verity_run.proofs.FirstAt.{among_name, behind_first, filter_no, filter_yes, name_among, same_tests, some_or_none}
+use Rattle.verity_run.proofs.FirstAt.{among_name, behind_first, filter_no, filter_yes, name_among, some_or_none}
 use Rattle.verity_run.proofs.OneCircuit.{IsOneCircuit, kind_at, signal_port}
 use Rattle.verity_run.proofs.OnePlace.{circuit_nets, nets_are, read_top}
 use Rattle.verity_run.proofs.PortNets.{nets_none, nets_some, port_flat}
@@ -33,6 +33,7 @@ use Rattle.vrt_model.specs.declared.groups.Source.{Source}
 use Rattle.vrt_model.specs.declared.groups.Source.TheVariants.{Input}
 use Rattle.vrt_model.specs.declared.ids.Net.{Net}
 use Rattle.vrt_model.specs.declared.pairing.PortRole.{PortRole}
+use Rattle.verity_run.proofs.SameNames.{same_tests}
 
 -- ---- names apart
 

@@ -8,7 +8,6 @@ pub mod FirstAt
 pub mod FirstOfList
 pub mod FloatShown
 pub mod FormModel
-pub mod Fours
 pub mod GivenCircuit
 pub mod InputBits
 pub mod InputCount
@@ -40,6 +39,7 @@ pub mod PlaceFacts
 pub mod PlaceOrder
 pub mod PortNets
 pub mod Rows
+pub mod SameNames
 pub mod SearchVerdict
 pub mod SoleCell
 pub mod Spaces

@@ -9,18 +9,9 @@ use Rattle.std.proofs.lemmas.Slice.Eq.{bytes_eq-Decides}
 use Rattle.text_lines.specs.Names.{distinct_from, is_among}
 use Rattle.vrt_model.specs.Inputs.{AllApart}
 use Rattle.vrt_model.specs.Lists.{At, distinct}
+use Rattle.verity_run.proofs.SameNames.{bytes_eq-sym}
 
 -- ---- names that are equal
-
-same_tests : (r s : Bool) → (r ≡ true → s ≡ true) → (s ≡ true → r ≡ true) → r ≡ s
-same_tests true true f g = refl
-same_tests true false f g = let h = f refl in cc
-same_tests false true f g = let h = g refl in cc
-same_tests false false f g = refl
-
-pub name_eq-sym : (a b : List ℕ) → bytes_eq a b ≡ bytes_eq b a
-name_eq-sym a b =
-    same_tests (bytes_eq a b) (bytes_eq b a) (λ e. (bytes_eq-Decides b a).1 (sym ((bytes_eq-Decides a b).0 e))) (λ e. (bytes_eq-Decides a b).1 (sym ((bytes_eq-Decides b a).0 e)))
 
 same_name : (a b : List ℕ) → Some a ≡ Some b → a ≡ b
 same_name a b h = cc
@@ -127,7 +118,7 @@ among_once (x ∷ xs) name e = by_test (bytes_eq name x) refl (λ h. among_once 
       let there : is_among xs name ≡ true = ap (λ (b : Bool). b || is_among xs name) (sym h) ∙ e in
       ap (λ (b : Bool). b || is_among (filter (λ y. not (bytes_eq x y)) (distinct xs)) name) h
       ∙ among_filter (λ y. not (bytes_eq x y)) (distinct xs) name
-      ∙ ap₂ (λ (b c : Bool). not b && c) (name_eq-sym x name ∙ h) (more there)
+      ∙ ap₂ (λ (b c : Bool). not b && c) (bytes_eq-sym x name ∙ h) (more there)
 
 -- the names that are not known, each once
 pub new_once : (known xs : List (List ℕ)) → distinct_from (λ name. name) known xs ≡ distinct (filter (λ y. not (is_among known y)) xs)
@@ -141,7 +132,7 @@ new_once known (x ∷ xs) = by_test (is_among known x) (new_once known xs) (new_
   apart : (y : List ℕ) → not (is_among (known ++ x ∷ []) y) ≡ (not (is_among known y) && not (bytes_eq x y))
   apart y =
       ap not (list_any-append (bytes_eq y) known (x ∷ [])) ∙ neither (is_among known y) (bytes_eq y x)
-      ∙ ap (λ (b : Bool). not (is_among known y) && not b) (name_eq-sym y x)
+      ∙ ap (λ (b : Bool). not (is_among known y) && not b) (bytes_eq-sym y x)
 
   by_test : (b : Bool) → distinct_from (λ name. name) known xs ≡ distinct (filter (λ y. not (is_among known y)) xs)
       → distinct_from (λ name. name) (known ++ x ∷ []) xs ≡ distinct (filter (λ y. not (is_among (known ++ x ∷ []) y)) xs)

@@ -5,7 +5,7 @@ use Rattle.std.proofs.lemmas.Bool.{cases_Bool, false_from_ne_true}
 use Rattle.std.proofs.lemmas.List.{length-map}
 use Rattle.std.proofs.lemmas.List.Quantifiers.{position-Some}
 use Rattle.std.proofs.lemmas.Option.{none-some, slice_get-get_or, slice_get-map}
-use Rattle.verity_run.proofs.FirstAt.{at_left, name_among, name_placed, same_bytes, some_or_none}
+use Rattle.verity_run.proofs.FirstAt.{at_left, name_among, name_placed, some_or_none}
 use Rattle.verity_run.proofs.NetRanges.{first_is, global_among, inner_number, own_among, own_number, place_none, supply_number}
 use Rattle.verity_run.proofs.OneCircuit.{IsOneCircuit, port_net_is}
 use Rattle.verity_run.proofs.OnePlace.{circuit_nets, nets_are, read_top}
@@ -20,6 +20,7 @@ use Rattle.vrt_model.specs.declared.blif.BlifModel.{BlifModel}
 use Rattle.vrt_model.specs.declared.circuit.FlatNet.{FlatNet}
 use Rattle.vrt_model.specs.declared.design.Design.{Design}
 use Rattle.vrt_model.specs.declared.pairing.PortRole.{PortRole}
+use Rattle.verity_run.proofs.SameNames.{same_bytes}
 
 -- what stands in the second of two lists joined
 at_right : {X : Type 0} (xs ys : List X) (i : ℕ) (x : X) → At ys i x → At (xs ++ ys) (length xs + i) x

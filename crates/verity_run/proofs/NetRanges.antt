@@ -8,7 +8,7 @@ use Rattle.std.proofs.lemmas.List.{length-map}
 use Rattle.std.proofs.lemmas.List.Quantifiers.{position-Some}
 use Rattle.std.proofs.lemmas.List.Sums.{position_or_len_is}
 use Rattle.std.proofs.lemmas.Option.{none-some, slice_get-get_or, slice_get_within}
-use Rattle.verity_run.proofs.FirstAt.{name_among, name_placed, same_bytes, some_or_none}
+use Rattle.verity_run.proofs.FirstAt.{name_among, name_placed, some_or_none}
 use Rattle.verity_run.proofs.OneCircuit.{IsOneCircuit, port_net_is}
 use Rattle.verity_run.proofs.OnePlace.{circuit_nets, nets_are, read_top}
 use Rattle.verity_run.proofs.PortNets.{nets_long, port_flat}
@@ -25,6 +25,7 @@ use Rattle.vrt_model.specs.declared.circuit.FlatNet.{FlatNet}
 use Rattle.vrt_model.specs.declared.design.Design.{Design}
 use Rattle.vrt_model.specs.declared.design.InstanceCard.{InstanceCard}
 use Rattle.vrt_model.specs.declared.pairing.PortRole.{PortRole}
+use Rattle.verity_run.proofs.SameNames.{same_bytes}
 
 -- ---- lists
 

@@ -6,7 +6,7 @@ use Rattle.std.proofs.lemmas.List.Folds.{list_any-append}
 use Rattle.text_lines.proofs.ApartLaws.{NoRepeat, apart, distinct_apart}
 use Rattle.text_lines.proofs.NameLaws.{with_names_are}
 use Rattle.text_lines.specs.Names.{is_among, with_name, with_names}
-use Rattle.verity_run.proofs.NameLists.{among_filter, filter_same, filter_twice, name_eq-sym, new_once, once_filter, once_is_all, at_among}
+use Rattle.verity_run.proofs.NameLists.{among_filter, filter_same, filter_twice, new_once, once_filter, once_is_all, at_among}
 use Rattle.verity_run.specs.CellCircuits.{globals_named, net_names, nets_named, supply_names, supply_value, with_net, with_nets}
 use Rattle.verity_run.specs.RulesForm.{rules_read}
 use Rattle.vrt_model.specs.CellRules.{supply_of}
@@ -18,6 +18,7 @@ use Rattle.vrt_model.specs.declared.design.Design.{Design}
 use Rattle.vrt_model.specs.declared.design.DeviceCard.{DeviceCard}
 use Rattle.vrt_model.specs.declared.design.ModelCard.{ModelCard}
 use Rattle.vrt_model.specs.declared.rules.SupplyRule.{SupplyRule}
+use Rattle.verity_run.proofs.SameNames.{bytes_eq-sym}
 
 -- ---- supplies
 
@@ -31,7 +32,7 @@ zero_rule = record { line = 2; value = false; net = codes "gnd" }
 pub supply_is : (name : List ℕ) → supply_of rules_read name ≡ supply_value name
 supply_is name =
     ap₂ (λ (p q : Bool). option_or (option_map (λ (r : SupplyRule). r.value) (cond p (Some one_rule) (cond q (Some zero_rule) None))) (cond (bytes_eq name (codes "0")) (Some false) None))
-    (name_eq-sym (codes "vdd") name) (name_eq-sym (codes "gnd") name)
+    (bytes_eq-sym (codes "vdd") name) (bytes_eq-sym (codes "gnd") name)
     ∙ tests (bytes_eq name (codes "vdd")) (bytes_eq name (codes "gnd")) (bytes_eq name (codes "0")) where
       tests : (p q r : Bool)
           → option_or (option_map (λ (r : SupplyRule). r.value) (cond p (Some one_rule) (cond q (Some zero_rule) None))) (cond r (Some false) None)

@@ -7,7 +7,7 @@ use Rattle.std.proofs.lemmas.Bool.{and_parts, cases_lt, false_from_ne_true, fals
 use Rattle.std.proofs.lemmas.Option.{none-some, same_Some, slice_get_within}
 use Rattle.text_lines.specs.Faults.{first_of, when}
 use Rattle.text_lines.specs.Names.{is_among}
-use Rattle.verity_run.proofs.FirstAt.{at_first, at_left, bytes_same, name_among, place_is, position_is, same_bytes}
+use Rattle.verity_run.proofs.FirstAt.{at_first, at_left, name_among, place_is, position_is}
 use Rattle.verity_run.proofs.OnePlace.{circuit_nets, nets_are, read_top, supply_same}
 use Rattle.verity_run.proofs.PortNets.{port_behind, port_flat, port_placed}
 use Rattle.verity_run.specs.CellCircuits.{AreRolesBy, kind_of_port, supply_value}
@@ -31,6 +31,7 @@ use Rattle.vrt_model.specs.declared.design.Design.{Design}
 use Rattle.vrt_model.specs.declared.design.DeviceCard.{DeviceCard}
 use Rattle.vrt_model.specs.declared.design.InstanceCard.{InstanceCard}
 use Rattle.vrt_model.specs.declared.pairing.PortRole.{PortRole}
+use Rattle.verity_run.proofs.SameNames.{same_bytes, bytes_same}
 
 -- a cell has no instance, its devices have known models and gates at inputs of the model, and each of its ports is a
 -- supply, an input or the one output of the model, and has the role of it

@@ -10,6 +10,7 @@ use Rattle.vrt_model.proofs.Members.{among_later}
 use Rattle.vrt_model.specs.Inputs.{AllApart}
 use Rattle.vrt_model.specs.Lists.{Among, At, distinct, has_name, place_of}
 use Rattle.vrt_model.specs.Variables.{places}
+use Rattle.verity_run.proofs.SameNames.{bytes_eq-sym}
 
 -- ---- numbers and names
 
@@ -274,17 +275,8 @@ filter_twice {X} outer inner both (x ∷ xs) h =
 abbrev is_new : List (List ℕ) → List ℕ → Bool
 is_new known name = not (has_name known name)
 
-pub name_turned : (x y : List ℕ) → bytes_eq x y ≡ bytes_eq y x
-name_turned x y = by_test (bytes_eq x y) (bytes_eq y x) refl refl
-  where
-    by_test : (a b : Bool) → bytes_eq x y ≡ a → bytes_eq y x ≡ b → a ≡ b
-    by_test true true p q = refl
-    by_test false false p q = refl
-    by_test true false p q = sym ((bytes_eq-Decides y x).1 (sym (same_name x y p))) ∙ q
-    by_test false true p q = sym (sym ((bytes_eq-Decides x y).1 (sym (same_name y x q))) ∙ p)
-
 new_by : (x : List ℕ) (xs : List (List ℕ)) (y : List ℕ) → is_new (x ∷ xs) y ≡ (not (bytes_eq x y) && is_new xs y)
-new_by x xs y = by_test (bytes_eq y x) (bytes_eq x y) (name_turned y x)
+new_by x xs y = by_test (bytes_eq y x) (bytes_eq x y) (bytes_eq-sym y x)
   where
     by_test : (a b : Bool) → a ≡ b → not (a || has_name xs y) ≡ (not b && is_new xs y)
     by_test a true e = ap (λ (c : Bool). not (c || has_name xs y)) e

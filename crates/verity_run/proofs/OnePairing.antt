@@ -9,7 +9,7 @@ use Rattle.std.proofs.lemmas.Option.{none-some, same_Some, slice_get-get_or, sli
 use Rattle.text_lines.specs.Faults.{first_of, when}
 use Rattle.text_lines.specs.Names.{is_among}
 use Rattle.verity_run.proofs.FormModel.{IsOneModel, lower_name}
-use Rattle.verity_run.proofs.OneLists.{GivesAll, any_nothing, at_either, at_left, count_once, denied, filter_one, find_nothing, given_among, given_at, given_length, given_nothing, held, is_number, name_itself, name_turned, place_is, places_at, places_from, places_more, same_name}
+use Rattle.verity_run.proofs.OneLists.{GivesAll, any_nothing, at_either, at_left, count_once, denied, filter_one, find_nothing, given_among, given_at, given_length, given_nothing, held, is_number, name_itself, place_is, places_at, places_from, places_more, same_name}
 use Rattle.verity_run.proofs.OneModel.{flat_is, flat_with, signals_with}
 use Rattle.verity_run.specs.BlifForm.{blif_form}
 use Rattle.verity_run.specs.CellCircuits.{AreRolesBy, kind_of_port, supply_value}
@@ -38,6 +38,7 @@ use Rattle.vrt_model.specs.declared.pairing.ClockedSignal.{ClockedSignal}
 use Rattle.vrt_model.specs.declared.pairing.PortRole.{PortRole}
 use Rattle.vrt_model.specs.declared.pairing.PortRole.TheVariants.{Supply, Input, Output}
 use Rattle.vrt_model.specs.declared.rules.SupplyRule.{SupplyRule}
+use Rattle.verity_run.proofs.SameNames.{bytes_eq-sym}
 
 -- one cell and one model that were read, and that pair
 pub record IsOnePair (design : Design) (cell : Cell) (lines : List (List (List ℕ))) (model : BlifModel) : Type 0 where
@@ -104,7 +105,7 @@ ports_apart design cell read only =
 pub supply_same : (name : List ℕ) → supply_of rules_read name ≡ supply_value name
 supply_same name =
     ap₂ (λ (a b : Bool). option_or (option_map (λ (r : SupplyRule). r.value) (cond a (Some vdd) (cond b (Some gnd) None))) (cond (bytes_eq name (codes "0")) (Some false) None))
-    (name_turned (codes "vdd") name) (name_turned (codes "gnd") name)
+    (bytes_eq-sym (codes "vdd") name) (bytes_eq-sym (codes "gnd") name)
     ∙ by_tests (bytes_eq name (codes "vdd")) (bytes_eq name (codes "gnd")) (bytes_eq name (codes "0"))
   where
     vdd : SupplyRule

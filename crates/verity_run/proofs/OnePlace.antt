@@ -4,7 +4,7 @@ use Rattle.std.specs.Prelude.{bytes_eq, codes, find, flat_map, is_none, option_m
 use Rattle.std.specs.List.{enumerate_from}
 use Rattle.std.specs.Option.{option_or}
 use Rattle.std.proofs.lemmas.Bool.{false≢true}
-use Rattle.verity_run.proofs.FirstAt.{bytes_sym, flat_none, map_none}
+use Rattle.verity_run.proofs.FirstAt.{flat_none, map_none}
 use Rattle.verity_run.specs.CellCircuits.{supply_value}
 use Rattle.verity_run.specs.Reports.{is_other_model}
 use Rattle.verity_run.specs.RulesForm.{rules_read}
@@ -22,6 +22,7 @@ use Rattle.vrt_model.specs.declared.design.ModelCard.{ModelCard}
 use Rattle.vrt_model.specs.declared.pairing.PortRole.{PortRole}
 use Rattle.vrt_model.specs.declared.rules.DeviceRule.{DeviceRule}
 use Rattle.vrt_model.specs.declared.rules.SupplyRule.{SupplyRule}
+use Rattle.verity_run.proofs.SameNames.{bytes_eq-sym}
 
 -- ---- supplies
 
@@ -42,8 +43,8 @@ supply_tests false false false = refl
 pub supply_same : (name : List ℕ) → supply_of rules_read name ≡ supply_value name
 supply_same name =
     supply_tests (bytes_eq (codes "vdd") name) (bytes_eq (codes "gnd") name) (bytes_eq name (codes "0"))
-    ∙ (ap {B = Option Bool} (λ (b : Bool). cond b (Some true) (cond (bytes_eq (codes "gnd") name || bytes_eq name (codes "0")) (Some false) None)) (bytes_sym (codes "vdd") name)
-    ∙ ap {B = Option Bool} (λ (b : Bool). cond (bytes_eq name (codes "vdd")) (Some true) (cond (b || bytes_eq name (codes "0")) (Some false) None)) (bytes_sym (codes "gnd") name))
+    ∙ (ap {B = Option Bool} (λ (b : Bool). cond b (Some true) (cond (bytes_eq (codes "gnd") name || bytes_eq name (codes "0")) (Some false) None)) (bytes_eq-sym (codes "vdd") name)
+    ∙ ap {B = Option Bool} (λ (b : Bool). cond (bytes_eq name (codes "vdd")) (Some true) (cond (b || bytes_eq name (codes "0")) (Some false) None)) (bytes_eq-sym (codes "gnd") name))
 
 -- ---- devices by the rules
 
@@ -79,7 +80,7 @@ pub kind_there : (design : Design) (card : DeviceCard) → is_other_model card �
 kind_there design card e =
     let two : (bytes_eq card.model (codes "n") || bytes_eq card.model (codes "p")) ≡ true = not_false (bytes_eq card.model (codes "n") || bytes_eq card.model (codes "p")) e in
     let one : (bytes_eq (codes "n") card.model || bytes_eq (codes "p") card.model) ≡ true =
-    ap (λ (b : Bool). b || bytes_eq (codes "p") card.model) (bytes_sym (codes "n") card.model) ∙ (ap (λ (b : Bool). bytes_eq card.model (codes "n") || b) (bytes_sym (codes "p") card.model) ∙ two) in
+    ap (λ (b : Bool). b || bytes_eq (codes "p") card.model) (bytes_eq-sym (codes "n") card.model) ∙ (ap (λ (b : Bool). bytes_eq card.model (codes "n") || b) (bytes_eq-sym (codes "p") card.model) ∙ two) in
     kind_tests (bytes_eq (codes "n") card.model) (bytes_eq (codes "p") card.model) (kind_of_card design card) one
 
 -- ---- one place

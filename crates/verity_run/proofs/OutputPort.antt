@@ -5,7 +5,7 @@ use Rattle.std.specs.List.{list_any}
 use Rattle.std.proofs.lemmas.Bool.{and_parts, cases_Bool, eqb-true, false≢true, or_cases}
 use Rattle.std.proofs.lemmas.Option.{none-some, same_Some}
 use Rattle.text_lines.specs.Names.{is_among}
-use Rattle.verity_run.proofs.FirstAt.{bytes_same, name_among, some_or_none}
+use Rattle.verity_run.proofs.FirstAt.{name_among, some_or_none}
 use Rattle.verity_run.proofs.FirstOfList.{IsOnlyOutput}
 use Rattle.verity_run.proofs.GivenCircuit.{circuit_given}
 use Rattle.verity_run.proofs.InputBits.{read_comparison}
@@ -37,6 +37,7 @@ use Rattle.vrt_model.specs.declared.pairing.PortRole.{PortRole}
 use Rattle.vrt_model.specs.declared.pairing.PortRole.TheVariants.{Supply, Clock, Input, Output}
 use Rattle.vrt_model.specs.declared.whole.Whole.{Whole}
 use Rattle.vrt_model.specs.declared.whole.WholePin.{WholePin}
+use Rattle.verity_run.proofs.SameNames.{bytes_same}
 
 -- ---- kinds of roles
 

@@ -12,4 +12,3 @@ pub mod RulesForm
 pub mod Runs
 pub mod Searches
 pub mod Valuations
-pub mod Words

@@ -26,6 +26,10 @@ too_long_line file = refusal_line file 0 (codes "longer than 16777216 bytes") []
 abbrev pub unbuilt_line : List ℕ → ℕ → List ℕ
 unbuilt_line file line = refusal_line file line (codes "not built yet") []
 
+-- the line where what the words ask for is not built yet
+abbrev pub words_unbuilt_line : List ℕ
+words_unbuilt_line = unbuilt_line (codes "words") 0
+
 -- the line of a SPICE fault; want of memory has none
 abbrev pub spice_line : List ℕ → SpiceFault → List ℕ
 spice_line file (NotText line) = refusal_line file line (codes "byte that is not text") []

@@ -1,5 +1,5 @@
 -- What is answered and written for three files that were read.
-use Rattle.std.specs.Prelude.{◌≡◌, ◌≢◌, ℕ, List, [], ◌∷◌, ◌++◌, ◌⊎◌, Bool, not, ◌&&◌, ◌||◌, nat_lt, length, find, Option, Some, None, option_map, slice_get, MatchOption, bytes_eq, codes, is_some, Result, Ok, Err}
+use Rattle.std.specs.Prelude.{◌≡◌, ◌≢◌, ℕ, List, [], ◌∷◌, ◌++◌, ◌⊎◌, Bool, true, false, not, ◌&&◌, ◌||◌, nat_lt, length, find, Option, Some, None, option_map, slice_get, MatchOption, bytes_eq, codes, is_some, Result, Ok, Err}
 use Rattle.std.specs.List.{list_all}
 use Rattle.spice_reader.specs.Cards.{cards_of}
 use Rattle.spice_reader.specs.Netlist.{design_of}
@@ -11,7 +11,7 @@ use Rattle.text_lines.specs.Names.{is_among}
 use Rattle.verity_run.specs.BlifForm.{blif_form}
 use Rattle.verity_run.specs.CellCircuits.{supply_value}
 use Rattle.verity_run.specs.Forms.{words_by_line}
-use Rattle.verity_run.specs.Messages.{spice_line, too_long_line, unbuilt_line}
+use Rattle.verity_run.specs.Messages.{spice_line, too_long_line, unbuilt_line, words_unbuilt_line}
 use Rattle.verity_run.specs.Reads.{first_too_long}
 use Rattle.verity_run.specs.RulesForm.{rules_misfit, rules_read}
 use Rattle.verity_run.specs.declared.unbuilt.Unbuilt.{Unbuilt}
@@ -183,15 +183,20 @@ IsReportOf spice blif rules design b c status text =
     (IsCheckedAs design (blif_form (words_by_line b)) status text)
     (λ unbuilt. IsRefused (unbuilt_text spice blif rules unbuilt) status text)
 
--- for a netlist: its first fault, else the report of its design
-abbrev pub IsReportBy : List ℕ → List ℕ → List ℕ → List ℕ → List ℕ → List ℕ → Status → List ℕ → Type 0
-IsReportBy spice blif rules a b c status text =
-    ((fault : SpiceFault) × IsFaultOf (cards_of a) fault × IsRefused (spice_line spice fault) status text)
-    ⊎ (IsNetlist (cards_of a) × IsReportOf spice blif rules (design_of (cards_of a)) b c status text)
+-- for a design that was read: that what the words ask for is not built yet, else the report
+abbrev pub IsAnswerOf : Bool → List ℕ → List ℕ → List ℕ → Design → List ℕ → List ℕ → Status → List ℕ → Type 0
+IsAnswerOf false spice blif rules design b c status text = IsRefused words_unbuilt_line status text
+IsAnswerOf true spice blif rules design b c status text = IsReportOf spice blif rules design b c status text
 
--- for three files: the first that is too long, else what the netlist gives
-abbrev pub IsReport : List ℕ → List ℕ → List ℕ → List ℕ → List ℕ → List ℕ → Status → List ℕ → Type 0
-IsReport spice blif rules a b c status text =
+-- for a netlist: its first fault, else what is answered for its design
+abbrev pub IsReportBy : Bool → List ℕ → List ℕ → List ℕ → List ℕ → List ℕ → List ℕ → Status → List ℕ → Type 0
+IsReportBy built spice blif rules a b c status text =
+    ((fault : SpiceFault) × IsFaultOf (cards_of a) fault × IsRefused (spice_line spice fault) status text)
+    ⊎ (IsNetlist (cards_of a) × IsAnswerOf built spice blif rules (design_of (cards_of a)) b c status text)
+
+-- for three files: the first that is too long, else what the netlist gives; `built` where what the words ask for is built
+abbrev pub IsReport : Bool → List ℕ → List ℕ → List ℕ → List ℕ → List ℕ → List ℕ → Status → List ℕ → Type 0
+IsReport built spice blif rules a b c status text =
     MatchOption (first_too_long spice blif rules a b c)
-    (IsReportBy spice blif rules a b c status text)
+    (IsReportBy built spice blif rules a b c status text)
     (λ file. IsRefused (too_long_line file) status text)

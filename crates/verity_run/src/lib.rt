@@ -15,7 +15,6 @@ mod status;
 mod top;
 mod unbuilt;
 mod verdict_text;
-mod words;
 
 pub use parts::least_nets;
 pub use places::{Place, ordered_places};

@@ -2,7 +2,7 @@
 
 ghost use Rattle.std.specs.Prelude.{◌≡◌, ◌≢◌, ◌∷◌, [], codes, map, IfOk, string_bytes};
 ghost use Rattle.std.specs.Fmt.{decimal};
-ghost use Rattle.verity_run.specs.Messages.{joined, read_failed_line, too_long_line, unbuilt_line, refusal_line, usage_line, spice_line};
+ghost use Rattle.verity_run.specs.Messages.{joined, read_failed_line, too_long_line, unbuilt_line, refusal_line, usage_line, spice_line, words_unbuilt_line};
 
 use spice_reader::SpiceFault;
 use std::alloc::Global;
@@ -95,6 +95,13 @@ pub fn unbuilt(alloc: Global, file: &[u8], line: u32) -> Result<Text, NoMemory>
     ensures { IfOk result (λ text. text ≡ unbuilt_line file.now line) }
 {
     refusal(alloc, file, line, b"not built yet", b"")
+}
+
+/// The line where what the words ask for is not built yet.
+pub fn words_unbuilt(alloc: Global) -> Result<Text, NoMemory>
+    ensures { IfOk result (λ text. text ≡ words_unbuilt_line) }
+{
+    unbuilt(alloc, b"words", 0)
 }
 
 /// The line for a fault of the netlist that is not want of memory.

@@ -1,8 +1,8 @@
 //! What three files that were read give.
 
 ghost use Rattle.std.specs.Prelude.{◌≡◌, ◌≢◌, ◌≤◌, None, length, vec_len, IfOk, MatchOption};
-ghost use Rattle.verity_run.specs.Reports.{IsReportOf, IsReportBy, IsChecked, IsEnded, IsFormed, IsRefused, IsSole, status_of, pair_unbuilt, unbuilt_text};
-ghost use Rattle.verity_run.specs.Messages.{spice_line};
+ghost use Rattle.verity_run.specs.Reports.{IsAnswerOf, IsReportOf, IsReportBy, IsChecked, IsEnded, IsFormed, IsRefused, IsSole, status_of, pair_unbuilt, unbuilt_text};
+ghost use Rattle.verity_run.specs.Messages.{spice_line, words_unbuilt_line};
 ghost use Rattle.vrt_model.specs.Inputs.{IsDesign};
 
 use crate::blif_form::read_model;
@@ -14,7 +14,7 @@ use crate::search::check;
 use crate::status::Status;
 use crate::unbuilt::{Unbuilt, pair_line, sole_cell};
 use crate::verdict_text::verdict_line;
-use crate::words::FileWords;
+use command_line::FileWords;
 use spice_reader::{SpiceFault, read_spice};
 use std::alloc::Global;
 use vrt_model::{BlifModel, Cell, Design, NoMemory, Text, Verdict};
@@ -56,6 +56,17 @@ fn unbuilt(alloc: Global, words: &FileWords<'_>, form: Unbuilt) -> Result<Answer
     })
 }
 
+/// The answer where what the words ask for is not built yet.
+fn refusal_of_words(alloc: Global) -> Result<Answer, NoMemory>
+    ensures ended { IfOk result (λ a. IsEnded a.status) }
+    ensures answer { IfOk result (λ a. IsRefused words_unbuilt_line a.status a.text) }
+{
+    Ok(Answer {
+        status: Status::InputRefused,
+        text: messages::words_unbuilt(alloc)?,
+    })
+}
+
 /// The answer for a cell and a model.
 fn checked(
     alloc: Global,
@@ -63,7 +74,6 @@ fn checked(
     cell: &Cell,
     model: &BlifModel,
 ) -> Result<Answer, NoMemory>
-    requires inputs { length model.now.inputs ≤ 12 }
     requires sole { IsSole design.now cell.now }
     requires pair { pair_unbuilt cell.now model.now ≡ None }
     requires form { IsFormed model.now }
@@ -128,22 +138,48 @@ fn report(
     }
 }
 
-/// The answer for three files that were read.
-pub fn answer_for(alloc: Global, words: &FileWords<'_>, texts: &Texts) -> Result<Answer, NoMemory>
+/// The answer for a design that was read, where what the words ask for is built, or that it is not.
+fn answered(
+    alloc: Global,
+    words: &FileWords<'_>,
+    built: bool,
+    design: &Design,
+    texts: &Texts,
+) -> Result<Answer, NoMemory>
+    requires read { IsDesign design.now }
+    requires blif { vec_len texts.now.blif ≤ 16777216 }
+    requires rules { vec_len texts.now.rules ≤ 16777216 }
+    ensures ended { IfOk result (λ a. IsEnded a.status) }
+    ensures answer { IfOk result (λ a. IsAnswerOf built words.now.spice.now words.now.blif.now words.now.rules.now design.now texts.now.blif.items texts.now.rules.items a.status a.text) }
+{
+    if built {
+        report(
+            alloc,
+            words,
+            design,
+            texts.blif.as_slice(),
+            texts.rules.as_slice(),
+        )
+    } else {
+        refusal_of_words(alloc)
+    }
+}
+
+/// The answer for three files that were read. `built` says whether what the words ask for is built.
+pub fn answer_for(
+    alloc: Global,
+    words: &FileWords<'_>,
+    built: bool,
+    texts: &Texts,
+) -> Result<Answer, NoMemory>
     requires spice { vec_len texts.now.spice ≤ 16777216 }
     requires blif { vec_len texts.now.blif ≤ 16777216 }
     requires rules { vec_len texts.now.rules ≤ 16777216 }
     ensures ended { IfOk result (λ a. IsEnded a.status) }
-    ensures answer { IfOk result (λ a. IsReportBy words.now.spice.now words.now.blif.now words.now.rules.now texts.now.spice.items texts.now.blif.items texts.now.rules.items a.status a.text) }
+    ensures answer { IfOk result (λ a. IsReportBy built words.now.spice.now words.now.blif.now words.now.rules.now texts.now.spice.items texts.now.blif.items texts.now.rules.items a.status a.text) }
 {
     match read_spice(alloc, texts.spice.as_slice()) {
-        Ok(design) => report(
-            alloc,
-            words,
-            &design,
-            texts.blif.as_slice(),
-            texts.rules.as_slice(),
-        ),
+        Ok(design) => answered(alloc, words, built, &design, texts),
         Err(SpiceFault::NoMemory) => Err(NoMemory),
         Err(fault) => refused(alloc, words, &fault),
     }

@@ -3,7 +3,7 @@
 ghost use Rattle.std.specs.Prelude.{◌≡◌, ◌<◌, ◌≤◌, length, vec_len, List, ℕ, IfOk, IfErr, IfSome};
 ghost use Rattle.verity_run.specs.Reads.{StopHasCause, StopsBy, AreTold, AreShort};
 
-use crate::words::FileWords;
+use command_line::FileWords;
 use std::alloc::Global;
 use vrt_io::{Files, Loaded};
 

@@ -26,7 +26,20 @@ fn expect(
     status: Status,
     line: &str,
 ) -> Result<(), Fail> {
-    let words = words_of(alloc, &["verity", "c.sp", "m.blif", "r.txt"])?;
+    let words = ["verity", "c.sp", "m.blif", "r.txt"];
+    expect_of(rt, alloc, words.as_slice(), texts, status, line)
+}
+
+/// Runs these words over three files and compares the status and the line.
+fn expect_of(
+    rt: &impl Abort,
+    alloc: Global,
+    words: &[&str],
+    texts: [&str; 3],
+    status: Status,
+    line: &str,
+) -> Result<(), Fail> {
+    let words = words_of(alloc, words)?;
     let [spice, blif, rules] = texts;
     let mut files = SureFiles::new(alloc);
     files.add("c.sp", spice.as_bytes())?;
@@ -137,6 +150,84 @@ fn each_form_that_is_not_built_is_refused(rt: HostRuntime) -> Result<(), Fail> {
         let line = format!(in alloc; "verity: {place}: not built yet\n")?;
         expect(&rt, alloc, texts, Status::InputRefused, line.as_str())?;
     }
+    Ok(())
+}
+
+#[test]
+fn words_that_ask_for_what_is_not_built_are_refused(rt: HostRuntime) -> Result<(), Fail> {
+    let alloc = rt.alloc();
+    let unbuilt = "verity: words line 0: not built yet\n";
+    let lines = [
+        "--budget 65536 c.sp m.blif r.txt",
+        "--cell inv c.sp m.blif r.txt",
+        "--do replay --cell inv --phase all c.sp m.blif r.txt",
+        "c.sp m.blif r.txt --do=classes",
+        "--do gen --size 4",
+    ];
+    for line in lines {
+        let mut words = Vec::new(alloc);
+        words.push("verity")?;
+        for word in line.split(' ') {
+            words.push(word)?;
+        }
+        let texts = [INV, MODEL, RULES];
+        expect_of(
+            &rt,
+            alloc,
+            words.as_slice(),
+            texts,
+            Status::InputRefused,
+            unbuilt,
+        )?;
+    }
+    // a fault of the netlist comes first
+    let words = ["verity", "c.sp", "m.blif", "r.txt", "--cell", "inv"];
+    let texts = ["t\n.subckt inv a y\n", MODEL, RULES];
+    let line = "verity: c.sp line 2: cell not ended\n";
+    expect_of(
+        &rt,
+        alloc,
+        words.as_slice(),
+        texts,
+        Status::InputRefused,
+        line,
+    )
+}
+
+#[test]
+fn words_are_told_and_refused(rt: HostRuntime) -> Result<(), Fail> {
+    let alloc = rt.alloc();
+    let texts = [INV, MODEL, RULES];
+    let usage =
+        "verity: usage: verity [--do MODE] [--cell C] [--phase P] [--at LIST] [--budget N] [--size N] [SPICE BLIF RULES]\n";
+    let words = ["verity", "--version"];
+    expect_of(
+        &rt,
+        alloc,
+        words.as_slice(),
+        texts,
+        Status::AllEqual,
+        "verity 0.1.0\n",
+    )?;
+    let words = ["verity", "c.sp", "m.blif", "r.txt", "--do", "check"];
+    expect_of(
+        &rt,
+        alloc,
+        words.as_slice(),
+        texts,
+        Status::AllEqual,
+        "cell inv equal\n",
+    )?;
+    let words = ["verity", "--budget", "65535", "c.sp", "m.blif", "r.txt"];
+    expect_of(&rt, alloc, words.as_slice(), texts, Status::Usage, usage)?;
+    let words = ["verity", "--do", "gen", "--size", "33"];
+    expect_of(&rt, alloc, words.as_slice(), texts, Status::Usage, usage)?;
+    let words = words_of(alloc, ["verity", "--help"].as_slice())?;
+    let mut files = SureFiles::new(alloc);
+    let mut out = SureSink::new(alloc);
+    let answer = run(alloc, words.as_slice(), &mut files, &mut out);
+    assert_eq!(rt; answer, Status::AllEqual);
+    assert!(rt; out.bytes().starts_with(b"verity [--do MODE]"));
     Ok(())
 }
 

@@ -1,25 +1,10 @@
-use Rattle.std.proofs.Common.{ℕ, List, subst, inl, inr, ap, ◌∙◌}
-use Rattle.verity_run.specs.Messages.{read_failed_line}
-use Rattle.verity_run.specs.Runs.{PutsAll}
-use Rattle.verity_run.specs.Words.{texts}
-use Rattle.verity_run.specs.declared.status.Status.TheVariants.{ReadFault}
-use Rattle.verity_run.proofs.Written.{report_is_wanted, failed_is_wanted}
+use Rattle.std.proofs.Common.{inr, subst}
+use Rattle.command_line.specs.Command.{texts}
+use Rattle.command_line.specs.Requests.{Asks}
 use Rattle.verity_run.proofs.top.run.Goals as goal
 
-pub returns-in-Ok-answer_for-clause-answers : goal.returns-in-Ok-answer_for-clause-answers
-returns-in-Ok-answer_for-clause-answers g c = λ _.
-    let P : List ℕ → Type 0 = λ text. PutsAll c.in-Ok-answer_for.answer.status c.finish-in-Ok-answer_for.result text (g.O.Sink.written c.args.out.now) (g.O.Sink.written c.finish-in-Ok-answer_for.new.out) (g.O.Sink.faults c.args.out.now) (g.O.Sink.faults c.finish-in-Ok-answer_for.new.out) in (
-      c.in-Ok-answer_for.answer.status,
-      c.in-Ok-answer_for.answer.text,
-      inr (inr (report_is_wanted (texts c.args.words.now) c.in-Some.ensures.1.0 _ _ _ _ _ _ _ _ _ c.in-Some.ensures.0 c.in-Some.ensures.1.1 c.in-Ok.ensures.ok c.in-Ok-answer_for.ensures.answer)),
-      subst P c.as_bytes.ensures c.finish-in-Ok-answer_for.ensures.puts,
-    )
-
-pub returns-in-Ok-read_failed-clause-answers : goal.returns-in-Ok-read_failed-clause-answers
-returns-in-Ok-read_failed-clause-answers g c = λ _.
-    let P : List ℕ → Type 0 = λ text. PutsAll ReadFault c.finish-in-Ok-read_failed.result text (g.O.Sink.written c.args.out.now) (g.O.Sink.written c.finish-in-Ok-read_failed.new.out) (g.O.Sink.faults c.args.out.now) (g.O.Sink.faults c.finish-in-Ok-read_failed.new.out) in (
-      ReadFault,
-      read_failed_line c.in-Err.stopped.name.now,
-      inr (inl (failed_is_wanted (texts c.args.words.now) c.in-Some.ensures.1.0 _ _ _ _ _ _ _ _ c.in-Some.ensures.0 c.in-Some.ensures.1.1 c.in-Failed.is c.in-Err.ensures.err)),
-      subst P (c.as_bytes-in-Ok-read_failed.ensures ∙ c.in-Ok-read_failed.ensures ∙ ap read_failed_line c.as_bytes-in-Failed.ensures.value) c.finish-in-Ok-read_failed.ensures.puts,
-    )
+pub returns-in-Ok-Run-clause-answers : goal.returns-in-Ok-Run-clause-answers
+returns-in-Ok-Run-clause-answers g c = λ answered.
+    let asked = subst (Asks (texts c.args.words.now)) c.in-Ok-Run.field-0-is c.in-Ok-Run.ensures.asked in
+    let given = c.answer.ensures.answers answered in
+    (given.0, given.1, inr (inr (c.in-Ok-Run.request, asked, given.2)), given.3)

@@ -1,0 +1,4 @@
+pub mod Command
+pub mod Manual
+pub mod Requests
+pub mod Steps

@@ -1,0 +1,43 @@
+//! What help and the version are.
+
+ghost use Rattle.std.specs.Prelude.{◌≡◌};
+ghost use Rattle.command_line.specs.Manual.{help_text, version_line};
+
+/// The line of the version.
+pub fn version() -> &'static [u8]
+    ensures { result.now ≡ version_line }
+{
+    b"verity 0.1.0\n"
+}
+
+/// The use of the words, a line for each option and each mode, and the meaning of each status.
+pub fn help() -> &'static [u8]
+    ensures { result.now ≡ help_text }
+{
+    b"verity [--do MODE] [--cell C] [--phase P] [--at LIST] [--budget N] [--size N] [SPICE BLIF RULES]\n\
+      Checks the cells of a SPICE netlist against the models of a BLIF file, by a rules file.\n\
+\n\
+      --do MODE      what to do: check (if not given), replay, classes or gen\n\
+      --cell C       check, classes: C and the cells below it alone; replay: the cell, needed\n\
+      --phase P      replay: the phase, needed\n\
+      --at LIST      replay: bits of variables, as a=1,b=0; those not named are 0\n\
+      --budget N     check, gen: nodes of diagrams, from 65536 to 64000000\n\
+      --size N       gen: the size, from 1 to 32, needed\n\
+      -h, --help     this text\n\
+      -V, --version  the version\n\
+\n\
+      check          the verdict on each cell\n\
+      replay         the values of the nets of a cell at one valuation\n\
+      classes        the class of each channel-connected part\n\
+      gen            makes a hierarchy of cells, and checks it; no files are named\n\
+      Not built yet: replay, classes, gen, --cell and --budget.\n\
+\n\
+      status 0       each cell is equal, or what was asked for is written\n\
+      status 1       a cell has a fault\n\
+      status 2       the words are not understood\n\
+      status 3       a file is too long or faulty, a name is not there, or a form is not built yet\n\
+      status 4       no cell has a fault, and one was not decided\n\
+      status 5       a file could not be read\n\
+      status 6       the output could not be written\n\
+      status 7       memory was wanting\n"
+}
