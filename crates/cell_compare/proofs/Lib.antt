@@ -1,0 +1,16 @@
+pub mod CircuitLaws
+pub mod FrameLaws
+pub mod NetLaws
+pub mod OrderLaws
+pub mod Ordered
+pub mod OutputLaws
+pub mod PartLaws
+pub mod PartNetworks
+pub mod PhaseBits
+pub mod PhaseEqual
+pub mod PhaseFirst
+pub mod PhaseGiven
+pub mod PhaseOutputs
+pub mod PhaseRoots
+pub mod ScanLaws
+pub mod Solutions

@@ -1,0 +1,111 @@
+use Rattle.std.proofs.Common.{◌≡◌, ℕ, ◌<◌, Bool, List, Option, length, ap, arith, subst, sym, ◌∙◌}
+use Rattle.cell_compare.proofs.CircuitLaws.{IsSolvedBefore, root_spans, solved_all, solved_none, step_clear, step_fault, words_within}
+use Rattle.bdd_core.specs.Words.{word_at}
+use Rattle.cell_compare.proofs.FrameLaws.{two_first, two_then, two_wider}
+use Rattle.cell_compare.proofs.OrderLaws.{first_fault, ordered_parts}
+use Rattle.cell_compare.proofs.Ordered.{AreOrderedParts}
+use Rattle.cell_compare.specs.Results.{first_word}
+use Rattle.channel_parts.specs.KnownTables.{known_at}
+use Rattle.cell_compare.specs.Scans.{IsPartClear, IsPartFault, PartGives}
+use Rattle.cell_compare.specs.declared.net.CircuitFault.{CircuitFault}
+use Rattle.channel_parts.specs.declared.part.Part.{Part}
+use Rattle.plain_paths.proofs.Items.{item_at}
+use Rattle.plain_paths.specs.Marks.{mark_at}
+use Rattle.vrt_model.specs.Lists.{At}
+use Rattle.cell_compare.proofs.circuit.circuit_fault.Goals as goal
+
+pub loop-part-init : goal.loop-part-init
+loop-part-init c = record {
+  writes = two_first c.args.gates c.args.out c.args.store.now c.open.new.store c.open.ensures.writes;
+  live = c.open.ensures.writes.live;
+  solved = λ phase are fixed.
+      solved_none c.args.circuit.now phase (mark_at c.args.observed.now) c.args.parts.now.known c.args.parts.now.list c.args.care c.args.roots c.args.gates c.requires.circuit c.requires.observed are
+      c.requires.spans.roots_len c.requires.spans.gates_len c.args.store.now c.open.new.store c.requires.spans.roots_live c.open.ensures.writes fixed
+      (subst (λ (known : List (Option Bool)). (n : ℕ) → n < c.args.gates.len → word_at c.open.new.store c.args.gates n ≡ first_word (known_at known n) (word_at c.args.store.now c.args.roots n)) c.as_slice.ensures c.open.ensures.first);
+}
+
+pub words_of-words-requires : goal.words_of-words-requires
+words_of-words-requires c =
+    c.requires.spans.room c.part-item.result (c.loop-part.part-index, item_at c.args.parts.now.list c.as_slice-part-items.result.now c.loop-part.part-index c.part-item.result c.as_slice-part-items.ensures c.loop-part-test.true c.part-item.is)
+
+pub check_part-requires-clause-part : goal.check_part-requires-clause-part
+check_part-requires-clause-part c =
+    let list = c.requires.parts.1 in
+    ((ordered_parts c.args.circuit.now c.requires.parts.0 list.0 c.args.parts.now c.requires.circuit list.1 list.2).each c.part-item.result
+    (c.loop-part.part-index, item_at c.args.parts.now.list c.as_slice-part-items.result.now c.loop-part.part-index c.part-item.result c.as_slice-part-items.ensures c.loop-part-test.true c.part-item.is)).is
+
+pub check_part-requires-clause-spans : goal.check_part-requires-clause-spans
+check_part-requires-clause-spans c =
+    root_spans c.args.circuit.now c.args.parts.now.list c.args.roots c.args.gates c.args.out c.args.store.now c.requires.spans c.part-item.result
+    (c.loop-part.part-index, item_at c.args.parts.now.list c.as_slice-part-items.result.now c.loop-part.part-index c.part-item.result c.as_slice-part-items.ensures c.loop-part-test.true c.part-item.is)
+    c.loop-part.store c.words_of-words.result c.words_of-words.ensures c.loop-part.invariant.writes c.loop-part.invariant.live
+
+pub returns-in-Err-clause-writes : goal.returns-in-Err-clause-writes
+returns-in-Err-clause-writes c =
+    two_then c.args.gates c.args.out c.args.store.now c.loop-part.store c.check_part.new.store c.loop-part.invariant.writes
+    (two_wider c.args.gates c.words_of-words.result c.args.out c.loop-part.store c.check_part.new.store
+    (words_within c.args.circuit.now c.args.parts.now.list c.args.roots c.args.gates c.args.out c.args.store.now c.requires.spans c.part-item.result
+    (c.loop-part.part-index, item_at c.args.parts.now.list c.as_slice-part-items.result.now c.loop-part.part-index c.part-item.result c.as_slice-part-items.ensures c.loop-part-test.true c.part-item.is)
+    c.words_of-words.result c.words_of-words.ensures) c.check_part.ensures.writes)
+
+pub returns-in-Some-clause-writes : goal.returns-in-Some-clause-writes
+returns-in-Some-clause-writes c =
+    two_then c.args.gates c.args.out c.args.store.now c.loop-part.store c.check_part.new.store c.loop-part.invariant.writes
+    (two_wider c.args.gates c.words_of-words.result c.args.out c.loop-part.store c.check_part.new.store
+    (words_within c.args.circuit.now c.args.parts.now.list c.args.roots c.args.gates c.args.out c.args.store.now c.requires.spans c.part-item.result
+    (c.loop-part.part-index, item_at c.args.parts.now.list c.as_slice-part-items.result.now c.loop-part.part-index c.part-item.result c.as_slice-part-items.ensures c.loop-part-test.true c.part-item.is)
+    c.words_of-words.result c.words_of-words.ensures) c.check_part.ensures.writes)
+
+pub returns-in-Some-clause-gives : goal.returns-in-Some-clause-gives
+returns-in-Some-clause-gives c phase rank listed ranks fixed =
+    let circuit = c.args.circuit.now in
+    let are : AreOrderedParts circuit phase c.args.parts.now.known c.args.parts.now.list = ordered_parts circuit phase rank c.args.parts.now c.requires.circuit listed ranks in
+    let observed : ℕ → Bool = mark_at c.args.observed.now in
+    let part : Part = c.part-item.result in
+    let k = c.loop-part.part-index in
+    let there : At c.args.parts.now.list k part = item_at c.args.parts.now.list c.as_slice-part-items.result.now k part c.as_slice-part-items.ensures c.loop-part-test.true c.part-item.is in
+    let fault : IsPartFault circuit part observed c.args.care c.args.roots c.args.gates c.in-Some.fault c.loop-part.store c.check_part.new.store =
+    subst (λ (o : Option CircuitFault). PartGives circuit part observed c.args.care c.args.roots c.args.gates c.loop-part.store c.check_part.new.store o) c.in-Some.is c.in-Ok.ensures.gives in
+    first_fault circuit phase observed rank c.args.parts.now c.requires.circuit c.requires.observed listed c.args.care c.args.roots c.args.store.now c.check_part.new.store fixed c.in-Some.fault
+    (step_fault circuit phase observed c.args.parts.now.known c.args.parts.now.list c.args.care c.args.roots c.args.gates c.args.out c.requires.circuit c.requires.observed are c.args.store.now
+    c.requires.spans c.requires.care fixed k part there c.loop-part.store c.check_part.new.store c.loop-part.invariant.writes c.loop-part.invariant.live
+    (c.loop-part.invariant.solved phase are fixed) c.in-Some.fault fault)
+
+pub loop-part-preserved : goal.loop-part-preserved
+loop-part-preserved c =
+    let circuit = c.args.circuit.now in
+    let observed : ℕ → Bool = mark_at c.args.observed.now in
+    let part : Part = c.part-item.result in
+    let k = c.loop-part.part-index in
+    let there : At c.args.parts.now.list k part = item_at c.args.parts.now.list c.as_slice-part-items.result.now k part c.as_slice-part-items.ensures c.loop-part-test.true c.part-item.is in
+    let clear : IsPartClear circuit part observed c.args.care c.args.roots c.args.gates c.loop-part.store c.check_part.new.store =
+    subst (λ (o : Option CircuitFault). PartGives circuit part observed c.args.care c.args.roots c.args.gates c.loop-part.store c.check_part.new.store o) c.in_default.is c.in-Ok.ensures.gives in
+    record {
+      writes = two_then c.args.gates c.args.out c.args.store.now c.loop-part.store c.check_part.new.store c.loop-part.invariant.writes
+          (two_wider c.args.gates c.words_of-words.result c.args.out c.loop-part.store c.check_part.new.store
+          (words_within circuit c.args.parts.now.list c.args.roots c.args.gates c.args.out c.args.store.now c.requires.spans part (k, there) c.words_of-words.result c.words_of-words.ensures) c.check_part.ensures.writes);
+      live = c.check_part.ensures.live;
+      solved = λ phase are fixed.
+          step_clear circuit phase observed c.args.parts.now.known c.args.parts.now.list c.args.care c.args.roots c.args.gates c.args.out c.requires.circuit c.requires.observed are c.args.store.now
+          c.requires.spans c.requires.care fixed k part there c.loop-part.store c.check_part.new.store c.loop-part.invariant.writes c.loop-part.invariant.live
+          (c.loop-part.invariant.solved phase are fixed) clear (λ h v lt. c.check_part.ensures.writes.kept h lt v);
+    }
+
+pub returns-clause-gives : goal.returns-clause-gives
+returns-clause-gives c phase rank listed ranks fixed =
+    let circuit = c.args.circuit.now in
+    let are : AreOrderedParts circuit phase c.args.parts.now.known c.args.parts.now.list = ordered_parts circuit phase rank c.args.parts.now c.requires.circuit listed ranks in
+    let observed : ℕ → Bool = mark_at c.args.observed.now in
+    let parts = c.args.parts.now.list in
+    let end : c.loop-part.part-index ≡ length parts =
+    (let shown : length c.as_slice-part-items.result.now ≡ length parts = ap (λ (xs : List Part). length xs) c.as_slice-part-items.ensures in
+    omega (arith, shown, c.loop-part-test.false, c.loop-part.auto.part-index-end)) in
+    solved_all circuit phase observed c.args.parts.now.known parts c.args.care c.args.roots c.args.gates c.requires.circuit c.requires.observed are c.requires.spans.roots_len c.requires.spans.gates_len
+    c.args.store.now c.loop-part.store fixed
+    (subst (λ (k : ℕ). IsSolvedBefore circuit phase observed parts c.args.care c.args.roots c.args.gates k c.args.store.now c.loop-part.store) end (c.loop-part.invariant.solved phase are fixed))
+
+pub open-requires-clause-len : goal.open-requires-clause-len
+open-requires-clause-len c =
+    let list = c.requires.parts.1 in
+    let known : length c.as_slice.result.now ≡ length c.args.parts.now.known = ap (λ (xs : List (Option Bool)). length xs) c.as_slice.ensures in
+    (known ∙ list.1.count ∙ sym c.requires.spans.gates_len, c.requires.spans.roots_len ∙ sym c.requires.spans.gates_len)

@@ -1,0 +1,20 @@
+use Rattle.bdd_core.specs.Diagram.{Valuation}
+use Rattle.bdd_core.specs.Words.{IsFilled}
+use Rattle.cell_compare.proofs.CircuitLaws.{IsSolvedBefore}
+use Rattle.cell_compare.proofs.Ordered.{AreOrderedParts}
+use Rattle.cell_compare.specs.Faults.{HasFixedBits}
+use Rattle.cell_compare.specs.Frames.{WritesTwo}
+use Rattle.cell_compare.specs.Results.{root_at}
+use Rattle.plain_paths.specs.Marks.{mark_at}
+use Rattle.vrt_model.specs.declared.rules.Phase.{Phase}
+use Rattle.cell_compare.proofs.circuit.circuit_fault.Given as goal
+
+-- before a part: the parts before it are solved and have no faults, in each phase of which these are the known nets and the parts
+abbrev pub invariant-loop-part : goal.invariant-loop-part
+invariant-loop-part l = record {
+  writes : WritesTwo l.fn.gates l.fn.out l.fn.store l.store;
+  live : IsFilled l.store l.fn.gates;
+  solved :
+      (phase : Phase) → AreOrderedParts l.circuit phase l.parts.known l.parts.list → ((v : Valuation) → HasFixedBits l.circuit phase (root_at l.fn.store l.fn.roots v))
+      → IsSolvedBefore l.circuit phase (mark_at l.observed) l.parts.list l.fn.care l.fn.roots l.fn.gates l.part-index l.fn.store l.store;
+}

@@ -1,0 +1,25 @@
+use Rattle.std.proofs.Common.{Err, Ok}
+use Rattle.bdd_core.proofs.Results.{if_ok_more}
+use Rattle.bdd_core.specs.Store.{function_of}
+use Rattle.bdd_ops.specs.Ops.{and_of}
+use Rattle.cell_compare.proofs.FrameLaws.{adds_made, adds_then}
+use Rattle.cell_compare.proofs.NetLaws.{fight_made}
+use Rattle.cell_compare.proofs.net.fighting.Goals as goal
+
+pub returns-in-Err-clause-adds : goal.returns-in-Err-clause-adds
+returns-in-Err-clause-adds c =
+    adds_made c.args.store.now c.and.new.store (and_of (function_of c.args.store.now c.args.zero) (function_of c.args.store.now c.args.one)) (Err c.in-Err.spent) c.in-Err.ensures.makes
+
+pub returns-clause-adds : goal.returns-clause-adds
+returns-clause-adds c =
+    adds_then c.args.store.now c.and.new.store c.and-2.new.store
+    (adds_made c.args.store.now c.and.new.store (and_of (function_of c.args.store.now c.args.zero) (function_of c.args.store.now c.args.one)) (Ok c.in-Ok.both) c.in-Ok.ensures.makes)
+    (adds_made c.and.new.store c.and-2.new.store (and_of (function_of c.and.new.store c.args.care) (function_of c.and.new.store c.in-Ok.both)) c.and-2.result c.and-2.ensures.makes)
+
+pub returns-clause-is : goal.returns-clause-is
+returns-clause-is c =
+    if_ok_more _ _ c.and-2.result
+    (λ h m. fight_made c.args.store.now c.and.new.store c.and-2.new.store c.args.care c.args.zero c.args.one
+    (adds_made c.args.store.now c.and.new.store (and_of (function_of c.args.store.now c.args.zero) (function_of c.args.store.now c.args.one)) (Ok c.in-Ok.both) c.in-Ok.ensures.makes)
+    c.requires.0 c.in-Ok.both h c.in-Ok.ensures.makes.ok m)
+    c.and-2.ensures.makes.ok

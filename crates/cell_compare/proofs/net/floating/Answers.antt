@@ -1,0 +1,26 @@
+use Rattle.std.proofs.Common.{Err, Ok}
+use Rattle.bdd_core.proofs.Results.{if_ok_more}
+use Rattle.bdd_core.specs.Diagram.{choice, meaning}
+use Rattle.bdd_core.specs.Store.{function_of}
+use Rattle.bdd_ops.specs.Ops.{or_of}
+use Rattle.cell_compare.proofs.FrameLaws.{adds_made, adds_then}
+use Rattle.cell_compare.proofs.NetLaws.{float_made}
+use Rattle.cell_compare.proofs.net.floating.Goals as goal
+
+pub returns-in-Err-clause-adds : goal.returns-in-Err-clause-adds
+returns-in-Err-clause-adds c =
+    adds_made c.args.store.now c.or.new.store (or_of (function_of c.args.store.now c.args.zero) (function_of c.args.store.now c.args.one)) (Err c.in-Err.spent) c.in-Err.ensures.makes
+
+pub returns-clause-adds : goal.returns-clause-adds
+returns-clause-adds c =
+    adds_then c.args.store.now c.or.new.store c.ite.new.self
+    (adds_made c.args.store.now c.or.new.store (or_of (function_of c.args.store.now c.args.zero) (function_of c.args.store.now c.args.one)) (Ok c.in-Ok.any) c.in-Ok.ensures.makes)
+    (adds_made c.or.new.store c.ite.new.self (choice (function_of c.or.new.store c.in-Ok.any) (meaning c.or.new.store.nodes 0) (function_of c.or.new.store c.args.care)) c.ite.result c.ite.ensures.makes)
+
+pub returns-clause-is : goal.returns-clause-is
+returns-clause-is c =
+    if_ok_more _ _ c.ite.result
+    (λ h m. float_made c.args.store.now c.or.new.store c.ite.new.self c.args.care c.args.zero c.args.one
+    (adds_made c.args.store.now c.or.new.store (or_of (function_of c.args.store.now c.args.zero) (function_of c.args.store.now c.args.one)) (Ok c.in-Ok.any) c.in-Ok.ensures.makes)
+    c.requires.0 c.in-Ok.any h c.in-Ok.ensures.makes.ok m)
+    c.ite.ensures.makes.ok

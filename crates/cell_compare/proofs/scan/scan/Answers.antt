@@ -1,0 +1,64 @@
+use Rattle.std.proofs.Common.{◌≡◌, ℕ, ◌<◌, ◌≤◌, Bool, List, Option, get_or, length, true, false, arith, ap, refl, subst}
+use Rattle.std.proofs.lemmas.Option.{slice_get-get_or}
+use Rattle.bdd_core.specs.Store.{function_of}
+use Rattle.cell_compare.proofs.FrameLaws.{span_written}
+use Rattle.cell_compare.proofs.ScanLaws.{scanned_more}
+use Rattle.cell_compare.specs.Scans.{IsClearNet, IsScannedTo, NetGives, reached}
+use Rattle.cell_compare.specs.declared.net.CircuitFault.{CircuitFault}
+use Rattle.path_fixpoint.proofs.Frames.{filled_beside, writes_then}
+use Rattle.path_fixpoint.specs.Parts.{IsPlace}
+use Rattle.plain_paths.specs.Marks.{mark_at}
+use Rattle.vrt_model.specs.Lists.{At}
+use Rattle.vrt_model.specs.declared.ids.Net.{Net}
+use Rattle.cell_compare.proofs.scan.scan.Goals as goal
+
+net_at : (xs ys : List Net) (i : ℕ) (d : Net) → ys ≡ xs → i < length ys → At xs i (get_or ys i d)
+net_at xs ys i d same lt = subst (λ (zs : List Net). At zs i (get_or ys i d)) same (slice_get-get_or ys i d lt)
+
+pub check_net-requires-clause-care : goal.check_net-requires-clause-care
+check_net-requires-clause-care c = omega (arith, c.requires.care, c.loop-i.invariant.writes.longer)
+
+pub check_net-requires-clause-gates : goal.check_net-requires-clause-gates
+check_net-requires-clause-gates c = (
+  span_written c.args.gates c.args.gates c.args.store.now c.loop-i.store c.loop-i.invariant.writes c.requires.gates.0,
+  c.loop-i.invariant.writes.live,
+)
+
+pub check_net-requires-clause-out : goal.check_net-requires-clause-out
+check_net-requires-clause-out c = (
+  span_written c.args.gates c.args.out c.args.store.now c.loop-i.store c.loop-i.invariant.writes c.requires.out.0,
+  filled_beside c.args.gates c.args.out c.args.store.now c.loop-i.store c.loop-i.invariant.writes c.requires.apart c.requires.out.1,
+)
+
+pub loop-i-preserved : goal.loop-i-preserved
+loop-i-preserved c =
+    let part = c.args.part.now in
+    let care = c.args.care in
+    let gates = c.args.gates in
+    let out = c.args.out in
+    let first = c.args.store.now in
+    let old = c.loop-i.store in
+    let new = c.check_net.new.store in
+    let i = c.loop-i.i in
+    let net : Net = get_or c.as_slice-nets.result.now i (record { 0 = 0 }) in
+    let there : At part.nets i net = net_at part.nets c.as_slice-nets.result.now i (record { 0 = 0 }) c.as_slice-nets.ensures c.loop-i-test.true in
+    let place : IsPlace part i net.0 = (net, there, refl) in
+    let zero = reached old out false i in
+    let one = reached old out true i in
+    let gives : IsClearNet (function_of old care) zero one (c.is_seen-seen.result) =
+    subst (λ (o : Option CircuitFault). NetGives (function_of old care) zero one c.is_seen-seen.result net new o) c.in_default.is c.in-Ok.ensures.gives in
+    let clear : IsClearNet (function_of old care) zero one (mark_at c.args.observed.now net.0) = subst (λ (b : Bool). IsClearNet (function_of old care) zero one b) c.is_seen-seen.ensures gives in
+    record {
+      writes = writes_then gates first old new c.loop-i.invariant.writes c.check_net.ensures.writes;
+      scanned = scanned_more part (mark_at c.args.observed.now) care gates out c.requires.once c.requires.len.0 c.requires.apart first old c.loop-i.invariant.writes c.requires.care c.requires.out.1
+          new i net place c.loop-i.invariant.scanned clear (c.in-Ok.ensures.bit c.in_default.is) c.check_net.ensures.apart;
+    }
+
+pub returns-clause-gives : goal.returns-clause-gives
+returns-clause-gives c =
+    let part = c.args.part.now in
+    let shown : length c.as_slice-nets.result.now ≡ length part.nets = ap (λ (xs : List Net). length xs) c.as_slice-nets.ensures in
+    let high : length c.as_slice-nets.result.now ≤ c.loop-i.i = c.loop-i-test.false in
+    let low : c.loop-i.i ≤ length c.as_slice-nets.result.now = c.loop-i.auto.i-end in
+    let end : c.loop-i.i ≡ length part.nets = omega (arith, shown, high, low) in
+    subst (λ (k : ℕ). IsScannedTo part (mark_at c.args.observed.now) c.args.care c.args.gates c.args.out k c.args.store.now c.loop-i.store) end c.loop-i.invariant.scanned
