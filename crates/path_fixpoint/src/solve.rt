@@ -9,7 +9,7 @@ ghost use Rattle.path_fixpoint.specs.Reaching.{HasReach, HasRootWords, SolvedAt,
 ghost use Rattle.path_fixpoint.specs.Solved.{HasRootSpans, TellsReach, network_at};
 ghost use Rattle.path_fixpoint.specs.Strengths.{ChangesLevel, TellsStrengths};
 ghost use Rattle.bdd_core.specs.Words.{Writes};
-ghost use Rattle.bdd_ops.specs.Counting.{Counts, IsSpanWithin};
+ghost use Rattle.bdd_ops.specs.Counting.{IsSpanWithin};
 ghost use Rattle.path_fixpoint.specs.Spending.{HasOneHold, Spends};
 
 use crate::Part;
@@ -68,7 +68,7 @@ pub fn solve_part(
     ensures writes { Writes out store.old store.new }
     ensures strengths { IfOk result (λ _. (v : Valuation) → TellsStrengths part.now out store.new v (network_at store.old circuit.now part.now gates roots v)) }
     ensures reaches { IfOk result (λ _. (v : Valuation) → TellsReach part.now out store.new v (network_at store.old circuit.now part.now gates roots v)) }
-    ensures few { HasOneHold circuit.now → (u : ℕ) → IsSpanWithin u store.old gates → IsSpanWithin u store.old roots → Counts u (400 * (length part.now.nets + 1) * (length part.now.devices + 1)) store.old store.new result }
+    ensures few { HasOneHold circuit.now → (u : ℕ) → IsSpanWithin u store.old gates → IsSpanWithin u store.old roots → Spends u (400 * (length part.now.nets + 1) * (length part.now.devices + 1)) out store.old store.new result }
 {
     let rising = rises(part);
     match strengths(store, circuit, part, gates, out) {

@@ -3,9 +3,9 @@ use Rattle.bdd_core.proofs.Results.{if_ok_more}
 use Rattle.vrt_model.specs.Path.{Network}
 use Rattle.path_fixpoint.specs.Reaching.{HasRootWords, SolvedAt}
 use Rattle.path_fixpoint.specs.Solved.{network_at}
-use Rattle.bdd_ops.proofs.CountingLaws.{counted_then, counts_more, counts_then}
+use Rattle.bdd_ops.proofs.CountingLaws.{counted_then}
 use Rattle.path_fixpoint.proofs.Frames.{filled_beside, writes_then}
-use Rattle.path_fixpoint.proofs.SpendingLaws.{part_most, part_most_levels, part_most_one, span_beside}
+use Rattle.path_fixpoint.proofs.SpendingLaws.{part_most, part_most_levels, part_most_one, span_beside, spends_behind, spends_more}
 use Rattle.path_fixpoint.proofs.ReachLaws.{root_words_kept, solved_kept}
 use Rattle.path_fixpoint.proofs.SolveLaws.{both_reach, root_words_from, solved_from, stands_here, strength_here, tells_stay, zeros_stay}
 use Rattle.path_fixpoint.proofs.solve.solve_part.Goals as goal
@@ -89,7 +89,7 @@ returns-in-Err-clause-few c one u gates roots =
     let first = 8 * (n * (m * 4)) in
     let each = n * 6 + n * (m * 38) in
     let most = 400 * (n + 1) * (m + 1) in
-    counts_more u first most old a (Err c.in-Err.spent) (part_most_levels n m) (c.in-Err.ensures.few u gates).counts
+    spends_more u out first most old a (Err c.in-Err.spent) (part_most_levels n m) (c.in-Err.ensures.few u gates)
 
 pub returns-in-Err-reaches-clause-few : goal.returns-in-Err-reaches-clause-few
 returns-in-Err-reaches-clause-few c one u gates roots =
@@ -107,8 +107,8 @@ returns-in-Err-reaches-clause-few c one u gates roots =
     let gates_a = span_beside u out c.args.gates old a wa spans.spans.apart spans.spans.gates_live gates in
     let roots_a = span_beside u out c.args.roots old a wa spans.roots_apart spans.roots_live roots in
     let new = c.reaches.new.store in
-    counts_more u (first + each) most old new (Err c.in-Err-reaches.spent) (part_most_one n m)
-    (counts_then u first each old a new (Err c.in-Err-reaches.spent) found.counts.added (c.in-Err-reaches.ensures.few one u gates_a roots_a found.within).counts)
+    spends_more u out (first + each) most old new (Err c.in-Err-reaches.spent) (part_most_one n m)
+    (spends_behind u out first each old a new (Err c.in-Err-reaches.spent) found.counts.added (c.in-Err-reaches.ensures.few one u gates_a roots_a found.within))
 
 pub returns-clause-few : goal.returns-clause-few
 returns-clause-few c one u gates roots =
@@ -132,5 +132,5 @@ returns-clause-few c one u gates roots =
     let roots_b = span_beside u out c.args.roots a b wb spans.roots_apart (filled_beside out c.args.roots old a wa spans.roots_apart spans.roots_live) roots_a in
     let count = counted_then u first each old a b found.counts.added zeros.counts.added in
     let new = c.reaches-2.new.store in
-    counts_more u (first + each + each) most old new c.reaches-2.result (part_most n m)
-    (counts_then u (first + each) each old b new c.reaches-2.result count (c.reaches-2.ensures.few one u gates_b roots_b zeros.within).counts)
+    spends_more u out (first + each + each) most old new c.reaches-2.result (part_most n m)
+    (spends_behind u out (first + each) each old b new c.reaches-2.result count (c.reaches-2.ensures.few one u gates_b roots_b zeros.within))
