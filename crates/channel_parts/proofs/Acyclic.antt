@@ -6,7 +6,7 @@ use Rattle.std.proofs.lemmas.Bool.{eqb-true, false≢true, ne_eqb, or_cases}
 use Rattle.std.proofs.lemmas.Map.Keys.{IsDistinct-cons}
 use Rattle.std.proofs.lemmas.Map.Steps.{length-le_from_distinct_below}
 use Rattle.std.proofs.lemmas.Option.{slice_get_within}
-use Rattle.channel_parts.proofs.ReachLaws.{arc_gate}
+use Rattle.channel_parts.proofs.RankLaws.{arc_gate}
 use Rattle.plain_paths.specs.FlatCircuits.{IsFlat}
 use Rattle.vrt_model.specs.Known.{HasArc, HasGateArc, IsCycle, IsPlain, IsRanking, IsWalk}
 use Rattle.vrt_model.specs.declared.circuit.Circuit.{Circuit}

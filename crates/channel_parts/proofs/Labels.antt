@@ -1,14 +1,12 @@
--- Labels of nets, lowered over the devices that may conduct, end as the least nets of the parts.
-use Rattle.std.proofs.Common.{◌≡◌, ℕ, ◌<◌, ◌≤◌, ◌⊎◌, Bool, true, false, List, length, get_or, Some, None, Option, slice_index, arith, ap, subst, sym, refl, ◌∙◌, inl, inr}
-use Rattle.std.specs.Prelude.{◌&&◌, option_map, sum}
-use Rattle.std.proofs.Math.ListN.{set}
-use Rattle.std.proofs.lemmas.List.Sums.{sum_by-set}
-use Rattle.std.proofs.lemmas.Bool.{and_from, and_parts, cases_lt, false≢true}
+-- Labels of nets, joined over the devices that may conduct, are the least nets of the parts.
+use Rattle.std.proofs.Common.{◌≡◌, ℕ, ◌<◌, ◌≤◌, Bool, true, List, length, Some, None, Option, slice_index, arith, ap, subst, sym, refl, ◌∙◌, inl, inr}
+use Rattle.std.specs.Prelude.{◌&&◌, option_map}
+use Rattle.std.proofs.lemmas.Bool.{and_from, and_parts, cases_lt}
 use Rattle.std.proofs.lemmas.List.{get_or_past}
 use Rattle.std.proofs.lemmas.Option.{slice_get_within}
-use Rattle.channel_parts.proofs.Opened.{is_plain_is}
+use Rattle.channel_parts.proofs.Opened.{is_plain_is, plain_is}
 use Rattle.channel_parts.specs.KnownTables.{known_at}
-use Rattle.channel_parts.specs.Labels.{AreOfParts, IsLeastTogether, LabelsPass, joins_plain_nets, may_conduct}
+use Rattle.channel_parts.specs.Labels.{AreOfParts, IsLeastTogether, joins_plain_nets, may_conduct}
 use Rattle.channel_parts.specs.OneSolution.{IsKnownTable}
 use Rattle.channel_parts.specs.OpenNets.{conduction_of, is_plain_at}
 use Rattle.vrt_model.proofs.Filtered.{among_devices, device_among}
@@ -46,30 +44,38 @@ pub together_further : (c : Circuit) (phase : Phase) (bare : Bool) (n m l : ℕ)
 together_further c phase bare n m l first (itself p) = first
 together_further c phase bare n m l first (onward {l = j} d t i join p) = onward d (together_further c phase bare n m j first t) i join p
 
--- a label that passes over a device stays one of the part
-label_passes : (c : Circuit) (phase : Phase) (bare : Bool) (d : Device) (m n : ℕ) (t : List ℕ) → IsChannel c phase bare d → Joins d n m → IsPlain c m → IsPlain c n
-    → AreOfParts c phase bare t → IsTogether c phase bare n (slice_index t m)
-label_passes c phase bare d m n t channel j pm pn of =
-    together_further c phase bare n m (slice_index t m) (onward d (itself pn) channel j pm) (of m pm)
+-- a channel between plain nets joins their labels
+channel_joins : (c : Circuit) (phase : Phase) (known : List (Option Bool)) (bare : Bool) (d : Device) (m n : ℕ) → IsKnownTable c phase (known_at known) → IsChannel c phase bare d
+    → Joins d m n → IsPlain c m → IsPlain c n → joins_plain_nets c known bare d ≡ true
+channel_joins c phase known bare d m n table channel j pm pn =
+    and_from (is_in bare d && may_conduct (conduction_of known d)) (is_plain_at c d.left.0 && is_plain_at c d.right.0)
+    (and_from (is_in bare d) (may_conduct (conduction_of known d)) (device_among bare c d channel.0).1 (channel_may c phase known bare d table channel))
+    (elim j [
+      | inl e ↦ and_from (is_plain_at c d.left.0) (is_plain_at c d.right.0) (ap (is_plain_at c) e.0 ∙ is_plain_is c m pm) (ap (is_plain_at c) e.1 ∙ is_plain_is c n pn)
+      | inr e ↦ and_from (is_plain_at c d.left.0) (is_plain_at c d.right.0) (ap (is_plain_at c) e.0 ∙ is_plain_is c n pn) (ap (is_plain_at c) e.1 ∙ is_plain_is c m pm)
+    ])
 
--- where nothing passes any more, labels are the same all over a part
+-- where the devices join labels, they are the same all over a part
 same_label : (c : Circuit) (phase : Phase) (known : List (Option Bool)) (bare : Bool) (t : List ℕ) → IsKnownTable c phase (known_at known)
-    → ((d : Device) → Among c.devices d → LabelsPass c known bare d t t) → (n m : ℕ) → IsTogether c phase bare n m → slice_index t n ≤ slice_index t m
-same_label c phase known bare t table pass n m (itself p) = omega arith
-same_label c phase known bare t table pass n m (onward {l = l} d more i j p) =
-    let before = same_label c phase known bare t table pass n l more in
-    let there = device_among bare c d i.0 in
-    let back : Joins d m l = elim j [ inl q ↦ inr q | inr q ↦ inl q ] in
-    let step = pass d there.0 there.1 (channel_may c phase known bare d table i) m l back p (together_plain c phase bare n l more) in
-    omega (arith, before, step)
+    → ((d : Device) → Among c.devices d → joins_plain_nets c known bare d ≡ true → slice_index t d.left.0 ≡ slice_index t d.right.0)
+    → (n m : ℕ) → IsTogether c phase bare n m → slice_index t n ≡ slice_index t m
+same_label c phase known bare t table joined n m (itself p) = refl
+same_label c phase known bare t table joined n m (onward {l = l} d more i j p) =
+    let before = same_label c phase known bare t table joined n l more in
+    let joins = channel_joins c phase known bare d l m table i j (together_plain c phase bare n l more) p in
+    let over = joined d (device_among bare c d i.0).0 joins in
+    elim j [
+      | inl e ↦ before ∙ ap (slice_index t) (sym e.0) ∙ over ∙ ap (slice_index t) e.1
+      | inr e ↦ before ∙ ap (slice_index t) (sym e.1) ∙ sym over ∙ ap (slice_index t) e.0
+    ]
 
 -- then each label is the least net of its part
 pub labels_least : (c : Circuit) (phase : Phase) (known : List (Option Bool)) (bare : Bool) (t : List ℕ) → IsKnownTable c phase (known_at known)
-    → ((d : Device) → Among c.devices d → LabelsPass c known bare d t t) → ((n : ℕ) → slice_index t n ≤ n) → AreOfParts c phase bare t
-    → (n : ℕ) → IsPlain c n → IsLeastTogether c phase bare n (slice_index t n)
-labels_least c phase known bare t table pass below of n p = record {
+    → ((d : Device) → Among c.devices d → joins_plain_nets c known bare d ≡ true → slice_index t d.left.0 ≡ slice_index t d.right.0)
+    → ((n : ℕ) → slice_index t n ≤ n) → AreOfParts c phase bare t → (n : ℕ) → IsPlain c n → IsLeastTogether c phase bare n (slice_index t n)
+labels_least c phase known bare t table joined below of n p = record {
   together = of n p;
-  lowest = λ m together. let le = same_label c phase known bare t table pass n m together in let own = below m in omega (arith, le, own);
+  lowest = λ m together. let e = same_label c phase known bare t table joined n m together in let own = below m in omega (arith, e, own);
 }
 
 -- the numbers of the nets are labels to begin with
@@ -88,7 +94,7 @@ own_below t own n =
 -- ---- devices
 
 -- what a device has that joins plain nets
-pub joins_parts : (c : Circuit) (known : List (Option Bool)) (bare : Bool) (d : Device) → joins_plain_nets c known bare d ≡ true
+joins_parts : (c : Circuit) (known : List (Option Bool)) (bare : Bool) (d : Device) → joins_plain_nets c known bare d ≡ true
     → (is_in bare d ≡ true) × (may_conduct (conduction_of known d) ≡ true) × (is_plain_at c d.left.0 ≡ true) × (is_plain_at c d.right.0 ≡ true)
 joins_parts c known bare d e =
     let both = and_parts (is_in bare d && may_conduct (conduction_of known d)) (is_plain_at c d.left.0 && is_plain_at c d.right.0) e in
@@ -96,35 +102,9 @@ joins_parts c known bare d e =
     let second = and_parts (is_plain_at c d.left.0) (is_plain_at c d.right.0) both.1 in
     (first.0, first.1, second.0, second.1)
 
--- a device that joins no two plain nets passes nothing
-pub none_pass : (c : Circuit) (known : List (Option Bool)) (bare : Bool) (d : Device) (t : List ℕ) → joins_plain_nets c known bare d ≡ false → LabelsPass c known bare d t t
-none_pass c known bare d t f here may m n (inl j) pm pn =
-    absurd (false≢true (sym f ∙ and_from (is_in bare d && may_conduct (conduction_of known d)) (is_plain_at c d.left.0 && is_plain_at c d.right.0)
-    (and_from (is_in bare d) (may_conduct (conduction_of known d)) here may)
-    (and_from (is_plain_at c d.left.0) (is_plain_at c d.right.0) (ap (is_plain_at c) j.0 ∙ is_plain_is c m pm) (ap (is_plain_at c) j.1 ∙ is_plain_is c n pn))))
-none_pass c known bare d t f here may m n (inr j) pm pn =
-    absurd (false≢true (sym f ∙ and_from (is_in bare d && may_conduct (conduction_of known d)) (is_plain_at c d.left.0 && is_plain_at c d.right.0)
-    (and_from (is_in bare d) (may_conduct (conduction_of known d)) here may)
-    (and_from (is_plain_at c d.left.0) (is_plain_at c d.right.0) (ap (is_plain_at c) j.0 ∙ is_plain_is c n pn) (ap (is_plain_at c) j.1 ∙ is_plain_is c m pm))))
-
-pub both_pass : (c : Circuit) (known : List (Option Bool)) (bare : Bool) (d : Device) (t u : List ℕ) → slice_index u d.right.0 ≤ slice_index t d.left.0 → slice_index u d.left.0 ≤ slice_index t d.right.0
-    → LabelsPass c known bare d t u
-both_pass c known bare d t u forth back here may m n (inl j) pm pn =
-    subst (λ (x : ℕ). slice_index u x ≤ slice_index t m) j.1 (subst (λ (x : ℕ). slice_index u d.right.0 ≤ slice_index t x) j.0 forth)
-both_pass c known bare d t u forth back here may m n (inr j) pm pn =
-    subst (λ (x : ℕ). slice_index u x ≤ slice_index t m) j.0 (subst (λ (x : ℕ). slice_index u d.left.0 ≤ slice_index t x) j.1 back)
-
--- a label lowered over the device stays one of the part
-pub lower_sound : (c : Circuit) (phase : Phase) (bare : Bool) (d : Device) (from to : ℕ) (t u : List ℕ) → IsChannel c phase bare d → Joins d to from → IsPlain c from → IsPlain c to
-    → ((n : ℕ) → (slice_index u n ≡ slice_index t n) ⊎ ((n ≡ to) × (slice_index u n ≡ slice_index t from)))
-    → AreOfParts c phase bare t → AreOfParts c phase bare u
-lower_sound c phase bare d from to t u channel j pf pt only of n p =
-    elim (only n) [
-      | inl e ↦ subst (IsTogether c phase bare n) (sym e) (of n p)
-      | inr q ↦ subst (IsTogether c phase bare n) (sym q.1) (subst (λ (x : ℕ). IsTogether c phase bare x (slice_index t from)) (sym q.0) (label_passes c phase bare d from to t channel j pf pt of))
-    ]
-
--- ---- sums
-
-pub sum_lowered : (xs : List ℕ) (i v : ℕ) → i < length xs → v < get_or xs i 0 → sum (set xs i v) < sum xs
-sum_lowered xs i v lt less = let e = sum_by-set (λ (x : ℕ). x) xs i v 0 lt in omega (arith, e, less)
+-- the nets that a device joins are of one part
+pub joins_together : (c : Circuit) (phase : Phase) (known : List (Option Bool)) (bare : Bool) (d : Device) → IsKnownTable c phase (known_at known) → Among c.devices d → joins_plain_nets c known bare d ≡ true
+    → IsTogether c phase bare d.left.0 d.right.0
+joins_together c phase known bare d table there joins =
+    let parts = joins_parts c known bare d joins in
+    onward d (itself (plain_is c d.left.0 parts.2)) (may_channel c phase known bare d table there parts.0 parts.1) (inl (refl, refl)) (plain_is c d.right.0 parts.3)

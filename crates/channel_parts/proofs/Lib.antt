@@ -7,11 +7,13 @@ pub mod KnownOnce
 pub mod Labels
 pub mod LevelLaws
 pub mod ListLaws
+pub mod NetGraphLaws
 pub mod OneSolution
 pub mod Opened
 pub mod PartLaws
 pub mod RankLaws
-pub mod ReachLaws
 pub mod SourceLaws
+pub mod TiedLaws
 pub mod TurnLaws
+pub mod UnionLaws
 pub mod Unique

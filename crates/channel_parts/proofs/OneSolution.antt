@@ -83,7 +83,7 @@ turned d m n (inr j) = inl j
 
 -- ---- responses
 
-shows_from : (w : Network) (n : ℕ) (v : Bool) → Reaches w n v → ((u : Bool) → Reaches w n u → u ≡ v) → IsResponse w n (Shows v)
+pub shows_from : (w : Network) (n : ℕ) (v : Bool) → Reaches w n v → ((u : Bool) → Reaches w n u → u ≡ v) → IsResponse w n (Shows v)
 shows_from w n true r h = (r, λ q. false≢true (h false q))
 shows_from w n false r h = (r, λ q. false≢true (sym (h true q)))
 

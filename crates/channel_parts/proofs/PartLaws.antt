@@ -197,7 +197,7 @@ zero_ranks count = fun_ext zero_rank
 
 -- ---- the first of a rising list
 
-there_at : {X : Type 0} (xs : List X) (i : ℕ) → i < length xs → (x : X) × At xs i x
+pub there_at : {X : Type 0} (xs : List X) (i : ℕ) → i < length xs → (x : X) × At xs i x
 there_at [] i lt = absurd (omega (arith, lt))
 there_at (x ∷ xs) zero lt = (x, refl)
 there_at (x ∷ xs) (suc i) lt = there_at xs i (omega (arith, lt))

@@ -89,6 +89,10 @@ unknown_parts known d e =
 no_whole : (c : Circuit) → IsFlat c → (w : Whole) → Among c.wholes w → ⊥
 no_whole c flat w m = at_none m.0 w (subst (λ (ws : List Whole). At ws m.0 w) flat.wholes m.1)
 
+pub arc_gate : (c : Circuit) (phase : Phase) → IsFlat c → (n m : ℕ) → HasArc c phase n m → HasGateArc c phase n m
+arc_gate c phase flat n m (inl gate) = gate
+arc_gate c phase flat n m (inr whole) = absurd (no_whole c flat whole.0 whole.2.0)
+
 -- an arc that counts comes from a gate that is not known
 pub rank_arc_gate : (c : Circuit) (phase : Phase) → IsFlat c → (n m : ℕ) → HasRankArc c phase n m → HasGateArc c phase n m
 rank_arc_gate c phase flat n m (inl (inl gate, unknown)) = gate

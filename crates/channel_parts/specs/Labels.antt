@@ -1,8 +1,7 @@
 -- The parts of plain nets by labels: the label of a net is a net of its part, and in the end the least.
-use Rattle.std.specs.Prelude.{◌≡◌, ℕ, ◌≤◌, ◌&&◌, Bool, true, List, None, Option, Some, slice_index}
+use Rattle.std.specs.Prelude.{ℕ, ◌≤◌, ◌&&◌, Bool, true, List, None, Option, Some, slice_index}
 use Rattle.channel_parts.specs.OpenNets.{conduction_of, is_plain_at}
 use Rattle.vrt_model.specs.Known.{IsPlain, IsTogether}
-use Rattle.vrt_model.specs.Path.{Joins}
 use Rattle.vrt_model.specs.Reading.{is_in}
 use Rattle.vrt_model.specs.declared.circuit.Circuit.{Circuit}
 use Rattle.vrt_model.specs.declared.circuit.Device.{Device}
@@ -25,15 +24,6 @@ pub record IsLeastTogether (c : Circuit) (phase : Phase) (bare : Bool) (n least 
 -- no label is above its net
 abbrev pub AreBelow : List ℕ → Type 0
 AreBelow t = (n : ℕ) → slice_index t n ≤ n
-
--- no label rises
-abbrev pub NoneRises : List ℕ → List ℕ → Type 0
-NoneRises t u = (n : ℕ) → slice_index u n ≤ slice_index t n
-
--- over the device, if it joins plain nets, neither label is above what the other was
-abbrev pub LabelsPass : Circuit → List (Option Bool) → Bool → Device → List ℕ → List ℕ → Type 0
-LabelsPass c known bare d t u =
-    is_in bare d ≡ true → may_conduct (conduction_of known d) ≡ true → (m n : ℕ) → Joins d m n → IsPlain c m → IsPlain c n → slice_index u n ≤ slice_index t m
 
 -- the label of each plain net is a net of its part
 abbrev pub AreOfParts : Circuit → Phase → Bool → List ℕ → Type 0

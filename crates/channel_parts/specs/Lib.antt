@@ -4,10 +4,12 @@ pub mod Labels
 pub mod Learned
 pub mod Levels
 pub mod Listings
+pub mod NetGraphs
 pub mod OneSolution
 pub mod OpenNets
 pub mod Orders
 pub mod PartLists
 pub mod Ranks
-pub mod Reaches
 pub mod Sources
+pub mod Ties
+pub mod Unions

@@ -47,20 +47,6 @@ fn devices_of(alloc: Global, numbers: &[u32]) -> Result<Seq<Dev>, NoMemory>
     Ok(devices)
 }
 
-/// The nets of a cycle.
-fn cycle_nets(alloc: Global, numbers: &[usize]) -> Result<Seq<Net>, NoMemory>
-    ensures { IfOk result (λ nets. net_numbers nets ≡ numbers.now) }
-{
-    let mut nets = Seq::new(alloc);
-    for number in numbers {
-        let net = small(*number)?;
-        let Ok(()) = nets.push(Net(net)) else {
-            return Err(NoMemory);
-        };
-    }
-    Ok(nets)
-}
-
 /// A copy of the bits of known nets.
 fn copied(alloc: Global, known: &[Option<bool>]) -> Result<Seq<Option<bool>>, NoMemory>
     ensures { IfOk result (λ copy. copy ≡ known.now) }
@@ -196,7 +182,7 @@ fn bare_parts(
             let around = search_all(alloc, circuit, known, least)?;
             match around {
                 Some(cycle) => {
-                    let nets = cycle_nets(alloc, cycle.as_slice())?;
+                    let nets = nets_of(alloc, cycle.as_slice())?;
                     Ok(Err(PartFault::Cycle { nets }))
                 }
                 None => unreachable!(),

@@ -11,6 +11,7 @@ ghost use Rattle.vrt_model.specs.declared.rules.Phase.{Phase as PhaseValue};
 use crate::fixed::fixed_bits;
 use crate::learn::learn;
 use crate::opening::open_nets;
+use crate::ties::learn_ties;
 use plain_paths::signals_at;
 use std::alloc::Global;
 use vrt_model::{Circuit, NoMemory, Phase};
@@ -58,6 +59,17 @@ fn settle(alloc: Global, circuit: &Circuit, known: &mut [Option<bool>]) -> Resul
     }
 }
 
+/// Learns nets until there are no more, those first that devices tie to known nets.
+fn fill(alloc: Global, circuit: &Circuit, known: &mut [Option<bool>]) -> Result<(), NoMemory>
+    requires flat { IsFlat circuit.now }
+    requires len { length known.old ≡ length circuit.now.nets }
+    ensures { IfOk result (λ _. (phase : PhaseValue) → HasFixedNets circuit.now phase (known_at known.old) → AreKnown circuit.now phase (known_at known.old) → IsKnownTable circuit.now phase (known_at known.new)) }
+{
+    learn_ties(alloc, circuit, known)?;
+    settle(alloc, circuit, known)?;
+    Ok(())
+}
+
 /// The known nets of a circuit without whole instances in a phase, with their bits, by net: the supplies and the clock
 /// ports, and the nets that show one bit before anything is solved. Nothing but want of memory refuses.
 pub fn known_nets(
@@ -70,6 +82,6 @@ pub fn known_nets(
     ensures known { IfOk result (λ t. IsKnownTable circuit.now phase.now (known_at t.items)) }
 {
     let mut known = fixed_bits(alloc, circuit, phase)?;
-    settle(alloc, circuit, &mut known)?;
+    fill(alloc, circuit, &mut known)?;
     Ok(known)
 }

@@ -35,7 +35,7 @@ fn bit_of(circuit: &Circuit, marks: &[bool], signals: &Signals, net: usize) -> O
 }
 
 /// Notes the bit of a net that is not known yet, if there is one, and says whether it did.
-fn note(known: &mut [Option<bool>], net: usize, bit: Option<bool>) -> bool
+pub(crate) fn note(known: &mut [Option<bool>], net: usize, bit: Option<bool>) -> bool
     requires { net < length known.old }
     ensures grown { (n : ℕ) (v : Bool) → known_at known.old n ≡ Some v → known_at known.new n ≡ Some v }
     ensures noted { is_some bit ≡ true → is_some (known_at known.new net) ≡ true }

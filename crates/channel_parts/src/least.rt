@@ -1,10 +1,11 @@
 //! The channel-connected parts: the nets that devices join of which it is not known that they do not conduct. The least
 //! net of a part stands for it.
 
-ghost use Rattle.std.specs.Prelude.{◌≡◌, ℕ, ◌<◌, ◌≤◌, ◌⊎◌, Bool, Option, false, true, length, slice_index, sum, vec_len, IfOk};
+ghost use Rattle.std.specs.Prelude.{◌≡◌, ℕ, ◌<◌, true, length, slice_index, vec_len, IfOk};
 ghost use Rattle.channel_parts.specs.KnownTables.{known_at};
-ghost use Rattle.channel_parts.specs.Labels.{AreBelow, AreOfParts, IsLeastTogether, LabelsPass, NoneRises, joins_plain_nets, may_conduct};
+ghost use Rattle.channel_parts.specs.Labels.{AreBelow, AreOfParts, IsLeastTogether, joins_plain_nets, may_conduct};
 ghost use Rattle.channel_parts.specs.OneSolution.{IsKnownTable};
+ghost use Rattle.channel_parts.specs.Unions.{Respects};
 ghost use Rattle.plain_paths.specs.FlatCircuits.{IsFlat};
 ghost use Rattle.vrt_model.specs.Known.{IsPlain};
 ghost use Rattle.vrt_model.specs.Lists.{Among};
@@ -13,6 +14,7 @@ ghost use Rattle.vrt_model.specs.declared.circuit.Device.{Device as DeviceValue}
 ghost use Rattle.vrt_model.specs.declared.rules.Phase.{Phase as PhaseValue};
 
 use crate::opening::{conduction, is_plain};
+use crate::unions::{flatten, join};
 use std::alloc::Global;
 use vrt_model::{Circuit, Device, NoMemory};
 
@@ -44,74 +46,42 @@ fn joins_plain(circuit: &Circuit, known: &[Option<bool>], bare: bool, device: &D
     (there && may) && (left && right)
 }
 
-/// Gives one net the label of another where that is less, and says whether it was.
-#[tactic(auto, using(crate::proofs::Labels::sum_lowered))]
-fn lower(labels: &mut [usize], from: usize, to: usize) -> bool
-    requires from { from < length labels.old }
-    requires to { to < length labels.old }
-    ensures none { NoneRises labels.old labels.new }
-    ensures passed { slice_index labels.new to ≤ slice_index labels.old from }
-    ensures only { (n : ℕ) → (slice_index labels.new n ≡ slice_index labels.old n) ⊎ ((n ≡ to) × (slice_index labels.new n ≡ slice_index labels.old from)) }
-    ensures same { result ≡ false → labels.new ≡ labels.old }
-    ensures falls { sum labels.new ≤ sum labels.old }
-    ensures less { result ≡ true → sum labels.new < sum labels.old }
-{
-    let label = labels[from];
-    if label < labels[to] {
-        labels[to] = label;
-        true
-    } else {
-        false
-    }
-}
-
-/// Gives the two nets at the channel of a device the lesser of their labels, where the device joins them, and says
-/// whether any changed.
+/// Joins the nets at the channel of a device, where it joins plain nets.
 fn visit(
     circuit: &Circuit,
     known: &[Option<bool>],
     bare: bool,
     device: &Device,
-    labels: &mut [usize],
-) -> bool
-    requires left { device.now.left.0 < length labels.old }
-    requires right { device.now.right.0 < length labels.old }
-    ensures none { NoneRises labels.old labels.new }
-    ensures passed { LabelsPass circuit.now known.now bare device.now labels.old labels.new }
-    ensures sound { (phase : PhaseValue) → IsKnownTable circuit.now phase (known_at known.now) → Among circuit.now.devices device.now → AreOfParts circuit.now phase bare labels.old → AreOfParts circuit.now phase bare labels.new }
-    ensures same { result ≡ false → labels.new ≡ labels.old }
-    ensures falls { sum labels.new ≤ sum labels.old }
-    ensures less { result ≡ true → sum labels.new < sum labels.old }
+    parents: &mut [usize],
+)
+    requires left { device.now.left.0 < length parents.old }
+    requires right { device.now.right.0 < length parents.old }
+    requires below { AreBelow parents.old }
+    ensures below { AreBelow parents.new }
+    ensures same { (f : ℕ → ℕ) → Respects parents.new f → Respects parents.old f }
+    ensures joined { joins_plain_nets circuit.now known.now bare device.now ≡ true → (f : ℕ → ℕ) → Respects parents.new f → f device.now.left.0 ≡ f device.now.right.0 }
+    ensures sound { (phase : PhaseValue) → IsKnownTable circuit.now phase (known_at known.now) → Among circuit.now.devices device.now → AreOfParts circuit.now phase bare parents.old → AreOfParts circuit.now phase bare parents.new }
 {
-    if !joins_plain(circuit, known, bare, device) {
-        return false;
+    if joins_plain(circuit, known, bare, device) {
+        join(parents, device.left.0 as usize, device.right.0 as usize);
     }
-    let left = device.left.0 as usize;
-    let right = device.right.0 as usize;
-    let forth = lower(labels, left, right);
-    let back = lower(labels, right, left);
-    forth | back
 }
 
-/// Joins the labels over each device once, and says whether any changed.
-fn round(circuit: &Circuit, known: &[Option<bool>], bare: bool, labels: &mut [usize]) -> bool
+/// Joins the nets over each device.
+fn join_all(circuit: &Circuit, known: &[Option<bool>], bare: bool, parents: &mut [usize])
     requires flat { IsFlat circuit.now }
-    requires len { length labels.old ≡ length circuit.now.nets }
-    ensures none { NoneRises labels.old labels.new }
-    ensures passed { (d : DeviceValue) → Among circuit.now.devices d → LabelsPass circuit.now known.now bare d labels.old labels.new }
-    ensures sound { (phase : PhaseValue) → IsKnownTable circuit.now phase (known_at known.now) → AreOfParts circuit.now phase bare labels.old → AreOfParts circuit.now phase bare labels.new }
-    ensures same { result ≡ false → labels.new ≡ labels.old }
-    ensures less { result ≡ true → sum labels.new < sum labels.old }
+    requires len { length parents.old ≡ length circuit.now.nets }
+    requires below { AreBelow parents.old }
+    ensures below { AreBelow parents.new }
+    ensures joined { (d : DeviceValue) → Among circuit.now.devices d → joins_plain_nets circuit.now known.now bare d ≡ true → (f : ℕ → ℕ) → Respects parents.new f → f d.left.0 ≡ f d.right.0 }
+    ensures sound { (phase : PhaseValue) → IsKnownTable circuit.now phase (known_at known.now) → AreOfParts circuit.now phase bare parents.old → AreOfParts circuit.now phase bare parents.new }
 {
-    let mut changed = false;
     for device in circuit.devices.as_slice() {
-        let joined = visit(circuit, known, bare, device, labels);
-        changed |= joined;
+        visit(circuit, known, bare, device, parents);
     }
-    changed
 }
 
-/// Joins the labels over the devices until none changes.
+/// Gives each plain net the least net of its part, where each net has itself.
 fn settle(circuit: &Circuit, known: &[Option<bool>], bare: bool, labels: &mut [usize])
     requires flat { IsFlat circuit.now }
     requires len { length labels.old ≡ length circuit.now.nets }
@@ -119,11 +89,8 @@ fn settle(circuit: &Circuit, known: &[Option<bool>], bare: bool, labels: &mut [u
     ensures below { AreBelow labels.new }
     ensures least { (phase : PhaseValue) → IsKnownTable circuit.now phase (known_at known.now) → (n : ℕ) → IsPlain circuit.now n → IsLeastTogether circuit.now phase bare n (slice_index labels.new n) }
 {
-    'rounds: loop {
-        if !round(circuit, known, bare, labels) {
-            return;
-        }
-    }
+    join_all(circuit, known, bare, labels);
+    flatten(labels);
 }
 
 /// The numbers of the nets, in order.

@@ -11,20 +11,19 @@ mod learn;
 mod least;
 mod levels;
 mod listing;
+mod net_graph;
 mod opening;
-mod order;
 mod part;
 mod ranking;
 mod sources;
+mod ties;
+mod unions;
 
 pub use assembly::parts;
-pub use cycle::first_cycle;
 pub use known::known_nets;
 pub use least::least_nets;
 pub use listing::in_order;
-pub use order::{Order, order_of};
 pub use part::{Part, PartFault, Parts};
-pub use ranking::ranks;
 
 #[cfg(test)]
 mod part_tests;

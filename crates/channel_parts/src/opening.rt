@@ -165,7 +165,7 @@ fn settle(circuit: &Circuit, known: &[Option<bool>], marks: &mut [bool])
 }
 
 /// Opens the plain nets with a hold.
-fn open_holds(circuit: &Circuit, marks: &mut [bool])
+pub(crate) fn open_holds(circuit: &Circuit, marks: &mut [bool])
     requires flat { IsFlat circuit.now }
     requires len { length marks.old ≡ length circuit.now.nets }
     ensures grown { MarksGrow marks.old marks.new }

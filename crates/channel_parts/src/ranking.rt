@@ -1,24 +1,21 @@
 //! Ranks of nets: a part is above each net that is not known and at the gate of a device of the part.
 
-ghost use Rattle.std.specs.Prelude.{◌≡◌, ℕ, ◌<◌, Bool, length, nat_lt, slice_index, IfOk, IfSome, IsNone};
+ghost use Rattle.std.specs.Prelude.{◌≡◌, ℕ, ◌<◌, length, nat_lt, slice_index, IfOk, IfSome, IsNone};
 ghost use Rattle.std.specs.List.{list_all};
 ghost use Rattle.channel_parts.specs.KnownTables.{known_at};
 ghost use Rattle.channel_parts.specs.Labels.{AreBelow};
-ghost use Rattle.channel_parts.specs.OneSolution.{AreObserved, HasOneSolution, IsKnownTable};
+ghost use Rattle.channel_parts.specs.OneSolution.{IsKnownTable};
 ghost use Rattle.channel_parts.specs.OpenNets.{is_plain_at};
 ghost use Rattle.channel_parts.specs.Ranks.{AreLeast, IsAcyclicArcs, has_unknown_gate, rank_by};
 ghost use Rattle.plain_paths.specs.FlatCircuits.{IsFlat};
 ghost use Rattle.vrt_model.specs.Known.{IsRanking};
-ghost use Rattle.vrt_model.specs.State.{Setting};
 ghost use Rattle.vrt_model.specs.declared.rules.Phase.{Phase as PhaseValue};
 
-use crate::known::known_nets;
-use crate::least::least_nets;
 use crate::levels::levels_of;
 use crate::opening::{is_plain, known_bit};
 use crate::sources::sources_by_part;
 use std::alloc::Global;
-use vrt_model::{Circuit, Device, NoMemory, Phase};
+use vrt_model::{Circuit, Device, NoMemory};
 
 /// The rank that a net has by now.
 fn rank_at(circuit: &Circuit, least: &[usize], ranks: &[usize], net: usize) -> usize
@@ -99,25 +96,4 @@ pub(crate) fn ranked(
     }
     let ranks = by_net(alloc, circuit, least, levels)?;
     Ok(Some(ranks))
-}
-
-/// The ranks of the nets of a circuit without whole instances in a phase, by net, or none exactly where there are none,
-/// since arcs lead around. Where there are ranks, the circuit has exactly one solution in the phase, for any bits of the
-/// inputs and holds. Nothing but want of memory refuses.
-pub fn ranks(
-    alloc: Global,
-    circuit: &Circuit,
-    phase: &Phase,
-) -> Result<Option<Vec<usize>>, NoMemory>
-    requires { IsFlat circuit.now }
-    ensures ranked { IfOk result (λ o. IfSome o (λ t. IsRanking circuit.now phase.now (slice_index t.items))) }
-    ensures cyclic { IfOk result (λ o. IsNone o → (rank : ℕ → ℕ) → ¬ IsRanking circuit.now phase.now rank) }
-    ensures solution { IfOk result (λ o. IfSome o (λ _. (observed : ℕ → Bool) (setting : Setting) → AreObserved circuit.now observed → HasOneSolution circuit.now phase.now observed setting)) }
-{
-    let table = known_nets(alloc, circuit, phase)?;
-    let known = table.as_slice();
-    let labels = least_nets(alloc, circuit, known, true)?;
-    let least = labels.as_slice();
-    let found = ranked(alloc, circuit, known, least)?;
-    Ok(found)
 }

@@ -1,6 +1,6 @@
 //! Circuits whose known nets, parts and ranks are worked out by hand. Nets 0 and 1 are the supplies.
 
-use crate::{Order, first_cycle, in_order, known_nets, least_nets, order_of, ranks};
+use crate::{PartFault, Parts, in_order, known_nets, least_nets, parts};
 use plain_paths::is_flat;
 use std::alloc::Global;
 use std::process::Abort;
@@ -180,6 +180,30 @@ fn tied(rt: &impl Abort, alloc: Global) -> Result<(), NoMemory> {
 }
 
 #[test]
+fn a_long_chain_behind_a_supply_is_known(rt: HostRuntime) -> Result<(), Fail> {
+    let outcome = tied_chain(&rt, rt.alloc());
+    assert!(rt; outcome.is_ok());
+    Ok(())
+}
+
+// A chain of inverters from supply 0 to net 19,999, and down to net 2.
+fn tied_chain(rt: &impl Abort, alloc: Global) -> Result<(), NoMemory> {
+    let mut circuit = with_nets(alloc, &[])?;
+    for net in 2..20000u32 {
+        add_net(alloc, &mut circuit, NetKind::Plain)?;
+        let from = if net == 19999 { 0 } else { net + 1 };
+        add_inverter(alloc, &mut circuit, from, net)?;
+    }
+    let phase = phase(alloc)?;
+    assert!(rt; is_flat(&circuit));
+    let known = known_nets(alloc, &circuit, &phase)?;
+    assert_eq!(rt; known.as_slice().get(19999).copied(), Some(HIGH));
+    assert_eq!(rt; known.as_slice().get(3).copied(), Some(HIGH));
+    assert_eq!(rt; known.as_slice().get(2).copied(), Some(LOW));
+    Ok(())
+}
+
+#[test]
 fn a_device_that_is_off_parts_nets(rt: HostRuntime) -> Result<(), Fail> {
     let outcome = parted(&rt, rt.alloc());
     assert!(rt; outcome.is_ok());
@@ -229,7 +253,7 @@ fn has_parts(
     circuit: &Circuit,
     bare: &[usize],
     kept: &[usize],
-    expected: Option<&[usize]>,
+    expected: &[u32],
 ) -> Result<(), NoMemory> {
     let phase = phase(alloc)?;
     assert!(rt; is_flat(circuit));
@@ -238,13 +262,20 @@ fn has_parts(
     assert_eq!(rt; least.as_slice(), bare);
     let joined = least_nets(alloc, circuit, known.as_slice(), false)?;
     assert_eq!(rt; joined.as_slice(), kept);
-    let found = ranks(alloc, circuit, &phase)?;
-    match (found, expected) {
-        (Some(found), Some(expected)) => assert_eq!(rt; found.as_slice(), expected),
-        (None, None) => (),
-        _ => assert!(rt; false),
+    match parts(alloc, circuit, &phase, true) {
+        Ok(found) => has_ranks(rt, &found, expected),
+        Err(_fault) => assert!(rt; false),
     }
     Ok(())
+}
+
+/// The nets of the parts have these ranks, by net.
+fn has_ranks(rt: &impl Abort, found: &Parts, expected: &[u32]) {
+    for part in found.list.as_slice() {
+        for net in part.nets.as_slice() {
+            assert_eq!(rt; expected.get(net.0 as usize).copied(), Some(part.rank));
+        }
+    }
 }
 
 #[test]
@@ -260,7 +291,7 @@ fn ranked_chain(rt: &impl Abort, alloc: Global) -> Result<(), NoMemory> {
     add_inverter(alloc, &mut circuit, 4, 3)?;
     add_inverter(alloc, &mut circuit, 2, 4)?;
     let own = [0, 1, 2, 3, 4];
-    has_parts(rt, alloc, &circuit, &own, &own, Some(&[0, 0, 0, 2, 1]))
+    has_parts(rt, alloc, &circuit, &own, &own, &[0, 0, 0, 2, 1])
 }
 
 #[test]
@@ -282,7 +313,31 @@ fn bridge(rt: &impl Abort, alloc: Global) -> Result<(), NoMemory> {
     add_keeper(alloc, &mut circuit, [5, 2, 4])?;
     let bare = [0, 1, 2, 3, 3, 5];
     let kept = [0, 1, 2, 3, 3, 3];
-    has_parts(rt, alloc, &circuit, &bare, &kept, Some(&[0, 0, 0, 2, 2, 1]))
+    has_parts(rt, alloc, &circuit, &bare, &kept, &[0, 0, 0, 2, 2, 1])
+}
+
+#[test]
+fn a_long_row_of_devices_is_one_part(rt: HostRuntime) -> Result<(), Fail> {
+    let outcome = row(&rt, rt.alloc());
+    assert!(rt; outcome.is_ok());
+    Ok(())
+}
+
+// Devices at input 2 join the nets from 19,999 down to 3.
+fn row(rt: &impl Abort, alloc: Global) -> Result<(), NoMemory> {
+    let mut circuit = with_nets(alloc, &[NetKind::Input])?;
+    for net in 3..19999u32 {
+        add_net(alloc, &mut circuit, NetKind::Plain)?;
+        add_device(alloc, &mut circuit, Kind::N, [20002 - net, 2, 20001 - net])?;
+    }
+    add_net(alloc, &mut circuit, NetKind::Plain)?;
+    let phase = phase(alloc)?;
+    assert!(rt; is_flat(&circuit));
+    let known = known_nets(alloc, &circuit, &phase)?;
+    let least = least_nets(alloc, &circuit, known.as_slice(), true)?;
+    assert_eq!(rt; least.as_slice().get(3).copied(), Some(3));
+    assert_eq!(rt; least.as_slice().get(19999).copied(), Some(3));
+    Ok(())
 }
 
 #[test]
@@ -305,13 +360,10 @@ fn listed(rt: &impl Abort, alloc: Global) -> Result<(), NoMemory> {
     assert!(rt; is_flat(&circuit));
     let known = known_nets(alloc, &circuit, &phase)?;
     let least = least_nets(alloc, &circuit, known.as_slice(), true)?;
-    let Some(ranks) = ranks(alloc, &circuit, &phase)? else {
-        assert!(rt; false);
-        return Ok(());
-    };
+    let ranks = [0, 0, 0, 1, 1, 1, 1, 2];
     let count = circuit.nets.len();
-    assert!(rt; ranks.len() == count && least.len() == count);
-    let nets = in_order(alloc, &circuit, ranks.as_slice(), least.as_slice())?;
+    assert!(rt; count == 8 && least.len() == count);
+    let nets = in_order(alloc, &circuit, &ranks, least.as_slice())?;
     let expected = [
         ((1, 3), 3),
         ((1, 3), 6),
@@ -341,30 +393,7 @@ fn multiplexer(rt: &impl Abort, alloc: Global) -> Result<(), NoMemory> {
     add_device(alloc, &mut circuit, Kind::N, [5, 6, 4])?;
     add_inverter(alloc, &mut circuit, 2, 6)?;
     let own = [0, 1, 2, 3, 4, 5, 6];
-    has_parts(
-        rt,
-        alloc,
-        &circuit,
-        &own,
-        &own,
-        Some(&[0, 0, 0, 0, 0, 2, 1]),
-    )
-}
-
-#[test]
-fn a_ring_has_no_ranks(rt: HostRuntime) -> Result<(), Fail> {
-    let outcome = ring(&rt, rt.alloc());
-    assert!(rt; outcome.is_ok());
-    Ok(())
-}
-
-// Two inverters around.
-fn ring(rt: &impl Abort, alloc: Global) -> Result<(), NoMemory> {
-    let mut circuit = with_nets(alloc, &[NetKind::Plain, NetKind::Plain])?;
-    add_inverter(alloc, &mut circuit, 2, 3)?;
-    add_inverter(alloc, &mut circuit, 3, 2)?;
-    let own = [0, 1, 2, 3];
-    has_parts(rt, alloc, &circuit, &own, &own, None)
+    has_parts(rt, alloc, &circuit, &own, &own, &[0, 0, 0, 0, 0, 2, 1])
 }
 
 /// The arcs of the circuit have this first cycle.
@@ -372,17 +401,14 @@ fn has_cycle(
     rt: &impl Abort,
     alloc: Global,
     circuit: &Circuit,
-    expected: &[usize],
+    expected: &[Net],
 ) -> Result<(), NoMemory> {
     let phase = phase(alloc)?;
     assert!(rt; is_flat(circuit));
-    match first_cycle(alloc, circuit, &phase)? {
-        Some(nets) => assert_eq!(rt; nets.as_slice(), expected),
-        None => assert!(rt; false),
-    }
-    match order_of(alloc, circuit, &phase)? {
-        Order::Cycle(nets) => assert_eq!(rt; nets.as_slice(), expected),
-        Order::Ranks(_) => assert!(rt; false),
+    match parts(alloc, circuit, &phase, true) {
+        Err(PartFault::Cycle { nets }) => assert_eq!(rt; nets.as_slice(), expected),
+        Err(PartFault::NoMemory) => assert!(rt; false),
+        Ok(_found) => assert!(rt; false),
     }
     Ok(())
 }
@@ -399,7 +425,7 @@ fn ring_cycle(rt: &impl Abort, alloc: Global) -> Result<(), NoMemory> {
     let mut circuit = with_nets(alloc, &[NetKind::Plain, NetKind::Plain])?;
     add_inverter(alloc, &mut circuit, 2, 3)?;
     add_inverter(alloc, &mut circuit, 3, 2)?;
-    has_cycle(rt, alloc, &circuit, &[2, 3])
+    has_cycle(rt, alloc, &circuit, &[Net(2), Net(3)])
 }
 
 #[test]
@@ -419,7 +445,7 @@ fn three_rings(rt: &impl Abort, alloc: Global) -> Result<(), NoMemory> {
     add_inverter(alloc, &mut circuit, 5, 3)?;
     add_inverter(alloc, &mut circuit, 3, 6)?;
     add_inverter(alloc, &mut circuit, 6, 5)?;
-    has_cycle(rt, alloc, &circuit, &[3, 6, 5])
+    has_cycle(rt, alloc, &circuit, &[Net(3), Net(6), Net(5)])
 }
 
 #[test]
@@ -447,30 +473,35 @@ fn cut_ring(rt: &impl Abort, alloc: Global) -> Result<(), NoMemory> {
         &circuit,
         &least,
         &least,
-        Some(&[0, 0, 1, 1, 1, 3, 2, 0]),
+        &[0, 0, 1, 1, 1, 3, 2, 0],
     )
 }
 
 #[test]
-fn a_cell_of_many_nets_has_ranks(rt: HostRuntime) -> Result<(), Fail> {
+fn a_net_behind_a_ring_is_on_no_cycle(rt: HostRuntime) -> Result<(), Fail> {
     let outcome = many(&rt, rt.alloc());
     assert!(rt; outcome.is_ok());
     Ok(())
 }
 
-// A chain of inverters from input 2 to net 19,999.
+// A ring of inverters of the nets from 10,000 on, and behind it a chain of those below.
 fn many(rt: &impl Abort, alloc: Global) -> Result<(), NoMemory> {
-    let mut circuit = with_nets(alloc, &[NetKind::Input])?;
-    for net in 3..20000u32 {
+    let mut circuit = with_nets(alloc, &[])?;
+    for net in 2..20000u32 {
         add_net(alloc, &mut circuit, NetKind::Plain)?;
-        add_inverter(alloc, &mut circuit, net - 1, net)?;
+        let from = if net == 19999 { 10000 } else { net + 1 };
+        add_inverter(alloc, &mut circuit, from, net)?;
     }
     let phase = phase(alloc)?;
     assert!(rt; is_flat(&circuit));
-    let found = ranks(alloc, &circuit, &phase)?;
-    match found {
-        Some(found) => assert_eq!(rt; found.as_slice().get(19999).copied(), Some(19997)),
-        None => assert!(rt; false),
+    match parts(alloc, &circuit, &phase, true) {
+        Err(PartFault::Cycle { nets }) => {
+            assert_eq!(rt; nets.len(), 10000);
+            assert_eq!(rt; nets.get(0).copied(), Some(Net(10000)));
+            assert_eq!(rt; nets.get(1).copied(), Some(Net(19999)));
+        }
+        Err(PartFault::NoMemory) => assert!(rt; false),
+        Ok(_found) => assert!(rt; false),
     }
     Ok(())
 }

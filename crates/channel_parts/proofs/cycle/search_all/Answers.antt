@@ -1,29 +1,35 @@
-use Rattle.std.proofs.Common.{◌≡◌, ℕ, ◌∷◌, false, arith, subst, sym, ◌∙◌, inl, inr}
-use Rattle.std.specs.Prelude.{is_some}
-use Rattle.std.proofs.lemmas.Bool.{cases_lt}
-use Rattle.channel_parts.proofs.RankLaws.{some_map}
-use Rattle.channel_parts.proofs.ReachLaws.{first_around, no_cycles}
-use Rattle.vrt_model.specs.Known.{HasArc, IsCycle}
+use Rattle.std.proofs.Common.{ℕ, length, subst, sym, ◌∙◌, ap}
+use Rattle.std.specs.Prelude.{filter, is_some, nat_lt}
+use Rattle.channel_parts.proofs.NetGraphLaws.{first_nets, graph_inside, none_nets}
+use Rattle.channel_parts.proofs.RankLaws.{at_some}
+use Rattle.channel_parts.specs.NetGraphs.{IsNetGraph}
+use Rattle.graph_cycles.specs.Graphs.{ArcIn}
+use Rattle.vrt_model.specs.Known.{HasArc, IsFirstCycle}
 use Rattle.channel_parts.proofs.cycle.search_all.Goals as goal
 
-pub returns-then-is_some-clause-found : goal.returns-then-is_some-clause-found
-returns-then-is_some-clause-found c =
-    some_map c.in_ok-found.found
-    (λ x h phase table are. first_around (HasArc c.args.circuit.now phase) c.loop-first.first x.items (h phase table are) (c.loop-first.invariant.none phase table are))
-    c.in_ok-found.ensures.found
+pub first_cycle-requires : goal.first_cycle-requires
+first_cycle-requires c =
+    let circuit = c.args.circuit.now in
+    graph_inside circuit c.args.known.now c.args.least.now c.as_slice-graph.result.now c.requires.flat c.requires.nets c.requires.below
+    (subst (IsNetGraph circuit c.args.known.now c.args.least.now) (sym c.as_slice-graph.ensures.value) c.in_ok-table.ensures)
 
-pub loop-first-preserved : goal.loop-first-preserved
-loop-first-preserved c = record {
-  none = λ phase table are m others lt. elim (cases_lt m c.loop-first.first) [
-    | inl less ↦ c.loop-first.invariant.none phase table are m others less
-    | inr ge ↦
-        let same : c.loop-first.first ≡ m = omega (arith, lt, ge) in
-        let none : is_some c.in_ok-found.found ≡ false = sym c.is_some.ensures ∙ c.if-is_some.false in
-        subst (λ (x : ℕ). ¬ IsCycle (HasArc c.args.circuit.now phase) (x ∷ others)) same (c.in_ok-found.ensures.none none phase table are others)
-  ];
-}
+pub returns-in-Some-clause-found : goal.returns-in-Some-clause-found
+returns-in-Some-clause-found c phase table are =
+    let circuit = c.args.circuit.now in
+    let known = c.args.known.now in
+    let least = c.args.least.now in
+    let graph = c.as_slice-graph.result.now in
+    let is : IsNetGraph circuit known least graph = subst (IsNetGraph circuit known least) (sym c.as_slice-graph.ensures.value) c.in_ok-table.ensures in
+    let first : IsFirstCycle (ArcIn graph) c.in-Some.numbers = at_some (λ t. IsFirstCycle (ArcIn graph) t) c.in_ok-found.found c.in-Some.numbers c.in-Some.is c.in_ok-found.ensures.found in
+    subst (IsFirstCycle (HasArc circuit phase))
+    (sym (c.in_ok-nets-in-Some.ensures ∙ ap (filter (λ (n : ℕ). nat_lt n (length least))) c.as_slice.ensures))
+    (first_nets circuit phase known least graph c.requires.flat table are c.requires.nets c.requires.below is c.in-Some.numbers first)
 
 pub returns-clause-none : goal.returns-clause-none
-returns-clause-none c is phase table are nets =
-    no_cycles c.args.circuit.now phase c.requires.flat
-    (λ m others lt. c.loop-first.invariant.none phase table are m others (omega (arith, lt, c.requires.nets, c.loop-first-test.false))) nets
+returns-clause-none c e phase table are =
+    let circuit = c.args.circuit.now in
+    let known = c.args.known.now in
+    let least = c.args.least.now in
+    let graph = c.as_slice-graph.result.now in
+    let is : IsNetGraph circuit known least graph = subst (IsNetGraph circuit known least) (sym c.as_slice-graph.ensures.value) c.in_ok-table.ensures in
+    none_nets circuit phase known least graph c.requires.flat table are c.requires.nets c.requires.below is (c.in_ok-found.ensures.none (ap is_some c.in-None.is))

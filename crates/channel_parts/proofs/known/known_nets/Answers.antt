@@ -11,7 +11,7 @@ returns-clause-known c =
     let phase = c.args.phase.now in
     let first : c.deref_mut.result.now ≡ fixed_table circuit phase = c.deref_mut.ensures.value ∙ c.in_ok-known.ensures in
     subst (λ (t : List (Option Bool)). IsKnownTable circuit phase (known_at t))
-    (sym (take_at c.settle.new.known (drop (length c.settle.new.known) c.in_ok-known.known.items) c.in_ok-known.known.len (omega arith)))
-    (c.in_ok-settle.ensures phase
+    (sym (take_at c.fill.new.known (drop (length c.fill.new.known) c.in_ok-known.known.items) c.in_ok-known.known.len (omega arith)))
+    (c.in_ok-fill.ensures phase
     (subst (λ (t : List (Option Bool)). HasFixedNets circuit phase (known_at t)) (sym first) (fixed_has circuit phase))
     (subst (λ (t : List (Option Bool)). AreKnown circuit phase (known_at t)) (sym first) (fixed_known circuit phase)))

@@ -1,0 +1,338 @@
+-- The graph of nets and parts grows arc by arc, and its cycles are those of the arcs between nets.
+use Rattle.std.proofs.Common.{◌≡◌, ℕ, zero, suc, ◌+◌, ◌<◌, ◌≤◌, ◌⊎◌, Bool, true, List, [], ◌∷◌, ◌++◌, length, None, Option, Some, slice_index, arith, ap, subst, sym, refl, ◌∙◌, inl, inr}
+use Rattle.std.specs.Prelude.{filter, is_none, nat_lt}
+use Rattle.std.proofs.lemmas.Bool.{and_from, cases_eq, cases_lt, cond-false, cond-true, le-ltb, lt-ltb}
+use Rattle.std.proofs.lemmas.Option.{none-some, same_Some, slice_get_within}
+use Rattle.channel_parts.proofs.GroupLaws.{below_or_at}
+use Rattle.channel_parts.proofs.Labels.{together_further}
+use Rattle.channel_parts.proofs.Opened.{is_plain_is, plain_is}
+use Rattle.channel_parts.proofs.PartLaws.{device_inside, inside_device, same_least_net, there_at}
+use Rattle.channel_parts.proofs.RankLaws.{arc_gate, together_back, unknown_entry, unknown_gate, unknown_parts}
+use Rattle.channel_parts.specs.Groups.{IsPlaced, device_owner}
+use Rattle.channel_parts.specs.KnownTables.{known_at}
+use Rattle.channel_parts.specs.Labels.{AreBelow}
+use Rattle.channel_parts.specs.NetGraphs.{Adds, IsArc, IsDeviceArc, IsDeviceArcBelow, IsNetArc, IsNetArcBelow, IsNetGraph, IsOneNetArc}
+use Rattle.channel_parts.specs.OneSolution.{IsKnownTable}
+use Rattle.channel_parts.specs.OpenNets.{is_plain_at}
+use Rattle.channel_parts.specs.Ranks.{AreLeast, has_unknown_gate}
+use Rattle.graph_cycles.proofs.Lists.{walk_further}
+use Rattle.graph_cycles.specs.Graphs.{ArcIn, AreInside}
+use Rattle.plain_paths.specs.FlatCircuits.{IsFlat}
+use Rattle.vrt_model.proofs.Filtered.{device_among}
+use Rattle.vrt_model.proofs.Members.{all_among, among_either, among_left, among_right}
+use Rattle.vrt_model.proofs.Ranked.{together_first}
+use Rattle.vrt_model.specs.Circuits.{IsDevice}
+use Rattle.vrt_model.specs.Known.{HasArc, IsCycle, IsFirstCycle, IsInPart, IsUnknown, IsWalk}
+use Rattle.vrt_model.specs.Lists.{At, Among}
+use Rattle.vrt_model.specs.Reading.{is_in}
+use Rattle.vrt_model.specs.declared.circuit.Circuit.{Circuit}
+use Rattle.vrt_model.specs.declared.circuit.Device.{Device}
+use Rattle.vrt_model.specs.declared.rules.Phase.{Phase}
+
+-- ---- rows
+
+arc_row : (graph : List (List ℕ)) (from to : ℕ) → ArcIn graph from to → (row : List ℕ) × At graph to row × Among row from
+arc_row [] from to arc = absurd (none-some from arc.1)
+arc_row (row ∷ graph) from zero arc = (row, refl, arc)
+arc_row (row ∷ graph) from (suc to) arc = arc_row graph from to arc
+
+row_arc : (graph : List (List ℕ)) (from to : ℕ) (row : List ℕ) → At graph to row → Among row from → ArcIn graph from to
+row_arc [] from to row at m = absurd (none-some row at)
+row_arc (first ∷ graph) from zero row at m = subst (λ (r : List ℕ). Among r from) (sym (same_Some first row at)) m
+row_arc (first ∷ graph) from (suc to) row at m = row_arc graph from to row at m
+
+the_one : (n m : ℕ) → Among (n ∷ []) m → m ≡ n
+the_one n m (zero, q) = sym (same_Some n m q)
+the_one n m (suc i, q) = absurd (none-some m q)
+
+-- ---- arcs that are added
+
+-- a number placed is an arc more
+pub placed_adds : (from to : ℕ) (old new : List (List ℕ)) → IsPlaced (Some to) from old new → Adds (IsArc from to) old new
+placed_adds from to old new placed = record {
+  count = placed.count;
+  only = λ f t arc.
+      let at = arc_row new f t arc in
+      elim (cases_eq to t) [
+        | inl e ↦
+            let before = placed.own t at.0 at.1 (ap (λ (x : ℕ). Some x) e) in
+            elim (among_either before.0 (from ∷ []) f (subst (λ (r : List ℕ). Among r f) before.2 at.2)) [
+              | inl m ↦ inl (row_arc old f t before.0 before.1 m)
+              | inr m ↦ inr (the_one from f m, sym e)
+            ]
+        | inr ne ↦ inl (row_arc old f t at.0 (placed.others t at.0 at.1 (λ e. ne (same_Some to t e))) at.2)
+      ];
+  stays = λ f t arc.
+      let was = arc_row old f t arc in
+      let at = row_of t (slice_get_within old t was.0 was.1) in
+      elim (cases_eq to t) [
+        | inl e ↦
+            let before = placed.own t at.0 at.1 (ap (λ (x : ℕ). Some x) e) in
+            let same : was.0 ≡ before.0 = same_Some was.0 before.0 (sym was.1 ∙ before.1) in
+            row_arc new f t at.0 at.1 (subst (λ (r : List ℕ). Among r f) (sym before.2) (among_left before.0 (from ∷ []) f (subst (λ (r : List ℕ). Among r f) same was.2)))
+        | inr ne ↦
+            let same : was.0 ≡ at.0 = same_Some was.0 at.0 (sym was.1 ∙ placed.others t at.0 at.1 (λ e. ne (same_Some to t e))) in
+            row_arc new f t at.0 at.1 (subst (λ (r : List ℕ). Among r f) same was.2)
+      ];
+  joined = λ f t arc lt.
+      let at = row_of t lt in
+      let before = placed.own t at.0 at.1 (ap (λ (x : ℕ). Some x) (sym arc.1)) in
+      row_arc new f t at.0 at.1 (subst (λ (r : List ℕ). Among r f) (sym before.2) (among_right before.0 (from ∷ []) f (zero, ap (λ (x : ℕ). Some x) (sym arc.0))));
+}
+  where
+    row_of : (t : ℕ) → t < length old → (row : List ℕ) × At new t row
+    row_of t lt = let count = placed.count in there_at new t (omega (arith, lt, count))
+
+pub none_adds : (Arc : ℕ → ℕ → Type 0) (graph : List (List ℕ)) → ((from to : ℕ) → Arc from to → ⊥) → Adds Arc graph graph
+none_adds Arc graph none = record {
+  count = refl;
+  only = λ f t arc. inl arc;
+  stays = λ f t arc. arc;
+  joined = λ f t arc lt. absurd (none f t arc);
+}
+
+pub same_adds : (A B : ℕ → ℕ → Type 0) (old new : List (List ℕ)) → ((from to : ℕ) → A from to → B from to) → ((from to : ℕ) → B from to → A from to) → Adds A old new → Adds B old new
+same_adds A B old new forth back adds = record {
+  count = adds.count;
+  only = λ f t arc. elim (adds.only f t arc) [ inl o ↦ inl o | inr a ↦ inr (forth f t a) ];
+  stays = adds.stays;
+  joined = λ f t arc lt. adds.joined f t (back f t arc) lt;
+}
+
+pub more_adds : (A B C : ℕ → ℕ → Type 0) (old mid new : List (List ℕ)) → ((from to : ℕ) → A from to → C from to) → ((from to : ℕ) → B from to → C from to)
+    → ((from to : ℕ) → C from to → A from to ⊎ B from to) → Adds A old mid → Adds B mid new → Adds C old new
+more_adds A B C old mid new left right split first second = record {
+  count = second.count ∙ first.count;
+  only = λ f t arc. elim (second.only f t arc) [
+    | inl before ↦ elim (first.only f t before) [ inl o ↦ inl o | inr a ↦ inr (left f t a) ]
+    | inr b ↦ inr (right f t b)
+  ];
+  stays = λ f t arc. second.stays f t (first.stays f t arc);
+  joined = λ f t arc lt. elim (split f t arc) [
+    | inl a ↦ second.stays f t (first.joined f t a lt)
+    | inr b ↦ (let count = first.count in second.joined f t b (omega (arith, lt, count)))
+  ];
+}
+
+pub one_net : (c : Circuit) (least : List ℕ) (net from : ℕ) (old new : List (List ℕ)) → is_plain_at c net ≡ true → from ≡ length least + slice_index least net → Adds (IsArc from net) old new
+    → Adds (IsOneNetArc c least net) old new
+one_net c least net from old new plain part =
+    same_adds (IsArc from net) (IsOneNetArc c least net) old new
+    (λ f t arc. (
+      arc.1,
+      record { plain = ap (is_plain_at c) arc.1 ∙ plain; part = arc.0 ∙ part ∙ ap (λ (x : ℕ). length least + slice_index least x) (sym arc.1) },
+    ))
+    (λ f t arc. (arc.1.part ∙ ap (λ (x : ℕ). length least + slice_index least x) arc.0 ∙ sym part, arc.0))
+
+pub more_nets : (c : Circuit) (least : List ℕ) (net : ℕ) (old mid new : List (List ℕ)) → Adds (IsNetArcBelow c least net) old mid → Adds (IsOneNetArc c least net) mid new
+    → Adds (IsNetArcBelow c least (net + 1)) old new
+more_nets c least net old mid new =
+    more_adds (IsNetArcBelow c least net) (IsOneNetArc c least net) (IsNetArcBelow c least (net + 1)) old mid new
+    (λ f t arc. (let lt = arc.0 in omega (arith, lt), arc.1))
+    (λ f t arc. (let e = arc.0 in omega (arith, e), arc.1))
+    (λ f t arc. elim (below_or_at net t arc.0) [ inl low ↦ inl (low, arc.1) | inr e ↦ inr (e, arc.1) ])
+
+pub one_device : (c : Circuit) (known : List (Option Bool)) (least : List ℕ) (d : Device) (owner to : ℕ) (old new : List (List ℕ)) → has_unknown_gate known d ≡ true
+    → device_owner c known least true d ≡ Some owner → to ≡ length least + owner → Adds (IsArc d.gate.0 to) old new → Adds (IsDeviceArc c known least d) old new
+one_device c known least d owner to old new unknown owned part =
+    same_adds (IsArc d.gate.0 to) (IsDeviceArc c known least d) old new
+    (λ f t arc. record { unknown = unknown; gate = sym arc.0; owner = owner; owned = owned; part = arc.1 ∙ part })
+    (λ f t arc. (
+      sym arc.gate,
+      arc.part ∙ ap (λ (x : ℕ). length least + x) (same_Some arc.owner owner (sym arc.owned ∙ owned)) ∙ sym part,
+    ))
+
+pub more_devices : (c : Circuit) (known : List (Option Bool)) (least : List ℕ) (at : ℕ) (d : Device) (old mid new : List (List ℕ)) → At c.devices at d
+    → Adds (IsDeviceArcBelow c known least at) old mid → Adds (IsDeviceArc c known least d) mid new → Adds (IsDeviceArcBelow c known least (at + 1)) old new
+more_devices c known least at d old mid new there =
+    more_adds (IsDeviceArcBelow c known least at) (IsDeviceArc c known least d) (IsDeviceArcBelow c known least (at + 1)) old mid new
+    (λ f t arc. (arc.0, arc.1, let lt = arc.2 in omega (arith, lt), arc.3, arc.4))
+    (λ f t arc. (at, d, omega arith, there, arc))
+    (λ f t arc. elim (below_or_at at arc.0 arc.2) [
+      | inl low ↦ inl (arc.0, arc.1, low, arc.3, arc.4)
+      | inr e ↦
+          let same : arc.1 ≡ d = same_Some arc.1 d (sym (subst (λ (x : ℕ). At c.devices x arc.1) e arc.3) ∙ there) in
+          inr (subst (λ (x : Device). IsDeviceArc c known least x f t) same arc.4)
+    ])
+
+-- the arcs to nets and to parts, added to a graph without arcs
+pub adds_graph : (c : Circuit) (known : List (Option Bool)) (least : List ℕ) (none mid graph : List (List ℕ)) → length none ≡ length least + length least
+    → ((k : ℕ) (row : List ℕ) → At none k row → row ≡ []) → Adds (IsNetArcBelow c least (length least)) none mid → Adds (IsDeviceArcBelow c known least (length c.devices)) mid graph
+    → IsNetGraph c known least graph
+adds_graph c known least none mid graph size empty first second = record {
+  size = second.count ∙ first.count ∙ size;
+  only = λ f t arc. elim (second.only f t arc) [
+    | inl before ↦ elim (first.only f t before) [
+      | inl o ↦ (let at = arc_row none f t o in absurd (none-some f (subst (λ (r : List ℕ). At r at.2.0 f) (empty t at.0 at.1) at.2.1)))
+      | inr a ↦ inl a
+    ]
+    | inr b ↦ inr b
+  ];
+  nets = λ f t arc. second.stays f t (first.joined f t arc (let lt = arc.0 in omega (arith, lt, size)));
+  devices = λ f t arc lt. second.joined f t arc (let count = second.count in omega (arith, lt, count));
+}
+
+-- ---- nets and parts in turn
+
+gate_inside : (c : Circuit) (known : List (Option Bool)) (least : List ℕ) (from to : ℕ) → IsFlat c → length least ≡ length c.nets → IsDeviceArcBelow c known least (length c.devices) from to → from < length least
+gate_inside c known least from to flat len arc =
+    let inside = (all_among (IsDevice c) c.devices arc.1 flat.devices (arc.0, arc.3)).gate in
+    let gate = arc.4.gate in
+    omega (arith, inside, gate, len)
+
+pub graph_inside : (c : Circuit) (known : List (Option Bool)) (least : List ℕ) (graph : List (List ℕ)) → IsFlat c → length least ≡ length c.nets → AreBelow least → IsNetGraph c known least graph → AreInside graph
+graph_inside c known least graph flat len below is from to arc =
+    let size = is.size in
+    elim (is.only from to arc) [
+      | inl net ↦ (let part = net.1.part in let lt = net.0 in let low = below to in omega (arith, part, lt, low, size))
+      | inr device ↦ (let lt = gate_inside c known least from to flat len device in omega (arith, lt, size))
+    ]
+
+module _ (c : Circuit) (phase : Phase) (known : List (Option Bool)) (least : List ℕ) (graph : List (List ℕ)) (flat : IsFlat c) (table : IsKnownTable c phase (known_at known)) (are : AreLeast c phase least)
+    (len : length least ≡ length c.nets) (below : AreBelow least) (is : IsNetGraph c known least graph) where
+  -- an arc to a net comes from its part
+  to_net : (from to : ℕ) → ArcIn graph from to → to < length least → IsNetArc c least from to
+  to_net from to arc lt = elim (is.only from to arc) [ inl net ↦ net.1 | inr device ↦ (let part = device.4.part in absurd (omega (arith, part, lt))) ]
+
+  -- an arc to a part comes from a gate
+  to_part : (from to : ℕ) → ArcIn graph from to → length least ≤ to → IsDeviceArcBelow c known least (length c.devices) from to
+  to_part from to arc le = elim (is.only from to arc) [ inl net ↦ (let lt = net.0 in absurd (omega (arith, lt, le))) | inr device ↦ device ]
+
+  gate_net : (from to : ℕ) → IsDeviceArcBelow c known least (length c.devices) from to → from < length least
+  gate_net from to arc = gate_inside c known least from to flat len arc
+
+  -- from a net arcs lead to parts
+  from_net : (from to : ℕ) → ArcIn graph from to → from < length least → length least ≤ to
+  from_net from to arc lt =
+      elim (cases_lt to (length least)) [ inl low ↦ (let part = (to_net from to arc low).part in absurd (omega (arith, part, lt))) | inr le ↦ le ]
+
+  -- and from a part to nets
+  from_part : (from to : ℕ) → ArcIn graph from to → length least ≤ from → to < length least
+  from_part from to arc le =
+      elim (cases_lt to (length least)) [ inl low ↦ low | inr high ↦ (let low = gate_net from to (to_part from to arc high) in absurd (omega (arith, low, le))) ]
+
+  -- over a part an arc of the circuit leads from net to net
+  over_part : (m x n : ℕ) → ArcIn graph m x → ArcIn graph x n → m < length least → HasArc c phase m n
+  over_part m x n up down lt =
+      let high = from_net m x up lt in
+      let net = to_net x n down (from_part x n down high) in
+      let p = plain_is c n net.plain in
+      let device = to_part m x up high in
+      let d : Device = device.1 in
+      let one = net.part in
+      let two = device.4.part in
+      let same : device.4.owner ≡ slice_index least n = omega (arith, one, two) in
+      let owned : device_owner c known least true d ≡ Some (slice_index least n) = device.4.owned ∙ ap (λ (k : ℕ). Some k) same in
+      let inside = device_inside c phase known least true table are (slice_index least n) d (device.0, device.3) owned in
+      let here : IsInPart c phase true n d = (inside.0, inside.1, together_further c phase true n (slice_index least n) inside.0 (are n p).together inside.2, inside.3, inside.4) in
+      inl (d, here, device.4.gate, subst (IsUnknown c phase) device.4.gate (unknown_gate c phase known d.gate.0 table (unknown_parts known d device.4.unknown).1))
+
+  -- and each arc of the circuit is one over a part
+  by_part : (m n : ℕ) → HasArc c phase m n → (x : ℕ) × ArcIn graph m x × ArcIn graph x n
+  by_part m n arc =
+      let gate = arc_gate c phase flat m n arc in
+      let d : Device = gate.0 in
+      let inside = gate.1 in
+      let p = together_first c phase true n inside.0 inside.2 in
+      let k = slice_index least n in
+      let own : slice_index least k ≡ k = sym (same_least_net c phase known least true table are n k (are n p).together) in
+      let here : IsInPart c phase true k d = (inside.0, inside.1, together_further c phase true k n inside.0 (together_back c phase true n k (are n p).together) inside.2, inside.3, inside.4) in
+      let owner : device_owner c known least true d ≡ Some k = inside_device c phase known least true table are k d own here in
+      let there = device_among true c d inside.3.0 in
+      let none : known_at known d.gate.0 ≡ None = unknown_entry c phase known d.gate.0 table (known_at known d.gate.0) refl (subst (IsUnknown c phase) (sym gate.2) gate.3) in
+      let unknown : has_unknown_gate known d ≡ true = and_from (is_in true d) (is_none (known_at known d.gate.0)) there.1 (ap is_none none) in
+      let low = below n in
+      let net = slice_get_within c.nets n p.0 p.1 in
+      let size = is.size in (
+        length least + k,
+        is.devices m (length least + k) (
+          there.0.0,
+          d,
+          slice_get_within c.devices there.0.0 d there.0.1,
+          there.0.1,
+          record { unknown = unknown; gate = gate.2; owner = k; owned = owner; part = refl },
+        ) (omega (arith, low, net, size, len)),
+        is.nets (length least + k) n (omega (arith, net, len), record { plain = is_plain_is c n p; part = refl }),
+      )
+
+  -- ---- cycles
+
+  abbrev is_net : ℕ → Bool
+  is_net x = nat_lt x (length least)
+
+  net_kept : (x : ℕ) (xs : List ℕ) → x < length least → filter is_net (x ∷ xs) ≡ x ∷ filter is_net xs
+  net_kept x xs lt = cond-true (is_net x) (x ∷ filter is_net xs) (filter is_net xs) (lt-ltb x (length least) lt)
+
+  part_dropped : (x : ℕ) (xs : List ℕ) → length least ≤ x → filter is_net (x ∷ xs) ≡ filter is_net xs
+  part_dropped x xs le = cond-false (is_net x) (x ∷ filter is_net xs) (filter is_net xs) (le-ltb x (length least) le)
+
+  -- a walk from a net to a part, without its parts
+  record NetWalk (m last : ℕ) (nets : List ℕ) : Type 0 where
+    end : ℕ
+    walk : IsWalk (HasArc c phase) m nets end
+    net : end < length least
+    arc : ArcIn graph end last
+
+  net_walk : (nodes : List ℕ) (m last : ℕ) → m < length least → length least ≤ last → IsWalk (ArcIn graph) m nodes last → NetWalk m last (filter is_net nodes)
+  net_walk [] m last lt le walk = absurd (omega (arith, lt, le, walk))
+  net_walk (x ∷ []) m last lt le walk =
+      let high = from_net m x walk.0 lt in
+      subst (NetWalk m last) (sym (part_dropped x [] high)) (record { end = m; walk = refl; net = lt; arc = subst (ArcIn graph m) walk.1 walk.0 })
+  net_walk (x ∷ n ∷ nodes) m last lt le walk =
+      let high = from_net m x walk.0 lt in
+      let low = from_part x n walk.1.0 high in
+      let rest = net_walk nodes n last low le walk.1.1 in
+      subst (NetWalk m last) (sym (part_dropped x (n ∷ nodes) high ∙ net_kept n nodes low))
+      (record { end = rest.end; walk = (over_part m x n walk.0 walk.1.0 lt, rest.walk); net = rest.net; arc = rest.arc })
+
+  -- a cycle of the graph, without its parts, is one of the circuit
+  net_cycle : (m : ℕ) (nodes : List ℕ) → m < length least → IsCycle (ArcIn graph) (m ∷ nodes) → IsCycle (HasArc c phase) (m ∷ filter is_net nodes)
+  net_cycle m nodes lt cycle =
+      let part = (to_net cycle.0 m cycle.2 lt).part in
+      let walk = net_walk nodes m cycle.0 lt (omega (arith, part)) cycle.1 in
+      (walk.end, walk.walk, over_part walk.end cycle.0 m walk.arc cycle.2 walk.net)
+
+  -- and a walk of the circuit one of the graph
+  graph_walk : (nets : List ℕ) (m last : ℕ) → IsWalk (HasArc c phase) m nets last → (nodes : List ℕ) × IsWalk (ArcIn graph) m nodes last
+  graph_walk [] m last walk = ([], walk)
+  graph_walk (n ∷ nets) m last walk =
+      let by = by_part m n walk.0 in
+      let rest = graph_walk nets n last walk.1 in
+      (by.0 ∷ n ∷ rest.0, (by.1, (by.2, rest.1)))
+
+  graph_cycle : (m : ℕ) (nets : List ℕ) → IsCycle (HasArc c phase) (m ∷ nets) → (nodes : List ℕ) × IsCycle (ArcIn graph) (m ∷ nodes)
+  graph_cycle m nets cycle =
+      let walk = graph_walk nets m cycle.0 cycle.1 in
+      let by = by_part cycle.0 m cycle.2 in
+      (walk.0 ++ by.0 ∷ [], (by.0, walk_further (ArcIn graph) walk.0 m cycle.0 by.0 walk.1 by.1, by.2))
+
+  -- the least number on any cycle is that of a net
+  first_net : (m : ℕ) (nodes : List ℕ) → IsCycle (ArcIn graph) (m ∷ nodes) → ((k : ℕ) (others : List ℕ) → IsCycle (ArcIn graph) (k ∷ others) → m ≤ k) → m < length least
+  first_net m nodes cycle least_of = elim (cases_lt m (length least)) [
+    | inl lt ↦ lt
+    | inr le ↦ absurd (turned nodes cycle le)
+  ]
+    where
+      turned : (nodes : List ℕ) → IsCycle (ArcIn graph) (m ∷ nodes) → length least ≤ m → ⊥
+      turned [] cycle le =
+          let same = cycle.1 in
+          let low = from_part m m (subst (λ (x : ℕ). ArcIn graph x m) (sym same) cycle.2) le in
+          omega (arith, low, le)
+      turned (n ∷ rest) cycle le =
+          let low = from_part m n cycle.1.0 le in
+          let first = least_of n (rest ++ m ∷ []) (m, walk_further (ArcIn graph) rest n cycle.0 m cycle.1.1 cycle.2, cycle.1.0) in
+          omega (arith, low, le, first)
+
+  -- the first cycle of the graph, without its parts, is the first of the circuit
+  pub first_nets : (nodes : List ℕ) → IsFirstCycle (ArcIn graph) nodes → IsFirstCycle (HasArc c phase) (filter is_net nodes)
+  first_nets [] first = absurd first.0
+  first_nets (m ∷ nodes) first =
+      let lt = first_net m nodes first.0 first.1 in
+      subst (IsFirstCycle (HasArc c phase)) (sym (net_kept m nodes lt)) (
+        net_cycle m nodes lt first.0,
+        λ k others cycle. let around = graph_cycle k others cycle in first.1 k around.0 around.1,
+      )
+
+  pub none_nets : ((nodes : List ℕ) → ¬ IsCycle (ArcIn graph) nodes) → (nets : List ℕ) → ¬ IsCycle (HasArc c phase) nets
+  none_nets none [] cycle = cycle
+  none_nets none (m ∷ nets) cycle = let around = graph_cycle m nets cycle in none (m ∷ around.0) around.1

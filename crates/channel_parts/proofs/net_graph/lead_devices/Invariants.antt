@@ -1,0 +1,5 @@
+use Rattle.channel_parts.specs.NetGraphs.{Adds, IsDeviceArcBelow}
+use Rattle.channel_parts.proofs.net_graph.lead_devices.Given as goal
+
+abbrev pub invariant-loop-device : goal.invariant-loop-device
+invariant-loop-device l = Adds (IsDeviceArcBelow l.circuit l.known l.least l.device-index) l.initial.graph.items l.graph.items

@@ -1,0 +1,5 @@
+use Rattle.channel_parts.specs.NetGraphs.{Adds, IsNetArcBelow}
+use Rattle.channel_parts.proofs.net_graph.lead_nets.Given as goal
+
+abbrev pub invariant-loop-net : goal.invariant-loop-net
+invariant-loop-net l = Adds (IsNetArcBelow l.circuit l.least l.net) l.initial.graph.items l.graph.items

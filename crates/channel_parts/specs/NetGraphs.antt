@@ -1,0 +1,48 @@
+-- A graph of nets and parts: an arc leads to each plain net from its part, and to each part from the gates of its devices
+-- that are not known. The numbers of the nets come first, and behind them, in their order, the parts by their least nets.
+use Rattle.std.specs.Prelude.{◌≡◌, ℕ, ◌+◌, ◌<◌, ◌⊎◌, Bool, true, List, Option, Some, length, slice_index}
+use Rattle.channel_parts.specs.Groups.{device_owner}
+use Rattle.channel_parts.specs.OpenNets.{is_plain_at}
+use Rattle.channel_parts.specs.Ranks.{has_unknown_gate}
+use Rattle.graph_cycles.specs.Graphs.{ArcIn}
+use Rattle.vrt_model.specs.Lists.{At}
+use Rattle.vrt_model.specs.declared.circuit.Circuit.{Circuit}
+use Rattle.vrt_model.specs.declared.circuit.Device.{Device}
+
+-- arcs more, to the numbers that there are
+pub record Adds (Arc : ℕ → ℕ → Type 0) (old new : List (List ℕ)) : Type 0 where
+  pub count : length new ≡ length old
+  pub only : (from to : ℕ) → ArcIn new from to → ArcIn old from to ⊎ Arc from to
+  pub stays : (from to : ℕ) → ArcIn old from to → ArcIn new from to
+  pub joined : (from to : ℕ) → Arc from to → to < length old → ArcIn new from to
+
+abbrev pub IsArc : ℕ → ℕ → ℕ → ℕ → Type 0
+IsArc from to f t = (f ≡ from) × (t ≡ to)
+
+-- the arc to a plain net from its part
+pub record IsNetArc (c : Circuit) (least : List ℕ) (from to : ℕ) : Type 0 where
+  pub plain : is_plain_at c to ≡ true
+  pub part : from ≡ length least + slice_index least to
+
+abbrev pub IsOneNetArc : Circuit → List ℕ → ℕ → ℕ → ℕ → Type 0
+IsOneNetArc c least net from to = (to ≡ net) × IsNetArc c least from to
+
+abbrev pub IsNetArcBelow : Circuit → List ℕ → ℕ → ℕ → ℕ → Type 0
+IsNetArcBelow c least bound from to = (to < bound) × IsNetArc c least from to
+
+-- the arc to the part of a device from its gate, where that is not known
+pub record IsDeviceArc (c : Circuit) (known : List (Option Bool)) (least : List ℕ) (d : Device) (from to : ℕ) : Type 0 where
+  pub unknown : has_unknown_gate known d ≡ true
+  pub gate : d.gate.0 ≡ from
+  pub owner : ℕ
+  pub owned : device_owner c known least true d ≡ Some owner
+  pub part : to ≡ length least + owner
+
+abbrev pub IsDeviceArcBelow : Circuit → List (Option Bool) → List ℕ → ℕ → ℕ → ℕ → Type 0
+IsDeviceArcBelow c known least bound from to = (i : ℕ) × (d : Device) × (i < bound) × At c.devices i d × IsDeviceArc c known least d from to
+
+pub record IsNetGraph (c : Circuit) (known : List (Option Bool)) (least : List ℕ) (graph : List (List ℕ)) : Type 0 where
+  pub size : length graph ≡ length least + length least
+  pub only : (from to : ℕ) → ArcIn graph from to → IsNetArcBelow c least (length least) from to ⊎ IsDeviceArcBelow c known least (length c.devices) from to
+  pub nets : (from to : ℕ) → IsNetArcBelow c least (length least) from to → ArcIn graph from to
+  pub devices : (from to : ℕ) → IsDeviceArcBelow c known least (length c.devices) from to → to < length graph → ArcIn graph from to

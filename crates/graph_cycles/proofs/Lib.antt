@@ -1,0 +1,4 @@
+-- Searches back over arcs, and groups that no cycle leaves.
+pub mod GroupLaws
+pub mod Lists
+pub mod TrailLaws
