@@ -13,7 +13,7 @@ mod signals;
 mod table;
 
 pub use faults::PairFault;
-pub use models::model_of;
+pub use models::{is_skipped, model_of};
 pub use ports::pair_ports;
 
 #[cfg(test)]

@@ -1,10 +1,11 @@
 //! Cells and models.
 
-ghost use Rattle.std.specs.Prelude.{◌≡◌, ◌<◌, ◌==◌, IfSome, filter, find, length, option_and_then, position, bytes_eq, cond, None};
+ghost use Rattle.std.specs.Prelude.{◌≡◌, ◌<◌, ◌==◌, ◌↔◌, IfSome, IsTrue, filter, find, length, option_and_then, position, bytes_eq, cond, None};
 ghost use Rattle.std.specs.Option.{option_copied};
 ghost use Rattle.vrt_model.specs.Comparison.{cell_at};
 ghost use Rattle.vrt_model.specs.Inputs.{IsBlif};
-ghost use Rattle.vrt_model.specs.PairedPorts.{has_lower_name, model_of_paired, paired_by, paired_model};
+ghost use Rattle.vrt_model.specs.PairedPorts.{has_lower_name, model_of_paired, paired_by, paired_model, Skipped};
+ghost use Rattle.vrt_model.specs.declared.blif.Blif.{Blif as BlifValue};
 ghost use Rattle.vrt_model.specs.declared.blif.BlifModel.{BlifModel as ModelValue};
 ghost use Rattle.vrt_model.specs.declared.rules.PairRule.{PairRule as RuleValue};
 
@@ -111,4 +112,21 @@ pub fn model_of(design: &Design, blif: &Blif, rules: &Rules, cell: u32) -> Optio
     ensures { result ≡ model_of_paired (paired_model design.now blif.now rules.now cell) }
 {
     number_of(place_of(blif, rules, name_of(design, cell)))
+}
+
+// Whether the `pair` rule of a cell of a name names no model.
+fn is_left_out(rules: &Rules, cell: &[u8]) -> bool
+    ensures { (blif : BlifValue) → IsTrue result ↔ (paired_by blif cell.now (find (λ (r : RuleValue). bytes_eq r.cell cell.now) rules.now.pairs) ≡ Skipped) }
+{
+    match rule_of(rules.pairs.as_slice(), cell) {
+        Some(rule) => rule.model.is_none(),
+        None => false,
+    }
+}
+
+/// Whether a cell is skipped on purpose: its `pair` rule names no model. It does not depend on the models.
+pub fn is_skipped(design: &Design, rules: &Rules, cell: u32) -> bool
+    ensures { (blif : BlifValue) → IsTrue result ↔ (paired_model design.now blif rules.now cell ≡ Skipped) }
+{
+    is_left_out(rules, name_of(design, cell))
 }
