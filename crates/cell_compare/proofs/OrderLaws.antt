@@ -61,7 +61,7 @@ net_among nets net i x at e =
     (i, subst (λ (y : Net). At nets i y) same at)
 
 -- the numbers of a rising list differ from place to place
-rising_once : (xs : List ℕ) (i j n : ℕ) → IsRising xs → At xs i n → At xs j n → i ≡ j
+pub rising_once : (xs : List ℕ) (i j n : ℕ) → IsRising xs → At xs i n → At xs j n → i ≡ j
 rising_once xs i j n rising a b =
     elim (cases_lt i j) [
       | inl lt ↦ absurd (let less : n < n = rising i j n n a b lt in omega (arith, less))

@@ -3,6 +3,7 @@
 use Rattle.std.proofs.Common.{◌≡◌, ℕ, zero, suc, ◌+◌, ◌<◌, ◌≤◌, Bool, true, false, cond, List, [], ◌∷◌, ◌++◌, Some, None, length, map, arith, ap, refl, sym, subst, ◌∙◌, eqb}
 use Rattle.std.specs.Prelude.{filter, filter_map, flat_map, slice_index_or, take}
 use Rattle.std.specs.List.{cons_option, enumerate_from}
+use Rattle.std.proofs.Math.Seq.{take-length}
 use Rattle.std.proofs.lemmas.Bool.{eq-eqb, eqb-true, false_from_ne_true, false≢true}
 use Rattle.std.proofs.lemmas.List.{append-nil}
 use Rattle.std.proofs.lemmas.List.Filters.{length-filter_more}
@@ -86,6 +87,10 @@ input_bit k phase bits n net e kind =
 -- the variable of the next net
 pub variable_more : (c : Circuit) (n : ℕ) (d : FlatNet) → n < length c.nets → variable_at c (n + 1) ≡ variable_at c n + cond (is_input (slice_index_or c.nets n d).kind) 1 0
 variable_more c n d lt = length-filter_more is_input_net c.nets n d lt
+
+-- those before the end are all
+pub variables_all : (c : Circuit) → variable_at c (length c.nets) ≡ input_count c
+variables_all c = ap (λ (nets : List FlatNet). length (filter is_input_net nets)) (take-length c.nets)
 
 -- those before a net are among those of all nets
 filter_few : (nets : List FlatNet) (n : ℕ) → length (filter is_input_net (take n nets)) ≤ length (filter is_input_net nets)

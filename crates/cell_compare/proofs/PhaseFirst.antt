@@ -41,7 +41,7 @@ use Rattle.vrt_model.specs.declared.verdict.FaultKind.TheVariants.{Fight, FightK
 -- ---- the order of places
 
 -- a fight or a float of the bare circuit
-abbrev IsOfCircuit : FaultKind → Type 0
+abbrev pub IsOfCircuit : FaultKind → Type 0
 IsOfCircuit kind = (kind ≡ Fight) ⊎ (kind ≡ Float)
 
 of_circuit_open : (kind : FaultKind) → IsOfCircuit kind → IsOpen kind

@@ -1,6 +1,5 @@
 -- What is found of the outputs that are compared, at each valuation of a plain comparison.
-use Rattle.std.proofs.Common.{◌≡◌, ℕ, ◌<◌, ◌⊎◌, Bool, true, List, arith, ap, refl, sym, subst, ◌∙◌, inl, inr}
-use Rattle.std.specs.Prelude.{◌≢◌}
+use Rattle.std.proofs.Common.{◌≡◌, ℕ, ◌<◌, Bool, true, List, arith, ap, sym, ◌∙◌}
 use Rattle.node_pool.specs.declared.region.Span.{Span}
 use Rattle.bdd_core.specs.Diagram.{Valuation}
 use Rattle.bdd_core.specs.Store.{Diagrams, function_of}
@@ -8,14 +7,10 @@ use Rattle.bdd_core.specs.Words.{shows}
 use Rattle.bdd_core.specs.declared.handle.H.{H}
 use Rattle.bdd_ops.specs.Ops.{bits_of}
 use Rattle.cell_compare.specs.Outputs.{AllAgree, IsFirstDifference}
-use Rattle.cell_compare.specs.Phases.{AreSeenOutputs, IsFirstUnequal, IsSameOutput, IsSeenOutput}
+use Rattle.cell_compare.specs.Phases.{AreSeenOutputs, IsFirstUnequal, IsSameOutput}
 use Rattle.cell_compare.specs.declared.outputs.Output.{Output}
 use Rattle.cell_compare.specs.declared.outputs.OutputFault.{OutputFault}
-use Rattle.std.proofs.lemmas.Option.{same_Some}
-use Rattle.std.proofs.lemmas.Bool.{cases_eq, cases_lt}
-use Rattle.vrt_model.specs.Comparison.{CellPort, Comparison, output_signal}
-use Rattle.vrt_model.specs.Held.{IsValuation}
-use Rattle.vrt_model.specs.Lists.{At}
+use Rattle.vrt_model.specs.Comparison.{Comparison}
 
 module _ (k : Comparison) (phase : ℕ) (outputs : List Output) (are : AreSeenOutputs k phase outputs) (care : H) (gates values : Span) (old : Diagrams)
     (all : (v : Valuation) → function_of old care v ≡ true) where

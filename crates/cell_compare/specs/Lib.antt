@@ -1,7 +1,12 @@
+pub mod Cells
+pub mod Compared
 pub mod Faults
 pub mod Frames
 pub mod Operations
 pub mod Outputs
+pub mod PhaseSteps
 pub mod Phases
+pub mod PortLists
 pub mod Results
 pub mod Scans
+pub mod Steps

@@ -1,8 +1,16 @@
 -- How many operations are made, and what a refusal says.
-use Rattle.std.specs.Prelude.{◌≡◌, length}
+use Rattle.std.specs.Prelude.{◌≡◌, ℕ, ◌+◌, ◌*◌, List, length, sum_by}
 use Rattle.bdd_core.specs.Store.{Diagrams}
 use Rattle.bdd_core.specs.declared.handle.Spent.{Spent}
+use Rattle.channel_parts.specs.declared.part.Part.{Part}
 
 -- the refusal tells the budget, and as many nodes are there
 abbrev pub IsUsedUp : Diagrams → Diagrams → Spent → Type 0
 IsUsedUp old new spent = (spent.nodes ≡ old.budget) × (length new.nodes ≡ old.budget)
+
+-- of a part: to solve it, and four for each net
+abbrev pub part_operations : Part → ℕ
+part_operations part = 400 * (length part.nets + 1) * (length part.devices + 1) + 4 * length part.nets
+
+abbrev pub circuit_operations : List Part → ℕ
+circuit_operations parts = sum_by part_operations parts

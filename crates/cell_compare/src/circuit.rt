@@ -1,15 +1,18 @@
 //! The whole circuit of a phase, part by part.
 
-ghost use Rattle.std.specs.Prelude.{◌≡◌, ℕ, ◌*◌, ◌<◌, ◌≤◌, true, length, IfOk};
-ghost use Rattle.bdd_core.specs.Diagram.{Valuation};
-ghost use Rattle.bdd_core.specs.Store.{IsLive, IsSpan};
+ghost use Rattle.std.specs.Prelude.{◌≡◌, ℕ, ◌*◌, ◌<◌, ◌≤◌, true, length, IfErr, IfOk};
+ghost use Rattle.bdd_core.specs.Diagram.{IsWithin, Valuation};
+ghost use Rattle.bdd_core.specs.Store.{IsLive, IsSpan, function_of};
 ghost use Rattle.bdd_core.specs.Words.{IsApart, IsFilled, Writes, word_at};
+ghost use Rattle.bdd_ops.specs.Counting.{IsSpanWithin};
 ghost use Rattle.cell_compare.specs.Faults.{HasFixedBits};
 ghost use Rattle.cell_compare.specs.Frames.{WritesTwo};
+ghost use Rattle.cell_compare.specs.Operations.{IsUsedUp, circuit_operations};
 ghost use Rattle.cell_compare.specs.Results.{CircuitGives, HasCircuitSpans, first_word, root_at};
 ghost use Rattle.channel_parts.specs.KnownTables.{known_at};
 ghost use Rattle.channel_parts.specs.OneSolution.{AreObserved};
 ghost use Rattle.channel_parts.specs.PartLists.{AreParts, IsPartList};
+ghost use Rattle.path_fixpoint.specs.Spending.{HasOneHold, Spends};
 ghost use Rattle.plain_paths.specs.FlatCircuits.{IsFlat};
 ghost use Rattle.plain_paths.specs.Marks.{mark_at};
 ghost use Rattle.vrt_model.specs.Known.{IsRanking};
@@ -40,6 +43,7 @@ fn open(store: &mut Store, known: &[Option<bool>], roots: Span, gates: Span)
     requires len { (length known.now ≡ gates.len) × (roots.len ≡ gates.len) }
     requires apart { IsApart roots gates }
     ensures writes { Writes gates store.old store.new }
+    ensures rest { store.new ≡ record store.old { words = store.new.words } }
     ensures first { (n : ℕ) → n < gates.len → word_at store.new gates n ≡ first_word (known_at known.now n) (word_at store.old roots n) }
 {
     let _ends = store.node_count();
@@ -67,6 +71,10 @@ fn words_of(part: &Part, out: Span) -> Span
 ///
 /// Handles from before keep their functions, and words outside `gates` and `out` stay as they are, also where the budget
 /// is used up. `out` has ten words for each net of the greatest part.
+///
+/// Where the handles read only the first `u` variables and no net has two holds, a part of p nets and q devices takes at
+/// most 400 (p + 1) (q + 1) + 4 p operations of `2 ^ u` nodes, and the handles that are written read only these variables
+/// too. `Spent` comes only where the budget is less than all these with the nodes that were there, and has the budget.
 pub fn circuit_fault(
     store: &mut Store,
     circuit: &Circuit,
@@ -86,7 +94,10 @@ pub fn circuit_fault(
     ensures writes { WritesTwo gates out store.old store.new }
     ensures live { IsFilled store.new gates }
     ensures gives { IfOk result (λ found. (phase : Phase) (rank : ℕ → ℕ) → AreParts circuit.now phase true rank parts.now → IsRanking circuit.now phase rank → ((v : Valuation) → HasFixedBits circuit.now phase (root_at store.old roots v)) → CircuitGives circuit.now phase (mark_at observed.now) rank care roots gates store.old store.new found) }
+    ensures few { HasOneHold circuit.now → (u : ℕ) → IsWithin u (function_of store.old care) → IsSpanWithin u store.old roots → Spends u (circuit_operations parts.now.list) gates store.old store.new result }
+    ensures spent { HasOneHold circuit.now → IfErr result (IsUsedUp store.old store.new) }
 {
+    let _ends = store.node_count();
     open(store, parts.known.as_slice(), roots, gates);
     for part in parts.list.as_slice() {
         let words = words_of(part, out);

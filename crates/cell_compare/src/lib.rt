@@ -1,14 +1,30 @@
-//! A cell compared with its model by decision diagrams: the circuit of a phase, place by place.
+//! A cell compared with its model by decision diagrams: the verdict on the cell, the faults of a phase place by place.
 #![tactic(auto)]
 
+mod checks;
 mod circuit;
+mod compared;
+mod early;
+mod flattened;
+mod known_facts;
+mod least;
 mod net;
 mod outputs;
+mod phase;
+mod phase_words;
+mod plans;
+mod port_list;
+mod ports;
 mod roots;
 mod scan;
 mod solve;
+mod tell;
+mod unchecked;
 
 pub use circuit::circuit_fault;
+pub use compared::{Compared, compare};
+pub use flattened::{Flattened, PhaseFound, PhasePlan};
+pub use least::least_valuation;
 pub use net::CircuitFault;
 pub use outputs::{Output, OutputFault, output_fault};
 pub use roots::open_roots;
@@ -16,7 +32,15 @@ pub use roots::open_roots;
 #[cfg(test)]
 mod circuit_tests;
 #[cfg(test)]
+mod compare_tests;
+#[cfg(test)]
+mod least_tests;
+#[cfg(test)]
 mod output_tests;
+#[cfg(test)]
+mod phase_tests;
+#[cfg(test)]
+mod port_tests;
 #[cfg(test)]
 mod root_tests;
 #[cfg(test)]

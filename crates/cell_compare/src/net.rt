@@ -1,7 +1,9 @@
 //! The faults of one net.
 
-ghost use Rattle.std.specs.Prelude.{◌≡◌, ◌<◌, length, IfOk};
+ghost use Rattle.std.specs.Prelude.{◌≡◌, ℕ, ◌<◌, length, IfOk};
+ghost use Rattle.bdd_core.specs.Diagram.{IsWithin};
 ghost use Rattle.bdd_core.specs.Store.{IsLive, Means, function_of};
+ghost use Rattle.bdd_ops.specs.Counting.{Counts};
 ghost use Rattle.cell_compare.specs.Frames.{Adds};
 ghost use Rattle.cell_compare.specs.Scans.{NetGives, fight_of, float_of};
 
@@ -23,6 +25,7 @@ fn fighting(store: &mut Store, care: H, zero: H, one: H) -> Result<H, Spent>
     requires { IsLive store.old care × IsLive store.old zero × IsLive store.old one }
     ensures adds { Adds store.old store.new }
     ensures is { IfOk result (λ h. Means store.new h (fight_of (function_of store.old care) (function_of store.old zero) (function_of store.old one))) }
+    ensures counts { (u : ℕ) → IsWithin u (function_of store.old care) → IsWithin u (function_of store.old zero) → IsWithin u (function_of store.old one) → Counts u 2 store.old store.new result }
 {
     let _ends = store.node_count();
     let both = match and(store, zero, one) {
@@ -37,6 +40,7 @@ fn floating(store: &mut Store, care: H, zero: H, one: H) -> Result<H, Spent>
     requires { IsLive store.old care × IsLive store.old zero × IsLive store.old one }
     ensures adds { Adds store.old store.new }
     ensures is { IfOk result (λ h. Means store.new h (float_of (function_of store.old care) (function_of store.old zero) (function_of store.old one))) }
+    ensures counts { (u : ℕ) → IsWithin u (function_of store.old care) → IsWithin u (function_of store.old zero) → IsWithin u (function_of store.old one) → Counts u 2 store.old store.new result }
 {
     let _ends = store.node_count();
     let any = match or(store, zero, one) {
@@ -59,6 +63,7 @@ pub(crate) fn net_fault(
     requires { IsLive store.old care × IsLive store.old zero × IsLive store.old one }
     ensures adds { Adds store.old store.new }
     ensures gives { IfOk result (λ found. NetGives (function_of store.old care) (function_of store.old zero) (function_of store.old one) seen net store.new found) }
+    ensures counts { (u : ℕ) → IsWithin u (function_of store.old care) → IsWithin u (function_of store.old zero) → IsWithin u (function_of store.old one) → Counts u 4 store.old store.new result }
 {
     let _ends = store.node_count();
     let fight = match fighting(store, care, zero, one) {

@@ -1,10 +1,12 @@
 //! The roots of a circuit in a phase, as functions of the input nets.
 
-ghost use Rattle.std.specs.Prelude.{◌≡◌, ◌≢◌, ℕ, ◌<◌, ◌≤◌, cond, length, IfOk};
+ghost use Rattle.std.specs.Prelude.{◌≡◌, ◌≢◌, ℕ, ◌<◌, ◌≤◌, cond, length, IfErr, IfOk};
 ghost use Rattle.bdd_core.specs.Diagram.{Valuation};
 ghost use Rattle.bdd_core.specs.Store.{IsSpan, Means};
 ghost use Rattle.bdd_core.specs.Words.{IsFilled, Writes, shows, word_at};
+ghost use Rattle.bdd_ops.specs.Counting.{Counts};
 ghost use Rattle.cell_compare.specs.Frames.{Adds};
+ghost use Rattle.cell_compare.specs.Operations.{IsUsedUp};
 ghost use Rattle.cell_compare.specs.Phases.{HasRootBits, input_count, root_bit};
 ghost use Rattle.vrt_model.specs.Reading.{clock_bit};
 ghost use Rattle.vrt_model.specs.Variables.{is_input};
@@ -15,7 +17,7 @@ use node_pool::Span;
 use vrt_model::{Circuit, ClockRef, NetKind, Phase, Var};
 
 /// The bit of a carried clock in a phase.
-fn bit_of_clock(phase: &Phase, clock: ClockRef) -> bool
+pub(crate) fn bit_of_clock(phase: &Phase, clock: ClockRef) -> bool
     ensures { result ≡ clock_bit phase.now clock }
 {
     let bit = match phase.bits.get(clock.clock as usize) {
@@ -26,14 +28,14 @@ fn bit_of_clock(phase: &Phase, clock: ClockRef) -> bool
 }
 
 /// The constant of a bit.
-fn constant(bit: bool) -> H
+pub(crate) fn constant(bit: bool) -> H
     ensures { result.0 ≡ cond bit 1 0 }
 {
     if bit { ONE } else { ZERO }
 }
 
 /// One for an input net, and none for another.
-fn count_of(kind: NetKind) -> u32
+pub(crate) fn count_of(kind: NetKind) -> u32
     ensures { result ≡ cond (is_input kind) 1 0 }
 {
     match kind {
@@ -54,6 +56,8 @@ pub(crate) fn root_of(
     requires { kind ≡ Input → variable < store.old.vars }
     ensures adds { Adds store.old store.new }
     ensures is { IfOk result (λ h. Means store.new h (root_bit phase.now kind variable)) }
+    ensures spent { IfErr result (IsUsedUp store.old store.new) }
+    ensures counts { Counts store.old.vars 1 store.old store.new result }
 {
     let _ends = store.node_count();
     match kind {
@@ -79,6 +83,8 @@ fn open_root(
     ensures writes { Writes roots store.old store.new }
     ensures apart { (k : ℕ) → k ≢ at → word_at store.new roots k ≡ word_at store.old roots k }
     ensures is { IfOk result (λ _. (v : Valuation) → shows store.new roots at v ≡ root_bit phase.now kind variable v) }
+    ensures spent { IfErr result (IsUsedUp store.old store.new) }
+    ensures counts { Counts store.old.vars 1 store.old store.new result }
 {
     let _ends = store.node_count();
     let root = match root_of(store, phase, kind, variable) {
@@ -93,6 +99,7 @@ fn open_root(
 /// each input net, in the order of the nets.
 ///
 /// Handles from before keep their functions, and words outside `roots` stay as they are, also where the budget is used up.
+/// `Spent` has the budget. There is at most one operation for each net.
 pub fn open_roots(
     store: &mut Store,
     circuit: &Circuit,
@@ -104,6 +111,8 @@ pub fn open_roots(
     requires len { roots.len ≡ length circuit.now.nets }
     ensures writes { Writes roots store.old store.new }
     ensures opened { IfOk result (λ _. HasRootBits circuit.now phase.now roots store.new) }
+    ensures spent { IfErr result (IsUsedUp store.old store.new) }
+    ensures counts { Counts store.old.vars (length circuit.now.nets) store.old store.new result }
 {
     let _ends = store.node_count();
     let _vars = store.vars();

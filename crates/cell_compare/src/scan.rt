@@ -1,11 +1,14 @@
 //! The nets of one part, one after the other.
 
 ghost use Rattle.std.specs.Prelude.{◌≡◌, ◌≢◌, ℕ, ◌+◌, ◌*◌, ◌^◌, ◌<◌, ◌≤◌, All, length, IfOk, None, true, false};
+ghost use Rattle.bdd_core.specs.Diagram.{IsWithin};
 ghost use Rattle.bdd_core.specs.Store.{IsLive, IsSpan, function_of};
 ghost use Rattle.bdd_core.specs.Words.{IsApart, IsFilled, Writes, word_at};
+ghost use Rattle.bdd_ops.specs.Counting.{IsSpanWithin};
 ghost use Rattle.cell_compare.specs.Scans.{NetGives, ScanGives, reached};
 ghost use Rattle.path_fixpoint.specs.Parts.{IsPlace};
 ghost use Rattle.path_fixpoint.specs.Reaching.{slot_of};
+ghost use Rattle.path_fixpoint.specs.Spending.{Spends};
 ghost use Rattle.path_fixpoint.specs.Strengths.{word_of};
 ghost use Rattle.plain_paths.specs.Marks.{mark_at};
 
@@ -58,6 +61,7 @@ fn check_net(
     ensures writes { Writes gates store.old store.new }
     ensures apart { (k : ℕ) → k ≢ net.0 → word_at store.new gates k ≡ word_at store.old gates k }
     ensures gives { IfOk result (λ found. NetGives (function_of store.old care) (reached store.old out false place) (reached store.old out true place) seen net store.new found) }
+    ensures few { (u : ℕ) → IsWithin u (function_of store.old care) → IsSpanWithin u store.old gates → IsSpanWithin u store.old out → Spends u 4 gates store.old store.new result }
     ensures bit { IfOk result (λ found. found ≡ None → word_at store.new gates net.0 ≡ word_at store.old out (word_of (slot_of true) place)) }
 {
     let _ends = store.node_count();
@@ -94,6 +98,7 @@ pub(crate) fn scan(
     requires apart { IsApart out gates }
     ensures writes { Writes gates store.old store.new }
     ensures gives { IfOk result (λ found. ScanGives part.now (mark_at observed.now) care gates out store.old store.new found) }
+    ensures few { (u : ℕ) → IsWithin u (function_of store.old care) → IsSpanWithin u store.old gates → IsSpanWithin u store.old out → Spends u (4 * length part.now.nets) gates store.old store.new result }
 {
     let _ends = store.node_count();
     let nets = part.nets.as_slice();

@@ -1,12 +1,16 @@
 //! One part: solved at every valuation at once, and looked through.
 
-ghost use Rattle.std.specs.Prelude.{◌≡◌, length, IfOk};
-ghost use Rattle.bdd_core.specs.Store.{IsLive};
+ghost use Rattle.std.specs.Prelude.{◌≡◌, ℕ, length, IfOk};
+ghost use Rattle.bdd_core.specs.Diagram.{IsWithin};
+ghost use Rattle.bdd_core.specs.Store.{IsLive, function_of};
 ghost use Rattle.bdd_core.specs.Words.{IsApart, IsFilled};
+ghost use Rattle.bdd_ops.specs.Counting.{IsSpanWithin};
 ghost use Rattle.cell_compare.specs.Frames.{WritesTwo};
+ghost use Rattle.cell_compare.specs.Operations.{part_operations};
 ghost use Rattle.cell_compare.specs.Scans.{PartGives};
 ghost use Rattle.path_fixpoint.specs.Parts.{IsPart};
 ghost use Rattle.path_fixpoint.specs.Solved.{HasRootSpans};
+ghost use Rattle.path_fixpoint.specs.Spending.{HasOneHold, Spends};
 ghost use Rattle.plain_paths.specs.FlatCircuits.{IsFlat};
 ghost use Rattle.plain_paths.specs.Marks.{mark_at};
 
@@ -38,6 +42,7 @@ pub(crate) fn check_part(
     requires spans { HasRootSpans circuit.now part.now gates roots out store.old }
     ensures writes { WritesTwo gates out store.old store.new }
     ensures live { IsFilled store.new gates }
+    ensures few { HasOneHold circuit.now → (u : ℕ) → IsWithin u (function_of store.old care) → IsSpanWithin u store.old gates → IsSpanWithin u store.old roots → Spends u (part_operations part.now) gates store.old store.new result }
     ensures gives { IfOk result (λ found. PartGives circuit.now part.now (mark_at observed.now) care roots gates store.old store.new found) }
 {
     match solve_part(store, circuit, part, gates, roots, out) {

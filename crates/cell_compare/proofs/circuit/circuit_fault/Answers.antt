@@ -1,14 +1,22 @@
-use Rattle.std.proofs.Common.{◌≡◌, ℕ, ◌<◌, Bool, List, Option, length, ap, arith, subst, sym, ◌∙◌}
+use Rattle.std.proofs.Common.{◌≡◌, ℕ, ◌+◌, ◌<◌, Bool, List, Option, Err, Ok, take, length, ap, arith, subst, sym, ◌∙◌}
+use Rattle.std.specs.Prelude.{sum_by}
+use Rattle.std.proofs.lemmas.List.Sums.{sum_by-take-le}
+use Rattle.bdd_core.specs.Store.{Diagrams, function_of}
+use Rattle.bdd_ops.proofs.CountingLaws.{counted_more, counted_same, counted_then, counts_ok}
+use Rattle.bdd_ops.proofs.WithinLaws.{within_same}
 use Rattle.cell_compare.proofs.CircuitLaws.{IsSolvedBefore, root_spans, solved_all, solved_none, step_clear, step_fault, words_within}
 use Rattle.bdd_core.specs.Words.{word_at}
+use Rattle.cell_compare.proofs.CountLaws.{opened_within, reads_variables, roots_within, sum_next, used_counted}
 use Rattle.cell_compare.proofs.FrameLaws.{two_first, two_then, two_wider}
 use Rattle.cell_compare.proofs.OrderLaws.{first_fault, ordered_parts}
 use Rattle.cell_compare.proofs.Ordered.{AreOrderedParts}
+use Rattle.cell_compare.specs.Operations.{circuit_operations, part_operations}
 use Rattle.cell_compare.specs.Results.{first_word}
 use Rattle.channel_parts.specs.KnownTables.{known_at}
 use Rattle.cell_compare.specs.Scans.{IsPartClear, IsPartFault, PartGives}
 use Rattle.cell_compare.specs.declared.net.CircuitFault.{CircuitFault}
 use Rattle.channel_parts.specs.declared.part.Part.{Part}
+use Rattle.path_fixpoint.proofs.SpendingLaws.{spends_behind, spends_more, spends_value}
 use Rattle.plain_paths.proofs.Items.{item_at}
 use Rattle.plain_paths.specs.Marks.{mark_at}
 use Rattle.vrt_model.specs.Lists.{At}
@@ -22,6 +30,14 @@ loop-part-init c = record {
       solved_none c.args.circuit.now phase (mark_at c.args.observed.now) c.args.parts.now.known c.args.parts.now.list c.args.care c.args.roots c.args.gates c.requires.circuit c.requires.observed are
       c.requires.spans.roots_len c.requires.spans.gates_len c.args.store.now c.open.new.store c.requires.spans.roots_live c.open.ensures.writes fixed
       (subst (λ (known : List (Option Bool)). (n : ℕ) → n < c.args.gates.len → word_at c.open.new.store c.args.gates n ≡ first_word (known_at known n) (word_at c.args.store.now c.args.roots n)) c.as_slice.ensures c.open.ensures.first);
+  counted = λ one u care roots.
+      let rest = c.open.ensures.rest in
+      let nodes : c.open.new.store.nodes ≡ c.args.store.now.nodes = ap (λ (d : Diagrams). d.nodes) rest in (
+        counted_same u c.args.store.now c.open.new.store (ap (λ (d : Diagrams). d.budget) rest) nodes,
+        opened_within u c.args.roots c.args.gates (known_at c.args.parts.now.known) c.args.store.now c.open.new.store (c.requires.spans.gates_len ∙ sym c.requires.spans.roots_len) nodes
+            (subst (λ (known : List (Option Bool)). (n : ℕ) → n < c.args.gates.len → word_at c.open.new.store c.args.gates n ≡ first_word (known_at known n) (word_at c.args.store.now c.args.roots n)) c.as_slice.ensures c.open.ensures.first)
+            roots,
+      );
 }
 
 pub words_of-words-requires : goal.words_of-words-requires
@@ -89,6 +105,20 @@ loop-part-preserved c =
           step_clear circuit phase observed c.args.parts.now.known c.args.parts.now.list c.args.care c.args.roots c.args.gates c.args.out c.requires.circuit c.requires.observed are c.args.store.now
           c.requires.spans c.requires.care fixed k part there c.loop-part.store c.check_part.new.store c.loop-part.invariant.writes c.loop-part.invariant.live
           (c.loop-part.invariant.solved phase are fixed) clear (λ h v lt. c.check_part.ensures.writes.kept h lt v);
+      counted = λ one u care roots.
+          let first = c.args.store.now in
+          let old = c.loop-part.store in
+          let new = c.check_part.new.store in
+          let spans = c.requires.spans in
+          let list = c.args.parts.now.list in
+          let before = c.loop-part.invariant.counted one u care roots in
+          let now = c.in-Ok.ensures.few one u (within_same u (function_of first c.args.care) (function_of old c.args.care) (c.loop-part.invariant.writes.kept c.args.care.0 c.requires.care) care) before.1
+          (roots_within u c.args.gates c.args.out c.args.roots first old c.loop-part.invariant.writes spans.roots_gates spans.roots_out spans.roots_live roots) in
+          let sums = sum_next part_operations list k part there in (
+            counted_more u (sum_by part_operations (take k list) + part_operations part) (sum_by part_operations (take (k + 1) list)) first new (omega (arith, sums))
+                (counted_then u (sum_by part_operations (take k list)) (part_operations part) first old new before.0 now.counts.added),
+            now.within,
+          );
     }
 
 pub returns-clause-gives : goal.returns-clause-gives
@@ -109,3 +139,61 @@ open-requires-clause-len c =
     let list = c.requires.parts.1 in
     let known : length c.as_slice.result.now ≡ length c.args.parts.now.known = ap (λ (xs : List (Option Bool)). length xs) c.as_slice.ensures in
     (known ∙ list.1.count ∙ sym c.requires.spans.gates_len, c.requires.spans.roots_len ∙ sym c.requires.spans.gates_len)
+
+pub returns-in-Err-clause-few : goal.returns-in-Err-clause-few
+returns-in-Err-clause-few c one u care roots =
+    let first = c.args.store.now in
+    let old = c.loop-part.store in
+    let new = c.check_part.new.store in
+    let spans = c.requires.spans in
+    let list = c.args.parts.now.list in
+    let part : Part = c.part-item.result in
+    let k = c.loop-part.part-index in
+    let there : At list k part = item_at list c.as_slice-part-items.result.now k part c.as_slice-part-items.ensures c.loop-part-test.true c.part-item.is in
+    let sums = sum_next part_operations list k part there in
+    let all = sum_by-take-le part_operations list (k + 1) in
+    let before = c.loop-part.invariant.counted one u care roots in
+    let now = c.in-Err.ensures.few one u (within_same u (function_of first c.args.care) (function_of old c.args.care) (c.loop-part.invariant.writes.kept c.args.care.0 c.requires.care) care) before.1
+    (roots_within u c.args.gates c.args.out c.args.roots first old c.loop-part.invariant.writes spans.roots_gates spans.roots_out spans.roots_live roots) in
+    spends_more u c.args.gates (sum_by part_operations (take k list) + part_operations part) (circuit_operations list) first new (Err c.in-Err.spent) (omega (arith, sums, all))
+    (spends_behind u c.args.gates (sum_by part_operations (take k list)) (part_operations part) first old new (Err c.in-Err.spent) before.0 now)
+
+pub returns-in-Some-clause-few : goal.returns-in-Some-clause-few
+returns-in-Some-clause-few c one u care roots =
+    let first = c.args.store.now in
+    let old = c.loop-part.store in
+    let new = c.check_part.new.store in
+    let spans = c.requires.spans in
+    let list = c.args.parts.now.list in
+    let part : Part = c.part-item.result in
+    let k = c.loop-part.part-index in
+    let there : At list k part = item_at list c.as_slice-part-items.result.now k part c.as_slice-part-items.ensures c.loop-part-test.true c.part-item.is in
+    let sums = sum_next part_operations list k part there in
+    let all = sum_by-take-le part_operations list (k + 1) in
+    let before = c.loop-part.invariant.counted one u care roots in
+    let now = c.in-Ok.ensures.few one u (within_same u (function_of first c.args.care) (function_of old c.args.care) (c.loop-part.invariant.writes.kept c.args.care.0 c.requires.care) care) before.1
+    (roots_within u c.args.gates c.args.out c.args.roots first old c.loop-part.invariant.writes spans.roots_gates spans.roots_out spans.roots_live roots) in
+    spends_value u c.args.gates (circuit_operations list) first new c.in-Ok.found _
+    (spends_more u c.args.gates (sum_by part_operations (take k list) + part_operations part) (circuit_operations list) first new (Ok c.in-Ok.found) (omega (arith, sums, all))
+    (spends_behind u c.args.gates (sum_by part_operations (take k list)) (part_operations part) first old new (Ok c.in-Ok.found) before.0 now))
+
+pub returns-clause-few : goal.returns-clause-few
+returns-clause-few c one u care roots =
+    let list = c.args.parts.now.list in
+    let k = c.loop-part.part-index in
+    let all = sum_by-take-le part_operations list k in
+    let before = c.loop-part.invariant.counted one u care roots in
+    record {
+      counts = counts_ok u (circuit_operations list) c.args.store.now c.loop-part.store _
+          (counted_more u (sum_by part_operations (take k list)) (circuit_operations list) c.args.store.now c.loop-part.store (omega (arith, all)) before.0);
+      within = before.1;
+    }
+
+-- every handle reads only the variables of the store
+pub returns-in-Err-clause-spent : goal.returns-in-Err-clause-spent
+returns-in-Err-clause-spent c one =
+    let d = c.args.store.now in
+    let sound = c.node_count-ends.ensures.sound in
+    used_counted d.vars (circuit_operations c.args.parts.now.list) d c.check_part.new.store (Err c.in-Err.spent)
+    (returns-in-Err-clause-few c one d.vars (reads_variables d c.args.care.0 sound c.requires.care)
+    (λ n lt. reads_variables d (word_at d c.args.roots n) sound (c.requires.spans.roots_live n lt))).counts

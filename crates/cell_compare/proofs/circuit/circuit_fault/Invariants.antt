@@ -1,10 +1,16 @@
-use Rattle.bdd_core.specs.Diagram.{Valuation}
+use Rattle.std.proofs.Common.{ℕ, take}
+use Rattle.std.specs.Prelude.{sum_by}
+use Rattle.bdd_core.specs.Diagram.{IsWithin, Valuation}
+use Rattle.bdd_core.specs.Store.{function_of}
 use Rattle.bdd_core.specs.Words.{IsFilled}
+use Rattle.bdd_ops.specs.Counting.{IsCounted, IsSpanWithin}
 use Rattle.cell_compare.proofs.CircuitLaws.{IsSolvedBefore}
 use Rattle.cell_compare.proofs.Ordered.{AreOrderedParts}
 use Rattle.cell_compare.specs.Faults.{HasFixedBits}
 use Rattle.cell_compare.specs.Frames.{WritesTwo}
+use Rattle.cell_compare.specs.Operations.{part_operations}
 use Rattle.cell_compare.specs.Results.{root_at}
+use Rattle.path_fixpoint.specs.Spending.{HasOneHold}
 use Rattle.plain_paths.specs.Marks.{mark_at}
 use Rattle.vrt_model.specs.declared.rules.Phase.{Phase}
 use Rattle.cell_compare.proofs.circuit.circuit_fault.Given as goal
@@ -17,4 +23,6 @@ invariant-loop-part l = record {
   solved :
       (phase : Phase) → AreOrderedParts l.circuit phase l.parts.known l.parts.list → ((v : Valuation) → HasFixedBits l.circuit phase (root_at l.fn.store l.fn.roots v))
       → IsSolvedBefore l.circuit phase (mark_at l.observed) l.parts.list l.fn.care l.fn.roots l.fn.gates l.part-index l.fn.store l.store;
+  counted : HasOneHold l.circuit → (u : ℕ) → IsWithin u (function_of l.fn.store l.fn.care) → IsSpanWithin u l.fn.store l.fn.roots
+      → IsCounted u (sum_by part_operations (take l.part-index l.parts.list)) l.fn.store l.store × IsSpanWithin u l.store l.fn.gates;
 }

@@ -1,7 +1,11 @@
-use Rattle.std.proofs.Common.{Err, Ok}
+use Rattle.std.proofs.Common.{Err, Ok, arith}
 use Rattle.bdd_core.proofs.Results.{if_ok_more}
+use Rattle.bdd_core.specs.Diagram.{Function}
 use Rattle.bdd_core.specs.Store.{function_of}
+use Rattle.bdd_ops.proofs.CountingLaws.{counts_made, counts_more}
+use Rattle.bdd_ops.proofs.WithinLaws.{within_and}
 use Rattle.bdd_ops.specs.Ops.{and_of}
+use Rattle.cell_compare.proofs.CountLaws.{counts_fight}
 use Rattle.cell_compare.proofs.FrameLaws.{adds_made, adds_then}
 use Rattle.cell_compare.proofs.NetLaws.{fight_made}
 use Rattle.cell_compare.proofs.net.fighting.Goals as goal
@@ -23,3 +27,17 @@ returns-clause-is c =
     (adds_made c.args.store.now c.and.new.store (and_of (function_of c.args.store.now c.args.zero) (function_of c.args.store.now c.args.one)) (Ok c.in-Ok.both) c.in-Ok.ensures.makes)
     c.requires.0 c.in-Ok.both h c.in-Ok.ensures.makes.ok m)
     c.and-2.ensures.makes.ok
+
+pub returns-in-Err-clause-counts : goal.returns-in-Err-clause-counts
+returns-in-Err-clause-counts c u care zero one =
+    let old = c.args.store.now in
+    let f : Function = and_of (function_of old c.args.zero) (function_of old c.args.one) in
+    counts_more u 1 2 old c.and.new.store (Err c.in-Err.spent) (omega arith)
+    (counts_made u old c.and.new.store c.node_count-ends.ensures.sound.ends f (Err c.in-Err.spent) c.in-Err.ensures.makes (within_and u (function_of old c.args.zero) (function_of old c.args.one) zero one))
+
+pub returns-clause-counts : goal.returns-clause-counts
+returns-clause-counts c u care zero one =
+    let old = c.args.store.now in
+    let f : Function = and_of (function_of old c.args.zero) (function_of old c.args.one) in
+    counts_fight u old c.and.new.store c.and-2.new.store c.args.care f c.in-Ok.both c.and-2.result c.node_count-ends.ensures.sound.ends c.requires.0 care c.in-Ok.ensures.makes
+    (within_and u (function_of old c.args.zero) (function_of old c.args.one) zero one) c.and-2.ensures.makes

@@ -1,8 +1,11 @@
-use Rattle.std.proofs.Common.{Err, Ok}
+use Rattle.std.proofs.Common.{Err, Ok, arith}
 use Rattle.bdd_core.proofs.Results.{if_ok_more}
-use Rattle.bdd_core.specs.Diagram.{choice, meaning}
+use Rattle.bdd_core.specs.Diagram.{Function, choice, meaning}
 use Rattle.bdd_core.specs.Store.{function_of}
+use Rattle.bdd_ops.proofs.CountingLaws.{counts_made, counts_more}
+use Rattle.bdd_ops.proofs.WithinLaws.{within_or}
 use Rattle.bdd_ops.specs.Ops.{or_of}
+use Rattle.cell_compare.proofs.CountLaws.{counts_float}
 use Rattle.cell_compare.proofs.FrameLaws.{adds_made, adds_then}
 use Rattle.cell_compare.proofs.NetLaws.{float_made}
 use Rattle.cell_compare.proofs.net.floating.Goals as goal
@@ -24,3 +27,17 @@ returns-clause-is c =
     (adds_made c.args.store.now c.or.new.store (or_of (function_of c.args.store.now c.args.zero) (function_of c.args.store.now c.args.one)) (Ok c.in-Ok.any) c.in-Ok.ensures.makes)
     c.requires.0 c.in-Ok.any h c.in-Ok.ensures.makes.ok m)
     c.ite.ensures.makes.ok
+
+pub returns-in-Err-clause-counts : goal.returns-in-Err-clause-counts
+returns-in-Err-clause-counts c u care zero one =
+    let old = c.args.store.now in
+    let f : Function = or_of (function_of old c.args.zero) (function_of old c.args.one) in
+    counts_more u 1 2 old c.or.new.store (Err c.in-Err.spent) (omega arith)
+    (counts_made u old c.or.new.store c.node_count-ends.ensures.sound.ends f (Err c.in-Err.spent) c.in-Err.ensures.makes (within_or u (function_of old c.args.zero) (function_of old c.args.one) zero one))
+
+pub returns-clause-counts : goal.returns-clause-counts
+returns-clause-counts c u care zero one =
+    let old = c.args.store.now in
+    let f : Function = or_of (function_of old c.args.zero) (function_of old c.args.one) in
+    counts_float u old c.or.new.store c.ite.new.self c.args.care f c.in-Ok.any c.ite.result c.node_count-ends.ensures.sound.ends c.requires.0 care c.in-Ok.ensures.makes
+    (within_or u (function_of old c.args.zero) (function_of old c.args.one) zero one) c.ite.ensures.makes

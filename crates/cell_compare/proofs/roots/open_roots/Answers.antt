@@ -1,9 +1,11 @@
-use Rattle.std.proofs.Common.{◌≡◌, ℕ, ◌+◌, List, get_or, arith, ap, subst, ◌∙◌}
+use Rattle.std.proofs.Common.{◌≡◌, ℕ, ◌+◌, List, length, get_or, arith, ap, subst, ◌∙◌}
 use Rattle.std.proofs.lemmas.Option.{slice_get-get_or}
 use Rattle.bdd_core.specs.Store.{Diagrams}
 use Rattle.bdd_core.specs.Diagram.{Valuation}
 use Rattle.bdd_core.specs.Words.{shows}
-use Rattle.cell_compare.proofs.PhaseRoots.{next_few, roots_more, variable_in, variable_next}
+use Rattle.bdd_ops.proofs.CountingLaws.{counted_more, counts_ok}
+use Rattle.cell_compare.proofs.CountLaws.{used_counted}
+use Rattle.cell_compare.proofs.PhaseRoots.{counted_next, next_few, refused_next, roots_more, variable_in, variable_next}
 use Rattle.cell_compare.specs.Phases.{root_bit, variable_at}
 use Rattle.path_fixpoint.proofs.Frames.{writes_then}
 use Rattle.vrt_model.specs.Lists.{At}
@@ -36,6 +38,24 @@ loop-n-preserved c =
       writes = writes_then c.args.roots c.args.store.now c.loop-n.store c.open_root.new.store c.loop-n.invariant.writes c.open_root.ensures.writes;
       variable = variable_next circuit nets n c.loop-n.variable c.count_of-variable.result c.index-nets-n.result c.as_slice-nets.ensures c.loop-n-test.true c.loop-n.invariant.variable
           c.count_of-variable.ensures;
+      counted = counted_next c.args.roots c.args.store.now c.loop-n.store c.open_root.new.store n (length nets) c.loop-n.invariant.writes c.loop-n.invariant.counted _ c.in-Ok.ensures.counts;
       opened = roots_more circuit c.args.phase.now c.args.roots c.loop-n.store c.open_root.new.store c.open_root.ensures.writes c.loop-n.invariant.writes.live c.requires.len n
           c.open_root.ensures.apart net there is c.loop-n.invariant.opened;
     }
+
+pub returns-in-Err-clause-counts : goal.returns-in-Err-clause-counts
+returns-in-Err-clause-counts c =
+    refused_next c.args.roots c.args.store.now c.loop-n.store c.open_root.new.store c.loop-n.n (length c.args.circuit.now.nets) c.loop-n.invariant.writes c.loop-n.invariant.counted c.in-Err.spent
+    (omega (arith, c.loop-n-test.true, ap (λ (xs : List FlatNet). length xs) c.as_slice-nets.ensures)) c.in-Err.ensures.counts
+
+pub returns-in-Err-clause-spent : goal.returns-in-Err-clause-spent
+returns-in-Err-clause-spent c =
+    used_counted {A = Unit {0}} c.args.store.now.vars (length c.args.circuit.now.nets) c.args.store.now c.open_root.new.store _
+    (refused_next c.args.roots c.args.store.now c.loop-n.store c.open_root.new.store c.loop-n.n (length c.args.circuit.now.nets) c.loop-n.invariant.writes c.loop-n.invariant.counted c.in-Err.spent
+    (omega (arith, c.loop-n-test.true, ap (λ (xs : List FlatNet). length xs) c.as_slice-nets.ensures)) c.in-Err.ensures.counts)
+
+pub returns-clause-counts : goal.returns-clause-counts
+returns-clause-counts c =
+    counts_ok c.args.store.now.vars (length c.args.circuit.now.nets) c.args.store.now c.loop-n.store _
+    (counted_more c.args.store.now.vars c.loop-n.n (length c.args.circuit.now.nets) c.args.store.now c.loop-n.store
+    (omega (arith, c.loop-n.auto.n-end, ap (λ (xs : List FlatNet). length xs) c.as_slice-nets.ensures)) c.loop-n.invariant.counted)

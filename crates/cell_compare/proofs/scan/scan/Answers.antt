@@ -1,11 +1,14 @@
-use Rattle.std.proofs.Common.{◌≡◌, ℕ, ◌<◌, ◌≤◌, Bool, List, Option, get_or, length, true, false, arith, ap, refl, subst}
+use Rattle.std.proofs.Common.{◌≡◌, ℕ, ◌+◌, ◌*◌, ◌<◌, ◌≤◌, Bool, List, Option, Err, Ok, get_or, length, true, false, arith, ap, refl, subst}
 use Rattle.std.proofs.lemmas.Option.{slice_get-get_or}
 use Rattle.bdd_core.specs.Store.{function_of}
+use Rattle.bdd_ops.proofs.CountingLaws.{counted_more, counted_then, counts_ok}
+use Rattle.bdd_ops.proofs.WithinLaws.{within_same}
 use Rattle.cell_compare.proofs.FrameLaws.{span_written}
 use Rattle.cell_compare.proofs.ScanLaws.{scanned_more}
 use Rattle.cell_compare.specs.Scans.{IsClearNet, IsScannedTo, NetGives, reached}
 use Rattle.cell_compare.specs.declared.net.CircuitFault.{CircuitFault}
 use Rattle.path_fixpoint.proofs.Frames.{filled_beside, writes_then}
+use Rattle.path_fixpoint.proofs.SpendingLaws.{span_beside, spends_behind, spends_more, spends_value}
 use Rattle.path_fixpoint.specs.Parts.{IsPlace}
 use Rattle.plain_paths.specs.Marks.{mark_at}
 use Rattle.vrt_model.specs.Lists.{At}
@@ -52,6 +55,11 @@ loop-i-preserved c =
       writes = writes_then gates first old new c.loop-i.invariant.writes c.check_net.ensures.writes;
       scanned = scanned_more part (mark_at c.args.observed.now) care gates out c.requires.once c.requires.len.0 c.requires.apart first old c.loop-i.invariant.writes c.requires.care c.requires.out.1
           new i net place c.loop-i.invariant.scanned clear (c.in-Ok.ensures.bit c.in_default.is) c.check_net.ensures.apart;
+      counted = λ u care_in gates_in out_in.
+          let before = c.loop-i.invariant.counted u care_in gates_in out_in in
+          let one = c.in-Ok.ensures.few u (within_same u (function_of first care) (function_of old care) (c.loop-i.invariant.writes.kept care.0 c.requires.care) care_in) before.1
+          (span_beside u gates out first old c.loop-i.invariant.writes c.requires.apart c.requires.out.1 out_in) in
+          (counted_more u (4 * i + 4) (4 * (i + 1)) first new (omega arith) (counted_then u (4 * i) 4 first old new before.0 one.counts.added), one.within);
     }
 
 pub returns-clause-gives : goal.returns-clause-gives
@@ -62,3 +70,49 @@ returns-clause-gives c =
     let low : c.loop-i.i ≤ length c.as_slice-nets.result.now = c.loop-i.auto.i-end in
     let end : c.loop-i.i ≡ length part.nets = omega (arith, shown, high, low) in
     subst (λ (k : ℕ). IsScannedTo part (mark_at c.args.observed.now) c.args.care c.args.gates c.args.out k c.args.store.now c.loop-i.store) end c.loop-i.invariant.scanned
+
+pub returns-in-Err-clause-few : goal.returns-in-Err-clause-few
+returns-in-Err-clause-few c u care_in gates_in out_in =
+    let part = c.args.part.now in
+    let gates = c.args.gates in
+    let out = c.args.out in
+    let care = c.args.care in
+    let first = c.args.store.now in
+    let old = c.loop-i.store in
+    let new = c.check_net.new.store in
+    let i = c.loop-i.i in
+    let shown : length c.as_slice-nets.result.now ≡ length part.nets = ap (λ (xs : List Net). length xs) c.as_slice-nets.ensures in
+    let before = c.loop-i.invariant.counted u care_in gates_in out_in in
+    let one = c.in-Err.ensures.few u (within_same u (function_of first care) (function_of old care) (c.loop-i.invariant.writes.kept care.0 c.requires.care) care_in) before.1
+    (span_beside u gates out first old c.loop-i.invariant.writes c.requires.apart c.requires.out.1 out_in) in
+    spends_more u gates (4 * i + 4) (4 * length part.nets) first new (Err c.in-Err.spent) (omega (arith, shown, c.loop-i-test.true))
+    (spends_behind u gates (4 * i) 4 first old new (Err c.in-Err.spent) before.0 one)
+
+pub returns-in-Some-clause-few : goal.returns-in-Some-clause-few
+returns-in-Some-clause-few c u care_in gates_in out_in =
+    let part = c.args.part.now in
+    let gates = c.args.gates in
+    let out = c.args.out in
+    let care = c.args.care in
+    let first = c.args.store.now in
+    let old = c.loop-i.store in
+    let new = c.check_net.new.store in
+    let i = c.loop-i.i in
+    let shown : length c.as_slice-nets.result.now ≡ length part.nets = ap (λ (xs : List Net). length xs) c.as_slice-nets.ensures in
+    let before = c.loop-i.invariant.counted u care_in gates_in out_in in
+    let one = c.in-Ok.ensures.few u (within_same u (function_of first care) (function_of old care) (c.loop-i.invariant.writes.kept care.0 c.requires.care) care_in) before.1
+    (span_beside u gates out first old c.loop-i.invariant.writes c.requires.apart c.requires.out.1 out_in) in
+    spends_value u gates (4 * length part.nets) first new c.in-Ok.found _
+    (spends_more u gates (4 * i + 4) (4 * length part.nets) first new (Ok c.in-Ok.found) (omega (arith, shown, c.loop-i-test.true))
+    (spends_behind u gates (4 * i) 4 first old new (Ok c.in-Ok.found) before.0 one))
+
+pub returns-clause-few : goal.returns-clause-few
+returns-clause-few c u care_in gates_in out_in =
+    let part = c.args.part.now in
+    let shown : length c.as_slice-nets.result.now ≡ length part.nets = ap (λ (xs : List Net). length xs) c.as_slice-nets.ensures in
+    let before = c.loop-i.invariant.counted u care_in gates_in out_in in
+    record {
+      counts = counts_ok u (4 * length part.nets) c.args.store.now c.loop-i.store _
+          (counted_more u (4 * c.loop-i.i) (4 * length part.nets) c.args.store.now c.loop-i.store (omega (arith, shown, c.loop-i.auto.i-end)) before.0);
+      within = before.1;
+    }

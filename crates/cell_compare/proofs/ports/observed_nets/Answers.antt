@@ -1,0 +1,20 @@
+use Rattle.std.proofs.Common.{◌||◌, Bool, List, ap, sym, ◌∙◌}
+use Rattle.std.specs.Prelude.{◌==◌}
+use Rattle.std.specs.List.{list_any}
+use Rattle.cell_compare.proofs.ObservedLaws.{no_mark, observed_is}
+use Rattle.cell_compare.specs.Compared.{comparison}
+use Rattle.cell_compare.specs.declared.outputs.Output.{Output}
+use Rattle.plain_paths.specs.Marks.{mark_at}
+use Rattle.vrt_model.specs.declared.circuit.Device.{Device}
+use Rattle.cell_compare.proofs.ports.observed_nets.Goals as goal
+
+pub returns-clause-is : goal.returns-clause-is
+returns-clause-is c n =
+    let on_outputs : Bool = list_any (λ (o : Output). o.net.0 == n) c.args.outputs.now in
+    let on_gates : List Device → Bool = λ ds. list_any (λ (d : Device). d.gate.0 == n) ds in
+    c.mark_outputs.ensures.is n
+    ∙ (ap (λ (b : Bool). b || on_outputs)
+    (c.mark_gates.ensures.is n
+    ∙ (ap (λ (b : Bool). b || on_gates c.as_slice.result.now) (ap (λ (ms : List Bool). mark_at ms n) c.in_ok-marks.ensures ∙ no_mark c.len.result n)
+    ∙ ap on_gates c.as_slice.ensures))
+    ∙ sym (observed_is (comparison c.args.design.now c.args.rules.now c.args.cell c.args.flattened.now) c.args.phase n c.args.outputs.now c.requires.plain c.requires.outputs))

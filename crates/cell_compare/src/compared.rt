@@ -1,0 +1,110 @@
+//! One cell compared with its model.
+
+ghost use Rattle.std.specs.Prelude.{◌≡◌, ◌≤◌, ◌<◌, [], None, false, length, IfOk};
+ghost use Rattle.cell_compare.specs.Compared.{IsBuilt};
+ghost use Rattle.cell_compare.specs.Cells.{HasLine, HasFacts};
+ghost use Rattle.vrt_model.specs.Inputs.{AreRules, IsBlif, IsDesign};
+ghost use Rattle.vrt_model.specs.Models.{AreModels};
+ghost use Rattle.vrt_model.specs.PairedPorts.{Model, paired_model};
+ghost use Rattle.vrt_model.specs.Verdicts.{IsVerdict};
+
+use crate::checks::check_cell;
+use crate::early::flatten_cell;
+use crate::flattened::Flattened;
+use crate::known_facts::{facts_of, no_facts};
+use crate::unchecked::Unchecked;
+use latch_match::{is_skipped, model_of};
+use std::alloc::Global;
+use vrt_model::{Blif, CellFacts, Design, NoMemory, Rules, Seq, Verdict, Why};
+
+/// The verdict on a cell, and what is known of the cell then. Where a cycle is told, its flat circuit and flat model are
+/// there, by which the cycle is named.
+#[derive(Debug, Drop)]
+pub struct Compared {
+    pub verdict: Verdict,
+    pub facts: CellFacts,
+    pub flattened: Option<Flattened>,
+}
+
+/// A verdict on a cell that is not equal, without circuit and model.
+fn without(alloc: Global, verdict: Verdict) -> Compared
+    ensures { result ≡ record { verdict = verdict; facts = record { equal = false; stateless = false; drives = [] }; flattened = None } }
+{
+    Compared {
+        verdict,
+        facts: no_facts(alloc),
+        flattened: None,
+    }
+}
+
+/// The verdict on a cell that pairs with this model.
+fn compare_with(
+    alloc: Global,
+    budget: u32,
+    design: &Design,
+    blif: &Blif,
+    rules: &Rules,
+    cell: u32,
+    model: u32,
+) -> Result<Compared, NoMemory>
+    requires budget { (65536 ≤ budget) × (budget ≤ 64000000) }
+    requires design { IsDesign design.now }
+    requires blif { IsBlif blif.now }
+    requires models { AreModels blif.now }
+    requires rules { AreRules rules.now }
+    requires cell { cell < length design.now.cells }
+    requires built { IsBuilt design.now blif.now rules.now cell }
+    requires paired { paired_model design.now blif.now rules.now cell ≡ Model model }
+    ensures verdict { IfOk result (λ c. IsVerdict design.now blif.now rules.now budget cell c.verdict) }
+    ensures line { IfOk result (λ c. HasLine design.now blif.now rules.now cell c.verdict c.flattened) }
+    ensures facts { IfOk result (λ c. HasFacts design.now blif.now rules.now cell c.verdict c.facts) }
+{
+    let flattened = match flatten_cell(alloc, design, blif, rules, cell, model) {
+        Ok(flattened) => flattened,
+        Err(Unchecked::Because(why)) => return Ok(without(alloc, Verdict::Unsupported(why))),
+        Err(Unchecked::NoMemory) => return Err(NoMemory),
+    };
+    let verdict = check_cell(alloc, budget, design, rules, cell, &flattened)?;
+    let facts = facts_of(alloc, &verdict, flattened.pairing.ports.as_slice())?;
+    Ok(Compared {
+        verdict,
+        facts,
+        flattened: Some(flattened),
+    })
+}
+
+/// The verdict on a cell without instances, for models without latches and for rules without holds, keepers, matches and
+/// constraints. Phase by phase its circuit is compared with its model by diagrams, which take at most `budget` nodes in
+/// each phase. What is known of other cells is not looked at yet.
+///
+/// `Budget` comes only with more than four variables, where the nodes that its phase may need are more than the budget;
+/// beside it and want of memory each verdict comes exactly where it holds.
+pub fn compare(
+    alloc: Global,
+    budget: u32,
+    design: &Design,
+    blif: &Blif,
+    rules: &Rules,
+    cell: u32,
+    facts: &Seq<CellFacts>,
+) -> Result<Compared, NoMemory>
+    requires budget { (65536 ≤ budget) × (budget ≤ 64000000) }
+    requires design { IsDesign design.now }
+    requires blif { IsBlif blif.now }
+    requires models { AreModels blif.now }
+    requires rules { AreRules rules.now }
+    requires cell { cell < length design.now.cells }
+    requires built { IsBuilt design.now blif.now rules.now cell }
+    ensures verdict { IfOk result (λ c. IsVerdict design.now blif.now rules.now budget cell c.verdict) }
+    ensures line { IfOk result (λ c. HasLine design.now blif.now rules.now cell c.verdict c.flattened) }
+    ensures facts { IfOk result (λ c. HasFacts design.now blif.now rules.now cell c.verdict c.facts) }
+{
+    let _unread = facts;
+    if is_skipped(design, rules, cell) {
+        return Ok(without(alloc, Verdict::Skipped));
+    }
+    match model_of(design, blif, rules, cell) {
+        Some(model) => compare_with(alloc, budget, design, blif, rules, cell, model),
+        None => Ok(without(alloc, Verdict::Unsupported(Why::NoModel))),
+    }
+}

@@ -1,0 +1,251 @@
+//! One phase of a cell: its circuit against its model, at every valuation.
+
+ghost use Rattle.std.specs.Prelude.{◌≡◌, ◌≤◌, ◌<◌, length, IfOk};
+ghost use Rattle.cell_compare.specs.Compared.{IsPhasePlan, PhaseGives, comparison};
+ghost use Rattle.cell_compare.specs.PhaseSteps.{IsFresh, IsKnownModel, IsOpen, IsSolved};
+ghost use Rattle.cell_compare.specs.Phases.{AreSeenOutputs, IsPlainComparison, input_count};
+ghost use Rattle.vrt_model.specs.Circuits.{IsCircuit};
+ghost use Rattle.vrt_model.specs.Comparison.{cell_at};
+ghost use Rattle.vrt_model.specs.FlatModels.{IsFlatModel};
+ghost use Rattle.vrt_model.specs.PairedPorts.{HasRoles};
+
+use crate::circuit::circuit_fault;
+use crate::flattened::{Flattened, PhaseFound, PhasePlan};
+use crate::outputs::{Output, output_fault};
+use crate::phase_words::{PhaseWords, input_nets, take_words, word_count};
+use crate::ports::{observed_nets, open_inputs, seen_outputs};
+use crate::roots::open_roots;
+use crate::tell::{tell_circuit_fault, tell_difference};
+use bdd_core::{ONE, Store};
+use blif_eval::eval_model;
+use std::alloc::Global;
+use vrt_model::{Design, NoMemory, Rules};
+
+/// What is compared: a cell in a phase, the order in which the phase is worked through, and the budget of its nodes.
+#[derive(Clone, Copy)]
+struct PhaseTask<'a> {
+    budget: u32,
+    design: &'a Design,
+    rules: &'a Rules,
+    cell: u32,
+    flattened: &'a Flattened,
+    phase: u32,
+    plan: &'a PhasePlan,
+}
+
+/// The outputs, where the circuit is clear and the bits of the signals are known.
+fn check_outputs(
+    store: &mut Store,
+    alloc: Global,
+    task: PhaseTask<'_>,
+    words: PhaseWords,
+    outputs: &[Output],
+) -> Result<PhaseFound, NoMemory>
+    requires budget { 65536 ≤ task.budget }
+    requires cell { task.cell < length task.design.now.cells }
+    requires plain { IsPlainComparison (comparison task.design.now task.rules.now task.cell task.flattened.now) task.phase }
+    requires plan { IsPhasePlan (comparison task.design.now task.rules.now task.cell task.flattened.now) task.phase task.plan.now }
+    requires outputs { AreSeenOutputs (comparison task.design.now task.rules.now task.cell task.flattened.now) task.phase outputs.now }
+    requires few { length outputs.now ≤ length task.flattened.now.circuit.nets }
+    requires known { IsKnownModel (comparison task.design.now task.rules.now task.cell task.flattened.now) task.phase task.budget task.plan.now.parts.list words store.old }
+    ensures gives { IfOk result (PhaseGives (comparison task.entry.design.now task.entry.rules.now task.entry.cell task.entry.flattened.now) task.entry.budget task.entry.phase) }
+{
+    let _ends = store.node_count();
+    match output_fault(store, outputs, ONE, words.gates, words.values) {
+        Err(_) => Ok(PhaseFound::Spent),
+        Ok(None) => Ok(PhaseFound::Clear),
+        Ok(Some(fault)) => {
+            let told = tell_difference(
+                store,
+                alloc,
+                task.design,
+                task.rules,
+                task.cell,
+                task.flattened,
+                task.phase,
+                words,
+                fault,
+            )?;
+            Ok(PhaseFound::Fault(told))
+        }
+    }
+}
+
+/// The model and then the outputs, where the circuit is clear.
+fn check_model(
+    store: &mut Store,
+    alloc: Global,
+    task: PhaseTask<'_>,
+    words: PhaseWords,
+    outputs: &[Output],
+) -> Result<PhaseFound, NoMemory>
+    requires budget { 65536 ≤ task.budget }
+    requires cell { task.cell < length task.design.now.cells }
+    requires plain { IsPlainComparison (comparison task.design.now task.rules.now task.cell task.flattened.now) task.phase }
+    requires model { IsFlatModel task.flattened.now.model }
+    requires plan { IsPhasePlan (comparison task.design.now task.rules.now task.cell task.flattened.now) task.phase task.plan.now }
+    requires outputs { AreSeenOutputs (comparison task.design.now task.rules.now task.cell task.flattened.now) task.phase outputs.now }
+    requires few { length outputs.now ≤ length task.flattened.now.circuit.nets }
+    requires solved { IsSolved (comparison task.design.now task.rules.now task.cell task.flattened.now) task.phase task.budget task.plan.now.parts.list words store.old }
+    ensures gives { IfOk result (PhaseGives (comparison task.entry.design.now task.entry.rules.now task.entry.cell task.entry.flattened.now) task.entry.budget task.entry.phase) }
+{
+    let _ends = store.node_count();
+    match eval_model(
+        store,
+        &task.flattened.model,
+        &task.plan.model,
+        words.inputs,
+        words.held,
+        words.values,
+    ) {
+        Err(_) => Ok(PhaseFound::Spent),
+        Ok(()) => check_outputs(store, alloc, task, words, outputs),
+    }
+}
+
+/// The circuit, and where it is clear the model and the outputs.
+fn check_circuit(
+    store: &mut Store,
+    alloc: Global,
+    task: PhaseTask<'_>,
+    words: PhaseWords,
+) -> Result<PhaseFound, NoMemory>
+    requires budget { 65536 ≤ task.budget }
+    requires cell { task.cell < length task.design.now.cells }
+    requires plain { IsPlainComparison (comparison task.design.now task.rules.now task.cell task.flattened.now) task.phase }
+    requires roles { HasRoles task.rules.now (cell_at task.design.now task.cell) task.flattened.now.pairing }
+    requires model { IsFlatModel task.flattened.now.model }
+    requires plan { IsPhasePlan (comparison task.design.now task.rules.now task.cell task.flattened.now) task.phase task.plan.now }
+    requires open { IsOpen (comparison task.design.now task.rules.now task.cell task.flattened.now) task.phase task.budget words store.old }
+    ensures gives { IfOk result (PhaseGives (comparison task.entry.design.now task.entry.rules.now task.entry.cell task.entry.flattened.now) task.entry.budget task.entry.phase) }
+{
+    let _ends = store.node_count();
+    let outputs = seen_outputs(
+        alloc,
+        task.design,
+        task.rules,
+        task.cell,
+        task.flattened,
+        task.phase,
+    )?;
+    let outputs = outputs.as_slice();
+    let observed = observed_nets(
+        alloc,
+        task.design,
+        task.rules,
+        task.cell,
+        task.flattened,
+        task.phase,
+        outputs,
+    )?;
+    match circuit_fault(
+        store,
+        &task.flattened.circuit,
+        &task.plan.parts,
+        observed.as_slice(),
+        ONE,
+        words.roots,
+        words.gates,
+        words.out,
+    ) {
+        Err(_) => Ok(PhaseFound::Spent),
+        Ok(None) => check_model(store, alloc, task, words, outputs),
+        Ok(Some(fault)) => {
+            let told = tell_circuit_fault(
+                store,
+                alloc,
+                task.design,
+                task.rules,
+                task.cell,
+                task.flattened,
+                task.phase,
+                words.least,
+                fault,
+            )?;
+            Ok(PhaseFound::Fault(told))
+        }
+    }
+}
+
+/// The whole phase, in a store without operations yet.
+fn check_fresh(
+    store: &mut Store,
+    alloc: Global,
+    task: PhaseTask<'_>,
+    words: PhaseWords,
+) -> Result<PhaseFound, NoMemory>
+    requires budget { 65536 ≤ task.budget }
+    requires cell { task.cell < length task.design.now.cells }
+    requires plain { IsPlainComparison (comparison task.design.now task.rules.now task.cell task.flattened.now) task.phase }
+    requires roles { HasRoles task.rules.now (cell_at task.design.now task.cell) task.flattened.now.pairing }
+    requires model { IsFlatModel task.flattened.now.model }
+    requires plan { IsPhasePlan (comparison task.design.now task.rules.now task.cell task.flattened.now) task.phase task.plan.now }
+    requires fresh { IsFresh (comparison task.design.now task.rules.now task.cell task.flattened.now) task.phase task.budget words store.old }
+    ensures gives { IfOk result (PhaseGives (comparison task.entry.design.now task.entry.rules.now task.entry.cell task.entry.flattened.now) task.entry.budget task.entry.phase) }
+{
+    let _ends = store.node_count();
+    let phases = task.rules.phases.as_slice();
+    match open_roots(
+        store,
+        &task.flattened.circuit,
+        &phases[task.phase as usize],
+        words.roots,
+    ) {
+        Err(_) => return Ok(PhaseFound::Spent),
+        Ok(()) => {}
+    }
+    open_inputs(
+        store,
+        alloc,
+        task.design,
+        task.rules,
+        task.cell,
+        task.flattened,
+        task.phase,
+        words.roots,
+        words.inputs,
+    )?;
+    check_circuit(store, alloc, task, words)
+}
+
+/// Compares the circuit of a cell with its model in a phase, by diagrams in a store of its own, which takes at most
+/// `budget` nodes. The cell has no holds, keepers, instances, latches and constraints, and at most 1,000 inputs.
+///
+/// `Spent` comes only with more than four variables, where the nodes that the phase may need are more than the budget.
+pub(crate) fn check_phase(
+    alloc: Global,
+    budget: u32,
+    design: &Design,
+    rules: &Rules,
+    cell: u32,
+    flattened: &Flattened,
+    phase: u32,
+    plan: &PhasePlan,
+) -> Result<PhaseFound, NoMemory>
+    requires budget { (65536 ≤ budget) × (budget ≤ 64000000) }
+    requires cell { cell < length design.now.cells }
+    requires plain { IsPlainComparison (comparison design.now rules.now cell flattened.now) phase }
+    requires roles { HasRoles rules.now (cell_at design.now cell) flattened.now.pairing }
+    requires circuit { IsCircuit flattened.now.circuit }
+    requires model { IsFlatModel flattened.now.model }
+    requires inputs { input_count flattened.now.circuit ≤ 1000 }
+    requires plan { IsPhasePlan (comparison design.now rules.now cell flattened.now) phase plan.now }
+    ensures gives { IfOk result (PhaseGives (comparison design.now rules.now cell flattened.now) budget phase) }
+{
+    let nets = flattened.circuit.nets.len() as u32;
+    let signals = flattened.model.signals.len() as u32;
+    let variables = input_nets(&flattened.circuit);
+    let count = word_count(nets, signals, variables);
+    let mut store = Store::with_budget(alloc, budget, count, variables)?;
+    let words = take_words(&mut store, nets, signals, variables)?;
+    let task = PhaseTask {
+        budget,
+        design,
+        rules,
+        cell,
+        flattened,
+        phase,
+        plan,
+    };
+    check_fresh(&mut store, alloc, task, words)
+}

@@ -1,0 +1,104 @@
+//! The order in which each phase is worked through.
+
+ghost use Rattle.std.specs.Prelude.{◌≡◌, ◌+◌, ◌++◌, ◌∷◌, ◌<◌, ◌≤◌, [], None, length, replicate, Option, Bool, IfOk, OnOk};
+ghost use Rattle.cell_compare.specs.Compared.{nothing_known};
+ghost use Rattle.cell_compare.specs.Steps.{PlanTells, PlansTell};
+ghost use Rattle.plain_paths.specs.FlatCircuits.{IsFlat};
+ghost use Rattle.vrt_model.specs.FlatModels.{IsFlatModel};
+
+use crate::flattened::PhasePlan;
+use crate::unchecked::Unchecked;
+use blif_eval::{PlanFault, model_plan};
+use channel_parts::{PartFault, parts};
+use std::alloc::Global;
+use vrt_model::{Circuit, FlatModel, NoMemory, Phase, Rules, Seq, Why};
+
+/// Adds a bit that is not known.
+fn add_unknown(known: &mut Seq<Option<bool>>) -> Result<(), NoMemory>
+    ensures { OnOk result (known.new ≡ known.old ++ None ∷ []) }
+{
+    match known.push(None) {
+        Ok(()) => Ok(()),
+        Err(_) => Err(NoMemory),
+    }
+}
+
+/// Bits of which none is known: one for each signal, and one more for the default clock.
+fn unknown_bits(alloc: Global, model: &FlatModel) -> Result<Seq<Option<bool>>, NoMemory>
+    ensures { IfOk result (λ known. known ≡ nothing_known model.now) }
+{
+    let mut known = Seq::new(alloc);
+    add_unknown(&mut known)?;
+    for _signal in 0..model.signals.len() {
+        add_unknown(&mut known)?;
+    }
+    Ok(known)
+}
+
+/// Adds a plan at the end.
+fn append(plans: &mut Seq<PhasePlan>, plan: PhasePlan) -> Result<(), NoMemory>
+    ensures { OnOk result (plans.new ≡ plans.old ++ plan ∷ []) }
+{
+    match plans.push(plan) {
+        Ok(()) => Ok(()),
+        Err(_) => Err(NoMemory),
+    }
+}
+
+/// The parts of the circuit and the order of the model in a phase of a number, or the cycle of the circuit, else that of
+/// the model.
+fn phase_plan(
+    alloc: Global,
+    circuit: &Circuit,
+    model: &FlatModel,
+    phase: &Phase,
+    number: u32,
+    known: &Seq<Option<bool>>,
+) -> Result<PhasePlan, Unchecked>
+    requires circuit { IsFlat circuit.now }
+    requires model { IsFlatModel model.now }
+    requires latchless { model.now.latches ≡ [] }
+    requires known { known.now ≡ nothing_known model.now }
+    ensures { PlanTells circuit.now model.now phase.now number result }
+{
+    let parts = match parts(alloc, circuit, phase, true) {
+        Ok(parts) => parts,
+        Err(PartFault::Cycle { nets }) => {
+            return Err(Unchecked::Because(Why::Cycle {
+                phase: number,
+                nets,
+            }));
+        }
+        Err(PartFault::NoMemory) => return Err(Unchecked::NoMemory),
+    };
+    match model_plan(alloc, model, known) {
+        Ok(model) => Ok(PhasePlan { parts, model }),
+        Err(PlanFault::ModelCycle { signals }) => Err(Unchecked::Because(Why::ModelCycle {
+            phase: number,
+            signals,
+        })),
+        Err(PlanFault::NoMemory) => Err(Unchecked::NoMemory),
+    }
+}
+
+/// A plan for each phase, or the first cycle, phase by phase, the circuit's before the model's.
+pub(crate) fn plans(
+    alloc: Global,
+    rules: &Rules,
+    circuit: &Circuit,
+    model: &FlatModel,
+) -> Result<Seq<PhasePlan>, Unchecked>
+    requires phases { length rules.now.phases ≤ 16 }
+    requires circuit { IsFlat circuit.now }
+    requires model { IsFlatModel model.now }
+    requires latchless { model.now.latches ≡ [] }
+    ensures { PlansTell rules.now circuit.now model.now result }
+{
+    let known = unknown_bits(alloc, model)?;
+    let mut plans = Seq::new(alloc);
+    for (number, phase) in rules.phases.as_slice().iter().enumerate() {
+        let plan = phase_plan(alloc, circuit, model, phase, number as u32, &known)?;
+        append(&mut plans, plan)?;
+    }
+    Ok(plans)
+}

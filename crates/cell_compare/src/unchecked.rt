@@ -1,0 +1,24 @@
+//! Why a cell is not compared phase by phase.
+
+ghost use Rattle.std.specs.Prelude.{◌≡◌};
+
+use vrt_model::{NoMemory, Why};
+
+/// What stops a step of a comparison.
+#[derive(Debug, Drop)]
+pub(crate) enum Unchecked {
+    /// The cell cannot be checked.
+    Because(Why),
+    /// Memory could not be had.
+    NoMemory,
+}
+
+impl From<NoMemory> for Unchecked {
+    ghost use Rattle.cell_compare.specs.declared.unchecked.Unchecked.TheVariants.{NoMemory};
+
+    ghost from_gives = { λ _ r. r ≡ NoMemory };
+
+    fn from(_: NoMemory) -> Unchecked {
+        Unchecked::NoMemory
+    }
+}
