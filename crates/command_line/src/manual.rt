@@ -30,7 +30,7 @@ pub fn help() -> &'static [u8]
       replay         the values of the nets of a cell at one valuation\n\
       classes        the class of each channel-connected part\n\
       gen            makes a hierarchy of cells, and checks it; no files are named\n\
-      Not built yet: replay, classes, gen, --cell and --budget.\n\
+      Not built yet: replay, classes, gen and --cell.\n\
 \n\
       status 0       each cell is equal, or what was asked for is written\n\
       status 1       a cell has a fault\n\

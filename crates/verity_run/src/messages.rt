@@ -1,10 +1,20 @@
 //! The lines that a run writes beside the verdicts.
 
-ghost use Rattle.std.specs.Prelude.{◌≡◌, ◌≢◌, ◌∷◌, [], codes, map, IfOk, string_bytes};
+ghost use Rattle.std.specs.Prelude.{◌≡◌, ◌∷◌, [], codes, map, IfOk};
 ghost use Rattle.std.specs.Fmt.{decimal};
-ghost use Rattle.verity_run.specs.Messages.{joined, read_failed_line, too_long_line, unbuilt_line, refusal_line, usage_line, spice_line, words_unbuilt_line};
+ghost use Rattle.verity_run.specs.Messages.{joined, missing_line, read_failed_line, too_long_line, unbuilt_line, refusal_line, usage_line, words_unbuilt_line};
+ghost use Rattle.verity_run.specs.Names.{missing_of};
 
-use spice_reader::SpiceFault;
+mod blif;
+mod models;
+mod rules;
+mod spice;
+
+use crate::names::MissingName;
+pub use blif::blif_refusal;
+pub use models::models_refusal;
+pub use rules::rules_refusal;
+pub use spice::spice_refusal;
 use std::alloc::Global;
 use vrt_model::{NoMemory, Text};
 
@@ -27,7 +37,7 @@ pub fn join(alloc: Global, pieces: &[&[u8]]) -> Result<Text, NoMemory>
 }
 
 /// A number in decimal.
-pub fn digits(alloc: Global, number: u32) -> Result<Text, NoMemory>
+pub fn digits(alloc: Global, number: u64) -> Result<Text, NoMemory>
     ensures { IfOk result (λ text. text ≡ decimal number) }
 {
     match format!(in alloc; "{number}") {
@@ -79,7 +89,7 @@ pub fn refusal(
 ) -> Result<Text, NoMemory>
     ensures { IfOk result (λ text. text ≡ refusal_line file.now line cause.now name.now) }
 {
-    let number = digits(alloc, line)?;
+    let number = digits(alloc, u64::from(line))?;
     refusal_with(alloc, file, number.as_bytes(), cause, name)
 }
 
@@ -104,38 +114,9 @@ pub fn words_unbuilt(alloc: Global) -> Result<Text, NoMemory>
     unbuilt(alloc, b"words", 0)
 }
 
-/// The line for a fault of the netlist that is not want of memory.
-pub fn spice_refusal(alloc: Global, file: &[u8], fault: &SpiceFault) -> Result<Text, NoMemory>
-    requires { fault.now ≢ SpiceFault.NoMemory }
-    ensures { IfOk result (λ text. text ≡ spice_line file.now fault.now) }
+/// The line for a name in the rules that is not there.
+pub fn missing(alloc: Global, file: &[u8], missing: &MissingName<'_>) -> Result<Text, NoMemory>
+    ensures { IfOk result (λ text. text ≡ missing_line file.now (missing_of missing.now)) }
 {
-    match fault {
-        SpiceFault::NotText { line } => {
-            refusal(alloc, file, *line, b"byte that is not text", b"")
-        }
-        SpiceFault::Continuation { line } => {
-            refusal(alloc, file, *line, b"nothing to continue", b"")
-        }
-        SpiceFault::Unsupported { line, word } => {
-            refusal(alloc, file, *line, b"card not supported: ", word.as_bytes())
-        }
-        SpiceFault::Short { line } => refusal(alloc, file, *line, b"too few words", b""),
-        SpiceFault::Nested { line } => refusal(alloc, file, *line, b"cell within a cell", b""),
-        SpiceFault::NotOpen { line } => refusal(alloc, file, *line, b".ends outside a cell", b""),
-        SpiceFault::EndsName { line } => {
-            refusal(alloc, file, *line, b".ends names another cell", b"")
-        }
-        SpiceFault::Unfinished { line } => refusal(alloc, file, *line, b"cell not ended", b""),
-        SpiceFault::CellTwice { line, name } => {
-            refusal(alloc, file, *line, b"cell twice: ", name.as_bytes())
-        }
-        SpiceFault::ElementTwice { line, name } => {
-            refusal(alloc, file, *line, b"element twice: ", name.as_bytes())
-        }
-        SpiceFault::PortTwice { line, name } => {
-            refusal(alloc, file, *line, b"port twice: ", name.as_bytes())
-        }
-        SpiceFault::Limit { line } => refusal(alloc, file, *line, b"limit passed", b""),
-        SpiceFault::NoMemory => Err(NoMemory),
-    }
+    refusal(alloc, file, missing.line, b"no such name: ", missing.name)
 }

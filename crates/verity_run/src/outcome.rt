@@ -1,198 +1,135 @@
 //! What three files that were read give.
 
-ghost use Rattle.std.specs.Prelude.{◌≡◌, ◌≢◌, ◌≤◌, None, length, vec_len, IfOk, MatchOption};
-ghost use Rattle.verity_run.specs.Reports.{IsAnswerOf, IsReportOf, IsReportBy, IsChecked, IsEnded, IsFormed, IsRefused, IsSole, status_of, pair_unbuilt, unbuilt_text};
-ghost use Rattle.verity_run.specs.Messages.{spice_line, words_unbuilt_line};
-ghost use Rattle.vrt_model.specs.Inputs.{IsDesign};
+ghost use Rattle.std.specs.Prelude.{◌≡◌, ◌≤◌, vec_len, IfOk, IfSome};
+ghost use Rattle.verity_run.specs.Given.{AreFit, given, names_in};
+ghost use Rattle.verity_run.specs.Reports.{AnswersForms, AnswersNames, AnswersRead, AnswersShort, IsEnded, IsRefused};
+ghost use Rattle.verity_run.specs.Runs.{IsBudget};
+ghost use Rattle.verity_run.specs.Unbuilt.{AreBuilt, unbuilt_text};
 
-use crate::blif_form::read_model;
-use crate::form_lines::{Misfit, split_lines};
+use crate::cells::compare_cells;
+use crate::lists::append;
 use crate::messages;
+use crate::names::missing_name;
 use crate::reads::Texts;
-use crate::rules_form::misfit;
-use crate::search::check;
+use crate::refusals::{Inputs, Refusal, read_inputs};
 use crate::status::Status;
-use crate::unbuilt::{Unbuilt, pair_line, sole_cell};
-use crate::verdict_text::verdict_line;
+use crate::unbuilt::{Unbuilt, first_unbuilt};
 use command_line::FileWords;
-use spice_reader::{SpiceFault, read_spice};
 use std::alloc::Global;
-use vrt_model::{BlifModel, Cell, Design, NoMemory, Text, Verdict};
+use vrt_model::{NoMemory, Seq, Text};
 
-/// A status, and what is written with it.
+/// A status, and the lines that are written with it.
 #[derive(Debug, Drop)]
 pub struct Answer {
     pub status: Status,
-    pub text: Text,
+    pub lines: Seq<Text>,
 }
 
-/// The status that goes with the verdict of the one cell.
-fn status(verdict: &Verdict) -> Status
-    ensures status { result ≡ status_of verdict.now }
-    ensures ended { IsEnded result }
+/// The answer where the files are refused.
+fn refused(alloc: Global, line: Text) -> Result<Answer, NoMemory>
+    ensures refused { IfOk result (λ a. IsRefused line a.status a.lines) }
+    ensures ended { IfOk result (λ a. IsEnded a.status) }
 {
-    match verdict {
-        Verdict::Equal | Verdict::Skipped => Status::AllEqual,
-        Verdict::Fault(_) => Status::SomeFault,
-        Verdict::Vacuous { .. } | Verdict::Budget { .. } | Verdict::Unsupported(_) => {
-            Status::Undecided
+    let mut lines = Seq::new(alloc);
+    append(&mut lines, line)?;
+    Ok(Answer {
+        status: Status::InputRefused,
+        lines,
+    })
+}
+
+/// The line for a form that is not built yet.
+fn unbuilt_line(alloc: Global, words: &FileWords<'_>, form: Unbuilt) -> Result<Text, NoMemory>
+    ensures { IfOk result (λ line. line ≡ unbuilt_text (names_in words.now) form) }
+{
+    match form {
+        Unbuilt::Netlist(line) => messages::unbuilt(alloc, words.spice.as_bytes(), line),
+        Unbuilt::Model(line) => messages::unbuilt(alloc, words.blif.as_bytes(), line),
+        Unbuilt::Rules(line) => messages::unbuilt(alloc, words.rules.as_bytes(), line),
+    }
+}
+
+/// The answer where all that stands in the files is built: a name in the rules that is not there, else the report.
+fn report(
+    alloc: Global,
+    words: &FileWords<'_>,
+    budget: u32,
+    inputs: &Inputs,
+) -> Result<Answer, NoMemory>
+    requires budget { IsBudget budget }
+    requires fit { AreFit inputs.now.design inputs.now.blif inputs.now.rules }
+    requires built { AreBuilt inputs.now.design inputs.now.blif inputs.now.rules }
+    ensures answer { IfOk result (λ a. AnswersNames (names_in words.now) inputs.now.design inputs.now.blif inputs.now.rules budget a.status a.lines) }
+    ensures ended { IfOk result (λ a. IsEnded a.status) }
+{
+    match missing_name(alloc, &inputs.design, &inputs.rules)? {
+        Some(missing) => {
+            let line = messages::missing(alloc, words.rules.as_bytes(), &missing)?;
+            refused(alloc, line)
+        }
+        None => compare_cells(alloc, budget, inputs),
+    }
+}
+
+/// The answer for files that were read: a form that is not built yet, else what the names give.
+fn answered(
+    alloc: Global,
+    words: &FileWords<'_>,
+    budget: u32,
+    inputs: &Inputs,
+) -> Result<Answer, NoMemory>
+    requires budget { IsBudget budget }
+    requires fit { AreFit inputs.now.design inputs.now.blif inputs.now.rules }
+    ensures answer { IfOk result (λ a. AnswersForms (names_in words.now) inputs.now.design inputs.now.blif inputs.now.rules budget a.status a.lines) }
+    ensures ended { IfOk result (λ a. IsEnded a.status) }
+{
+    match first_unbuilt(&inputs.design, &inputs.blif, &inputs.rules) {
+        Some(form) => {
+            let line = unbuilt_line(alloc, words, form)?;
+            refused(alloc, line)
+        }
+        None => report(alloc, words, budget, inputs),
+    }
+}
+
+/// The answer for files that were read, with a budget, or that what the words ask for is not built yet.
+fn answer_with(
+    alloc: Global,
+    words: &FileWords<'_>,
+    budget: Option<u32>,
+    inputs: &Inputs,
+) -> Result<Answer, NoMemory>
+    requires budget { IfSome budget IsBudget }
+    requires fit { AreFit inputs.now.design inputs.now.blif inputs.now.rules }
+    ensures answer { IfOk result (λ a. AnswersRead budget (names_in words.now) inputs.now.design inputs.now.blif inputs.now.rules a.status a.lines) }
+    ensures ended { IfOk result (λ a. IsEnded a.status) }
+{
+    match budget {
+        Some(budget) => answered(alloc, words, budget, inputs),
+        None => {
+            let line = messages::words_unbuilt(alloc)?;
+            refused(alloc, line)
         }
     }
 }
 
-/// The answer where a form is not built yet.
-fn unbuilt(alloc: Global, words: &FileWords<'_>, form: Unbuilt) -> Result<Answer, NoMemory>
-    ensures ended { IfOk result (λ a. IsEnded a.status) }
-    ensures answer { IfOk result (λ a. IsRefused (unbuilt_text words.now.spice.now words.now.blif.now words.now.rules.now form) a.status a.text) }
-{
-    let text = match form {
-        Unbuilt::Netlist(line) => messages::unbuilt(alloc, words.spice.as_bytes(), line)?,
-        Unbuilt::Model(line) => messages::unbuilt(alloc, words.blif.as_bytes(), line)?,
-        Unbuilt::Rules(line) => messages::unbuilt(alloc, words.rules.as_bytes(), line)?,
-    };
-    Ok(Answer {
-        status: Status::InputRefused,
-        text,
-    })
-}
-
-/// The answer where what the words ask for is not built yet.
-fn refusal_of_words(alloc: Global) -> Result<Answer, NoMemory>
-    ensures ended { IfOk result (λ a. IsEnded a.status) }
-    ensures answer { IfOk result (λ a. IsRefused words_unbuilt_line a.status a.text) }
-{
-    Ok(Answer {
-        status: Status::InputRefused,
-        text: messages::words_unbuilt(alloc)?,
-    })
-}
-
-/// The answer for a cell and a model.
-fn checked(
-    alloc: Global,
-    design: &Design,
-    cell: &Cell,
-    model: &BlifModel,
-) -> Result<Answer, NoMemory>
-    requires sole { IsSole design.now cell.now }
-    requires pair { pair_unbuilt cell.now model.now ≡ None }
-    requires form { IsFormed model.now }
-    ensures ended { IfOk result (λ a. IsEnded a.status) }
-    ensures answer { IfOk result (λ a. IsChecked design.now model.now a.status a.text) }
-{
-    let verdict = check(alloc, design, cell, model)?;
-    let text = verdict_line(alloc, cell, &verdict)?;
-    Ok(Answer {
-        status: status(&verdict),
-        text,
-    })
-}
-
-/// The answer for a cell and a model, or what is not built of them.
-fn paired(
-    alloc: Global,
-    words: &FileWords<'_>,
-    design: &Design,
-    cell: &Cell,
-    model: &BlifModel,
-) -> Result<Answer, NoMemory>
-    requires sole { IsSole design.now cell.now }
-    requires form { IsFormed model.now }
-    ensures ended { IfOk result (λ a. IsEnded a.status) }
-    ensures answer { IfOk result (λ a. MatchOption (pair_unbuilt cell.now model.now) (IsChecked design.now model.now a.status a.text) (λ form. IsRefused (unbuilt_text words.now.spice.now words.now.blif.now words.now.rules.now form) a.status a.text)) }
-{
-    match pair_line(cell, model) {
-        Some(form) => unbuilt(alloc, words, form),
-        None => checked(alloc, design, cell, model),
-    }
-}
-
-/// The answer for a design that was read.
-fn report(
-    alloc: Global,
-    words: &FileWords<'_>,
-    design: &Design,
-    blif: &[u8],
-    rules: &[u8],
-) -> Result<Answer, NoMemory>
-    requires read { IsDesign design.now }
-    requires blif { length blif.now ≤ 16777216 }
-    requires rules { length rules.now ≤ 16777216 }
-    ensures ended { IfOk result (λ a. IsEnded a.status) }
-    ensures answer { IfOk result (λ a. IsReportOf words.now.spice.now words.now.blif.now words.now.rules.now design.now blif.now rules.now a.status a.text) }
-{
-    let cell = match sole_cell(design) {
-        Ok(cell) => cell,
-        Err(line) => return unbuilt(alloc, words, Unbuilt::Netlist(line)),
-    };
-    let lines = split_lines(alloc, blif)?;
-    let model = match read_model(alloc, lines.as_slice()) {
-        Ok(model) => model,
-        Err(Misfit::Line(line)) => return unbuilt(alloc, words, Unbuilt::Model(line)),
-        Err(Misfit::NoMemory) => return Err(NoMemory),
-    };
-    let lines = split_lines(alloc, rules)?;
-    match misfit(lines.as_slice()) {
-        Some(line) => unbuilt(alloc, words, Unbuilt::Rules(line)),
-        None => paired(alloc, words, design, cell, &model),
-    }
-}
-
-/// The answer for a design that was read, where what the words ask for is built, or that it is not.
-fn answered(
-    alloc: Global,
-    words: &FileWords<'_>,
-    built: bool,
-    design: &Design,
-    texts: &Texts,
-) -> Result<Answer, NoMemory>
-    requires read { IsDesign design.now }
-    requires blif { vec_len texts.now.blif ≤ 16777216 }
-    requires rules { vec_len texts.now.rules ≤ 16777216 }
-    ensures ended { IfOk result (λ a. IsEnded a.status) }
-    ensures answer { IfOk result (λ a. IsAnswerOf built words.now.spice.now words.now.blif.now words.now.rules.now design.now texts.now.blif.items texts.now.rules.items a.status a.text) }
-{
-    if built {
-        report(
-            alloc,
-            words,
-            design,
-            texts.blif.as_slice(),
-            texts.rules.as_slice(),
-        )
-    } else {
-        refusal_of_words(alloc)
-    }
-}
-
-/// The answer for three files that were read. `built` says whether what the words ask for is built.
+/// The answer for three files that were read. No budget is given where what the words ask for is not built.
 pub fn answer_for(
     alloc: Global,
     words: &FileWords<'_>,
-    built: bool,
+    budget: Option<u32>,
     texts: &Texts,
 ) -> Result<Answer, NoMemory>
+    requires budget { IfSome budget IsBudget }
     requires spice { vec_len texts.now.spice ≤ 16777216 }
     requires blif { vec_len texts.now.blif ≤ 16777216 }
     requires rules { vec_len texts.now.rules ≤ 16777216 }
+    ensures answer { IfOk result (λ a. AnswersShort budget (given words.now texts.now) a.status a.lines) }
     ensures ended { IfOk result (λ a. IsEnded a.status) }
-    ensures answer { IfOk result (λ a. IsReportBy built words.now.spice.now words.now.blif.now words.now.rules.now texts.now.spice.items texts.now.blif.items texts.now.rules.items a.status a.text) }
 {
-    match read_spice(alloc, texts.spice.as_slice()) {
-        Ok(design) => answered(alloc, words, built, &design, texts),
-        Err(SpiceFault::NoMemory) => Err(NoMemory),
-        Err(fault) => refused(alloc, words, &fault),
+    match read_inputs(alloc, words, texts) {
+        Ok(inputs) => answer_with(alloc, words, budget, &inputs),
+        Err(Refusal::Told(line)) => refused(alloc, line),
+        Err(Refusal::NoMemory) => Err(NoMemory),
     }
-}
-
-/// The answer for a fault of the netlist.
-fn refused(alloc: Global, words: &FileWords<'_>, fault: &SpiceFault) -> Result<Answer, NoMemory>
-    requires { fault.now ≢ SpiceFault.NoMemory }
-    ensures ended { IfOk result (λ a. IsEnded a.status) }
-    ensures answer { IfOk result (λ a. IsRefused (spice_line words.now.spice.now fault.now) a.status a.text) }
-{
-    Ok(Answer {
-        status: Status::InputRefused,
-        text: messages::spice_refusal(alloc, words.spice.as_bytes(), fault)?,
-    })
 }

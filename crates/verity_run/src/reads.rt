@@ -1,6 +1,6 @@
 //! The three loads.
 
-ghost use Rattle.std.specs.Prelude.{◌≡◌, ◌<◌, ◌≤◌, length, vec_len, List, ℕ, IfOk, IfErr, IfSome};
+ghost use Rattle.std.specs.Prelude.{◌≡◌, ◌≤◌, length, vec_len, List, ℕ, IfOk, IfErr, IfSome};
 ghost use Rattle.verity_run.specs.Reads.{StopHasCause, StopsBy, AreTold, AreShort};
 
 use command_line::FileWords;

@@ -1,15 +1,19 @@
 //! The line of a verdict.
 
-ghost use Rattle.std.specs.Prelude.{◌≡◌, ◌∷◌, ◌++◌, [], Option, Some, None, Bool, codes, IfOk, OnOk, option_map};
-ghost use Rattle.std.specs.Option.{option_copied};
+ghost use Rattle.std.specs.Prelude.{◌≡◌, ◌∷◌, ◌++◌, [], codes, IfOk, OnOk};
 ghost use Rattle.std.specs.Fmt.{decimal};
-ghost use Rattle.verity_run.specs.Reports.{report_line, IsDecided, IsPlainWhy};
-ghost use Rattle.vrt_model.specs.VerdictText.{bit_text, spaced, settings, or_dash, valuation_text, phase_text, kind_text, wanted_text, values_words, fault_words, why_words, verdict_words, verdict_line};
+ghost use Rattle.verity_run.specs.VerdictLines.{circuit_in, model_in};
+ghost use Rattle.vrt_model.specs.Comparison.{net_name};
+ghost use Rattle.vrt_model.specs.Elements.{signal_name};
+ghost use Rattle.vrt_model.specs.VerdictText.{bit_text, spaced, settings, or_dash, valuation_text, phase_text, kind_text, wanted_text, values_words, fault_words, first_net, first_signal, why_words, verdict_words, verdict_line};
 
-use crate::form_lines::append;
-use crate::rules_form::read_rules;
+use crate::lists::append;
+use crate::messages::digits;
+use cell_compare::Flattened;
 use std::alloc::Global;
-use vrt_model::{Cell, FaultAt, FaultKind, NoMemory, Rules, Seq, Text, Verdict, Why};
+use vrt_model::{
+    Cell, Circuit, FaultAt, FaultKind, FlatModel, Net, NoMemory, Rules, Seq, Text, Verdict, Why,
+};
 
 /// A bit as text.
 fn bit_word(bit: bool) -> &'static [u8]
@@ -161,26 +165,152 @@ fn add_fault(
     append(words, at)
 }
 
-/// Adds a count that is too large.
-fn add_large(alloc: Global, words: &mut Seq<Text>, count: u64) -> Result<(), NoMemory>
-    ensures { OnOk result (words.new ≡ words.old ++ codes "large" ∷ decimal count ∷ []) }
+/// Adds a word and a name.
+fn add_named(alloc: Global, words: &mut Seq<Text>, word: &[u8], name: &[u8]) -> Result<(), NoMemory>
+    ensures { OnOk result (words.new ≡ words.old ++ word.now ∷ name.now ∷ []) }
 {
-    add(alloc, words, b"large")?;
-    match format!(in alloc; "{count}") {
-        Ok(text) => add(alloc, words, text.as_bytes()),
-        Err(_) => Err(NoMemory),
+    add(alloc, words, word)?;
+    add(alloc, words, name)
+}
+
+/// Adds a word and a number.
+fn add_counted(
+    alloc: Global,
+    words: &mut Seq<Text>,
+    word: &[u8],
+    count: u64,
+) -> Result<(), NoMemory>
+    ensures { OnOk result (words.new ≡ words.old ++ word.now ∷ decimal count ∷ []) }
+{
+    let number = digits(alloc, count)?;
+    add_named(alloc, words, word, number.as_bytes())
+}
+
+/// Adds the name of a phase behind its word.
+fn add_phase(
+    alloc: Global,
+    words: &mut Seq<Text>,
+    rules: &Rules,
+    phase: u32,
+) -> Result<(), NoMemory>
+    ensures { OnOk result (words.new ≡ words.old ++ codes "phase" ∷ phase_text rules.now phase ∷ []) }
+{
+    add_named(alloc, words, b"phase", phase_name(rules, phase))
+}
+
+/// The name of a net, empty where there is none.
+fn net_name(circuit: &Circuit, net: Net) -> &[u8]
+    ensures { result.now ≡ net_name circuit.now net.0 }
+{
+    match circuit.nets.get(net.0 as usize) {
+        Some(net) => net.name.as_bytes(),
+        None => &[],
     }
 }
 
-/// Adds the words of a cause. A count that is too large is the one that comes here.
-fn add_why(alloc: Global, words: &mut Seq<Text>, _rules: &Rules, why: &Why) -> Result<(), NoMemory>
-    requires { IsPlainWhy why.now }
-    ensures { OnOk result (words.new ≡ words.old ++ why_words _rules.now None None why.now) }
+/// The name of a signal, empty where there is none.
+fn signal_name(flat: &FlatModel, signal: u32) -> &[u8]
+    ensures { result.now ≡ signal_name flat.now signal }
+{
+    match flat.signals.get(signal as usize) {
+        Some(name) => name.as_bytes(),
+        None => &[],
+    }
+}
+
+/// The name of the first of some nets.
+fn first_net<'a>(flattened: &'a Option<Flattened>, nets: &[Net]) -> &'a [u8]
+    ensures { result.now ≡ first_net (circuit_in flattened.entry.now) nets.now }
+{
+    match (flattened, nets) {
+        (Some(found), [net, ..]) => net_name(&found.circuit, *net),
+        _ => &[],
+    }
+}
+
+/// The name of the first of some signals.
+fn first_signal<'a>(flattened: &'a Option<Flattened>, signals: &[u32]) -> &'a [u8]
+    ensures { result.now ≡ first_signal (model_in flattened.entry.now) signals.now }
+{
+    match (flattened, signals) {
+        (Some(found), [signal, ..]) => signal_name(&found.model, *signal),
+        _ => &[],
+    }
+}
+
+/// Adds the first net of a cycle and its phase.
+fn add_cycle(
+    alloc: Global,
+    words: &mut Seq<Text>,
+    rules: &Rules,
+    word: &[u8],
+    name: &[u8],
+    phase: u32,
+) -> Result<(), NoMemory>
+    ensures { OnOk result (words.new ≡ words.old ++ word.now ∷ name.now ∷ codes "phase" ∷ phase_text rules.now phase ∷ []) }
+{
+    add_named(alloc, words, word, name)?;
+    add_phase(alloc, words, rules, phase)
+}
+
+/// Adds the words of a cause.
+fn add_why(
+    alloc: Global,
+    words: &mut Seq<Text>,
+    rules: &Rules,
+    flattened: &Option<Flattened>,
+    why: &Why,
+) -> Result<(), NoMemory>
+    ensures { OnOk result (words.new ≡ words.old ++ why_words rules.now (circuit_in flattened.now) (model_in flattened.now) why.now) }
 {
     match why {
-        Why::TooLarge { count } => add_large(alloc, words, *count),
-        _ => unreachable!(),
+        Why::Ports { name } => add_named(alloc, words, b"ports", name.as_bytes()),
+        Why::Cycle { phase, nets } => {
+            let name = first_net(flattened, nets.as_slice());
+            add_cycle(alloc, words, rules, b"cycle", name, *phase)
+        }
+        Why::ModelCycle { phase, signals } => {
+            let name = first_signal(flattened, signals.as_slice());
+            add_cycle(alloc, words, rules, b"modelcycle", name, *phase)
+        }
+        Why::Unmatched { name } => add_named(alloc, words, b"unmatched", name.as_bytes()),
+        Why::DeviceModel { model } => add_named(alloc, words, b"device", model.as_bytes()),
+        Why::SupplyTie { path } => add_named(alloc, words, b"supplytie", path.as_bytes()),
+        Why::OutputIsInput { signal } => {
+            add_named(alloc, words, b"outputisinput", signal.as_bytes())
+        }
+        Why::TooManyVars { count } => add_counted(alloc, words, b"variables", u64::from(*count)),
+        Why::TooLarge { count } => add_counted(alloc, words, b"large", *count),
+        Why::NoModel => add(alloc, words, b"nomodel"),
+        Why::NoClock { latch } => add_named(alloc, words, b"noclock", latch.as_bytes()),
     }
+}
+
+/// Adds the words of a phase in which no valuation meets the constraints.
+fn add_vacuous(
+    alloc: Global,
+    words: &mut Seq<Text>,
+    rules: &Rules,
+    phase: u32,
+) -> Result<(), NoMemory>
+    ensures { OnOk result (words.new ≡ words.old ++ codes "vacuous" ∷ codes "phase" ∷ phase_text rules.now phase ∷ []) }
+{
+    add(alloc, words, b"vacuous")?;
+    add_phase(alloc, words, rules, phase)
+}
+
+/// Adds the words of a budget that is used up.
+fn add_budget(
+    alloc: Global,
+    words: &mut Seq<Text>,
+    rules: &Rules,
+    nodes: u32,
+    phase: u32,
+) -> Result<(), NoMemory>
+    ensures { OnOk result (words.new ≡ words.old ++ codes "budget" ∷ decimal nodes ∷ codes "phase" ∷ phase_text rules.now phase ∷ []) }
+{
+    add_counted(alloc, words, b"budget", u64::from(nodes))?;
+    add_phase(alloc, words, rules, phase)
 }
 
 /// Adds the words of a cell that cannot be checked.
@@ -188,43 +318,49 @@ fn add_unsupported(
     alloc: Global,
     words: &mut Seq<Text>,
     rules: &Rules,
+    flattened: &Option<Flattened>,
     why: &Why,
 ) -> Result<(), NoMemory>
-    requires { IsPlainWhy why.now }
-    ensures { OnOk result (words.new ≡ words.old ++ codes "unsupported" ∷ why_words rules.now None None why.now) }
+    ensures { OnOk result (words.new ≡ words.old ++ codes "unsupported" ∷ why_words rules.now (circuit_in flattened.now) (model_in flattened.now) why.now) }
 {
     add(alloc, words, b"unsupported")?;
-    add_why(alloc, words, rules, why)
+    add_why(alloc, words, rules, flattened, why)
 }
 
-/// The words of a verdict behind the cell's name.
+/// Adds the words of a verdict.
 fn add_verdict(
     alloc: Global,
     words: &mut Seq<Text>,
     rules: &Rules,
+    flattened: &Option<Flattened>,
     verdict: &Verdict,
 ) -> Result<(), NoMemory>
-    requires { IsDecided verdict.now }
-    ensures { OnOk result (words.new ≡ words.old ++ verdict_words rules.now None None verdict.now) }
+    ensures { OnOk result (words.new ≡ words.old ++ verdict_words rules.now (circuit_in flattened.now) (model_in flattened.now) verdict.now) }
 {
     match verdict {
         Verdict::Equal => add(alloc, words, b"equal"),
+        Verdict::Skipped => add(alloc, words, b"skipped"),
         Verdict::Fault(fault) => add_fault(alloc, words, rules, fault),
-        Verdict::Unsupported(why) => add_unsupported(alloc, words, rules, why),
-        _ => unreachable!(),
+        Verdict::Vacuous { phase } => add_vacuous(alloc, words, rules, *phase),
+        Verdict::Budget { nodes, phase } => add_budget(alloc, words, rules, *nodes, *phase),
+        Verdict::Unsupported(why) => add_unsupported(alloc, words, rules, flattened, why),
     }
 }
 
-/// The line of a verdict on a cell, with its line feed.
-pub fn verdict_line(alloc: Global, cell: &Cell, verdict: &Verdict) -> Result<Text, NoMemory>
-    requires { IsDecided verdict.now }
-    ensures { IfOk result (λ text. text ≡ report_line cell.now verdict.now) }
+/// The line of a verdict on a cell, with its line feed. A cycle is named by the flat circuit and the flat model.
+pub fn verdict_line(
+    alloc: Global,
+    cell: &Cell,
+    rules: &Rules,
+    flattened: &Option<Flattened>,
+    verdict: &Verdict,
+) -> Result<Text, NoMemory>
+    ensures { IfOk result (λ text. text ≡ verdict_line cell.now.name verdict.now rules.now (circuit_in flattened.now) (model_in flattened.now) ++ 10 ∷ []) }
 {
-    let rules = read_rules(alloc)?;
     let mut words = Seq::new(alloc);
     add(alloc, &mut words, b"cell")?;
     add(alloc, &mut words, cell.name.as_bytes())?;
-    add_verdict(alloc, &mut words, &rules, verdict)?;
+    add_verdict(alloc, &mut words, rules, flattened, verdict)?;
     let mut line = spread(alloc, words.as_slice())?;
     line.extend(b"\n")?;
     Ok(line)

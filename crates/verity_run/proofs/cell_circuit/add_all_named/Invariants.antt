@@ -1,9 +1,0 @@
-use Rattle.std.proofs.Common.{◌≡◌, drop, filter}
-use Rattle.text_lines.specs.Names.{is_among}
-use Rattle.verity_run.specs.CellCircuits.{with_nets}
-use Rattle.verity_run.proofs.cell_circuit.add_all_named.Given as goal
-
--- the names so far, with those of the rest that cards name
-abbrev pub invariant-loop-name : goal.invariant-loop-name
-invariant-loop-name l =
-    with_nets l.names (filter (is_among l.named) (drop l.name-index l.globals)) ≡ with_nets l.fn.names (filter (is_among l.named) l.globals)

@@ -1,0 +1,74 @@
+-- The three files as they are given, and what is read from them.
+use Rattle.std.specs.Prelude.{◌≡◌, ℕ, List}
+use Rattle.blif_reader.specs.Cards.{cards_of as models_cards_of}
+use Rattle.blif_reader.specs.Models.{blif_of}
+use Rattle.blif_reader.specs.Refused.{fault_of as models_fault_of}
+use Rattle.blif_reader.specs.declared.cards.Card.{Card as ModelsCard}
+use Rattle.command_line.specs.declared.request.FileWords.{FileWords}
+use Rattle.rules_reader.specs.Entries.{cards_of as rules_cards_of}
+use Rattle.rules_reader.specs.Refused.{fault_of as rules_fault_of}
+use Rattle.rules_reader.specs.Tables.{AreRulesOf}
+use Rattle.rules_reader.specs.declared.cards.Card.{Card as RulesCard}
+use Rattle.spice_reader.specs.Cards.{cards_of as netlist_cards_of}
+use Rattle.spice_reader.specs.Netlist.{design_of}
+use Rattle.spice_reader.specs.Refused.{IsNetlist}
+use Rattle.spice_reader.specs.declared.card.Card.{Card as NetlistCard}
+use Rattle.text_lines.specs.Faults.{IsClean}
+use Rattle.verity_run.specs.declared.reads.Texts.{Texts}
+use Rattle.vrt_model.specs.Inputs.{AreRules, IsBlif, IsDesign}
+use Rattle.vrt_model.specs.Models.{AreModels}
+use Rattle.vrt_model.specs.declared.blif.Blif.{Blif}
+use Rattle.vrt_model.specs.declared.design.Design.{Design}
+use Rattle.vrt_model.specs.declared.rules.Rules.{Rules}
+
+-- a text for each of the SPICE, the BLIF and the rules file
+pub record ByFile : Type 0 where
+  pub spice : List ℕ
+  pub blif : List ℕ
+  pub rules : List ℕ
+
+-- the words that name the files, and their bytes
+pub record Given : Type 0 where
+  pub words : ByFile
+  pub bytes : ByFile
+
+abbrev pub by_file : List ℕ → List ℕ → List ℕ → ByFile
+by_file spice blif rules = record { spice = spice; blif = blif; rules = rules }
+
+abbrev pub names_in : FileWords → ByFile
+names_in words = by_file words.spice.now words.blif.now words.rules.now
+
+abbrev pub bytes_in : Texts → ByFile
+bytes_in texts = by_file texts.spice.items texts.blif.items texts.rules.items
+
+-- the files of these words and bytes
+abbrev pub given : FileWords → Texts → Given
+given words texts = record { words = names_in words; bytes = bytes_in texts }
+
+-- ---- what is read
+
+abbrev pub netlist_cards : Given → List NetlistCard
+netlist_cards g = netlist_cards_of g.bytes.spice
+
+abbrev pub models_cards : Given → List ModelsCard
+models_cards g = models_cards_of g.bytes.blif
+
+abbrev pub rules_cards : Given → List RulesCard
+rules_cards g = rules_cards_of g.bytes.rules
+
+-- no reader refuses a file, the models can be unrolled, and these are the cells, models and rules of the files
+pub record AreRead (g : Given) (design : Design) (blif : Blif) (rules : Rules) : Type 0 where
+  pub netlist : IsNetlist (netlist_cards g)
+  pub models : IsClean models_fault_of (models_cards g)
+  pub lines : IsClean rules_fault_of (rules_cards g)
+  pub design_is : design ≡ design_of (netlist_cards g)
+  pub blif_is : blif ≡ blif_of (models_cards g)
+  pub rules_are : AreRulesOf (rules_cards g) rules
+  pub unrolled : AreModels blif
+
+-- cells, models and rules such as the readers give
+pub record AreFit (design : Design) (blif : Blif) (rules : Rules) : Type 0 where
+  pub design_is : IsDesign design
+  pub blif_is : IsBlif blif
+  pub rules_are : AreRules rules
+  pub models : AreModels blif

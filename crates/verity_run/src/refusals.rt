@@ -1,0 +1,141 @@
+//! What the three files say, or why they are refused.
+
+ghost use Rattle.std.specs.Prelude.{◌≡◌, ◌≤◌, ◌⊎◌, length, vec_len, IfOk, IfErr, MatchResult};
+ghost use Rattle.blif_flat.specs.Checked.{IsModelFault};
+ghost use Rattle.blif_reader.specs.Cards.{cards_of as models_cards_of};
+ghost use Rattle.blif_reader.specs.Models.{blif_of};
+ghost use Rattle.blif_reader.specs.Refused.{fault_of as models_fault_of};
+ghost use Rattle.rules_reader.specs.Entries.{cards_of as rules_cards_of};
+ghost use Rattle.rules_reader.specs.Refused.{fault_of as rules_fault_of};
+ghost use Rattle.rules_reader.specs.Tables.{AreRulesOf};
+ghost use Rattle.spice_reader.specs.Cards.{cards_of as netlist_cards_of};
+ghost use Rattle.spice_reader.specs.Netlist.{design_of};
+ghost use Rattle.spice_reader.specs.Refused.{IsNetlist};
+ghost use Rattle.text_lines.specs.Faults.{IsClean};
+ghost use Rattle.verity_run.specs.Given.{AreFit, AreRead, given};
+ghost use Rattle.verity_run.specs.Refusals.{IsRefusal, OfModels, OfNetlist, OfRules, OfUnrolling, Tells};
+ghost use Rattle.vrt_model.specs.Inputs.{AreRules, IsBlif, IsDesign};
+ghost use Rattle.vrt_model.specs.Models.{AreModels};
+ghost use Rattle.vrt_model.specs.declared.blif.Blif.{Blif as BlifValue};
+
+use crate::messages;
+use crate::reads::Texts;
+use blif_flat::{ModelFault, check_models};
+use blif_reader::{BlifFault, read_blif};
+use command_line::FileWords;
+use rules_reader::{RulesFault, read_rules};
+use spice_reader::{SpiceFault, read_spice};
+use std::alloc::Global;
+use vrt_model::{Blif, Design, NoMemory, Rules, Text};
+
+/// Why no cell is compared.
+#[derive(Debug, Drop)]
+pub enum Refusal {
+    /// A file is refused, with this line.
+    Told(Text),
+    /// Memory was wanting.
+    NoMemory,
+}
+
+/// What the three files say.
+#[derive(Debug, Drop)]
+pub struct Inputs {
+    pub design: Design,
+    pub blif: Blif,
+    pub rules: Rules,
+}
+
+/// The refusal with a line.
+fn told(line: Result<Text, NoMemory>) -> Refusal
+    ensures { MatchResult line (λ text. result ≡ Refusal.Told text) (λ _. result ≡ Refusal.NoMemory) }
+{
+    match line {
+        Ok(text) => Refusal::Told(text),
+        Err(_) => Refusal::NoMemory,
+    }
+}
+
+/// The cells of a netlist.
+fn read_netlist(alloc: Global, word: &str, bytes: &[u8]) -> Result<Design, Refusal>
+    requires { length bytes.now ≤ 16777216 }
+    ensures ok { IfOk result (λ d. IsNetlist (netlist_cards_of bytes.now) × (d ≡ design_of (netlist_cards_of bytes.now))) }
+    ensures fit { IfOk result IsDesign }
+    ensures err { IfErr result (Tells (OfNetlist word.now bytes.now)) }
+{
+    match read_spice(alloc, bytes) {
+        Ok(design) => Ok(design),
+        Err(SpiceFault::NoMemory) => Err(Refusal::NoMemory),
+        Err(fault) => Err(told(messages::spice_refusal(alloc, word.as_bytes(), &fault))),
+    }
+}
+
+/// The models of a text.
+fn read_models(alloc: Global, word: &str, bytes: &[u8]) -> Result<Blif, Refusal>
+    requires { length bytes.now ≤ 16777216 }
+    ensures ok { IfOk result (λ b. IsClean models_fault_of (models_cards_of bytes.now) × (b ≡ blif_of (models_cards_of bytes.now))) }
+    ensures fit { IfOk result IsBlif }
+    ensures err { IfErr result (Tells (OfModels word.now bytes.now)) }
+{
+    match read_blif(alloc, bytes) {
+        Ok(blif) => Ok(blif),
+        Err(BlifFault::NoMemory) => Err(Refusal::NoMemory),
+        Err(fault) => Err(told(messages::blif_refusal(alloc, word.as_bytes(), &fault))),
+    }
+}
+
+/// The rules of a text.
+fn read_lines(alloc: Global, word: &str, bytes: &[u8]) -> Result<Rules, Refusal>
+    requires { length bytes.now ≤ 16777216 }
+    ensures ok { IfOk result (λ r. IsClean rules_fault_of (rules_cards_of bytes.now) × AreRulesOf (rules_cards_of bytes.now) r) }
+    ensures fit { IfOk result AreRules }
+    ensures err { IfErr result (Tells (OfRules word.now bytes.now)) }
+{
+    match read_rules(alloc, bytes) {
+        Ok(rules) => Ok(rules),
+        Err(RulesFault::NoMemory) => Err(Refusal::NoMemory),
+        Err(fault) => Err(told(messages::rules_refusal(alloc, word.as_bytes(), &fault))),
+    }
+}
+
+/// The refusal of models with a fault.
+fn unrolling_refusal(alloc: Global, word: &str, fault: &ModelFault) -> Refusal
+    ensures { (blif : BlifValue) → (fault.now ≡ ModelFault.NoMemory) ⊎ IsModelFault blif fault.now → Tells (OfUnrolling word.now blif) result }
+{
+    match fault {
+        ModelFault::NoMemory => Refusal::NoMemory,
+        _ => told(messages::models_refusal(alloc, word.as_bytes(), fault)),
+    }
+}
+
+/// Refuses models that cannot be unrolled.
+fn check(alloc: Global, word: &str, blif: &Blif) -> Result<(), Refusal>
+    requires { IsBlif blif.now }
+    ensures ok { IfOk result (λ _. AreModels blif.now) }
+    ensures err { IfErr result (Tells (OfUnrolling word.now blif.now)) }
+{
+    match check_models(alloc, blif) {
+        Ok(()) => Ok(()),
+        Err(fault) => Err(unrolling_refusal(alloc, word, &fault)),
+    }
+}
+
+/// Reads the netlist, the models and the rules, and refuses models that cannot be unrolled: the first refusal in this
+/// order.
+pub fn read_inputs(alloc: Global, words: &FileWords<'_>, texts: &Texts) -> Result<Inputs, Refusal>
+    requires spice { vec_len texts.now.spice ≤ 16777216 }
+    requires blif { vec_len texts.now.blif ≤ 16777216 }
+    requires rules { vec_len texts.now.rules ≤ 16777216 }
+    ensures ok { IfOk result (λ i. AreRead (given words.now texts.now) i.design i.blif i.rules) }
+    ensures fit { IfOk result (λ i. AreFit i.design i.blif i.rules) }
+    ensures err { IfErr result (Tells (IsRefusal (given words.now texts.now))) }
+{
+    let design = read_netlist(alloc, words.spice, texts.spice.as_slice())?;
+    let blif = read_models(alloc, words.blif, texts.blif.as_slice())?;
+    let rules = read_lines(alloc, words.rules, texts.rules.as_slice())?;
+    check(alloc, words.blif, &blif)?;
+    Ok(Inputs {
+        design,
+        blif,
+        rules,
+    })
+}
