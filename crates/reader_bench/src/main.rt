@@ -1,51 +1,45 @@
-//! Makes a large netlist, reads it, and prints what it has. The words are `spice CELLS CARDS`, with CARDS for each cell,
-//! and `make` behind them where the text is made and not read. bench/readers times both.
+//! Makes a large text, reads it, and prints what it has. The words are a kind of text, its two sizes, and `make` behind them
+//! where the text is made and not read. bench/readers times both.
+//!
+//! | words | the text |
+//! |---|---|
+//! | `spice CELLS CARDS` | cells of so many transistors each |
+//! | `blif MODELS CARDS` | models of so many covers each, every one behind the cover before it; they are checked too |
+//! | `cover INPUTS ROWS` | one model with one cover of so many inputs and rows |
+//! | `rules CELLS LINES` | so many rules for each of so many cells |
 #![tactic(auto)]
 
+mod models;
+mod netlists;
+mod rules;
+
 use anyhow::{Result, bail};
-use spice_reader::read_spice;
 use std::alloc::Global;
 use std::env;
 
+/// The most bytes of a text that a reader takes.
 const MOST_BYTES: usize = 16_777_216;
 
-// Adds a cell of transistors, in upper and lower case, with parameters, comments and a line that goes on.
-fn add_cell(alloc: Global, text: &mut String, cell: u32, cards: u32) -> Result<()> {
-    let head = format!(in alloc; ".SUBCKT cell{cell} a b y vdd gnd params: k=1\n")?;
-    text.push_str(head.as_str())?;
-    for card in 0..cards {
-        let line = format!(in alloc;
-            "MN{card} n{card} A m{card} gnd nch W = 0.80u\n+ L=0.13u $ {cell}\n"
-        )?;
-        text.push_str(line.as_str())?;
+/// The text of a kind, with its two sizes.
+fn made(alloc: Global, kind: &str, first: u32, second: u32) -> Result<String> {
+    match kind {
+        "blif" => models::chains(alloc, first, second),
+        "cover" => models::cover(alloc, first, second),
+        "rules" => rules::strengths(alloc, first, second),
+        _ => netlists::cells(alloc, first, second),
     }
-    text.push_str(".ENDS\n")?;
-    Ok(())
 }
 
-// A netlist of cells, each of so many cards.
-fn netlist(alloc: Global, cells: u32, cards: u32) -> Result<String> {
-    let mut text = String::new(alloc);
-    text.push_str("cells\n.global vdd gnd\n.model nch nmos(level=1)\n")?;
-    for cell in 0..cells {
-        add_cell(alloc, &mut text, cell, cards)?;
-    }
-    Ok(text)
-}
-
-// How many cells and transistors the netlist of a text has.
-fn counts(alloc: Global, text: &[u8]) -> Result<(usize, usize)> {
+/// What the text of a kind has, once it is read.
+fn counted(alloc: Global, kind: &str, text: &[u8]) -> Result<String> {
     if text.len() > MOST_BYTES {
         bail!("more than {MOST_BYTES} bytes");
     }
-    let Ok(design) = read_spice(alloc, text) else {
-        bail!("refused");
-    };
-    let mut devices = 0usize;
-    for cell in design.cells.as_slice() {
-        devices = devices.saturating_add(cell.devices.len());
+    match kind {
+        "blif" | "cover" => models::counted(alloc, text),
+        "rules" => rules::counted(alloc, text),
+        _ => netlists::counted(alloc, text),
     }
-    Ok((design.cells.len(), devices))
 }
 
 fn number(words: &[String], at: usize) -> u32 {
@@ -56,17 +50,15 @@ fn number(words: &[String], at: usize) -> u32 {
 
 fn main(rt: HostRuntime) -> Result<()> {
     let words = env::args(&rt)?.collect::<Vec<String>>(rt.alloc())?;
-    let text = netlist(
-        rt.alloc(),
-        number(words.as_slice(), 2),
-        number(words.as_slice(), 3),
-    )?;
+    let words = words.as_slice();
+    let kind = words.get(1).map_or("spice", |word| word.as_str());
+    let text = made(rt.alloc(), kind, number(words, 2), number(words, 3))?;
     let bytes = text.len();
     if words.len() > 4 {
         println!(rt; "{bytes} bytes")?;
         return Ok(());
     }
-    let (cells, devices) = counts(rt.alloc(), text.as_bytes())?;
-    println!(rt; "{bytes} bytes, {cells} cells, {devices} transistors")?;
+    let counts = counted(rt.alloc(), kind, text.as_bytes())?;
+    println!(rt; "{bytes} bytes, {counts}")?;
     Ok(())
 }
