@@ -8,6 +8,3 @@ mod marks;
 mod trail;
 
 pub use cycle::first_cycle;
-
-#[cfg(test)]
-mod tests;
