@@ -1,4 +1,4 @@
-use crate::{PairFault, is_skipped, model_of, pair_ports};
+use crate::{PairFault, model_of, pair_ports};
 use blif_reader::read_blif;
 use spice_reader::read_spice;
 use std::rt::HostRuntime;
@@ -80,25 +80,6 @@ fn pairs_by_rules(rt: HostRuntime) -> anyhow::Result<()> {
     for (cell, want) in [(0, None), (1, None), (2, Some(2)), (3, Some(4))] {
         let found = paired(&rt, &rules, cell)?;
         assert!(rt; found == want);
-    }
-    Ok(())
-}
-
-// A cell is skipped where its rule names no model, and not where the model that it names, or any, is missing.
-#[test]
-fn skips_by_rules(rt: HostRuntime) -> anyhow::Result<()> {
-    let spice = b"* t\n.subckt inv a y\n.ends\n.subckt buf a y\n.ends\n.subckt nor a y\n.ends\n";
-    let design = read_spice(rt.alloc(), spice.as_slice()).map_err(|_| anyhow::anyhow!("spice"))?;
-    let mut rules = no_rules(&rt);
-    for (cell, model) in [
-        (b"inv".as_slice(), None),
-        (b"buf".as_slice(), Some(b"missing".as_slice())),
-    ] {
-        let rule = pair(&rt, cell, model).map_err(|_| anyhow::anyhow!("memory"))?;
-        add(&mut rules.pairs, rule)?;
-    }
-    for (cell, want) in [(0, true), (1, false), (2, false), (3, false)] {
-        assert!(rt; is_skipped(&design, &rules, cell) == want);
     }
     Ok(())
 }
