@@ -5,7 +5,7 @@ use Rattle.std.proofs.lemmas.Bool.{and_from, cases_eq, cases_lt, cond-false, con
 use Rattle.std.proofs.lemmas.Option.{none-some, same_Some, slice_get_within}
 use Rattle.channel_parts.proofs.GroupLaws.{below_or_at}
 use Rattle.channel_parts.proofs.Labels.{together_further}
-use Rattle.channel_parts.proofs.Opened.{is_plain_is, plain_is}
+use Rattle.channel_parts.proofs.NetKinds.{is_plain_is, plain_is}
 use Rattle.channel_parts.proofs.PartLaws.{device_inside, inside_device, same_least_net, there_at}
 use Rattle.channel_parts.proofs.RankLaws.{arc_gate, together_back, unknown_entry, unknown_gate, unknown_parts}
 use Rattle.channel_parts.specs.Groups.{IsPlaced, device_owner}
@@ -13,7 +13,7 @@ use Rattle.channel_parts.specs.KnownTables.{known_at}
 use Rattle.channel_parts.specs.Labels.{AreBelow}
 use Rattle.channel_parts.specs.NetGraphs.{Adds, IsArc, IsDeviceArc, IsDeviceArcBelow, IsNetArc, IsNetArcBelow, IsNetGraph, IsOneNetArc}
 use Rattle.channel_parts.specs.OneSolution.{IsKnownTable}
-use Rattle.channel_parts.specs.OpenNets.{is_plain_at}
+use Rattle.channel_parts.specs.Conduction.{is_plain_at}
 use Rattle.channel_parts.specs.Ranks.{AreLeast, has_unknown_gate}
 use Rattle.graph_cycles.proofs.Lists.{walk_further}
 use Rattle.graph_cycles.specs.Graphs.{ArcIn, AreInside}

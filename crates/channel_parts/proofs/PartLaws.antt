@@ -17,14 +17,14 @@ use Rattle.std.proofs.lemmas.List.Sorted.{sorted_far}
 use Rattle.std.proofs.lemmas.Option.{get_or_from_slice_get, none-some, same_Some, slice_get_within}
 use Rattle.channel_parts.proofs.GroupLaws.{at_last}
 use Rattle.channel_parts.proofs.Labels.{channel_may, may_channel, together_further}
-use Rattle.channel_parts.proofs.Opened.{is_plain_is, plain_is}
+use Rattle.channel_parts.proofs.NetKinds.{is_plain_is, plain_is}
 use Rattle.channel_parts.proofs.RankLaws.{rank_arc_gate, together_back}
 use Rattle.channel_parts.specs.Groups.{AreGroups, AreMade, IsMade, device_owner, device_owner_at, is_head, net_owner}
 use Rattle.channel_parts.specs.KnownTables.{known_at}
 use Rattle.channel_parts.specs.Labels.{IsLeastTogether, may_conduct}
 use Rattle.channel_parts.specs.Listings.{AreInOrder, order_cmp, same_net}
 use Rattle.channel_parts.specs.OneSolution.{IsKnownTable}
-use Rattle.channel_parts.specs.OpenNets.{conduction_of, is_plain_at}
+use Rattle.channel_parts.specs.Conduction.{conduction_of, is_plain_at}
 use Rattle.channel_parts.specs.PartLists.{AreParts, IsBefore, IsPartOf, IsRising, device_numbers, least_of, net_numbers}
 use Rattle.channel_parts.specs.declared.part.Part.{Part}
 use Rattle.vrt_model.proofs.Filtered.{among_kept, device_among, filter_among}

@@ -7,7 +7,7 @@ use Rattle.std.proofs.lemmas.Option.{none-some, same_Some, slice_get_within}
 use Rattle.channel_parts.proofs.Acyclic.{none_behind}
 use Rattle.channel_parts.proofs.GroupLaws.{below_or_at, owned}
 use Rattle.channel_parts.proofs.Labels.{together_further}
-use Rattle.channel_parts.proofs.Opened.{plain_is}
+use Rattle.channel_parts.proofs.NetKinds.{plain_is}
 use Rattle.channel_parts.proofs.PartLaws.{device_inside, inside_device, owner_plain, plain_owner, same_least_net}
 use Rattle.channel_parts.proofs.RankLaws.{rank_arc_gate, rank_given, rank_plain, together_back, unknown_entry, unknown_gate, unknown_parts}
 use Rattle.channel_parts.specs.Groups.{IsPlaced, device_owner, net_owner}
@@ -15,7 +15,7 @@ use Rattle.channel_parts.specs.KnownTables.{known_at}
 use Rattle.channel_parts.specs.Labels.{AreBelow}
 use Rattle.channel_parts.specs.Levels.{AreInside, AreLevels, AreStuck, sources_at}
 use Rattle.channel_parts.specs.OneSolution.{IsKnownTable}
-use Rattle.channel_parts.specs.OpenNets.{is_plain_at}
+use Rattle.channel_parts.specs.Conduction.{is_plain_at}
 use Rattle.channel_parts.specs.Ranks.{AreLeast, IsAcyclicArcs, has_unknown_gate, rank_by}
 use Rattle.channel_parts.specs.Sources.{AreSources, HasJoined, IsBetween, device_source}
 use Rattle.plain_paths.specs.FlatCircuits.{IsFlat}

@@ -1,7 +1,7 @@
 -- Numbers in groups by their owners: the nets and the devices of each part, at the least net of the part.
 use Rattle.std.specs.Prelude.{◌≡◌, ℕ, ◌<◌, ◌↔◌, ◌&&◌, Bool, cond, List, [], ◌∷◌, ◌++◌, None, Option, Some, length, option_map, slice_get, slice_index, unwrap_or, ◌==◌}
 use Rattle.channel_parts.specs.Labels.{may_conduct}
-use Rattle.channel_parts.specs.OpenNets.{conduction_of, is_plain_at}
+use Rattle.channel_parts.specs.Conduction.{conduction_of, is_plain_at}
 use Rattle.channel_parts.specs.PartLists.{IsRising, device_numbers, net_numbers}
 use Rattle.channel_parts.specs.declared.part.Part.{Part}
 use Rattle.vrt_model.specs.Lists.{At, Among}

@@ -1,4 +1,6 @@
+pub mod Conduction
 pub mod Groups
+pub mod Incidence
 pub mod KnownTables
 pub mod Labels
 pub mod Learned
@@ -6,10 +8,11 @@ pub mod Levels
 pub mod Listings
 pub mod NetGraphs
 pub mod OneSolution
-pub mod OpenNets
 pub mod Orders
 pub mod PartLists
 pub mod Ranks
+pub mod Regions
 pub mod Sources
-pub mod Ties
+pub mod Spreads
 pub mod Unions
+pub mod Waits

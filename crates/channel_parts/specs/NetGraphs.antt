@@ -2,7 +2,7 @@
 -- that are not known. The numbers of the nets come first, and behind them, in their order, the parts by their least nets.
 use Rattle.std.specs.Prelude.{◌≡◌, ℕ, ◌+◌, ◌<◌, ◌⊎◌, Bool, true, List, Option, Some, length, slice_index}
 use Rattle.channel_parts.specs.Groups.{device_owner}
-use Rattle.channel_parts.specs.OpenNets.{is_plain_at}
+use Rattle.channel_parts.specs.Conduction.{is_plain_at}
 use Rattle.channel_parts.specs.Ranks.{has_unknown_gate}
 use Rattle.graph_cycles.specs.Graphs.{ArcIn}
 use Rattle.vrt_model.specs.Lists.{At}

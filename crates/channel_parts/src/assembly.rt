@@ -1,9 +1,9 @@
 //! The channel-connected parts of a circuit with their devices, by rank.
 
-ghost use Rattle.std.specs.Prelude.{◌≡◌, ℕ, ◌<◌, ◌++◌, ◌∷◌, [], List, Ok, Err, false, true, filter, length, replicate, slice_index, IfOk, OnOk};
+ghost use Rattle.std.specs.Prelude.{◌≡◌, ℕ, ◌<◌, ◌++◌, ◌∷◌, [], Ok, Err, false, true, filter, length, replicate, slice_index, IfOk, OnOk};
 ghost use Rattle.channel_parts.specs.Groups.{AreMade, IsMade, is_head};
 ghost use Rattle.channel_parts.specs.KnownTables.{known_at};
-ghost use Rattle.channel_parts.specs.Labels.{AreBelow, IsLeastTogether};
+ghost use Rattle.channel_parts.specs.Labels.{IsLeastTogether};
 ghost use Rattle.channel_parts.specs.OneSolution.{IsKnownTable};
 ghost use Rattle.channel_parts.specs.PartLists.{AreParts, PartsGive, device_numbers, net_numbers};
 ghost use Rattle.plain_paths.specs.FlatCircuits.{IsFlat};

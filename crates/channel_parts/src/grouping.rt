@@ -2,12 +2,11 @@
 
 ghost use Rattle.std.specs.Prelude.{◌≡◌, ℕ, ◌<◌, ◌++◌, ◌∷◌, [], List, length, IfOk, OnOk};
 ghost use Rattle.channel_parts.specs.Groups.{AreGroups, IsPlaced, device_owner, device_owner_at, net_owner};
-ghost use Rattle.channel_parts.specs.Labels.{AreBelow};
 ghost use Rattle.plain_paths.specs.FlatCircuits.{IsFlat};
 ghost use Rattle.vrt_model.specs.Lists.{At};
 
+use crate::conduction::{conduction, is_plain};
 use crate::least::{is_in, may_conduct};
-use crate::opening::{conduction, is_plain};
 use std::alloc::Global;
 use vrt_model::{Circuit, Device, NoMemory, Seq};
 

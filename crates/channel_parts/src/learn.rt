@@ -1,41 +1,20 @@
-//! Which nets become known, by what they show where the known gates have their bits.
+//! Learning the bits that the nets of a shut region show.
 
-ghost use Rattle.std.specs.Prelude.{◌≡◌, ℕ, ◌<◌, ◌≤◌, ◌⊎◌, ◌↔◌, Bool, Some, false, true, is_some, length, vec_len};
+ghost use Rattle.std.specs.Prelude.{◌≡◌, ℕ, ◌<◌, ◌≤◌, ◌⊎◌, Bool, Some, false, true, is_some, length, IfOk};
+ghost use Rattle.channel_parts.specs.Incidence.{HasGates};
 ghost use Rattle.channel_parts.specs.KnownTables.{known_at};
-ghost use Rattle.channel_parts.specs.Learned.{IsLearned, shown_of, unknown};
+ghost use Rattle.channel_parts.specs.Learned.{shown_of, unknown};
+ghost use Rattle.channel_parts.specs.Regions.{HasMarkedEnds};
+ghost use Rattle.channel_parts.specs.Waits.{HasWaited};
+ghost use Rattle.vrt_model.specs.Lists.{Among};
 
-use crate::opening::{is_plain, known_bit};
-use plain_paths::{Response, Signals};
-use vrt_model::Circuit;
-
-/// The bit that a net shows.
-fn shown(signals: &Signals, net: usize) -> Option<bool>
-    requires zeros { net < vec_len signals.now.zeros }
-    requires ones { net < vec_len signals.now.ones }
-    ensures { result ≡ shown_of signals.now.zeros.items signals.now.ones.items net }
-{
-    match signals.response(net) {
-        Response::Bit(bit) => Some(bit),
-        _ => None,
-    }
-}
-
-/// The bit that a net is to have: the one that it shows, where it is plain and not open.
-fn bit_of(circuit: &Circuit, marks: &[bool], signals: &Signals, net: usize) -> Option<bool>
-    requires marks { net < length marks.now }
-    requires zeros { net < vec_len signals.now.zeros }
-    requires ones { net < vec_len signals.now.ones }
-    ensures { (v : Bool) → (result ≡ Some v) ↔ IsLearned circuit.now marks.now signals.now.zeros.items signals.now.ones.items net v }
-{
-    if !marks[net] && is_plain(circuit, net) {
-        shown(signals, net)
-    } else {
-        None
-    }
-}
+use crate::conduction::known_bit;
+use crate::signals::shown;
+use crate::waiting::wait_at;
+use vrt_model::{Circuit, NoMemory, Seq};
 
 /// Notes the bit of a net that is not known yet, if there is one, and says whether it did.
-pub(crate) fn note(known: &mut [Option<bool>], net: usize, bit: Option<bool>) -> bool
+fn note(known: &mut [Option<bool>], net: usize, bit: Option<bool>) -> bool
     requires { net < length known.old }
     ensures grown { (n : ℕ) (v : Bool) → known_at known.old n ≡ Some v → known_at known.new n ≡ Some v }
     ensures noted { is_some bit ≡ true → is_some (known_at known.new net) ≡ true }
@@ -52,27 +31,69 @@ pub(crate) fn note(known: &mut [Option<bool>], net: usize, bit: Option<bool>) ->
     }
 }
 
-/// Learns the nets that show one bit and are not open, and says whether any was not known before.
+/// Notes the bit of a net that is not known yet, if there is one; the nets at the devices that it gates are then to be
+/// looked at. Says whether it did.
+fn learn_net(
+    circuit: &Circuit,
+    gates: &[Seq<u32>],
+    net: usize,
+    bit: Option<bool>,
+    known: &mut [Option<bool>],
+    pending: &mut [bool],
+    waiting: &mut Vec<usize>,
+) -> Result<bool, NoMemory>
+    requires net { net < length known.old }
+    requires known { length known.old ≡ length circuit.now.nets }
+    requires count { length gates.now ≡ length circuit.now.nets }
+    requires gates { HasGates circuit.now (length circuit.now.devices) gates.now }
+    requires pending { length pending.old ≡ length circuit.now.nets }
+    ensures grown { IfOk result (λ _. (n : ℕ) (v : Bool) → known_at known.old n ≡ Some v → known_at known.new n ≡ Some v) }
+    ensures noted { IfOk result (λ _. is_some bit ≡ true → is_some (known_at known.new net) ≡ true) }
+    ensures only { IfOk result (λ _. (n : ℕ) (v : Bool) → known_at known.new n ≡ Some v → (known_at known.old n ≡ Some v) ⊎ ((n ≡ net) × (bit ≡ Some v))) }
+    ensures waited { IfOk result (λ _. HasWaited circuit.now pending.old pending.new waiting.old.items waiting.new.items) }
+    ensures ends { IfOk result (λ _. HasMarkedEnds circuit.now known.old known.new pending.new) }
+    ensures same { IfOk result (λ more. more ≡ false → (known.new ≡ known.old) × (waiting.new.items ≡ waiting.old.items)) }
+    ensures falls { IfOk result (λ _. unknown known.new ≤ unknown known.old) }
+    ensures less { IfOk result (λ more. more ≡ true → unknown known.new < unknown known.old) }
+{
+    let noted = note(known, net, bit);
+    if noted {
+        wait_at(circuit, gates[net].as_slice(), pending, waiting)?;
+        Ok(true)
+    } else {
+        Ok(false)
+    }
+}
+
+/// Notes the bits that these nets show, and says whether any was not known before.
 pub(crate) fn learn(
     circuit: &Circuit,
-    marks: &[bool],
-    signals: &Signals,
+    gates: &[Seq<u32>],
+    nets: &[usize],
+    zeros: &[u8],
+    ones: &[u8],
     known: &mut [Option<bool>],
-) -> bool
-    requires marks { length marks.now ≡ length known.old }
-    requires zeros { vec_len signals.now.zeros ≡ length known.old }
-    requires ones { vec_len signals.now.ones ≡ length known.old }
-    ensures grown { (n : ℕ) (v : Bool) → known_at known.old n ≡ Some v → known_at known.new n ≡ Some v }
-    ensures found { (n : ℕ) (v : Bool) → n < length known.old → IsLearned circuit.now marks.now signals.now.zeros.items signals.now.ones.items n v → is_some (known_at known.new n) ≡ true }
-    ensures only { (n : ℕ) (v : Bool) → known_at known.new n ≡ Some v → (known_at known.old n ≡ Some v) ⊎ IsLearned circuit.now marks.now signals.now.zeros.items signals.now.ones.items n v }
-    ensures same { result ≡ false → known.new ≡ known.old }
-    ensures less { result ≡ true → unknown known.new < unknown known.old }
+    pending: &mut [bool],
+    waiting: &mut Vec<usize>,
+) -> Result<bool, NoMemory>
+    requires nets { (n : ℕ) → Among nets.now n → n < length known.old }
+    requires known { length known.old ≡ length circuit.now.nets }
+    requires count { length gates.now ≡ length circuit.now.nets }
+    requires gates { HasGates circuit.now (length circuit.now.devices) gates.now }
+    requires pending { length pending.old ≡ length circuit.now.nets }
+    ensures grown { IfOk result (λ _. (n : ℕ) (v : Bool) → known_at known.old n ≡ Some v → known_at known.new n ≡ Some v) }
+    ensures found { IfOk result (λ _. (n : ℕ) → Among nets.now n → is_some (shown_of zeros.now ones.now n) ≡ true → is_some (known_at known.new n) ≡ true) }
+    ensures only { IfOk result (λ _. (n : ℕ) (v : Bool) → known_at known.new n ≡ Some v → (known_at known.old n ≡ Some v) ⊎ (Among nets.now n × (shown_of zeros.now ones.now n ≡ Some v))) }
+    ensures waited { IfOk result (λ _. HasWaited circuit.now pending.old pending.new waiting.old.items waiting.new.items) }
+    ensures ends { IfOk result (λ _. HasMarkedEnds circuit.now known.old known.new pending.new) }
+    ensures same { IfOk result (λ more. more ≡ false → (known.new ≡ known.old) × (waiting.new.items ≡ waiting.old.items)) }
+    ensures less { IfOk result (λ more. more ≡ true → unknown known.new < unknown known.old) }
 {
-    let mut changed = false;
-    for net in 0..known.len() {
-        let bit = bit_of(circuit, marks, signals, net);
-        let noted = note(known, net, bit);
-        changed |= noted;
+    let mut more = false;
+    for net in nets {
+        let bit = shown(zeros, ones, *net);
+        let learned = learn_net(circuit, gates, *net, bit, known, pending, waiting)?;
+        more |= learned;
     }
-    changed
+    Ok(more)
 }

@@ -13,7 +13,7 @@ ghost use Rattle.vrt_model.specs.Reading.{is_in};
 ghost use Rattle.vrt_model.specs.declared.circuit.Device.{Device as DeviceValue};
 ghost use Rattle.vrt_model.specs.declared.rules.Phase.{Phase as PhaseValue};
 
-use crate::opening::{conduction, is_plain};
+use crate::conduction::{conduction, is_plain};
 use crate::unions::{flatten, join};
 use std::alloc::Global;
 use vrt_model::{Circuit, Device, NoMemory};

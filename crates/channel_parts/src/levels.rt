@@ -1,8 +1,8 @@
 //! Levels of a graph: each number is one above the greatest of its sources, the numbers from which arcs lead to it (A. B.
 //! Kahn, Topological sorting of large networks, Communications of the ACM 5, 1962). Each arc is looked at twice.
 
-ghost use Rattle.std.specs.Prelude.{◌≡◌, ℕ, ◌<◌, ◌≤◌, ◌⊎◌, ◌+◌, ◌++◌, ◌∷◌, [], false, true, List, None, Some, length, nat_lt, replicate, set, slice_get, slice_index, IfOk, OnOk};
-ghost use Rattle.channel_parts.specs.Levels.{AreInside, AreLevels, AreStuck, HasPassed, IsFirstOpen, IsLevelled, IsLevelling, IsWaitingAt, sources_at, without_level};
+ghost use Rattle.std.specs.Prelude.{◌≡◌, ℕ, ◌<◌, ◌≤◌, ◌⊎◌, ◌+◌, ◌++◌, ◌∷◌, [], false, true, List, Some, length, nat_lt, replicate, set, slice_get, slice_index, IfOk, OnOk};
+ghost use Rattle.channel_parts.specs.Levels.{AreInside, AreLevels, AreStuck, IsFirstOpen, IsLevelled, IsLevelling, IsWaitingAt, sources_at, without_level};
 ghost use Rattle.vrt_model.specs.Lists.{At, Among};
 ghost use Rattle.channel_parts.specs.declared.levels.Waiter.{Waiter as WaiterValue};
 

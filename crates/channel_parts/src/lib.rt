@@ -3,21 +3,26 @@
 #![tactic(auto)]
 
 mod assembly;
+mod conduction;
 mod cycle;
 mod fixed;
 mod grouping;
+mod incidence;
 mod known;
 mod learn;
 mod least;
 mod levels;
 mod listing;
+mod lists;
 mod net_graph;
-mod opening;
 mod part;
 mod ranking;
+mod region;
+mod signals;
 mod sources;
-mod ties;
+mod spread;
 mod unions;
+mod waiting;
 
 pub use assembly::parts;
 pub use known::known_nets;
@@ -25,6 +30,8 @@ pub use least::least_nets;
 pub use listing::in_order;
 pub use part::{Part, PartFault, Parts};
 
+#[cfg(test)]
+mod known_tests;
 #[cfg(test)]
 mod part_tests;
 #[cfg(test)]

@@ -1,10 +1,9 @@
 //! The plain nets in the order of parts: by rank, in a rank by the least net of the part, in a part net by net.
 
-ghost use Rattle.std.specs.Prelude.{◌≡◌, ℕ, ◌<◌, length, slice_get, slice_index, Some, IfOk};
+ghost use Rattle.std.specs.Prelude.{◌≡◌, length, IfOk};
 ghost use Rattle.channel_parts.specs.Listings.{AreInOrder, AreKeys, plain_pairs_of};
-ghost use Rattle.plain_paths.specs.FlatCircuits.{IsFlat};
 
-use crate::opening::is_plain;
+use crate::conduction::is_plain;
 use std::alloc::Global;
 use vrt_model::{Circuit, NoMemory};
 

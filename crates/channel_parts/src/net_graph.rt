@@ -5,8 +5,8 @@ ghost use Rattle.std.specs.Prelude.{◌≡◌, ◌+◌, ◌<◌, length, IfOk, O
 ghost use Rattle.channel_parts.specs.NetGraphs.{Adds, IsArc, IsDeviceArc, IsDeviceArcBelow, IsNetArcBelow, IsNetGraph, IsOneNetArc};
 ghost use Rattle.plain_paths.specs.FlatCircuits.{IsFlat};
 
+use crate::conduction::is_plain;
 use crate::grouping::{device_owner, no_groups, place, small};
-use crate::opening::is_plain;
 use crate::ranking::has_unknown_gate;
 use std::alloc::Global;
 use vrt_model::{Circuit, Device, NoMemory, Seq};

@@ -5,14 +5,13 @@ ghost use Rattle.std.specs.List.{list_all};
 ghost use Rattle.channel_parts.specs.KnownTables.{known_at};
 ghost use Rattle.channel_parts.specs.Labels.{AreBelow};
 ghost use Rattle.channel_parts.specs.OneSolution.{IsKnownTable};
-ghost use Rattle.channel_parts.specs.OpenNets.{is_plain_at};
 ghost use Rattle.channel_parts.specs.Ranks.{AreLeast, IsAcyclicArcs, has_unknown_gate, rank_by};
 ghost use Rattle.plain_paths.specs.FlatCircuits.{IsFlat};
 ghost use Rattle.vrt_model.specs.Known.{IsRanking};
 ghost use Rattle.vrt_model.specs.declared.rules.Phase.{Phase as PhaseValue};
 
+use crate::conduction::{is_plain, known_bit};
 use crate::levels::levels_of;
-use crate::opening::{is_plain, known_bit};
 use crate::sources::sources_by_part;
 use std::alloc::Global;
 use vrt_model::{Circuit, Device, NoMemory};

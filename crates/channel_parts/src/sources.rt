@@ -1,6 +1,6 @@
 //! The parts from which arcs lead to each part, at the least nets of the parts.
 
-ghost use Rattle.std.specs.Prelude.{◌≡◌, ℕ, ◌<◌, List, length, IfOk, OnOk};
+ghost use Rattle.std.specs.Prelude.{◌≡◌, ◌<◌, length, IfOk, OnOk};
 ghost use Rattle.channel_parts.specs.Labels.{AreBelow};
 ghost use Rattle.channel_parts.specs.Levels.{AreInside};
 ghost use Rattle.channel_parts.specs.Sources.{AreSources, HasJoined, device_source};

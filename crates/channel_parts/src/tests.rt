@@ -123,7 +123,7 @@ pub(crate) fn phase(alloc: Global) -> Result<Phase, NoMemory> {
 }
 
 /// The circuit has these known nets, by net.
-fn knows(
+pub(crate) fn knows(
     rt: &impl Abort,
     alloc: Global,
     circuit: &Circuit,

@@ -1,6 +1,6 @@
 use Rattle.std.proofs.Common.{◌≡◌, Bool, List, Option, drop, length, arith, subst, sym, ◌∙◌}
 use Rattle.std.proofs.lemmas.List.{take_at}
-use Rattle.channel_parts.proofs.TurnLaws.{fixed_has, fixed_known, fixed_table}
+use Rattle.channel_parts.proofs.TableLaws.{fixed_has, fixed_known, fixed_table}
 use Rattle.channel_parts.specs.KnownTables.{AreKnown, HasFixedNets, known_at}
 use Rattle.channel_parts.specs.OneSolution.{IsKnownTable}
 use Rattle.channel_parts.proofs.known.known_nets.Goals as goal
@@ -9,7 +9,7 @@ pub returns-clause-known : goal.returns-clause-known
 returns-clause-known c =
     let circuit = c.args.circuit.now in
     let phase = c.args.phase.now in
-    let first : c.deref_mut.result.now ≡ fixed_table circuit phase = c.deref_mut.ensures.value ∙ c.in_ok-known.ensures in
+    let first : c.deref_mut-2.result.now ≡ fixed_table circuit phase = c.deref_mut-2.ensures.value ∙ c.in_ok-known.ensures in
     subst (λ (t : List (Option Bool)). IsKnownTable circuit phase (known_at t))
     (sym (take_at c.fill.new.known (drop (length c.fill.new.known) c.in_ok-known.known.items) c.in_ok-known.known.len (omega arith)))
     (c.in_ok-fill.ensures phase

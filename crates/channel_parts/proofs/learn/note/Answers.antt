@@ -1,6 +1,6 @@
 use Rattle.std.proofs.Common.{◌≡◌, Bool, true, not, arith, ap, sym, ◌∙◌}
 use Rattle.std.specs.Prelude.{is_none, is_some}
-use Rattle.channel_parts.proofs.TurnLaws.{known_less}
+use Rattle.channel_parts.proofs.TableLaws.{known_less}
 use Rattle.channel_parts.specs.KnownTables.{known_at}
 use Rattle.channel_parts.proofs.learn.note.Goals as goal
 
