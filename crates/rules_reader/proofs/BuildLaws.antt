@@ -9,7 +9,7 @@ use Rattle.rules_reader.specs.Refused.{known_by}
 use Rattle.rules_reader.specs.Tables.{AreRulesOf, all_from, clocks_of, on_card, phases_in, table}
 use Rattle.rules_reader.specs.Tables.{supplies_in, devices_in, strengths_in, clockports_in, defaultclocks_in, pairs_in, ports_in, holds_in, keepers_in, matches_in, instance_matches_in, enters_in, observes_in, assumes_in}
 use Rattle.rules_reader.specs.declared.cards.Card.{Card}
-use Rattle.rules_reader.specs.declared.entry.Entry.{Entry}
+use Rattle.rules_lines.specs.declared.entry.Entry.{Entry}
 use Rattle.rules_reader.specs.declared.known.Known.{Known}
 use Rattle.vrt_model.specs.declared.rules.Phase.{Phase}
 use Rattle.vrt_model.specs.declared.rules.Rules.{Rules}

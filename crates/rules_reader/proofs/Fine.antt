@@ -8,7 +8,7 @@ use Rattle.rules_reader.specs.Learned.{learned_by, learned_from}
 use Rattle.rules_reader.specs.Refused.{clocks_named, entry_fault, entry_faults, fault_of, first_missing, has_bad_expression, has_bad_number, is_misplaced, key_texts, known_by, known_from, passes_limit, phases_named, saying_fault}
 use Rattle.rules_reader.specs.Tables.{told, told_on}
 use Rattle.rules_reader.specs.declared.cards.Card.{Card}
-use Rattle.rules_reader.specs.declared.entry.Entry.{Entry}
+use Rattle.rules_lines.specs.declared.entry.Entry.{Entry}
 use Rattle.rules_reader.specs.declared.faults.RulesFault.TheVariants.{NotText, Word, Number, Expr, Twice, UnknownPhase, UnknownClock, Limit}
 use Rattle.rules_reader.specs.declared.known.Known.{Known}
 use Rattle.rules_reader.proofs.KnownLaws.{known_more}

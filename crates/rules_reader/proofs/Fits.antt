@@ -11,18 +11,19 @@ use Rattle.text_lines.specs.Names.{distinct, distinct_from, is_among, word_at}
 use Rattle.text_lines.proofs.ApartLaws.{NoRepeat, apart, distinct_apart}
 use Rattle.text_lines.proofs.FaultLaws.{CleanFrom, clean_from}
 use Rattle.rules_reader.specs.Entries.{cards_of}
-use Rattle.rules_reader.specs.Grammar.{seen}
-use Rattle.rules_reader.specs.Grammar.Formula.{a_port}
-use Rattle.rules_reader.specs.Readings.{formula_of}
+use Rattle.rules_expression.specs.Grammar.{seen}
+use Rattle.rules_expression.specs.Grammar.Formula.{a_port}
+use Rattle.rules_expression.specs.Readings.{formula_of}
 use Rattle.rules_reader.specs.Refused.{fault_of, key_texts, known_from}
 use Rattle.rules_reader.specs.Tables.{AreRulesOf, Assumed, all_from, assumed, assumes_in, bit_for, by_entry, clock_ref, clockports_in, clocks_in, clocks_of, defaultclocks_in, devices_in, enters_in, holds_in, instance_matches_in, keepers_in, matches_in, number_in, observes_in, on_card, pairs_in, phase_names_in, phase_names_of, phases_in, ports_in, strengths_in, supplies_in, table, told}
 use Rattle.rules_reader.specs.declared.cards.Card.{Card}
-use Rattle.rules_reader.specs.declared.entry.Entry.{Entry}
-use Rattle.rules_reader.specs.declared.entry.Entry.TheVariants.{DeviceLine, StrengthLine, PhaseLine, ClockportLine, DefaultclockLine, HoldLine, EnterLine, ObserveLine, AssumeLine}
+use Rattle.rules_lines.specs.declared.entry.Entry.{Entry}
+use Rattle.rules_lines.specs.declared.entry.Entry.TheVariants.{DeviceLine, StrengthLine, PhaseLine, ClockportLine, DefaultclockLine, HoldLine, EnterLine, ObserveLine, AssumeLine}
 use Rattle.rules_reader.proofs.Fine.{AllSay, keys_apart}
 use Rattle.rules_reader.proofs.Keyed.{NamesBack, clockport_key, clockports_keyed, defaultclock_key, defaultclocks_keyed, device_key, devices_keyed, enter_key, enters_keyed, hold_key, holds_keyed, in_cell, in_table, instance_match_key, instance_matches_keyed, keeper_key, keepers_keyed, match_key, matches_keyed, observe_key, observes_keyed, pair_key, pairs_keyed, phase_key, phases_keyed, port_key, ports_keyed, strength_key, strengths_keyed, supplies_keyed, supply_key, within_cell}
-use Rattle.rules_reader.proofs.Operators.{few_of, few_seen, operators_of}
-use Rattle.rules_reader.proofs.Ranged.{InRange, Ranged, ranged}
+use Rattle.rules_expression.proofs.Operators.{few_of, few_seen, operators_of}
+use Rattle.rules_lines.proofs.Ranged.{InRange, Ranged}
+use Rattle.rules_reader.proofs.Ranged.{ranged}
 use Rattle.rules_reader.proofs.Settled.{Settled, clocks_are_few, phases_are_few, settled}
 use Rattle.rules_reader.proofs.Tabled.{both_say, known_one, map_join, name_back, number_small, number_within, table_all, table_within}
 use Rattle.rules_reader.proofs.Within.{and_both, apart_by_key, no_repeat_within, same_names, two_same}

@@ -4,8 +4,8 @@ use Rattle.text_lines.specs.Names.{word_at}
 use Rattle.rules_reader.specs.Keys.{clocks_on, key, spaced, text}
 use Rattle.rules_reader.specs.Refused.{key_texts, known_from}
 use Rattle.rules_reader.specs.Tables.{clockports_in, defaultclocks_in, devices_in, enters_in, holds_in, instance_matches_in, keeper_rule, keepers_in, matches_in, number_in, observes_in, pairs_in, phases_in, ports_in, strengths_in, supplies_in, supply_rule}
-use Rattle.rules_reader.specs.declared.entry.Entry.{Entry}
-use Rattle.rules_reader.specs.declared.entry.Entry.TheVariants.{SupplyLine, DeviceLine, StrengthLine, PhaseLine, ClockportLine, DefaultclockLine, PairLine, PortLine, HoldLine, KeeperLine, MatchLine, InstanceMatchLine, EnterLine, ObserveLine}
+use Rattle.rules_lines.specs.declared.entry.Entry.{Entry}
+use Rattle.rules_lines.specs.declared.entry.Entry.TheVariants.{SupplyLine, DeviceLine, StrengthLine, PhaseLine, ClockportLine, DefaultclockLine, PairLine, PortLine, HoldLine, KeeperLine, MatchLine, InstanceMatchLine, EnterLine, ObserveLine}
 use Rattle.rules_reader.proofs.Within.{Within, within_all, within_maps, within_none}
 use Rattle.rules_reader.proofs.Within.Within.{keeps, nothing}
 use Rattle.vrt_model.specs.declared.rules.ClockportRule.{ClockportRule}

@@ -7,7 +7,7 @@ use Rattle.rules_reader.specs.Learned.{learned, learned_from}
 use Rattle.rules_reader.specs.Refused.{key_texts, known_by, phases_named}
 use Rattle.rules_reader.specs.Tables.{clocks_in, clocks_of, phase_names_in, phase_names_of, told, told_on}
 use Rattle.rules_reader.specs.declared.cards.Card.{Card}
-use Rattle.rules_reader.specs.declared.entry.Entry.{Entry}
+use Rattle.rules_lines.specs.declared.entry.Entry.{Entry}
 use Rattle.rules_reader.specs.declared.known.Known.{Known}
 
 told_more : {X : Type 0} (f : Entry → List X) (before : List Card) (card : Card) → told f (before ++ card ∷ []) ≡ told f before ++ told_on f card

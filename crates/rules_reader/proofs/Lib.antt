@@ -1,8 +1,3 @@
-pub mod TokenLaws
-pub mod Complete
-pub mod Sound
-pub mod ReadLaws
-pub mod FormLaws
 pub mod CardLaws
 pub mod KnownLaws
 pub mod CheckLaws
@@ -13,6 +8,5 @@ pub mod Settled
 pub mod Ranged
 pub mod Tabled
 pub mod Keyed
-pub mod Operators
 pub mod Fits
 pub mod Examples

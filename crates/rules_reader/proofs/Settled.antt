@@ -7,10 +7,10 @@ use Rattle.text_lines.specs.Names.{distinct, is_among, is_empty, with_name, with
 use Rattle.text_lines.proofs.FaultLaws.{CleanFrom}
 use Rattle.rules_reader.specs.Refused.{clocks_named, fault_of, first_missing, has_bad_expression, has_bad_number, is_misplaced, known_by, lacks_bit, known_from, passes_own_limit, phases_named}
 use Rattle.rules_reader.specs.Tables.{clocks_in, clocks_of, phase_names_in, phase_names_of, told, told_on}
-use Rattle.rules_reader.specs.Tokens.{nests_deeper, operator_count}
+use Rattle.rules_expression.specs.Tokens.{nests_deeper, operator_count}
 use Rattle.rules_reader.specs.declared.cards.Card.{Card}
-use Rattle.rules_reader.specs.declared.entry.Entry.{Entry}
-use Rattle.rules_reader.specs.declared.entry.Entry.TheVariants.{ClockLine, PhaseLine, AssumeLine}
+use Rattle.rules_lines.specs.declared.entry.Entry.{Entry}
+use Rattle.rules_lines.specs.declared.entry.Entry.TheVariants.{ClockLine, PhaseLine, AssumeLine}
 use Rattle.rules_reader.specs.declared.known.Known.{Known}
 use Rattle.rules_reader.proofs.Fine.{AllSay, Fine, Says, here, known_next, says, told_here}
 use Rattle.rules_reader.proofs.KnownLaws.{distinct_more}

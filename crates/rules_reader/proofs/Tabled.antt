@@ -9,7 +9,7 @@ use Rattle.text_lines.specs.Names.{is_among, word_at}
 use Rattle.rules_reader.specs.Refused.{first_missing, key_texts}
 use Rattle.rules_reader.specs.Tables.{by_entry, number_in, on_card, table, told}
 use Rattle.rules_reader.specs.declared.cards.Card.{Card}
-use Rattle.rules_reader.specs.declared.entry.Entry.{Entry}
+use Rattle.rules_lines.specs.declared.entry.Entry.{Entry}
 use Rattle.rules_reader.proofs.Fine.{AllSay}
 use Rattle.rules_reader.proofs.Within.{Within, within_append, within_none}
 use Rattle.rules_reader.proofs.Within.Within.{nothing}

@@ -2,7 +2,7 @@
 use Rattle.std.specs.Prelude.{◌≡◌, ℕ, List, ◌++◌, map, Option}
 use Rattle.rules_reader.specs.Tables.{AreTablesOf, assumed, assumes_in, by_entry, clockports_in, defaultclocks_in, devices_in, enters_in, holds_in, instance_matches_in, keepers_in, matches_in, observes_in, pairs_in, phases_in, ports_in, strengths_in, supplies_in, table}
 use Rattle.rules_reader.specs.declared.cards.Card.{Card}
-use Rattle.rules_reader.specs.declared.entry.Entry.{Entry}
+use Rattle.rules_lines.specs.declared.entry.Entry.{Entry}
 use Rattle.vrt_model.specs.declared.rules.Rules.{Rules}
 
 -- where these clocks and phases have numbers

@@ -1,9 +1,9 @@
 -- The keys of a line that may not repeat.
 use Rattle.std.specs.Prelude.{ℕ, List, [], ◌∷◌, ◌++◌, if◌then◌else◌, map, codes, Option, Some, None}
 use Rattle.text_lines.specs.Names.{is_among, with_name}
-use Rattle.rules_reader.specs.declared.entry.ClockBit.{ClockBit}
-use Rattle.rules_reader.specs.declared.entry.Entry.{Entry}
-use Rattle.rules_reader.specs.declared.entry.Entry.TheVariants.{SupplyLine, DeviceLine, StrengthLine, ClockLine, PhaseLine, ClockportLine, DefaultclockLine, PairLine, PortLine, HoldLine, KeeperLine, MatchLine, InstanceMatchLine, EnterLine, ObserveLine, AssumeLine}
+use Rattle.rules_lines.specs.declared.entry.ClockBit.{ClockBit}
+use Rattle.rules_lines.specs.declared.entry.Entry.{Entry}
+use Rattle.rules_lines.specs.declared.entry.Entry.TheVariants.{SupplyLine, DeviceLine, StrengthLine, ClockLine, PhaseLine, ClockportLine, DefaultclockLine, PairLine, PortLine, HoldLine, KeeperLine, MatchLine, InstanceMatchLine, EnterLine, ObserveLine, AssumeLine}
 
 -- A key is the words of its table before the last, each with a blank behind it, and its last word. Words hold no
 -- blank, so two keys are the same text only where they have the same words.

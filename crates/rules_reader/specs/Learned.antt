@@ -4,7 +4,7 @@ use Rattle.text_lines.specs.Names.{is_empty, with_names}
 use Rattle.rules_reader.specs.Refused.{key_texts, phases_named}
 use Rattle.rules_reader.specs.Tables.{clocks_in, phase_names_in}
 use Rattle.rules_reader.specs.declared.cards.Card.{Card}
-use Rattle.rules_reader.specs.declared.entry.Entry.{Entry}
+use Rattle.rules_lines.specs.declared.entry.Entry.{Entry}
 use Rattle.rules_reader.specs.declared.known.Known.{Known}
 
 abbrev pub learned_by : Known → Entry → Known

@@ -1,9 +1,3 @@
-pub mod Tokens
-pub mod Spelled
-pub mod Grammar
-pub mod Readings
-pub mod Kept
-pub mod Formed
 pub mod Entries
 pub mod Keys
 pub mod Tables

@@ -4,13 +4,13 @@ use Rattle.std.specs.List.{list_any}
 use Rattle.text_lines.specs.Faults.{first_fault, first_of, when}
 use Rattle.text_lines.specs.Names.{is_among, is_empty, with_names}
 use Rattle.rules_reader.specs.Keys.{clocks_on, keys_of, repeated, text}
-use Rattle.rules_reader.specs.Readings.{formula_of}
+use Rattle.rules_expression.specs.Readings.{formula_of}
 use Rattle.rules_reader.specs.Tables.{clocks_of, phase_names_of, told}
-use Rattle.rules_reader.specs.Tokens.{nests_deeper, operator_count}
+use Rattle.rules_expression.specs.Tokens.{nests_deeper, operator_count}
 use Rattle.rules_reader.specs.declared.cards.Card.{Card}
-use Rattle.rules_reader.specs.declared.entry.ClockBit.{ClockBit}
-use Rattle.rules_reader.specs.declared.entry.Entry.{Entry}
-use Rattle.rules_reader.specs.declared.entry.Entry.TheVariants.{DeviceLine, StrengthLine, ClockLine, PhaseLine, ClockportLine, DefaultclockLine, HoldLine, EnterLine, ObserveLine, AssumeLine}
+use Rattle.rules_lines.specs.declared.entry.ClockBit.{ClockBit}
+use Rattle.rules_lines.specs.declared.entry.Entry.{Entry}
+use Rattle.rules_lines.specs.declared.entry.Entry.TheVariants.{DeviceLine, StrengthLine, ClockLine, PhaseLine, ClockportLine, DefaultclockLine, HoldLine, EnterLine, ObserveLine, AssumeLine}
 use Rattle.rules_reader.specs.declared.faults.RulesFault.{RulesFault}
 use Rattle.rules_reader.specs.declared.faults.RulesFault.TheVariants.{NotText, Word, Number, Expr, Twice, UnknownPhase, UnknownClock, Limit}
 use Rattle.rules_reader.specs.declared.known.Known.{Known}

@@ -2,14 +2,14 @@
 use Rattle.std.specs.Prelude.{◌≡◌, ℕ, List, [], ◌∷◌, Bool, false, if◌then◌else◌, map, flat_map, codes, bytes_eq, Option, Some, None, option_map, unwrap_or}
 use Rattle.std.specs.List.{position}
 use Rattle.text_lines.specs.Names.{distinct}
-use Rattle.rules_reader.specs.Grammar.{Formula, seen}
-use Rattle.rules_reader.specs.Grammar.Formula.{a_port}
-use Rattle.rules_reader.specs.Readings.{formula_of}
+use Rattle.rules_expression.specs.Grammar.{Formula, seen}
+use Rattle.rules_expression.specs.Grammar.Formula.{a_port}
+use Rattle.rules_expression.specs.Readings.{formula_of}
 use Rattle.rules_reader.specs.declared.cards.Card.{Card}
-use Rattle.rules_reader.specs.declared.entry.ClockBit.{ClockBit}
-use Rattle.rules_reader.specs.declared.entry.Entry.{Entry}
-use Rattle.rules_reader.specs.declared.entry.Entry.TheVariants.{SupplyLine, DeviceLine, StrengthLine, ClockLine, PhaseLine, ClockportLine, DefaultclockLine, PairLine, PortLine, HoldLine, KeeperLine, MatchLine, InstanceMatchLine, EnterLine, ObserveLine, AssumeLine}
-use Rattle.rules_reader.specs.declared.entry.Signed.{Signed}
+use Rattle.rules_lines.specs.declared.entry.ClockBit.{ClockBit}
+use Rattle.rules_lines.specs.declared.entry.Entry.{Entry}
+use Rattle.rules_lines.specs.declared.entry.Entry.TheVariants.{SupplyLine, DeviceLine, StrengthLine, ClockLine, PhaseLine, ClockportLine, DefaultclockLine, PairLine, PortLine, HoldLine, KeeperLine, MatchLine, InstanceMatchLine, EnterLine, ObserveLine, AssumeLine}
+use Rattle.rules_lines.specs.declared.entry.Signed.{Signed}
 use Rattle.vrt_model.specs.declared.rules.AssumeRule.{AssumeRule}
 use Rattle.vrt_model.specs.declared.rules.ClockRef.{ClockRef}
 use Rattle.vrt_model.specs.declared.rules.ClockportRule.{ClockportRule}

@@ -13,8 +13,8 @@ use crate::circuit_rules::{
 use crate::clocked_rules::{
     add_assume, add_clockport, add_defaultclock, add_enter, add_observe, add_phase,
 };
-use crate::entry::Entry;
 use crate::known::Known;
+use rules_lines::Entry;
 use std::alloc::Global;
 use text_lines::Names;
 use vrt_model::{NoMemory, Phase, Rules, Seq, Text};

@@ -4,8 +4,7 @@ ghost use Rattle.std.specs.Prelude.{◌≡◌, ◌≤◌, ◌++◌, length, map,
 ghost use Rattle.text_lines.specs.Bytes.{is_blank_line, starts, without_blanks};
 ghost use Rattle.rules_reader.specs.Entries.{card_of, cards_of, cards_on, is_passed_over};
 
-use crate::clocked_lines::read_entry;
-use crate::entry::Entry;
+use rules_lines::{Entry, read_entry};
 use std::alloc::Global;
 use text_lines::{cut_words, is_blank_byte, is_text_line, numbered_lines};
 use vrt_model::{NoMemory, Seq, Text};

@@ -3,8 +3,8 @@
 ghost use Rattle.std.specs.Prelude.{◌≡◌, ◌++◌, ◌∷◌, [], map, unwrap_or, IfOk, OnOk};
 ghost use Rattle.rules_reader.specs.Tables.{keeper_rule, supply_rule};
 
-use crate::entry::Signed;
-use crate::words::copy;
+use crate::texts::copy;
+use rules_lines::Signed;
 use std::alloc::Global;
 use vrt_model::{
     DeviceRule, HoldRule, InstanceMatchRule, KeeperRule, Kind, MatchRule, NoMemory, PairRule,

@@ -1,15 +1,14 @@
 //! The rules of lines on clocks and phases.
 
 ghost use Rattle.std.specs.Prelude.{◌≡◌, ◌++◌, ◌∷◌, [], false, map, option_map, unwrap_or, IfOk, OnOk};
-ghost use Rattle.rules_reader.specs.Grammar.{seen};
-ghost use Rattle.rules_reader.specs.Grammar.Formula.{a_port};
-ghost use Rattle.rules_reader.specs.Readings.{formula_of};
+ghost use Rattle.rules_expression.specs.Grammar.{seen};
+ghost use Rattle.rules_expression.specs.Grammar.Formula.{a_port};
+ghost use Rattle.rules_expression.specs.Readings.{formula_of};
 ghost use Rattle.rules_reader.specs.Tables.{assumed, bit_for, clock_ref, number_in};
 
-use crate::entry::{ClockBit, Signed};
-use crate::expression::read_expression;
-use crate::tokens::Token;
-use crate::words::copy;
+use crate::texts::copy;
+use rules_expression::{Token, read_expression};
+use rules_lines::{ClockBit, Signed};
 use std::alloc::Global;
 use text_lines::Names;
 use vrt_model::{

@@ -6,10 +6,10 @@ ghost use Rattle.text_lines.specs.Names.{is_among};
 ghost use Rattle.rules_reader.specs.Keys.{clocks_on};
 ghost use Rattle.rules_reader.specs.Refused.{clocks_named, first_missing, has_bad_expression, has_bad_number, is_bad_bit, is_bit_of, is_misplaced, known_from, lacks_bit, passes_limit, passes_own_limit, phases_named};
 
-use crate::entry::{ClockBit, Entry};
-use crate::form::{count_operators, is_form, is_too_deep};
 use crate::known::Known;
-use crate::words::copy;
+use crate::texts::copy;
+use rules_expression::{count_operators, is_form, is_too_deep};
+use rules_lines::{ClockBit, Entry};
 use std::alloc::Global;
 use text_lines::Names;
 use vrt_model::{NoMemory, Text};

@@ -12,10 +12,10 @@ use crate::conditions::{
     is_expression_bad, is_line_misplaced, is_number_bad, is_past_limit, unknown_clock,
     unknown_phase,
 };
-use crate::entry::Entry;
 use crate::faults::RulesFault;
 use crate::keys::claim_keys;
 use crate::known::Known;
+use rules_lines::Entry;
 use std::alloc::Global;
 use text_lines::Names;
 use vrt_model::NoMemory;

@@ -4,8 +4,8 @@ ghost use Rattle.std.specs.Prelude.{◌≡◌, ◌++◌, ◌∷◌, [], map, cod
 ghost use Rattle.rules_reader.specs.Claimed.{Claims, ClaimsOne};
 ghost use Rattle.rules_reader.specs.Keys.{clocks_on, key, keys_of, spaced};
 
-use crate::entry::{ClockBit, Entry};
-use crate::words::copy;
+use crate::texts::copy;
+use rules_lines::{ClockBit, Entry};
 use std::alloc::Global;
 use text_lines::Names;
 use vrt_model::{NoMemory, Text};

@@ -1,0 +1,6 @@
+pub mod Tokens
+pub mod Spelled
+pub mod Grammar
+pub mod Readings
+pub mod Kept
+pub mod Formed

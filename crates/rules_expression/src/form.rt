@@ -1,0 +1,150 @@
+//! Whether tokens are an expression, how deep it is, and how many operators it has. No memory is taken.
+
+ghost use Rattle.std.specs.Prelude.{◌≡◌, ◌+◌, ◌<◌, ◌^◌, false, true, is_some, Some};
+ghost use Rattle.rules_expression.specs.Formed.{form, form_behind, forms};
+ghost use Rattle.rules_expression.specs.Readings.{formula_of};
+ghost use Rattle.rules_expression.specs.Tokens.{depth_behind, is_operator, nests_deeper, operator_count};
+
+use crate::tokens::Token;
+
+/// Whether an operand was just read, and how many parentheses are open.
+#[derive(Clone, Copy)]
+pub struct Form {
+    pub has_operand: bool,
+    pub depth: usize,
+}
+
+// Behind one token more where an operand is expected. None where the token cannot stand there.
+fn first_behind(depth: usize, token: &Token) -> Option<Form>
+    requires { depth + 1 < 2 ^ 64 }
+    ensures { result ≡ form_behind false depth token.now }
+{
+    match token {
+        Token::Name(_) => Some(Form {
+            has_operand: true,
+            depth,
+        }),
+        Token::Bang => Some(Form {
+            has_operand: false,
+            depth,
+        }),
+        Token::Opening => Some(Form {
+            has_operand: false,
+            depth: depth + 1,
+        }),
+        _ => None,
+    }
+}
+
+// Behind one token more behind an operand.
+fn next_behind(depth: usize, token: &Token) -> Option<Form>
+    ensures { result ≡ form_behind true depth token.now }
+{
+    match token {
+        Token::Ampersand | Token::Caret | Token::Bar => Some(Form {
+            has_operand: false,
+            depth,
+        }),
+        Token::Closing => {
+            if depth == 0 {
+                None
+            } else {
+                Some(Form {
+                    has_operand: true,
+                    depth: depth - 1,
+                })
+            }
+        }
+        _ => None,
+    }
+}
+
+fn behind(form: Form, token: &Token) -> Option<Form>
+    requires { form.depth + 1 < 2 ^ 64 }
+    ensures { result ≡ form_behind form.has_operand form.depth token.now }
+{
+    if form.has_operand {
+        next_behind(form.depth, token)
+    } else {
+        first_behind(form.depth, token)
+    }
+}
+
+// Whether each token can stand where it does, and the last ends an expression.
+fn has_form(tokens: &[Token]) -> bool
+    ensures { result ≡ forms (Some (form false 0)) tokens.now }
+{
+    let mut form = Form {
+        has_operand: false,
+        depth: 0,
+    };
+    let mut at = 0;
+    'tokens: while at < tokens.len() {
+        match behind(form, &tokens[at]) {
+            Some(next) => form = next,
+            None => return false,
+        }
+        at += 1;
+    }
+    form.has_operand && form.depth == 0
+}
+
+/// Whether tokens are an expression.
+#[tactic(auto, using(crate::proofs::FormLaws::has_formula))]
+pub fn is_form(tokens: &[Token]) -> bool
+    ensures { result ≡ is_some (formula_of tokens.now) }
+{
+    has_form(tokens)
+}
+
+// How many parentheses are open behind a token.
+fn depth_after(depth: usize, token: &Token) -> usize
+    requires { depth + 1 < 2 ^ 64 }
+    ensures { result ≡ depth_behind depth token.now }
+{
+    match token {
+        Token::Opening => depth + 1,
+        Token::Closing => depth.saturating_sub(1),
+        _ => depth,
+    }
+}
+
+/// Whether more than 64 parentheses are open at once.
+pub fn is_too_deep(tokens: &[Token]) -> bool
+    ensures { result ≡ nests_deeper 64 0 tokens.now }
+{
+    let mut depth = 0;
+    let mut at = 0;
+    'tokens: while at < tokens.len() {
+        depth = depth_after(depth, &tokens[at]);
+        if depth > 64 {
+            return true;
+        }
+        at += 1;
+    }
+    false
+}
+
+fn is_operator_token(token: &Token) -> bool
+    ensures { result ≡ is_operator token.now }
+{
+    match token {
+        Token::Bang | Token::Ampersand | Token::Caret | Token::Bar => true,
+        _ => false,
+    }
+}
+
+/// How many operators there are, `!` among them.
+pub fn count_operators(tokens: &[Token]) -> usize
+    ensures { result ≡ operator_count tokens.now }
+{
+    let mut count = 0usize;
+    let mut at = 0;
+    'tokens: while at < tokens.len() {
+        if is_operator_token(&tokens[at]) {
+            count += 1;
+        }
+        at += 1;
+    }
+    count
+}

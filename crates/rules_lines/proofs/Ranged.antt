@@ -1,0 +1,153 @@
+-- Levels and sizes of lines are in their ranges.
+use Rattle.std.proofs.Common.{◌≡◌, ◌∷◌, ◌≤◌, ◌+◌, ◌-◌, ◌&&◌, ◌||◌, nat_le, not, [], ℕ, List, Bool, true, false, cond, map, Option, Some, None, option_map, codes, bytes_eq, refl, arith}
+use Rattle.std.specs.List.{list_all}
+use Rattle.std.proofs.lemmas.Bool.{leb-true}
+use Rattle.text_lines.specs.Bytes.{lowered}
+use Rattle.text_lines.specs.Names.{is_empty}
+use Rattle.rules_lines.specs.Lines.{assume_entry, clock_entry, clocked_entry, clockport_entry, defaultclock_entry, device_by, device_entry, enter_entry, entry_by, entry_of, has_equals, hold_entry, keeper_entry, match_by, match_entry, observe_entry, pair_entry, phase_entry, port_entry, strength_entry, supply_entry}
+use Rattle.rules_lines.specs.Words.{bit_of, cut_first, kind_of, level_of, size_of}
+use Rattle.rules_lines.specs.declared.entry.Entry.{Entry}
+use Rattle.rules_lines.specs.declared.entry.Entry.TheVariants.{SupplyLine, DeviceLine, StrengthLine, HoldLine}
+use Rattle.vrt_model.specs.declared.design.Kind.{Kind}
+
+abbrev pub InRange : ℕ → ℕ → Option ℕ → Type 0
+InRange least greatest None = Unit {0}
+InRange least greatest (Some n) = (least ≤ n) × (n ≤ greatest)
+
+abbrev pub Ranged : Entry → Type 0
+Ranged (DeviceLine model kind level) = InRange 4 7 level
+Ranged (StrengthLine cell device level) = InRange 4 7 level
+Ranged (HoldLine cell net size) = InRange 1 3 size
+Ranged entry = Unit {0}
+
+abbrev pub Said : Option Entry → Type 0
+Said None = Unit {0}
+Said (Some entry) = Ranged entry
+
+and_both : (a b : Bool) → (a && b) ≡ true → (a ≡ true) × (b ≡ true)
+and_both true b e = (refl, e)
+and_both false b e = cc
+
+digit_range : (least greatest b : ℕ) → InRange least greatest (cond (nat_le (48 + least) b && nat_le b (48 + greatest)) (Some (b - 48)) None)
+digit_range least greatest b = by_test (nat_le (48 + least) b && nat_le b (48 + greatest)) refl where
+  by_test : (t : Bool) → (nat_le (48 + least) b && nat_le b (48 + greatest)) ≡ t → InRange least greatest (cond t (Some (b - 48)) None)
+  by_test false e = tt
+  by_test true e =
+      let both = and_both (nat_le (48 + least) b) (nat_le b (48 + greatest)) e in
+      let low : 48 + least ≤ b = leb-true (48 + least) b both.0 in
+      let high : b ≤ 48 + greatest = leb-true b (48 + greatest) both.1 in
+      (omega (arith, low), omega (arith, high))
+
+level_range : (word : List ℕ) → InRange 4 7 (level_of word)
+level_range [] = tt
+level_range (b ∷ []) = digit_range 4 7 b
+level_range (b ∷ c ∷ bs) = tt
+
+size_range : (word : List ℕ) → InRange 1 3 (size_of word)
+size_range [] = tt
+size_range (b ∷ []) = digit_range 1 3 b
+size_range (b ∷ c ∷ bs) = tt
+
+either : (b : Bool) (x y : Option Entry) → Said x → Said y → Said (cond b x y)
+either true x y p q = p
+either false x y p q = q
+
+says_nets : (nets : List (List ℕ)) (o : Option Bool) → Said (option_map (λ v. SupplyLine v nets) o)
+says_nets nets None = tt
+says_nets nets (Some v) = tt
+
+says_supply : (words : List (List ℕ)) → Said (supply_entry words)
+says_supply [] = tt
+says_supply (value ∷ nets) = either (is_empty nets) None _ tt (says_nets (map lowered nets) (bit_of value))
+
+says_device_by : (model : List ℕ) (kind : Option Kind) (level : Option ℕ) → InRange 4 7 level → Said (device_by model kind level)
+says_device_by model None level r = tt
+says_device_by model (Some kind) level r = r
+
+says_device : (words : List (List ℕ)) → Said (device_entry words)
+says_device (model ∷ kind ∷ []) = says_device_by model (kind_of kind) (Some 6) (omega arith, omega arith)
+says_device (model ∷ kind ∷ level ∷ []) = says_device_by model (kind_of kind) (level_of level) (level_range level)
+says_device words = tt
+
+says_strength : (words : List (List ℕ)) → Said (strength_entry words)
+says_strength (cell ∷ device ∷ level ∷ []) = level_range level
+says_strength words = tt
+
+says_clock : (words : List (List ℕ)) → Said (clock_entry words)
+says_clock words = either (is_empty words) None _ tt tt
+
+says_phase : (words : List (List ℕ)) → Said (phase_entry words)
+says_phase [] = tt
+says_phase (name ∷ bits) = either (is_empty bits || not (list_all has_equals bits)) None _ tt tt
+
+says_clockport : (words : List (List ℕ)) → Said (clockport_entry words)
+says_clockport (cell ∷ port ∷ clock ∷ []) = tt
+says_clockport words = tt
+
+says_defaultclock : (words : List (List ℕ)) → Said (defaultclock_entry words)
+says_defaultclock (clock ∷ []) = tt
+says_defaultclock words = tt
+
+says_pair : (words : List (List ℕ)) → Said (pair_entry words)
+says_pair (cell ∷ model ∷ []) = tt
+says_pair words = tt
+
+says_port : (words : List (List ℕ)) → Said (port_entry words)
+says_port (cell ∷ port ∷ signal ∷ []) = tt
+says_port words = tt
+
+says_hold : (words : List (List ℕ)) → Said (hold_entry words)
+says_hold (cell ∷ net ∷ []) = (omega arith, omega arith)
+says_hold (cell ∷ net ∷ size ∷ []) = size_range size
+says_hold words = tt
+
+says_keeper : (words : List (List ℕ)) → Said (keeper_entry words)
+says_keeper [] = tt
+says_keeper (cell ∷ devices) = either (is_empty devices) None _ tt tt
+
+says_match_by : (cell place : List ℕ) (cut : Option (List ℕ × List ℕ)) (latch : List ℕ) → Ranged (match_by cell place cut latch)
+says_match_by cell place None latch = tt
+says_match_by cell place (Some cut) latch = tt
+
+says_match : (words : List (List ℕ)) → Said (match_entry words)
+says_match (cell ∷ place ∷ latch ∷ []) = says_match_by cell place (cut_first 58 place) latch
+says_match words = tt
+
+says_enter : (words : List (List ℕ)) → Said (enter_entry words)
+says_enter (cell ∷ phase ∷ net ∷ bit ∷ []) = tt
+says_enter words = tt
+
+says_observe : (words : List (List ℕ)) → Said (observe_entry words)
+says_observe (cell ∷ port ∷ phases) = either (is_empty phases) None _ tt tt
+says_observe words = tt
+
+says_assume : (words : List (List ℕ)) → Said (assume_entry words)
+says_assume (cell ∷ phase ∷ words) = either (is_empty words) None _ tt tt
+says_assume words = tt
+
+says_clocked : (word : List ℕ) (rest : List (List ℕ)) → Said (clocked_entry word rest)
+says_clocked word rest =
+    either (bytes_eq word (codes "clock")) _ _ (says_clock rest)
+    (either (bytes_eq word (codes "phase")) _ _ (says_phase rest)
+    (either (bytes_eq word (codes "clockport")) _ _ (says_clockport rest)
+    (either (bytes_eq word (codes "defaultclock")) _ _ (says_defaultclock rest)
+    (either (bytes_eq word (codes "enter")) _ _ (says_enter rest)
+    (either (bytes_eq word (codes "observe")) _ _ (says_observe rest)
+    (either (bytes_eq word (codes "assume")) _ None (says_assume rest) tt))))))
+
+says_by : (word : List ℕ) (rest : List (List ℕ)) → Said (entry_by word rest)
+says_by word rest =
+    either (bytes_eq word (codes "supply")) _ _ (says_supply rest)
+    (either (bytes_eq word (codes "device")) _ _ (says_device rest)
+    (either (bytes_eq word (codes "strength")) _ _ (says_strength rest)
+    (either (bytes_eq word (codes "pair")) _ _ (says_pair rest)
+    (either (bytes_eq word (codes "port")) _ _ (says_port rest)
+    (either (bytes_eq word (codes "hold")) _ _ (says_hold rest)
+    (either (bytes_eq word (codes "keeper")) _ _ (says_keeper rest)
+    (either (bytes_eq word (codes "match")) _ _ (says_match rest) (says_clocked word rest))))))))
+
+-- each line
+pub says_of : (words : List (List ℕ)) → Said (entry_of words)
+unfolding entry_of
+says_of [] = tt
+says_of (word ∷ rest) = says_by word rest

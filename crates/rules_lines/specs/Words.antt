@@ -1,0 +1,34 @@
+-- What a word of a line says.
+use Rattle.std.specs.Prelude.{ℕ, List, [], ◌∷◌, ◌+◌, ◌-◌, Bool, true, false, ◌==◌, ◌&&◌, if◌then◌else◌, nat_le, take, drop, codes, bytes_eq, Option, Some, None, option_map}
+use Rattle.std.specs.List.{position}
+use Rattle.text_lines.specs.Bytes.{starts}
+use Rattle.rules_lines.specs.declared.entry.Signed.{Signed}
+use Rattle.vrt_model.specs.declared.design.Kind.{Kind}
+use Rattle.vrt_model.specs.declared.design.Kind.TheVariants.{N, P}
+
+-- a word that is one digit of a range; none for any other
+abbrev pub digit_in : ℕ → ℕ → List ℕ → Option ℕ
+digit_in least greatest (b ∷ []) = if nat_le (48 + least) b && nat_le b (48 + greatest) then Some (b - 48) else None
+digit_in least greatest [] = None
+digit_in least greatest (b ∷ c ∷ bs) = None
+
+-- LEVEL is 4 to 7, SIZE is 1 to 3.
+abbrev pub level_of : List ℕ → Option ℕ
+level_of word = digit_in 4 7 word
+
+abbrev pub size_of : List ℕ → Option ℕ
+size_of word = digit_in 1 3 word
+
+abbrev pub bit_of : List ℕ → Option Bool
+bit_of word = if bytes_eq word (codes "0") then Some false else (if bytes_eq word (codes "1") then Some true else None)
+
+abbrev pub kind_of : List ℕ → Option Kind
+kind_of word = if bytes_eq word (codes "n") then Some N else (if bytes_eq word (codes "p") then Some P else None)
+
+-- what stands before and behind the first such byte, if there is one
+abbrev pub cut_first : ℕ → List ℕ → Option (List ℕ × List ℕ)
+cut_first sign word = option_map (λ n. (take n word, drop (n + 1) word)) (position (λ b. b == sign) word)
+
+-- a name with or without `!`
+abbrev pub signed : List ℕ → Signed
+signed word = if starts 33 word then record { name = drop 1 word; is_inverted = true } else record { name = word; is_inverted = false }

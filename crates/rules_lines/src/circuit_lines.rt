@@ -1,0 +1,185 @@
+//! Lines on nets, devices, cells and models.
+
+ghost use Rattle.std.specs.Prelude.{◌≡◌, IfOk};
+ghost use Rattle.rules_lines.specs.Words.{cut_first};
+ghost use Rattle.rules_lines.specs.Lines.{device_by, device_entry, hold_entry, keeper_entry, match_by, match_entry, pair_entry, paired_model, port_entry, strength_entry, supply_entry};
+
+use crate::entry::Entry;
+use crate::words::{bit, cut, digit, kind, lower, lower_all, sign_off};
+use std::alloc::Global;
+use vrt_model::{Kind, NoMemory, Text};
+
+/// `supply 0 NET..`, `supply 1 NET..`
+pub fn supply(alloc: Global, words: &[Text]) -> Result<Option<Entry>, NoMemory>
+    ensures { IfOk result (λ entry. entry ≡ supply_entry words.now) }
+{
+    match words {
+        [] => Ok(None),
+        [value, nets @ ..] => {
+            if nets.is_empty() {
+                return Ok(None);
+            }
+            match bit(value.as_bytes()) {
+                Some(value) => Ok(Some(Entry::SupplyLine {
+                    value,
+                    nets: lower_all(alloc, nets)?,
+                })),
+                None => Ok(None),
+            }
+        }
+    }
+}
+
+fn device_of(
+    alloc: Global,
+    model: &Text,
+    kind: Option<Kind>,
+    level: Option<u8>,
+) -> Result<Option<Entry>, NoMemory>
+    ensures { IfOk result (λ entry. entry ≡ device_by model.now kind level) }
+{
+    match kind {
+        Some(kind) => Ok(Some(Entry::DeviceLine {
+            model: lower(alloc, model.as_bytes())?,
+            kind,
+            level,
+        })),
+        None => Ok(None),
+    }
+}
+
+/// `device MODEL n` or `p`, `[LEVEL]`
+pub fn device(alloc: Global, words: &[Text]) -> Result<Option<Entry>, NoMemory>
+    ensures { IfOk result (λ entry. entry ≡ device_entry words.now) }
+{
+    match words {
+        [model, word] => device_of(alloc, model, kind(word.as_bytes()), Some(6)),
+        [model, word, level] => device_of(
+            alloc,
+            model,
+            kind(word.as_bytes()),
+            digit(4, 7, level.as_bytes()),
+        ),
+        _ => Ok(None),
+    }
+}
+
+/// `strength CELL DEV LEVEL`
+pub fn strength(alloc: Global, words: &[Text]) -> Result<Option<Entry>, NoMemory>
+    ensures { IfOk result (λ entry. entry ≡ strength_entry words.now) }
+{
+    match words {
+        [cell, device, level] => Ok(Some(Entry::StrengthLine {
+            cell: lower(alloc, cell.as_bytes())?,
+            device: lower(alloc, device.as_bytes())?,
+            level: digit(4, 7, level.as_bytes()),
+        })),
+        _ => Ok(None),
+    }
+}
+
+// The model of a `pair` line, none for `-`.
+fn paired(alloc: Global, model: &Text) -> Result<Option<Text>, NoMemory>
+    ensures { IfOk result (λ found. found ≡ paired_model model.now) }
+{
+    if model.as_bytes() == b"-".as_slice() {
+        return Ok(None);
+    }
+    let model = Text::from_bytes(alloc, model.as_bytes())?;
+    Ok(Some(model))
+}
+
+/// `pair CELL MODEL`
+pub fn pair(alloc: Global, words: &[Text]) -> Result<Option<Entry>, NoMemory>
+    ensures { IfOk result (λ entry. entry ≡ pair_entry words.now) }
+{
+    match words {
+        [cell, model] => Ok(Some(Entry::PairLine {
+            cell: lower(alloc, cell.as_bytes())?,
+            model: paired(alloc, model)?,
+        })),
+        _ => Ok(None),
+    }
+}
+
+/// `port CELL PORT SIGNAL`
+pub fn port(alloc: Global, words: &[Text]) -> Result<Option<Entry>, NoMemory>
+    ensures { IfOk result (λ entry. entry ≡ port_entry words.now) }
+{
+    match words {
+        [cell, port, signal] => Ok(Some(Entry::PortLine {
+            cell: lower(alloc, cell.as_bytes())?,
+            port: lower(alloc, port.as_bytes())?,
+            signal: Text::from_bytes(alloc, signal.as_bytes())?,
+        })),
+        _ => Ok(None),
+    }
+}
+
+/// `hold CELL NET [SIZE]`
+pub fn hold(alloc: Global, words: &[Text]) -> Result<Option<Entry>, NoMemory>
+    ensures { IfOk result (λ entry. entry ≡ hold_entry words.now) }
+{
+    match words {
+        [cell, net] => Ok(Some(Entry::HoldLine {
+            cell: lower(alloc, cell.as_bytes())?,
+            net: lower(alloc, net.as_bytes())?,
+            size: Some(1),
+        })),
+        [cell, net, size] => Ok(Some(Entry::HoldLine {
+            cell: lower(alloc, cell.as_bytes())?,
+            net: lower(alloc, net.as_bytes())?,
+            size: digit(1, 3, size.as_bytes()),
+        })),
+        _ => Ok(None),
+    }
+}
+
+/// `keeper CELL DEV..`
+pub fn keeper(alloc: Global, words: &[Text]) -> Result<Option<Entry>, NoMemory>
+    ensures { IfOk result (λ entry. entry ≡ keeper_entry words.now) }
+{
+    match words {
+        [] => Ok(None),
+        [cell, devices @ ..] => {
+            if devices.is_empty() {
+                return Ok(None);
+            }
+            Ok(Some(Entry::KeeperLine {
+                cell: lower(alloc, cell.as_bytes())?,
+                devices: lower_all(alloc, devices)?,
+            }))
+        }
+    }
+}
+
+fn match_of(alloc: Global, cell: &Text, place: &Text, latch: &Text) -> Result<Entry, NoMemory>
+    ensures { IfOk result (λ entry. entry ≡ match_by cell.now place.now (cut_first 58 place.now) latch.now) }
+{
+    match cut(alloc, b':', place.as_bytes())? {
+        Some((instance, inner)) => Ok(Entry::InstanceMatchLine {
+            cell: lower(alloc, cell.as_bytes())?,
+            instance: lower(alloc, instance.as_bytes())?,
+            inner,
+            latch: sign_off(alloc, latch.as_bytes())?,
+        }),
+        None => Ok(Entry::MatchLine {
+            cell: lower(alloc, cell.as_bytes())?,
+            net: lower(alloc, place.as_bytes())?,
+            latch: sign_off(alloc, latch.as_bytes())?,
+        }),
+    }
+}
+
+/// `match CELL NET [!]LATCH`, `match CELL INST:LATCH [!]LATCH`
+pub fn matching(alloc: Global, words: &[Text]) -> Result<Option<Entry>, NoMemory>
+    ensures { IfOk result (λ entry. entry ≡ match_entry words.now) }
+{
+    match words {
+        [cell, place, latch] => {
+            let entry = match_of(alloc, cell, place, latch)?;
+            Ok(Some(entry))
+        }
+        _ => Ok(None),
+    }
+}

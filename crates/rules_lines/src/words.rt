@@ -1,0 +1,127 @@
+//! Words of a line: names, digits, bits and signs.
+
+ghost use Rattle.std.specs.Prelude.{◌≡◌, ◌+◌, ◌<◌, ◌^◌, ◌==◌, map, Some, IfOk, IfSome};
+ghost use Rattle.std.specs.List.{position};
+ghost use Rattle.text_lines.specs.Bytes.{lowered};
+ghost use Rattle.rules_lines.specs.Words.{bit_of, cut_first, digit_in, kind_of, signed};
+ghost use Rattle.rules_lines.specs.Lines.{has_equals};
+
+use crate::entry::Signed;
+use std::alloc::Global;
+use vrt_model::{Kind, NoMemory, Seq, Text};
+
+/// A name, lowered.
+pub fn lower(alloc: Global, word: &[u8]) -> Result<Text, NoMemory>
+    ensures { IfOk result (λ text. text ≡ lowered word.now) }
+{
+    let mut text = Text::new(alloc);
+    for b in word {
+        if text.push(b.to_ascii_lowercase()).is_err() {
+            return Err(NoMemory);
+        }
+    }
+    Ok(text)
+}
+
+/// Names, lowered.
+pub fn lower_all(alloc: Global, words: &[Text]) -> Result<Seq<Text>, NoMemory>
+    ensures { IfOk result (λ texts. texts ≡ map lowered words.now) }
+{
+    let mut texts = Seq::new(alloc);
+    for word in words {
+        let text = lower(alloc, word.as_bytes())?;
+        if texts.push(text).is_err() {
+            return Err(NoMemory);
+        }
+    }
+    Ok(texts)
+}
+
+/// A digit of a range, none for any other word.
+pub fn digit(least: u8, greatest: u8, word: &[u8]) -> Option<u8>
+    requires least { 48 + least < 256 }
+    requires greatest { 48 + greatest < 256 }
+    ensures { result ≡ digit_in least greatest word.now }
+{
+    match word {
+        [b] => {
+            if b'0' + least <= *b && *b <= b'0' + greatest {
+                Some(*b - b'0')
+            } else {
+                None
+            }
+        }
+        _ => None,
+    }
+}
+
+/// `0` or `1`.
+pub fn bit(word: &[u8]) -> Option<bool>
+    ensures { result ≡ bit_of word.now }
+{
+    if word == b"0".as_slice() {
+        return Some(false);
+    }
+    if word == b"1".as_slice() {
+        return Some(true);
+    }
+    None
+}
+
+/// `n` or `p`.
+pub fn kind(word: &[u8]) -> Option<Kind>
+    ensures { result ≡ kind_of word.now }
+{
+    if word == b"n".as_slice() {
+        return Some(Kind::N);
+    }
+    if word == b"p".as_slice() {
+        return Some(Kind::P);
+    }
+    None
+}
+
+// The place of the first such byte.
+fn first_place(sign: u8, word: &[u8]) -> Option<usize>
+    ensures place { result ≡ position (λ b. b == sign) word.now }
+    ensures fits { IfSome result (λ n. n + 1 < 2 ^ 64) }
+{
+    word.iter().position(|b| *b == sign)
+}
+
+/// What stands before and behind the first such byte.
+pub fn cut(alloc: Global, sign: u8, word: &[u8]) -> Result<Option<(Text, Text)>, NoMemory>
+    ensures { IfOk result (λ cut. cut ≡ cut_first sign word.now) }
+{
+    match first_place(sign, word) {
+        Some(count) => {
+            let before = Text::from_bytes(alloc, &word[..count])?;
+            let behind = Text::from_bytes(alloc, &word[count + 1..])?;
+            Ok(Some((before, behind)))
+        }
+        None => Ok(None),
+    }
+}
+
+/// Whether a word has `=`.
+pub fn has_equals_sign(word: &[u8]) -> bool
+    ensures { result ≡ has_equals word.now }
+{
+    word.iter().any(|b| *b == b'=')
+}
+
+/// A name with or without `!`.
+pub fn sign_off(alloc: Global, word: &[u8]) -> Result<Signed, NoMemory>
+    ensures { IfOk result (λ s. s ≡ signed word.now) }
+{
+    match word {
+        [b'!', rest @ ..] => Ok(Signed {
+            name: Text::from_bytes(alloc, rest)?,
+            is_inverted: true,
+        }),
+        _ => Ok(Signed {
+            name: Text::from_bytes(alloc, word)?,
+            is_inverted: false,
+        }),
+    }
+}
