@@ -14,6 +14,7 @@ use crate::clocked_rules::{
     add_assume, add_clockport, add_defaultclock, add_enter, add_observe, add_phase,
 };
 use crate::known::Known;
+use crate::texts::append;
 use rules_lines::Entry;
 use std::alloc::Global;
 use text_lines::Names;
@@ -213,9 +214,7 @@ fn all_phase(alloc: Global, clocks: &[Text]) -> Result<Phase, NoMemory>
 {
     let mut bits = Seq::new(alloc);
     for _clock in clocks {
-        if bits.push(false).is_err() {
-            return Err(NoMemory);
-        }
+        append(&mut bits, false)?;
     }
     Ok(Phase {
         line: 0,
@@ -232,10 +231,7 @@ fn add_all(alloc: Global, phases: &mut Seq<Phase>, clocks: &[Text]) -> Result<()
         return Ok(());
     }
     let all = all_phase(alloc, clocks)?;
-    match phases.push(all) {
-        Ok(()) => Ok(()),
-        Err(_) => Err(NoMemory),
-    }
+    append(phases, all)
 }
 
 /// The rules of lines, of which this is known.

@@ -4,6 +4,7 @@ ghost use Rattle.std.specs.Prelude.{◌≡◌, ◌≤◌, ◌++◌, length, map,
 ghost use Rattle.text_lines.specs.Bytes.{is_blank_line, starts, without_blanks};
 ghost use Rattle.rules_reader.specs.Entries.{card_of, cards_of, cards_on, is_passed_over};
 
+use crate::texts::append;
 use rules_lines::{Entry, read_entry};
 use std::alloc::Global;
 use text_lines::{cut_words, is_blank_byte, is_text_line, numbered_lines};
@@ -60,9 +61,7 @@ fn texts_of(alloc: Global, words: &[&[u8]]) -> Result<Seq<Text>, NoMemory>
     let mut texts = Seq::new(alloc);
     for word in words {
         let text = Text::from_bytes(alloc, word)?;
-        if texts.push(text).is_err() {
-            return Err(NoMemory);
-        }
+        append(&mut texts, text)?;
     }
     Ok(texts)
 }
@@ -88,10 +87,7 @@ fn add_line(alloc: Global, cards: &mut Seq<Card>, line: u32, bytes: &[u8]) -> Re
         return Ok(());
     }
     let card = read_card(alloc, line, bytes)?;
-    match cards.push(card) {
-        Ok(()) => Ok(()),
-        Err(_) => Err(NoMemory),
-    }
+    append(cards, card)
 }
 
 /// The lines of a text that are not passed over, with what they say.

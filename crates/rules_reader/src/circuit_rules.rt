@@ -3,7 +3,7 @@
 ghost use Rattle.std.specs.Prelude.{◌≡◌, ◌++◌, ◌∷◌, [], map, unwrap_or, IfOk, OnOk};
 ghost use Rattle.rules_reader.specs.Tables.{keeper_rule, supply_rule};
 
-use crate::texts::copy;
+use crate::texts::{append, copy, copy_two};
 use rules_lines::Signed;
 use std::alloc::Global;
 use vrt_model::{
@@ -23,13 +23,12 @@ pub fn add_supplies(
 {
     for net in nets {
         let net = copy(alloc, net)?;
-        if rules.push(SupplyRule { line, value, net }).is_err() {
-            return Err(NoMemory);
-        }
+        append(rules, SupplyRule { line, value, net })?;
     }
     Ok(())
 }
 
+/// The kind and level of a model.
 pub fn add_device(
     alloc: Global,
     rules: &mut Seq<DeviceRule>,
@@ -46,12 +45,10 @@ pub fn add_device(
         kind,
         level: level.unwrap_or(0),
     };
-    match rules.push(rule) {
-        Ok(()) => Ok(()),
-        Err(_) => Err(NoMemory),
-    }
+    append(rules, rule)
 }
 
+/// The level of a device of a cell.
 pub fn add_strength(
     alloc: Global,
     rules: &mut Seq<StrengthRule>,
@@ -62,16 +59,14 @@ pub fn add_strength(
 ) -> Result<(), NoMemory>
     ensures { OnOk result (rules.new ≡ rules.old ++ record { line = line; cell = cell.now; device = device.now; level = unwrap_or level 0 } ∷ []) }
 {
+    let (cell, device) = copy_two(alloc, cell, device)?;
     let rule = StrengthRule {
         line,
-        cell: copy(alloc, cell)?,
-        device: copy(alloc, device)?,
+        cell,
+        device,
         level: level.unwrap_or(0),
     };
-    match rules.push(rule) {
-        Ok(()) => Ok(()),
-        Err(_) => Err(NoMemory),
-    }
+    append(rules, rule)
 }
 
 fn copy_model(alloc: Global, model: &Option<Text>) -> Result<Option<Text>, NoMemory>
@@ -86,6 +81,7 @@ fn copy_model(alloc: Global, model: &Option<Text>) -> Result<Option<Text>, NoMem
     }
 }
 
+/// The model of a cell, if it has one.
 pub fn add_pair(
     alloc: Global,
     rules: &mut Seq<PairRule>,
@@ -95,17 +91,13 @@ pub fn add_pair(
 ) -> Result<(), NoMemory>
     ensures { OnOk result (rules.new ≡ rules.old ++ record { line = line; cell = cell.now; model = model.now } ∷ []) }
 {
-    let rule = PairRule {
-        line,
-        cell: copy(alloc, cell)?,
-        model: copy_model(alloc, model)?,
-    };
-    match rules.push(rule) {
-        Ok(()) => Ok(()),
-        Err(_) => Err(NoMemory),
-    }
+    let model = copy_model(alloc, model)?;
+    let cell = copy(alloc, cell)?;
+    let rule = PairRule { line, cell, model };
+    append(rules, rule)
 }
 
+/// The signal of a port.
 pub fn add_port(
     alloc: Global,
     rules: &mut Seq<PortRule>,
@@ -116,18 +108,18 @@ pub fn add_port(
 ) -> Result<(), NoMemory>
     ensures { OnOk result (rules.new ≡ rules.old ++ record { line = line; cell = cell.now; port = port.now; signal = signal.now } ∷ []) }
 {
+    let signal = copy(alloc, signal)?;
+    let (cell, port) = copy_two(alloc, cell, port)?;
     let rule = PortRule {
         line,
-        cell: copy(alloc, cell)?,
-        port: copy(alloc, port)?,
-        signal: copy(alloc, signal)?,
+        cell,
+        port,
+        signal,
     };
-    match rules.push(rule) {
-        Ok(()) => Ok(()),
-        Err(_) => Err(NoMemory),
-    }
+    append(rules, rule)
 }
 
+/// A net that holds its bit.
 pub fn add_hold(
     alloc: Global,
     rules: &mut Seq<HoldRule>,
@@ -138,16 +130,14 @@ pub fn add_hold(
 ) -> Result<(), NoMemory>
     ensures { OnOk result (rules.new ≡ rules.old ++ record { line = line; cell = cell.now; net = net.now; size = unwrap_or size 0 } ∷ []) }
 {
+    let (cell, net) = copy_two(alloc, cell, net)?;
     let rule = HoldRule {
         line,
-        cell: copy(alloc, cell)?,
-        net: copy(alloc, net)?,
+        cell,
+        net,
         size: size.unwrap_or(0),
     };
-    match rules.push(rule) {
-        Ok(()) => Ok(()),
-        Err(_) => Err(NoMemory),
-    }
+    append(rules, rule)
 }
 
 /// One rule for each device.
@@ -161,18 +151,13 @@ pub fn add_keepers(
     ensures { OnOk result (rules.new ≡ rules.old ++ map (keeper_rule line cell.now) devices.now) }
 {
     for device in devices {
-        let rule = KeeperRule {
-            line,
-            cell: copy(alloc, cell)?,
-            device: copy(alloc, device)?,
-        };
-        if rules.push(rule).is_err() {
-            return Err(NoMemory);
-        }
+        let (cell, device) = copy_two(alloc, cell, device)?;
+        append(rules, KeeperRule { line, cell, device })?;
     }
     Ok(())
 }
 
+/// The latch of a net.
 pub fn add_match(
     alloc: Global,
     rules: &mut Seq<MatchRule>,
@@ -183,19 +168,19 @@ pub fn add_match(
 ) -> Result<(), NoMemory>
     ensures { OnOk result (rules.new ≡ rules.old ++ record { line = line; cell = cell.now; net = net.now; latch = latch.now.name; inverted = latch.now.is_inverted } ∷ []) }
 {
+    let name = copy(alloc, &latch.name)?;
+    let (cell, net) = copy_two(alloc, cell, net)?;
     let rule = MatchRule {
         line,
-        cell: copy(alloc, cell)?,
-        net: copy(alloc, net)?,
-        latch: copy(alloc, &latch.name)?,
+        cell,
+        net,
+        latch: name,
         inverted: latch.is_inverted,
     };
-    match rules.push(rule) {
-        Ok(()) => Ok(()),
-        Err(_) => Err(NoMemory),
-    }
+    append(rules, rule)
 }
 
+/// The latch of an instance.
 pub fn add_instance_match(
     alloc: Global,
     rules: &mut Seq<InstanceMatchRule>,
@@ -207,16 +192,15 @@ pub fn add_instance_match(
 ) -> Result<(), NoMemory>
     ensures { OnOk result (rules.new ≡ rules.old ++ record { line = line; cell = cell.now; «instance» = «instance».now; inner = inner.now; latch = latch.now.name; inverted = latch.now.is_inverted } ∷ []) }
 {
+    let (inner, name) = copy_two(alloc, inner, &latch.name)?;
+    let (cell, instance) = copy_two(alloc, cell, instance)?;
     let rule = InstanceMatchRule {
         line,
-        cell: copy(alloc, cell)?,
-        instance: copy(alloc, instance)?,
-        inner: copy(alloc, inner)?,
-        latch: copy(alloc, &latch.name)?,
+        cell,
+        instance,
+        inner,
+        latch: name,
         inverted: latch.is_inverted,
     };
-    match rules.push(rule) {
-        Ok(()) => Ok(()),
-        Err(_) => Err(NoMemory),
-    }
+    append(rules, rule)
 }

@@ -6,7 +6,7 @@ ghost use Rattle.rules_expression.specs.Grammar.Formula.{a_port};
 ghost use Rattle.rules_expression.specs.Readings.{formula_of};
 ghost use Rattle.rules_reader.specs.Tables.{assumed, bit_for, clock_ref, number_in};
 
-use crate::texts::copy;
+use crate::texts::{append, copy, copy_two};
 use rules_expression::{Token, read_expression};
 use rules_lines::{ClockBit, Signed};
 use std::alloc::Global;
@@ -47,9 +47,7 @@ fn bits_of(alloc: Global, bits: &[ClockBit], clocks: &[Text]) -> Result<Seq<bool
 {
     let mut found = Seq::new(alloc);
     for clock in clocks {
-        if found.push(bit_of_clock(bits, clock.as_bytes())).is_err() {
-            return Err(NoMemory);
-        }
+        append(&mut found, bit_of_clock(bits, clock.as_bytes()))?;
     }
     Ok(found)
 }
@@ -65,17 +63,13 @@ pub fn add_phase(
 ) -> Result<(), NoMemory>
     ensures { OnOk result (rules.new ≡ rules.old ++ record { line = line; name = name.now; bits = map (bit_for bits.now) clocks.now } ∷ []) }
 {
-    let rule = Phase {
-        line,
-        name: copy(alloc, name)?,
-        bits: bits_of(alloc, bits, clocks)?,
-    };
-    match rules.push(rule) {
-        Ok(()) => Ok(()),
-        Err(_) => Err(NoMemory),
-    }
+    let bits = bits_of(alloc, bits, clocks)?;
+    let name = copy(alloc, name)?;
+    let rule = Phase { line, name, bits };
+    append(rules, rule)
 }
 
+/// The clock of a port.
 pub fn add_clockport(
     alloc: Global,
     rules: &mut Seq<ClockportRule>,
@@ -87,21 +81,21 @@ pub fn add_clockport(
 ) -> Result<(), NoMemory>
     ensures { OnOk result (rules.new ≡ rules.old ++ record { line = line; cell = cell.now; port = port.now; clock = clock_ref clocks.now clock.now } ∷ []) }
 {
+    let clock = ClockRef {
+        clock: number(clocks, &clock.name)?,
+        inverted: clock.is_inverted,
+    };
+    let (cell, port) = copy_two(alloc, cell, port)?;
     let rule = ClockportRule {
         line,
-        cell: copy(alloc, cell)?,
-        port: copy(alloc, port)?,
-        clock: ClockRef {
-            clock: number(clocks, &clock.name)?,
-            inverted: clock.is_inverted,
-        },
+        cell,
+        port,
+        clock,
     };
-    match rules.push(rule) {
-        Ok(()) => Ok(()),
-        Err(_) => Err(NoMemory),
-    }
+    append(rules, rule)
 }
 
+/// The clock of ports that name none.
 pub fn add_defaultclock(
     rules: &mut Seq<DefaultclockRule>,
     line: u32,
@@ -111,12 +105,10 @@ pub fn add_defaultclock(
     ensures { OnOk result (rules.new ≡ rules.old ++ record { line = line; clock = number_in clocks.now clock.now } ∷ []) }
 {
     let clock = number(clocks, clock)?;
-    match rules.push(DefaultclockRule { line, clock }) {
-        Ok(()) => Ok(()),
-        Err(_) => Err(NoMemory),
-    }
+    append(rules, DefaultclockRule { line, clock })
 }
 
+/// The bit that a net has as a phase begins.
 pub fn add_enter(
     alloc: Global,
     rules: &mut Seq<EnterRule>,
@@ -129,17 +121,16 @@ pub fn add_enter(
 ) -> Result<(), NoMemory>
     ensures { OnOk result (rules.new ≡ rules.old ++ record { line = line; cell = cell.now; phase = number_in phases.now phase.now; net = net.now; value = unwrap_or bit false } ∷ []) }
 {
+    let phase = number(phases, phase)?;
+    let (cell, net) = copy_two(alloc, cell, net)?;
     let rule = EnterRule {
         line,
-        cell: copy(alloc, cell)?,
-        phase: number(phases, phase)?,
-        net: copy(alloc, net)?,
+        cell,
+        phase,
+        net,
         value: bit.unwrap_or(false),
     };
-    match rules.push(rule) {
-        Ok(()) => Ok(()),
-        Err(_) => Err(NoMemory),
-    }
+    append(rules, rule)
 }
 
 // The numbers of phases.
@@ -149,13 +140,12 @@ fn numbers(alloc: Global, phases: &Names, names: &[Text]) -> Result<Seq<u32>, No
     let mut found = Seq::new(alloc);
     for name in names {
         let one = number(phases, name)?;
-        if found.push(one).is_err() {
-            return Err(NoMemory);
-        }
+        append(&mut found, one)?;
     }
     Ok(found)
 }
 
+/// The phases in which a port is observed.
 pub fn add_observe(
     alloc: Global,
     rules: &mut Seq<ObserveRule>,
@@ -167,16 +157,15 @@ pub fn add_observe(
 ) -> Result<(), NoMemory>
     ensures { OnOk result (rules.new ≡ rules.old ++ record { line = line; cell = cell.now; port = port.now; phases = map (number_in phases.now) names.now } ∷ []) }
 {
+    let phases = numbers(alloc, phases, names)?;
+    let (cell, port) = copy_two(alloc, cell, port)?;
     let rule = ObserveRule {
         line,
-        cell: copy(alloc, cell)?,
-        port: copy(alloc, port)?,
-        phases: numbers(alloc, phases, names)?,
+        cell,
+        port,
+        phases,
     };
-    match rules.push(rule) {
-        Ok(()) => Ok(()),
-        Err(_) => Err(NoMemory),
-    }
+    append(rules, rule)
 }
 
 // The number of a phase, none for `*`.
@@ -202,6 +191,7 @@ fn expression(alloc: Global, tokens: &[Token]) -> Result<Expr, NoMemory>
     }
 }
 
+/// What is assumed in a phase, or in each.
 pub fn add_assume(
     alloc: Global,
     rules: &mut Seq<AssumeRule>,
@@ -213,14 +203,14 @@ pub fn add_assume(
 ) -> Result<(), NoMemory>
     ensures { OnOk result (map assumed rules.new ≡ map assumed rules.old ++ record { line = line; cell = cell.now; phase = option_map (number_in phases.now) phase.now; formula = unwrap_or (formula_of tokens.now) (a_port []) } ∷ []) }
 {
+    let phase = phase_number(phases, phase)?;
+    let expression = expression(alloc, tokens)?;
+    let cell = copy(alloc, cell)?;
     let rule = AssumeRule {
         line,
-        cell: copy(alloc, cell)?,
-        phase: phase_number(phases, phase)?,
-        expression: expression(alloc, tokens)?,
+        cell,
+        phase,
+        expression,
     };
-    match rules.push(rule) {
-        Ok(()) => Ok(()),
-        Err(_) => Err(NoMemory),
-    }
+    append(rules, rule)
 }
