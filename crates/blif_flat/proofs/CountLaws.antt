@@ -21,13 +21,13 @@ use Rattle.vrt_model.specs.declared.blif.Tie.{Tie}
 use Rattle.vrt_model.specs.declared.flat_model.Cover.{Cover}
 use Rattle.blif_flat.specs.Counts.{AllFit, AreCounts, AreSums, Fits, below, inside_in, own, rows_in, sub_inside, sum_over, weight, within}
 use Rattle.blif_flat.specs.Places.{placed}
-use Rattle.blif_flat.specs.Tables.{AreTables}
+use Rattle.blif_checks.specs.Tables.{AreTables}
 use Rattle.blif_flat.specs.declared.counts.Counted.{Counted}
 use Rattle.blif_flat.specs.declared.counts.Counted.TheVariants.{Signals, Rows, Subs}
 use Rattle.blif_flat.specs.declared.counts.Counts.{Counts}
 use Rattle.blif_flat.specs.declared.counts.Inside.{Inside}
-use Rattle.blif_flat.specs.declared.tables.Tables.{Tables}
-use Rattle.blif_flat.proofs.NameLaws.{place_is}
+use Rattle.blif_checks.specs.declared.tables.Tables.{Tables}
+use Rattle.blif_checks.proofs.NameLaws.{place_is}
 use Rattle.blif_flat.proofs.OnceLaws.{interface_among, left_untied, none_tied, signals_apart}
 
 -- ---- lists

@@ -1,14 +1,3 @@
-pub mod NameLaws
-pub mod SubLaws
-pub mod DepthLaws
-pub mod ReachedLaws
-pub mod NestedLaws
-pub mod NoteLaws
-pub mod MentionLaws
-pub mod LeastLaws
-pub mod DriverLaws
-pub mod JudgeLaws
-pub mod CheckLaws
 pub mod OnceLaws
 pub mod CountLaws
 pub mod PlaceLaws

@@ -12,8 +12,8 @@ use Rattle.vrt_model.specs.FlatBlif.{signals_of}
 use Rattle.vrt_model.specs.Lists.{distinct}
 use Rattle.vrt_model.specs.Models.{bad_formal_after, interface_of}
 use Rattle.vrt_model.specs.declared.blif.BlifModel.{BlifModel}
-use Rattle.blif_flat.specs.Signals.{named_in}
-use Rattle.blif_flat.proofs.NameLaws.{bytes_eq-sym, once_has_same, once_is_all}
+use Rattle.blif_checks.specs.Signals.{named_in}
+use Rattle.blif_checks.proofs.NameLaws.{bytes_eq-sym, once_has_same, once_is_all}
 
 -- ---- filters
 

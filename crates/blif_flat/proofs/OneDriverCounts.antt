@@ -10,9 +10,9 @@ use Rattle.text_lines.specs.Names.{is_among}
 use Rattle.text_lines.proofs.ApartLaws.{NoRepeat}
 use Rattle.vrt_model.specs.Lists.{At, place_of}
 use Rattle.vrt_model.proofs.Members.{among_any}
-use Rattle.blif_flat.specs.Mentions.{number_among}
-use Rattle.blif_flat.proofs.NameLaws.{any_placed, bytes_eq-sym}
-use Rattle.blif_flat.proofs.NoteLaws.{eq_no, eq_yes}
+use Rattle.blif_checks.specs.Mentions.{number_among}
+use Rattle.blif_checks.proofs.NameLaws.{any_placed, bytes_eq-sym}
+use Rattle.blif_checks.proofs.NoteLaws.{eq_no, eq_yes}
 
 -- how many items pass
 abbrev pub hits : {X : Type 0} → (X → Bool) → List X → ℕ

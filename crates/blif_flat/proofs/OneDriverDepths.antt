@@ -10,8 +10,8 @@ use Rattle.vrt_model.specs.Nesting.{ContainsItself, IsWithin, depth_in, directly
 use Rattle.vrt_model.specs.declared.blif.Blif.{Blif}
 use Rattle.vrt_model.specs.declared.blif.SubLine.{SubLine}
 use Rattle.vrt_model.proofs.Members.{any_among, at_none}
-use Rattle.blif_flat.proofs.DepthLaws.{number_within}
-use Rattle.blif_flat.proofs.NoteLaws.{eq_yes}
+use Rattle.blif_checks.proofs.NestedLaws.{number_within}
+use Rattle.blif_checks.proofs.NoteLaws.{eq_yes}
 
 -- so many levels below one there is nothing
 abbrev pub Ends : (ℕ → List ℕ) → ℕ → ℕ → Type 0

@@ -10,7 +10,7 @@ use Rattle.vrt_model.specs.Models.{Never, OnLine, Twice, count_lines, driver_fau
 use Rattle.vrt_model.specs.declared.blif.Blif.{Blif}
 use Rattle.vrt_model.specs.declared.blif.BlifModel.{BlifModel}
 use Rattle.vrt_model.proofs.Members.{at_none, find_none}
-use Rattle.blif_flat.proofs.NoteLaws.{eq_yes, lt_no}
+use Rattle.blif_checks.proofs.NoteLaws.{eq_yes, lt_no}
 
 -- ---- lines in order
 

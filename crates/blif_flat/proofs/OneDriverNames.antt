@@ -19,9 +19,9 @@ use Rattle.vrt_model.specs.declared.blif.SubLine.{SubLine}
 use Rattle.vrt_model.specs.declared.blif.Tie.{Tie}
 use Rattle.vrt_model.proofs.Filtered.{among_kept, filter_among}
 use Rattle.vrt_model.proofs.Members.{among_either, among_filter, among_flat_map, among_left, among_map, among_right, any_among, at_none, find_among}
-use Rattle.blif_flat.specs.Signals.{named_in}
-use Rattle.blif_flat.proofs.NameLaws.{bytes_eq-sym, once_has_same}
-use Rattle.blif_flat.proofs.NoteLaws.{eq_yes}
+use Rattle.blif_checks.specs.Signals.{named_in}
+use Rattle.blif_checks.proofs.NameLaws.{bytes_eq-sym, once_has_same}
+use Rattle.blif_checks.proofs.NoteLaws.{eq_yes}
 use Rattle.blif_flat.proofs.OnceLaws.{signals_once}
 use Rattle.blif_flat.proofs.OneDriverLines.{not_twice, not_undriven, twice_there, undriven_there}
 use Rattle.blif_flat.proofs.RangeLaws.{among_flat, clock_named, cover_named, input_named, latch_named, output_named, tie_named}

@@ -15,8 +15,8 @@ use Rattle.vrt_model.specs.declared.blif.CoverLine.{CoverLine}
 use Rattle.vrt_model.specs.declared.blif.LatchLine.{LatchLine}
 use Rattle.vrt_model.specs.declared.blif.SubLine.{SubLine}
 use Rattle.vrt_model.specs.declared.blif.Tie.{Tie}
-use Rattle.blif_flat.specs.Mentions.{number_among}
-use Rattle.blif_flat.proofs.DriverLaws.{none_listed}
+use Rattle.blif_checks.specs.Mentions.{number_among}
+use Rattle.blif_checks.proofs.DriverLaws.{none_listed}
 use Rattle.blif_flat.proofs.OnceLaws.{kept_apart, signals_apart}
 use Rattle.blif_flat.proofs.OneDriverCounts.{and_both, at_among, first_number, hits, hits_apart, hits_flat, hits_join, hits_listed, hits_map, hits_numbers, hits_once, hits_same, hits_split, kept_name, later_number, place_none, place_number, span, total, total_same}
 use Rattle.blif_flat.proofs.OneDriverNames.{IsDriven}

@@ -16,7 +16,7 @@ use Rattle.vrt_model.specs.declared.blif.SubLine.{SubLine}
 use Rattle.vrt_model.specs.declared.blif.Tie.{Tie}
 use Rattle.vrt_model.proofs.Members.{among_filter, any_among, find_none}
 use Rattle.blif_flat.specs.Places.{placed}
-use Rattle.blif_flat.proofs.NameLaws.{once_is_all}
+use Rattle.blif_checks.proofs.NameLaws.{once_is_all}
 use Rattle.blif_flat.proofs.OnceLaws.{formals_apart, interface_among, kept_apart}
 use Rattle.blif_flat.proofs.OneDriverCounts.{and_both, at_among, hits, hits_apart, hits_map, hits_same, hits_split, kept_name}
 use Rattle.blif_flat.proofs.OneDriverNames.{mapped}

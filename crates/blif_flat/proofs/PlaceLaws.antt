@@ -22,13 +22,13 @@ use Rattle.vrt_model.specs.declared.flat_model.FlatLatch.{FlatLatch}
 use Rattle.vrt_model.specs.declared.flat_model.FlatModel.{FlatModel}
 use Rattle.blif_flat.specs.Counts.{Fits}
 use Rattle.blif_flat.specs.Places.{HasOwn, IsInterface, IsPlace, IsUnderway, covers_at, latches_at, left_over, number_in, place_in, placed, places_of, signals_left, size_of, with_places}
-use Rattle.blif_flat.specs.Tables.{AreTables}
+use Rattle.blif_checks.specs.Tables.{AreTables}
 use Rattle.blif_flat.specs.declared.flat.Interface.{Interface}
 use Rattle.blif_flat.specs.declared.places.Place.{Place}
-use Rattle.blif_flat.specs.declared.tables.Tables.{Tables}
+use Rattle.blif_checks.specs.declared.tables.Tables.{Tables}
 use Rattle.blif_flat.specs.declared.unroll.Parts.{Parts}
 use Rattle.blif_flat.proofs.CountLaws.{all_fit, signals_at, signals_in}
-use Rattle.blif_flat.proofs.NameLaws.{once_has_same, place_is}
+use Rattle.blif_checks.proofs.NameLaws.{once_has_same, place_is}
 use Rattle.blif_flat.proofs.OnceLaws.{all_named, formals_apart, kept_apart, signals_apart}
 
 -- ---- lists

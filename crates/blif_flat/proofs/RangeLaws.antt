@@ -22,10 +22,10 @@ use Rattle.vrt_model.specs.declared.blif.SubLine.{SubLine}
 use Rattle.vrt_model.specs.declared.blif.Tie.{Tie}
 use Rattle.vrt_model.proofs.Members.{all_among, among_any, among_filter, among_flat_map, among_left, among_map, among_right, at_none}
 use Rattle.blif_flat.specs.Places.{placed, signals_left}
-use Rattle.blif_flat.specs.Signals.{named_in}
+use Rattle.blif_checks.specs.Signals.{named_in}
 use Rattle.blif_flat.proofs.CountLaws.{signals_in}
 use Rattle.blif_flat.proofs.FlatLaws.{rows_within, signals_within}
-use Rattle.blif_flat.proofs.NameLaws.{any_placed}
+use Rattle.blif_checks.proofs.NameLaws.{any_placed}
 use Rattle.blif_flat.proofs.OnceLaws.{named_among}
 use Rattle.blif_flat.proofs.OneDriverCounts.{kept_name}
 

@@ -1,15 +1,3 @@
-pub mod Tables
-pub mod Subs
-pub mod Judged
-pub mod Depths
-pub mod Reached
-pub mod Nested
-pub mod Mentions
-pub mod Notes
-pub mod Drivers
-pub mod Signals
-pub mod Least
-pub mod Checked
 pub mod Counts
 pub mod Places
 pub mod Flat

@@ -5,11 +5,9 @@ ghost use Rattle.vrt_model.specs.FlatBlif.{signals_of};
 ghost use Rattle.vrt_model.specs.Models.{bad_sub};
 ghost use Rattle.vrt_model.specs.Unsupported.{carried};
 ghost use Rattle.blif_flat.specs.Counts.{AreCounts, AreSums, below, inside_in, rows_in, sub_inside, sum_over, weight};
-ghost use Rattle.blif_flat.specs.Tables.{AreTables};
+ghost use Rattle.blif_checks.specs.Tables.{AreTables};
 
-use crate::depths::number_of;
-use crate::signals::signals_of;
-use crate::tables::Tables;
+use blif_checks::{Tables, number_of, signals_of};
 use std::alloc::Global;
 use text_lines::Names;
 use vrt_model::{Blif, BlifModel, NoMemory, Seq, SubLine, Text};

@@ -8,14 +8,14 @@ ghost use Rattle.vrt_model.specs.Models.{AreModels, bad_sub};
 ghost use Rattle.vrt_model.specs.Unsupported.{model_limits, too_large};
 ghost use Rattle.blif_flat.specs.Flat.{FlatGives};
 ghost use Rattle.blif_flat.specs.Places.{HasRoom, IsInterface, number_in};
-ghost use Rattle.blif_flat.specs.Tables.{AreTables};
+ghost use Rattle.blif_checks.specs.Tables.{AreTables};
 
 use crate::FlatModelFault;
 use crate::counts::{all_signals, counts_of};
 use crate::limits::first_above;
 use crate::places::{Place, number_at, top_place};
-use crate::tables::{Tables, tables_of};
 use crate::unroll::{Parts, numbers_of, unroll};
+use blif_checks::{Tables, tables_of};
 use std::alloc::Global;
 use text_lines::Names;
 use vrt_model::{Blif, BlifModel, FlatModel, NoMemory, Seq, Text};

@@ -8,10 +8,9 @@ ghost use Rattle.vrt_model.specs.Lists.{path_name};
 ghost use Rattle.vrt_model.specs.declared.blif.Tie.{Tie as TieValue};
 ghost use Rattle.blif_flat.specs.Counts.{Fits};
 ghost use Rattle.blif_flat.specs.Places.{HasRoom, IsPlace, number_in, place_in, placed};
-ghost use Rattle.blif_flat.specs.Tables.{AreTables};
+ghost use Rattle.blif_checks.specs.Tables.{AreTables};
 
-use crate::depths::number_of;
-use crate::tables::Tables;
+use blif_checks::{Tables, number_of};
 use std::alloc::Global;
 use text_lines::Names;
 use vrt_model::{Blif, NoMemory, Seq, SubLine, Text, Tie};

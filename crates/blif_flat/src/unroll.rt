@@ -5,10 +5,10 @@ ghost use Rattle.vrt_model.specs.FlatBlif.{signals_of};
 ghost use Rattle.vrt_model.specs.Models.{bad_sub};
 ghost use Rattle.blif_flat.specs.Places.{HasOwn, HasRoom, IsPlace, cover_in, latch_in, number_in, own_names, place_in, places_of, size_of, with_places};
 ghost use Rattle.vrt_model.specs.declared.blif.LatchKind.TheVariants.{Re};
-ghost use Rattle.blif_flat.specs.Tables.{AreTables};
+ghost use Rattle.blif_checks.specs.Tables.{AreTables};
 
 use crate::places::{Place, name_at, number_at, sub_place};
-use crate::tables::Tables;
+use blif_checks::Tables;
 use std::alloc::Global;
 use vrt_model::{
     Blif, BlifModel, Cover, CoverLine, FlatLatch, LatchKind, LatchLine, NoMemory, Seq, Text,

@@ -1,9 +1,9 @@
 -- What refusals tell.
 use Rattle.std.proofs.Common.{◌≡◌, ◌≢◌, ◌⊎◌, inl, inr, ℕ, List, Result, Ok, Err, sym, subst}
 use Rattle.std.specs.Prelude.{IfOk, MatchResult}
-use Rattle.blif_flat.specs.Checked.{IsModelFault}
-use Rattle.blif_flat.specs.declared.faults.ModelFault.{ModelFault}
-use Rattle.blif_flat.specs.declared.faults.ModelFault.TheVariants.{NoMemory as ModelsMemory}
+use Rattle.blif_checks.specs.Checked.{IsModelFault}
+use Rattle.blif_checks.specs.declared.faults.ModelFault.{ModelFault}
+use Rattle.blif_checks.specs.declared.faults.ModelFault.TheVariants.{NoMemory as ModelsMemory}
 use Rattle.blif_reader.specs.Models.{blif_of}
 use Rattle.blif_reader.specs.Refused.{fault_of as models_fault_of}
 use Rattle.rules_reader.specs.Refused.{fault_of as rules_fault_of}

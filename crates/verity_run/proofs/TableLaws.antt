@@ -4,7 +4,7 @@ use Rattle.std.specs.Prelude.{bytes_eq, filter_map, position, slice_get, unwrap_
 use Rattle.std.specs.List.{cons_option, list_any, position_or_len}
 use Rattle.std.proofs.lemmas.List.{drop_all}
 use Rattle.std.proofs.lemmas.List.Quantifiers.{position-Some}
-use Rattle.blif_flat.proofs.NameLaws.{any_placed, bytes_eq-sym, once_has_same}
+use Rattle.blif_checks.proofs.NameLaws.{any_placed, bytes_eq-sym, once_has_same}
 use Rattle.text_lines.proofs.NameLaws.{names_once}
 use Rattle.text_lines.specs.Names.{distinct, is_among, with_names}
 use Rattle.verity_run.specs.Names.{AreTables, earlier, earliest, is_in, missing_by, missing_cell}

@@ -1,8 +1,8 @@
 -- The lines that a run writes beside the verdicts.
 use Rattle.std.specs.Prelude.{ℕ, List, [], ◌∷◌, ◌++◌, codes}
 use Rattle.std.specs.Fmt.{decimal}
-use Rattle.blif_flat.specs.declared.faults.ModelFault.{ModelFault}
-use Rattle.blif_flat.specs.declared.faults.ModelFault.TheVariants as models
+use Rattle.blif_checks.specs.declared.faults.ModelFault.{ModelFault}
+use Rattle.blif_checks.specs.declared.faults.ModelFault.TheVariants as models
 use Rattle.blif_reader.specs.declared.faults.BlifFault.{BlifFault}
 use Rattle.blif_reader.specs.declared.faults.BlifFault.TheVariants as blif
 use Rattle.rules_reader.specs.declared.faults.RulesFault.{RulesFault}

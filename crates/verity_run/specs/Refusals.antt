@@ -1,7 +1,7 @@
 -- The first refusal of the readers and of the models.
 use Rattle.std.specs.Prelude.{◌≡◌, ◌⊎◌, ℕ, List}
-use Rattle.blif_flat.specs.Checked.{IsModelFault}
-use Rattle.blif_flat.specs.declared.faults.ModelFault.{ModelFault}
+use Rattle.blif_checks.specs.Checked.{IsModelFault}
+use Rattle.blif_checks.specs.declared.faults.ModelFault.{ModelFault}
 use Rattle.blif_reader.specs.Cards.{cards_of as models_cards_of}
 use Rattle.blif_reader.specs.Models.{blif_of}
 use Rattle.blif_reader.specs.Refused.{fault_of as models_fault_of}

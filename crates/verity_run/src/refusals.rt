@@ -1,7 +1,7 @@
 //! What the three files say, or why they are refused.
 
 ghost use Rattle.std.specs.Prelude.{◌≡◌, ◌≤◌, ◌⊎◌, length, vec_len, IfOk, IfErr, MatchResult};
-ghost use Rattle.blif_flat.specs.Checked.{IsModelFault};
+ghost use Rattle.blif_checks.specs.Checked.{IsModelFault};
 ghost use Rattle.blif_reader.specs.Cards.{cards_of as models_cards_of};
 ghost use Rattle.blif_reader.specs.Models.{blif_of};
 ghost use Rattle.blif_reader.specs.Refused.{fault_of as models_fault_of};

@@ -2,7 +2,7 @@ use Rattle.std.proofs.Common.{arith, refl, ap, [], ◌∷◌, ◌∙◌, List, �
 use Rattle.std.proofs.lemmas.Option.{slice_get_read}
 use Rattle.text_lines.specs.Names.{with_names}
 use Rattle.vrt_model.specs.declared.blif.Tie.{Tie}
-use Rattle.blif_flat.proofs.MentionLaws.{names_more_one}
+use Rattle.blif_checks.proofs.MentionLaws.{names_more_one}
 use Rattle.blif_flat.proofs.places.formals_of.Goals as goal
 
 pub loop-tie-preserved : goal.loop-tie-preserved

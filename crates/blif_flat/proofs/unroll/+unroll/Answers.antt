@@ -3,7 +3,7 @@ use Rattle.std.proofs.lemmas.Option.{slice_get_read}
 use Rattle.vrt_model.specs.FlatBlif.{ModelPlace, inner_count, model_at, models_in}
 use Rattle.vrt_model.specs.declared.blif.Blif.{Blif}
 use Rattle.blif_flat.specs.Places.{place_in, places_of, size_of, with_places}
-use Rattle.blif_flat.proofs.NameLaws.{model_there}
+use Rattle.blif_checks.proofs.NameLaws.{model_there}
 use Rattle.blif_flat.proofs.PlaceLaws.{end_at, first_turn, fits_at, no_model, place_room, room_at, turn_at, with_own}
 use Rattle.blif_flat.proofs.unroll.+unroll.Goals as goal
 

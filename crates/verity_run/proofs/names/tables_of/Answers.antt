@@ -1,5 +1,5 @@
 use Rattle.std.proofs.Common.{ap, ◌∙◌, map}
-use Rattle.blif_flat.proofs.NameLaws.{names_apart, once_is_all}
+use Rattle.blif_checks.proofs.NameLaws.{names_apart, once_is_all}
 use Rattle.text_lines.specs.Names.{distinct}
 use Rattle.vrt_model.specs.declared.design.Cell.{Cell}
 use Rattle.vrt_model.specs.declared.design.DeviceCard.{DeviceCard}

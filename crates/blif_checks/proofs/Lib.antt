@@ -1,0 +1,9 @@
+pub mod NameLaws
+pub mod SubLaws
+pub mod NestedLaws
+pub mod NoteLaws
+pub mod MentionLaws
+pub mod LeastLaws
+pub mod DriverLaws
+pub mod JudgeLaws
+pub mod CheckLaws

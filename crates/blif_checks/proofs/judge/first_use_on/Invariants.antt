@@ -1,0 +1,9 @@
+use Rattle.std.proofs.Common.{◌≡◌, drop}
+use Rattle.std.specs.Prelude.{find}
+use Rattle.blif_checks.specs.Least.{passes_on}
+use Rattle.blif_checks.specs.Notes.{is_first_use}
+use Rattle.blif_checks.proofs.judge.first_use_on.Given as goal
+
+-- none so far
+abbrev pub invariant-loop-mention : goal.invariant-loop-mention
+invariant-loop-mention l = find (passes_on (is_first_use l.notes) l.line) (drop l.mention-index l.mentions) ≡ find (passes_on (is_first_use l.notes) l.line) l.mentions

@@ -1,0 +1,14 @@
+use Rattle.std.proofs.Common.{ap, ◌∙◌, map}
+use Rattle.text_lines.specs.Names.{distinct}
+use Rattle.vrt_model.specs.Models.{interface_of}
+use Rattle.vrt_model.specs.declared.blif.BlifModel.{BlifModel}
+use Rattle.blif_checks.proofs.NameLaws.{names_apart, once_is_all}
+use Rattle.blif_checks.proofs.tables.tables_of.Goals as goal
+
+pub returns : goal.returns
+returns c = record {
+  names =
+      c.in_ok-names_of.ensures ∙ ap (λ ms. distinct (map (λ (m : BlifModel). m.name) ms)) c.as_slice-models.ensures
+      ∙ once_is_all _ (names_apart (λ (m : BlifModel). m.name) c.args.blif.now.models c.requires.names);
+  interfaces = c.in_ok-interfaces_of.ensures ∙ ap (map (λ (m : BlifModel). distinct (interface_of m))) c.as_slice-models.ensures;
+}

@@ -1,0 +1,11 @@
+pub mod Tables
+pub mod Subs
+pub mod Judged
+pub mod Depths
+pub mod Nested
+pub mod Mentions
+pub mod Notes
+pub mod Drivers
+pub mod Signals
+pub mod Least
+pub mod Checked

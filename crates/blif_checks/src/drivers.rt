@@ -1,0 +1,199 @@
+//! What drives the signals of a model.
+
+ghost use Rattle.std.specs.Prelude.{◌≡◌, ◌++◌, ◌∷◌, [], min, length, map, slice_get, unwrap_or, IfOk, OnOk};
+ghost use Rattle.text_lines.specs.Names.{with_names};
+ghost use Rattle.vrt_model.specs.Models.{drivers_in, line_in, listed_inputs, on_line, on_lines};
+ghost use Rattle.vrt_model.specs.declared.blif.CoverLine.{CoverLine as CoverValue};
+ghost use Rattle.vrt_model.specs.declared.blif.LatchLine.{LatchLine as LatchValue};
+ghost use Rattle.vrt_model.specs.Inputs.{IsModel};
+ghost use Rattle.blif_checks.specs.Drivers.{AreReads, at_earlier, others};
+ghost use Rattle.blif_checks.specs.Mentions.{numbered};
+ghost use Rattle.blif_checks.specs.Tables.{AreTables};
+
+use crate::mentions::{Mention, add};
+use crate::roles::Role;
+use crate::tables::Tables;
+use crate::ties::add_subs;
+use std::alloc::Global;
+use text_lines::Names;
+use vrt_model::{Blif, BlifModel, CoverLine, LatchLine, NoMemory, Seq, Text};
+
+// The line at a place.
+fn line_at(lines: &[u32], number: usize) -> Option<u32>
+    ensures { result ≡ slice_get lines.now number }
+{
+    lines.get(number).copied()
+}
+
+// The first line on which a name is listed.
+fn line_in(names: &Names, lines: &[u32], name: &[u8]) -> Option<u32>
+    requires { length lines.now ≡ length names.now }
+    ensures { result ≡ line_in (on_lines names.now lines.now) name.now }
+{
+    let number = names.place(name)?;
+    line_at(lines, number)
+}
+
+// The earlier of a line and another, if there is one.
+fn earlier(line: u32, other: Option<u32>) -> u32
+    ensures { result ≡ min line (unwrap_or other line) }
+{
+    match other {
+        Some(other) if other < line => other,
+        _ => line,
+    }
+}
+
+// Adds inputs, each at the earlier of its line and that of the clock of its name.
+fn add_inputs(
+    list: &mut Seq<Mention>,
+    names: &Names,
+    clocks: &Names,
+    clock_lines: &[u32],
+    inputs: &[Text],
+    lines: &[u32],
+) -> Result<(), NoMemory>
+    requires { length clock_lines.now ≡ length clocks.now }
+    ensures { OnOk result (list.new ≡ list.old ++ map (numbered names.now) (map (at_earlier (on_lines clocks.now clock_lines.now)) (on_lines inputs.now lines.now))) }
+{
+    let mut inputs_left = inputs;
+    let mut lines_left = lines;
+    'inputs: while let (Some((input, inputs)), Some((line, lines))) = (
+        inputs_left.split_first(),
+        lines_left.split_first(),
+    ) {
+        let clock = line_in(clocks, clock_lines, input.as_bytes());
+        add(list, names, earlier(*line, clock), input.as_bytes())?;
+        inputs_left = inputs;
+        lines_left = lines;
+    }
+    Ok(())
+}
+
+// Adds a clock that is no input.
+fn add_clock(
+    list: &mut Seq<Mention>,
+    names: &Names,
+    inputs: &Names,
+    line: u32,
+    clock: &[u8],
+) -> Result<(), NoMemory>
+    ensures { OnOk result (list.new ≡ list.old ++ map (numbered names.now) (others inputs.now (on_line line clock.now ∷ []))) }
+{
+    if inputs.contains(clock) {
+        return Ok(());
+    }
+    add(list, names, line, clock)
+}
+
+// Adds the clocks that are no inputs.
+fn add_clocks(
+    list: &mut Seq<Mention>,
+    names: &Names,
+    inputs: &Names,
+    clocks: &[Text],
+    lines: &[u32],
+) -> Result<(), NoMemory>
+    ensures { OnOk result (list.new ≡ list.old ++ map (numbered names.now) (others inputs.now (on_lines clocks.now lines.now))) }
+{
+    let mut clocks_left = clocks;
+    let mut lines_left = lines;
+    'clocks: while let (Some((clock, clocks)), Some((line, lines))) = (
+        clocks_left.split_first(),
+        lines_left.split_first(),
+    ) {
+        add_clock(list, names, inputs, *line, clock.as_bytes())?;
+        clocks_left = clocks;
+        lines_left = lines;
+    }
+    Ok(())
+}
+
+// Adds the outputs of covers.
+fn add_covers(list: &mut Seq<Mention>, names: &Names, covers: &[CoverLine]) -> Result<(), NoMemory>
+    ensures { OnOk result (list.new ≡ list.old ++ map (numbered names.now) (map (λ (c : CoverValue). on_line c.line c.output) covers.now)) }
+{
+    for cover in covers {
+        add(list, names, cover.line, cover.output.as_bytes())?;
+    }
+    Ok(())
+}
+
+// Adds the outputs of latches.
+fn add_latches(
+    list: &mut Seq<Mention>,
+    names: &Names,
+    latches: &[LatchLine],
+) -> Result<(), NoMemory>
+    ensures { OnOk result (list.new ≡ list.old ++ map (numbered names.now) (map (λ (l : LatchValue). on_line l.line l.output) latches.now)) }
+{
+    for latch in latches {
+        add(list, names, latch.line, latch.output.as_bytes())?;
+    }
+    Ok(())
+}
+
+// The names of signals, each once.
+fn once(alloc: Global, signals: &[Text]) -> Result<Names, NoMemory>
+    ensures { IfOk result (λ names. names ≡ with_names [] signals.now) }
+{
+    let mut names = Names::new(alloc);
+    names.add_all(signals)?;
+    Ok(names)
+}
+
+// Adds the inputs and clocks of a model.
+fn add_heads(
+    alloc: Global,
+    list: &mut Seq<Mention>,
+    names: &Names,
+    model: &BlifModel,
+) -> Result<(), NoMemory>
+    requires { IsModel model.now }
+    ensures { OnOk result (list.new ≡ list.old ++ map (numbered names.now) (listed_inputs model.now)) }
+{
+    let inputs = once(alloc, model.inputs.as_slice())?;
+    let clocks = once(alloc, model.clocks.as_slice())?;
+    let clock_lines = model.clock_lines.as_slice();
+    let input_lines = model.input_lines.as_slice();
+    add_inputs(
+        list,
+        names,
+        &clocks,
+        clock_lines,
+        model.inputs.as_slice(),
+        input_lines,
+    )?;
+    add_clocks(list, names, &inputs, model.clocks.as_slice(), clock_lines)?;
+    Ok(())
+}
+
+/// What drives the signals of a model, by their numbers among some names.
+pub(crate) fn drivers_of(
+    alloc: Global,
+    names: &Names,
+    blif: &Blif,
+    tables: &Tables,
+    reads: &[Names],
+    model: &BlifModel,
+) -> Result<Seq<Mention>, NoMemory>
+    requires tables { AreTables blif.now tables.now }
+    requires reads { AreReads blif.now reads.now }
+    requires model { IsModel model.now }
+    ensures { IfOk result (λ list. list ≡ map (numbered names.now) (drivers_in blif.now model.now)) }
+{
+    let mut list = Seq::new(alloc);
+    add_heads(alloc, &mut list, names, model)?;
+    add_covers(&mut list, names, model.covers.as_slice())?;
+    add_latches(&mut list, names, model.latches.as_slice())?;
+    add_subs(
+        &mut list,
+        names,
+        blif,
+        tables,
+        reads,
+        Role::Driving,
+        model.subs.as_slice(),
+    )?;
+    Ok(list)
+}

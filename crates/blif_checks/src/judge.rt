@@ -1,0 +1,285 @@
+//! The first signal of a model with two drivers or none.
+
+ghost use Rattle.std.specs.Prelude.{◌≡◌, ◌⊎◌, [], Some, cond, find, get_or, option_map, IfOk};
+ghost use Rattle.vrt_model.specs.Inputs.{IsBlif, IsModel};
+ghost use Rattle.vrt_model.specs.Models.{driver_fault, driver_fault_in};
+ghost use Rattle.blif_checks.specs.Drivers.{AreReads};
+ghost use Rattle.blif_checks.specs.Judged.{Judges};
+ghost use Rattle.blif_checks.specs.Least.{IsLeastLine, IsShown, MentionsGive, earlier_line, is_bad, of_driver, passes_on};
+ghost use Rattle.blif_checks.specs.Notes.{is_first_use, is_line, is_second};
+ghost use Rattle.blif_checks.specs.Tables.{AreTables};
+
+use crate::ModelFault;
+use crate::drivers::drivers_of;
+use crate::mentions::{Mention, mentions_of};
+use crate::notes::{Note, notes_of};
+use crate::roles::reads_of;
+use crate::signals::signals_of;
+use crate::tables::Tables;
+use crate::uses::uses_of;
+use std::alloc::Global;
+use text_lines::Names;
+use vrt_model::{Blif, BlifModel, NoMemory, Seq, Text};
+
+// Whether a line is there and is this one.
+fn is_line(line: Option<u32>, at: u32) -> bool
+    ensures { result ≡ is_line line at }
+{
+    match line {
+        Some(line) => line == at,
+        None => false,
+    }
+}
+
+// Whether a mention is the second driver of its signal.
+fn is_second(notes: &[Note], mention: Mention) -> bool
+    ensures { result ≡ is_second notes.now mention }
+{
+    match notes.get(mention.signal) {
+        Some(note) => is_line(note.second, mention.line),
+        None => false,
+    }
+}
+
+// Whether a mention is the first use of a signal without a driver.
+fn is_first_use(notes: &[Note], mention: Mention) -> bool
+    ensures { result ≡ is_first_use notes.now mention }
+{
+    match notes.get(mention.signal) {
+        Some(note) => note.first.is_none() && is_line(note.used, mention.line),
+        None => false,
+    }
+}
+
+// Whether a mention is one or the other.
+fn is_bad(notes: &[Note], mention: Mention) -> bool
+    ensures { result ≡ is_bad notes.now mention }
+{
+    is_second(notes, mention) || is_first_use(notes, mention)
+}
+
+// The earlier of a line and another, if there is one.
+fn earlier(least: Option<u32>, line: u32) -> Option<u32>
+    ensures { result ≡ earlier_line least line }
+{
+    match least {
+        Some(least) => {
+            if least <= line {
+                Some(least)
+            } else {
+                Some(line)
+            }
+        }
+        None => Some(line),
+    }
+}
+
+// The least line of those so far and of a mention, if that is bad.
+fn with_mention(notes: &[Note], least: Option<u32>, mention: Mention) -> Option<u32>
+    ensures { result ≡ cond (is_bad notes.now mention) (earlier_line least mention.line) least }
+{
+    if is_bad(notes, mention) {
+        earlier(least, mention.line)
+    } else {
+        least
+    }
+}
+
+// The least line with a bad mention.
+fn least_line(notes: &[Note], mentions: &[Mention]) -> Option<u32>
+    ensures { IsLeastLine (is_bad notes.now) mentions.now result }
+{
+    let mut least = None;
+    for mention in mentions {
+        least = with_mention(notes, least, *mention);
+    }
+    least
+}
+
+// The first second driver on a line.
+fn second_on(notes: &[Note], mentions: &[Mention], line: u32) -> Option<Mention>
+    ensures { result ≡ find (passes_on (is_second notes.now) line) mentions.now }
+{
+    for mention in mentions {
+        if mention.line == line && is_second(notes, *mention) {
+            return Some(*mention);
+        }
+    }
+    None
+}
+
+// The first use on a line of a signal without a driver.
+fn first_use_on(notes: &[Note], mentions: &[Mention], line: u32) -> Option<Mention>
+    ensures { result ≡ find (passes_on (is_first_use notes.now) line) mentions.now }
+{
+    for mention in mentions {
+        if mention.line == line && is_first_use(notes, *mention) {
+            return Some(*mention);
+        }
+    }
+    None
+}
+
+// The name of a number, empty where there is none.
+fn bytes_at(names: &[Text], number: usize) -> &[u8]
+    ensures { result.now ≡ get_or names.now number [] }
+{
+    if number < names.len() {
+        names[number].as_bytes()
+    } else {
+        &[]
+    }
+}
+
+// A copy of the name of a number, empty where there is none.
+fn name_at(alloc: Global, names: &Names, number: usize) -> Result<Text, NoMemory>
+    ensures { IfOk result (λ name. name ≡ get_or names.now number []) }
+{
+    let names = names.to_texts(alloc)?;
+    let name = Text::from_bytes(alloc, bytes_at(names.as_slice(), number))?;
+    Ok(name)
+}
+
+// The fault of a second driver.
+fn twice(alloc: Global, names: &Names, line: u32, mention: Mention) -> ModelFault
+    ensures { (result ≡ ModelFault.NoMemory) ⊎ (result ≡ ModelFault.DrivenTwice line (get_or names.now mention.signal [])) }
+{
+    match name_at(alloc, names, mention.signal) {
+        Ok(name) => ModelFault::DrivenTwice { line, name },
+        Err(_) => ModelFault::NoMemory,
+    }
+}
+
+// The fault of a use without a driver.
+fn never(alloc: Global, names: &Names, line: u32, mention: Mention) -> ModelFault
+    ensures { (result ≡ ModelFault.NoMemory) ⊎ (result ≡ ModelFault.Undriven line (get_or names.now mention.signal [])) }
+{
+    match name_at(alloc, names, mention.signal) {
+        Ok(name) => ModelFault::Undriven { line, name },
+        Err(_) => ModelFault::NoMemory,
+    }
+}
+
+// Refuses the first bad mention on a line: a second driver, or else a use without a driver.
+fn judge_line(
+    alloc: Global,
+    notes: &[Note],
+    names: &Names,
+    mentions: &[Mention],
+    line: u32,
+) -> Result<(), ModelFault>
+    requires { IsLeastLine (is_bad notes.now) mentions.now (Some line) }
+    ensures { MentionsGive notes.now names.now mentions.now result }
+{
+    match second_on(notes, mentions, line) {
+        Some(mention) => Err(twice(alloc, names, line, mention)),
+        None => match first_use_on(notes, mentions, line) {
+            Some(mention) => Err(never(alloc, names, line, mention)),
+            None => Ok(()),
+        },
+    }
+}
+
+// Refuses the first bad mention on the least line that has one.
+fn judge_mentions(
+    alloc: Global,
+    notes: &[Note],
+    names: &Names,
+    mentions: &[Mention],
+) -> Result<(), ModelFault>
+    ensures { MentionsGive notes.now names.now mentions.now result }
+{
+    match least_line(notes, mentions) {
+        Some(line) => judge_line(alloc, notes, names, mentions, line),
+        None => Ok(()),
+    }
+}
+
+/// The names of a model's signals, what is noted of them, and where they are mentioned.
+#[derive(Drop)]
+pub(crate) struct Shown {
+    pub(crate) names: Names,
+    pub(crate) notes: Vec<Note>,
+    pub(crate) mentions: Seq<Mention>,
+}
+
+// What is shown of a model.
+fn shown_of(
+    alloc: Global,
+    blif: &Blif,
+    tables: &Tables,
+    reads: &[Names],
+    model: &BlifModel,
+) -> Result<Shown, NoMemory>
+    requires tables { AreTables blif.now tables.now }
+    requires reads { AreReads blif.now reads.now }
+    requires model { IsModel model.now }
+    ensures { IfOk result (λ shown. IsShown blif.now model.now shown) }
+{
+    let names = signals_of(alloc, model)?;
+    let drivers = drivers_of(alloc, &names, blif, tables, reads, model)?;
+    let uses = uses_of(alloc, &names, blif, tables, reads, model)?;
+    let notes = notes_of(alloc, names.len(), drivers.as_slice(), uses.as_slice())?;
+    let mentions = mentions_of(alloc, &names, model)?;
+    Ok(Shown {
+        names,
+        notes,
+        mentions,
+    })
+}
+
+// Refuses the first signal of a model with two drivers or none.
+fn judge_model(
+    alloc: Global,
+    blif: &Blif,
+    tables: &Tables,
+    reads: &[Names],
+    model: &BlifModel,
+) -> Result<(), ModelFault>
+    requires tables { AreTables blif.now tables.now }
+    requires reads { AreReads blif.now reads.now }
+    requires model { IsModel model.now }
+    ensures { Judges result (option_map of_driver (driver_fault_in blif.now model.now)) }
+{
+    let Ok(shown) = shown_of(alloc, blif, tables, reads, model) else {
+        return Err(ModelFault::NoMemory);
+    };
+    judge_mentions(
+        alloc,
+        shown.notes.as_slice(),
+        &shown.names,
+        shown.mentions.as_slice(),
+    )
+}
+
+// Refuses the first model that has such a signal.
+fn judge_models(
+    alloc: Global,
+    blif: &Blif,
+    tables: &Tables,
+    reads: &[Names],
+) -> Result<(), ModelFault>
+    requires blif { IsBlif blif.now }
+    requires tables { AreTables blif.now tables.now }
+    requires reads { AreReads blif.now reads.now }
+    ensures { Judges result (option_map of_driver (driver_fault blif.now)) }
+{
+    for model in blif.models.as_slice() {
+        judge_model(alloc, blif, tables, reads, model)?;
+    }
+    Ok(())
+}
+
+/// Refuses the first model that has a signal with two drivers or one that is used and has none: of its faults the one
+/// of the least line, there two drivers before none, and then the first name on the card. It takes time in proportion to
+/// the cards.
+pub fn check_drivers(alloc: Global, blif: &Blif, tables: &Tables) -> Result<(), ModelFault>
+    requires blif { IsBlif blif.now }
+    requires tables { AreTables blif.now tables.now }
+    ensures { Judges result (option_map of_driver (driver_fault blif.now)) }
+{
+    let Ok(reads) = reads_of(alloc, blif.models.as_slice()) else {
+        return Err(ModelFault::NoMemory);
+    };
+    judge_models(alloc, blif, tables, reads.as_slice())
+}

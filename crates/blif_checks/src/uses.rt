@@ -1,0 +1,85 @@
+//! What uses the signals of a model.
+
+ghost use Rattle.std.specs.Prelude.{◌≡◌, ◌++◌, map, flat_map, IfOk, OnOk};
+ghost use Rattle.vrt_model.specs.Models.{on_line, uses_in};
+ghost use Rattle.vrt_model.specs.declared.blif.CoverLine.{CoverLine as CoverValue};
+ghost use Rattle.blif_checks.specs.Drivers.{AreReads, latch_uses};
+ghost use Rattle.blif_checks.specs.Mentions.{numbered};
+ghost use Rattle.blif_checks.specs.Tables.{AreTables};
+
+use crate::mentions::{Mention, add, add_all, add_listed};
+use crate::roles::Role;
+use crate::tables::Tables;
+use crate::ties::add_subs;
+use std::alloc::Global;
+use text_lines::Names;
+use vrt_model::{Blif, BlifModel, CoverLine, LatchLine, NoMemory, Seq};
+
+// Adds the inputs of covers.
+fn add_covers(list: &mut Seq<Mention>, names: &Names, covers: &[CoverLine]) -> Result<(), NoMemory>
+    ensures { OnOk result (list.new ≡ list.old ++ map (numbered names.now) (flat_map (λ (c : CoverValue). map (on_line c.line) c.inputs) covers.now)) }
+{
+    for cover in covers {
+        add_all(list, names, cover.line, cover.inputs.as_slice())?;
+    }
+    Ok(())
+}
+
+// Adds the input and the control of a latch.
+fn add_latch(list: &mut Seq<Mention>, names: &Names, latch: &LatchLine) -> Result<(), NoMemory>
+    ensures { OnOk result (list.new ≡ list.old ++ map (numbered names.now) (latch_uses latch.now)) }
+{
+    add(list, names, latch.line, latch.input.as_bytes())?;
+    match &latch.control {
+        Some(control) => add(list, names, latch.line, control.as_bytes()),
+        None => Ok(()),
+    }
+}
+
+// Adds the inputs and controls of latches.
+fn add_latches(
+    list: &mut Seq<Mention>,
+    names: &Names,
+    latches: &[LatchLine],
+) -> Result<(), NoMemory>
+    ensures { OnOk result (list.new ≡ list.old ++ map (numbered names.now) (flat_map latch_uses latches.now)) }
+{
+    for latch in latches {
+        add_latch(list, names, latch)?;
+    }
+    Ok(())
+}
+
+/// What uses the signals of a model, by their numbers among some names.
+pub(crate) fn uses_of(
+    alloc: Global,
+    names: &Names,
+    blif: &Blif,
+    tables: &Tables,
+    reads: &[Names],
+    model: &BlifModel,
+) -> Result<Seq<Mention>, NoMemory>
+    requires tables { AreTables blif.now tables.now }
+    requires reads { AreReads blif.now reads.now }
+    ensures { IfOk result (λ list. list ≡ map (numbered names.now) (uses_in blif.now model.now)) }
+{
+    let mut list = Seq::new(alloc);
+    add_covers(&mut list, names, model.covers.as_slice())?;
+    add_latches(&mut list, names, model.latches.as_slice())?;
+    add_subs(
+        &mut list,
+        names,
+        blif,
+        tables,
+        reads,
+        Role::Reading,
+        model.subs.as_slice(),
+    )?;
+    add_listed(
+        &mut list,
+        names,
+        model.outputs.as_slice(),
+        model.output_lines.as_slice(),
+    )?;
+    Ok(list)
+}

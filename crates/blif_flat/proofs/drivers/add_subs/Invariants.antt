@@ -1,9 +1,0 @@
-use Rattle.std.proofs.Common.{◌≡◌, ◌++◌, map, take, flat_map}
-use Rattle.vrt_model.specs.Models.{is_driving, ties_on}
-use Rattle.vrt_model.specs.declared.blif.SubLine.{SubLine}
-use Rattle.blif_flat.specs.Mentions.{numbered}
-use Rattle.blif_flat.proofs.drivers.add_subs.Given as goal
-
--- the mentions so far
-abbrev pub invariant-loop-sub : goal.invariant-loop-sub
-invariant-loop-sub l = l.list ≡ l.initial.list ++ map (numbered l.names) (flat_map (λ (s : SubLine). ties_on (is_driving l.blif s) s) (take l.sub-index l.subs))

@@ -1,5 +1,0 @@
-use Rattle.blif_flat.proofs.NestedLaws.{inner_is}
-use Rattle.blif_flat.proofs.nesting.inner_models.Goals as goal
-
-pub returns : goal.returns
-returns c = inner_is c.args.blif.now c.args.tables.now _ c.as_slice.result.now c.requires c.as_slice.ensures c.in_ok-all.ensures

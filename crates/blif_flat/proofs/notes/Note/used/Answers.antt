@@ -1,6 +1,0 @@
-use Rattle.std.proofs.Common.{refl}
-use Rattle.blif_flat.proofs.NoteLaws.{used_more}
-use Rattle.blif_flat.proofs.notes.Note.used.Goals as goal
-
-pub returns : goal.returns
-returns c = λ driven used is. used_more c.args.self _ c.args.line driven used refl refl c.least.ensures is

@@ -1,0 +1,3 @@
+mod DepthLaws
+mod FirstLaws
+mod ReachedLaws
