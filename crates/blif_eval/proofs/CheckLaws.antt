@@ -1,5 +1,5 @@
 -- What the tests' own checks say of a model.
-use Rattle.std.proofs.Common.{◌≡◌, ℕ, zero, suc, ◌+◌, ◌++◌, List, [], ◌∷◌, Bool, Option, None, map, arith, ap, refl, sym, subst, ◌∙◌}
+use Rattle.std.proofs.Common.{◌≡◌, ℕ, zero, suc, ◌+◌, ◌++◌, List, [], ◌∷◌, Bool, Option, None, map, arith, ap, refl}
 use Rattle.blif_eval.proofs.Drivers.{outputs_of, times, times_joined}
 use Rattle.blif_eval.specs.Plans.{entry_of}
 use Rattle.vrt_model.specs.FlatModels.{drivers_of}

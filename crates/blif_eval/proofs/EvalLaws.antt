@@ -11,7 +11,7 @@ use Rattle.std.proofs.lemmas.Bool.{cases_eq}
 use Rattle.blif_eval.proofs.Drivers.{apart}
 use Rattle.blif_eval.proofs.Frames.{filled_beside, shows_beside, shows_kept}
 use Rattle.blif_eval.proofs.GraphLaws.{no_elements, no_latch}
-use Rattle.blif_eval.proofs.Lists.{at_within}
+use Rattle.graphs.proofs.Lists.{at_within}
 use Rattle.blif_eval.proofs.OneAssignment.{one_assignment}
 use Rattle.blif_eval.specs.Drivers.{driver_at}
 use Rattle.blif_eval.specs.Evaluated.{HasModelSpans, IsAssignedAt, IsEvaluated, assignment_at}

@@ -4,18 +4,18 @@ use Rattle.std.specs.Prelude.{flat_map, option_map, slice_get, unwrap_or}
 use Rattle.std.proofs.lemmas.Bool.{cases_eq, cases_lt}
 use Rattle.std.proofs.lemmas.List.{get_or-set_same, get_or-set_other}
 use Rattle.blif_eval.proofs.Drivers.{input_below, one_place}
-use Rattle.blif_eval.proofs.Lists.{at_within, one_at, set_size}
+use Rattle.graphs.proofs.Lists.{at_within, one_at, set_size}
 use Rattle.blif_eval.proofs.OneAssignment.{one_assignment}
 use Rattle.blif_eval.specs.Drivers.{AreDrivers, driver_at, graph_by, inputs_at}
-use Rattle.blif_eval.specs.Graphs.{ArcIn, AreInside, HasArcs, sources_at}
-use Rattle.blif_eval.specs.Orders.{OrderGives}
+use Rattle.graphs.proofs.Walks.{cycle_over, first_over}
+use Rattle.graphs.specs.Graphs.{ArcIn, AreInside, HasArcs, sources_at}
+use Rattle.graphs.specs.Orders.{OrderGives}
 use Rattle.blif_eval.specs.Plans.{ArcOf, PlanGives, plan_by}
-use Rattle.blif_eval.specs.declared.order.Order.{Order}
-use Rattle.blif_eval.specs.declared.order.Order.TheVariants.{Steps, Cycle}
+use Rattle.graphs.specs.declared.order.Order.{Order}
+use Rattle.graphs.specs.declared.order.Order.TheVariants.{Steps, Cycle}
 use Rattle.vrt_model.proofs.Members.{at_none}
 use Rattle.vrt_model.specs.Elements.{Numbered, element_names, numbered_from, numbered_latches}
 use Rattle.vrt_model.specs.FlatModels.{IsFlatModel}
-use Rattle.vrt_model.specs.Known.{IsCycle, IsFirstCycle, IsWalk}
 use Rattle.vrt_model.specs.Lists.{At, Among}
 use Rattle.vrt_model.specs.ModelArcs.{Part, parts_by, parts_of}
 use Rattle.vrt_model.specs.declared.flat_model.Cover.{Cover}
@@ -151,18 +151,6 @@ module _ (flat : FlatModel) (model : IsFlatModel flat) (latchless : flat.latches
         omega (arith, low, size)
 
 -- ---- the plan
-
-walk_over : (A B : ℕ → ℕ → Type 0) → ((from to : ℕ) → A from to → B from to) → (nodes : List ℕ) (n last : ℕ) → IsWalk A n nodes last → IsWalk B n nodes last
-walk_over A B over [] n last e = e
-walk_over A B over (m ∷ nodes) n last walk = (over n m walk.0, walk_over A B over nodes m last walk.1)
-
-cycle_over : (A B : ℕ → ℕ → Type 0) → ((from to : ℕ) → A from to → B from to) → (nodes : List ℕ) → IsCycle A nodes → IsCycle B nodes
-cycle_over A B over [] cycle = cycle
-cycle_over A B over (n ∷ nodes) cycle = (cycle.0, walk_over A B over nodes n cycle.0 cycle.1, over cycle.0 n cycle.2)
-
-first_over : (A B : ℕ → ℕ → Type 0) → ((from to : ℕ) → A from to → B from to) → ((from to : ℕ) → B from to → A from to) → (nodes : List ℕ) → IsFirstCycle A nodes → IsFirstCycle B nodes
-first_over A B over back [] first = absurd first.0
-first_over A B over back (n ∷ nodes) first = (cycle_over A B over (n ∷ nodes) first.0, λ m others cycle. first.1 m others (cycle_over B A back (m ∷ others) cycle))
 
 -- an order of the graph, or its first cycle, is that of the model; and with an order there is one assignment
 pub plan_gives : (flat : FlatModel) → IsFlatModel flat → flat.latches ≡ [] → (graph : List (List ℕ)) (known : List (Option Bool)) → length graph ≡ length flat.signals

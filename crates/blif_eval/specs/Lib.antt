@@ -1,11 +1,7 @@
 pub mod Drivers
 pub mod Evaluated
 pub mod Gives
-pub mod Graphs
 pub mod OneAssignment
 pub mod Operations
-pub mod Orders
-pub mod Placed
 pub mod Plans
 pub mod Settled
-pub mod Trails

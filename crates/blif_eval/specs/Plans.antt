@@ -2,26 +2,17 @@
 use Rattle.std.specs.Prelude.{◌≡◌, ℕ, ◌+◌, ◌++◌, ◌<◌, Bool, List, length, Option, Some, None, Result, Ok, Err, slice_get, unwrap_or}
 use Rattle.blif_eval.specs.Drivers.{AreDrivers}
 use Rattle.blif_eval.specs.OneAssignment.{HasOneAssignment}
-use Rattle.blif_eval.specs.declared.order.Order.{Order}
-use Rattle.blif_eval.specs.declared.order.Order.TheVariants.{Steps, Cycle}
 use Rattle.blif_eval.specs.declared.plan.ModelPlan.{ModelPlan}
 use Rattle.blif_eval.specs.declared.plan.PlanFault.{PlanFault}
 use Rattle.blif_eval.specs.declared.plan.PlanFault.TheVariants.{ModelCycle, NoMemory}
+use Rattle.graphs.specs.Orders.{Follows, ListsOnce}
+use Rattle.graphs.specs.declared.order.Order.{Order}
+use Rattle.graphs.specs.declared.order.Order.TheVariants.{Steps, Cycle}
 use Rattle.vrt_model.specs.Elements.{element_names}
 use Rattle.vrt_model.specs.Known.{IsCycle, IsFirstCycle}
-use Rattle.vrt_model.specs.Lists.{At, Among}
+use Rattle.vrt_model.specs.Lists.{Among}
 use Rattle.vrt_model.specs.ModelArcs.{HasModelArc}
 use Rattle.vrt_model.specs.declared.flat_model.FlatModel.{FlatModel}
-
--- each number below a count stands once, and no other
-pub record ListsOnce (count : ℕ) (steps : List ℕ) : Type 0 where
-  pub all : (n : ℕ) → n < count → Among steps n
-  pub below : (n : ℕ) → Among steps n → n < count
-  pub once : (i j n : ℕ) → At steps i n → At steps j n → i ≡ j
-
--- where an arc leads to a number, it comes from one before
-abbrev pub Follows : (ℕ → ℕ → Type 0) → List ℕ → Type 0
-Follows Arc steps = (from to k : ℕ) → At steps k to → Arc from to → (j : ℕ) × (j < k) × At steps j from
 
 -- how many signals and elements a model has
 abbrev pub node_count : FlatModel → ℕ

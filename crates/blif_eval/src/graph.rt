@@ -2,7 +2,7 @@
 
 ghost use Rattle.std.specs.Prelude.{◌≡◌, ◌<◌, ◌++◌, ◌∷◌, [], Bool, List, Option, length, replicate, set, IfOk, OnOk};
 ghost use Rattle.blif_eval.specs.Drivers.{AreDrivers, graph_by, inputs_at};
-ghost use Rattle.blif_eval.specs.Graphs.{AreInside, HasArcs, sources_at};
+ghost use Rattle.graphs.specs.Graphs.{AreInside, HasArcs};
 ghost use Rattle.blif_eval.specs.Plans.{ArcOf};
 ghost use Rattle.vrt_model.specs.FlatModels.{IsFlatModel};
 
@@ -16,17 +16,6 @@ pub(crate) fn append(list: &mut Seq<u32>, number: u32) -> Result<(), NoMemory>
     match list.push(number) {
         Ok(()) => Ok(()),
         Err(_) => Err(NoMemory),
-    }
-}
-
-/// The numbers from which arcs lead to one.
-pub(crate) fn sources_at(sources: &[Seq<u32>], n: u32) -> &[u32]
-    ensures { result.now ≡ sources_at sources.now n }
-{
-    if (n as usize) < sources.len() {
-        sources[n as usize].as_slice()
-    } else {
-        &[]
     }
 }
 

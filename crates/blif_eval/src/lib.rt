@@ -3,11 +3,8 @@
 #![tactic(auto)]
 
 mod cover;
-mod cycle;
 mod eval;
 mod graph;
-mod order;
-mod placing;
 mod plan;
 
 pub use cover::cover_diagram;

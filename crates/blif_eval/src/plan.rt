@@ -6,7 +6,7 @@ ghost use Rattle.blif_eval.specs.Plans.{PlanGives, plan_by};
 ghost use Rattle.vrt_model.specs.FlatModels.{IsFlatModel};
 
 use crate::graph::{drivers_of, graph_of};
-use crate::order::{Order, order_of};
+use graphs::{Order, order_of};
 use std::alloc::Global;
 use vrt_model::{FlatModel, NoMemory, Seq};
 

@@ -1,36 +1,22 @@
 -- The arcs of a comparison whose model has no latches: whatever is known, they are those of covers. With parts the arcs of
 -- the circuit have no cycle.
-use Rattle.std.proofs.Common.{◌≡◌, ℕ, Bool, true, List, [], ◌∷◌, length, Option, subst, inl, inr}
+use Rattle.std.proofs.Common.{◌≡◌, ℕ, Bool, true, List, [], length, Option, subst, inl, inr}
 use Rattle.std.specs.Prelude.{flat_map}
 use Rattle.blif_eval.specs.Plans.{ArcOf, IsPlan}
 use Rattle.blif_eval.specs.declared.plan.ModelPlan.{ModelPlan}
 use Rattle.cell_compare.specs.Compared.{nothing_known}
 use Rattle.channel_parts.specs.PartLists.{IsPartList}
 use Rattle.channel_parts.specs.declared.part.Parts.{Parts}
+use Rattle.graphs.proofs.Walks.{cycle_over, first_over}
 use Rattle.vrt_model.proofs.Members.{at_none}
 use Rattle.vrt_model.specs.Comparison.{Comparison, phase_at}
 use Rattle.vrt_model.specs.Elements.{Numbered, numbered_from, numbered_latches}
-use Rattle.vrt_model.specs.Known.{IsCycle, IsFirstCycle, IsWalk}
+use Rattle.vrt_model.specs.Known.{IsFirstCycle}
 use Rattle.vrt_model.specs.Lists.{Among, At}
 use Rattle.vrt_model.specs.ModelArcs.{HasModelArc, Part, parts_by, parts_of}
 use Rattle.vrt_model.specs.Unsupported.{CircuitArc, IsAcyclic, ModelArc}
 use Rattle.vrt_model.specs.declared.flat_model.FlatLatch.{FlatLatch}
 use Rattle.vrt_model.specs.declared.flat_model.FlatModel.{FlatModel}
-
--- ---- cycles over other arcs
-
--- what is a walk, a cycle or the first cycle of some arcs is one of the same arcs named otherwise
-walk_over : (A B : ℕ → ℕ → Type 0) → ((from to : ℕ) → A from to → B from to) → (nodes : List ℕ) (n last : ℕ) → IsWalk A n nodes last → IsWalk B n nodes last
-walk_over A B over [] n last e = e
-walk_over A B over (m ∷ nodes) n last walk = (over n m walk.0, walk_over A B over nodes m last walk.1)
-
-cycle_over : (A B : ℕ → ℕ → Type 0) → ((from to : ℕ) → A from to → B from to) → (nodes : List ℕ) → IsCycle A nodes → IsCycle B nodes
-cycle_over A B over [] cycle = cycle
-cycle_over A B over (n ∷ nodes) cycle = (cycle.0, walk_over A B over nodes n cycle.0 cycle.1, over cycle.0 n cycle.2)
-
-first_over : (A B : ℕ → ℕ → Type 0) → ((from to : ℕ) → A from to → B from to) → ((from to : ℕ) → B from to → A from to) → (nodes : List ℕ) → IsFirstCycle A nodes → IsFirstCycle B nodes
-first_over A B over back [] first = absurd first.0
-first_over A B over back (n ∷ nodes) first = (cycle_over A B over (n ∷ nodes) first.0, λ m others cycle. first.1 m others (cycle_over B A back (m ∷ others) cycle))
 
 -- ---- arcs of covers
 

@@ -6,7 +6,6 @@ pub mod GroupLaws
 pub mod IncidenceLaws
 pub mod KnownOnce
 pub mod Labels
-pub mod LevelLaws
 pub mod ListLaws
 pub mod NetGraphLaws
 pub mod NetKinds

@@ -15,8 +15,8 @@ use Rattle.channel_parts.specs.NetGraphs.{Adds, IsArc, IsDeviceArc, IsDeviceArcB
 use Rattle.channel_parts.specs.OneSolution.{IsKnownTable}
 use Rattle.channel_parts.specs.Conduction.{is_plain_at}
 use Rattle.channel_parts.specs.Ranks.{AreLeast, has_unknown_gate}
-use Rattle.graph_cycles.proofs.Lists.{walk_further}
-use Rattle.graph_cycles.specs.Graphs.{ArcIn, AreInside}
+use Rattle.graphs.proofs.Walks.{walk_further}
+use Rattle.graphs.specs.Graphs.{ArcIn, AreInside}
 use Rattle.plain_paths.specs.FlatCircuits.{IsFlat}
 use Rattle.vrt_model.proofs.Filtered.{device_among}
 use Rattle.vrt_model.proofs.Members.{all_among, among_either, among_left, among_right}

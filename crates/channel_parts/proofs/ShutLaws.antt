@@ -10,7 +10,7 @@ use Rattle.channel_parts.specs.Conduction.{conduction_of, is_input_at, is_input_
 use Rattle.channel_parts.specs.Regions.{GoTogether, IsInput, IsOpenAt, IsRegion, IsShutAt, KeepsOpen, KeepsShut, has_amount}
 use Rattle.channel_parts.specs.Spreads.{HasArrived, IsClear, IsKnownOn, IsPassedOn, before, given, onward}
 use Rattle.channel_parts.specs.declared.spread.Spread.TheVariants.{Joined}
-use Rattle.graph_cycles.specs.Graphs.{ArcIn, sources_at}
+use Rattle.graphs.specs.Graphs.{ArcIn, sources_at}
 use Rattle.plain_paths.specs.Marks.{mark_at}
 use Rattle.vrt_model.proofs.Filtered.{among_devices}
 use Rattle.vrt_model.proofs.Members.{among_any, any_among}

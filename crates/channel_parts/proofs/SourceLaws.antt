@@ -1,10 +1,9 @@
 -- Levels over the sources of parts are the ranks; where a part has none, arcs lead around.
 use Rattle.std.proofs.Common.{◌≡◌, ℕ, zero, suc, ◌+◌, ◌<◌, Bool, true, false, cond, List, [], ◌∷◌, length, None, Option, Some, slice_index, arith, ap, subst, sym, refl, ◌∙◌, inl, inr}
-use Rattle.std.specs.Prelude.{is_none, nat_lt, slice_get, unwrap_or}
-use Rattle.std.specs.List.{list_all}
-use Rattle.std.proofs.lemmas.Bool.{and_cases, and_from, and_parts, cases_Bool, cond-false, cond-true, false≢true, ltb-false, ltb-true}
-use Rattle.std.proofs.lemmas.Option.{none-some, same_Some, slice_get_within}
-use Rattle.channel_parts.proofs.Acyclic.{none_behind}
+use Rattle.std.specs.Prelude.{is_none, slice_get, unwrap_or}
+use Rattle.std.proofs.lemmas.Bool.{and_from, cases_Bool, cond-false, cond-true}
+use Rattle.std.proofs.lemmas.Option.{get_or_from_slice_get, none-some, same_Some, slice_get_within, unwrap_or-slice_get}
+use Rattle.channel_parts.proofs.Acyclic.{none_plain}
 use Rattle.channel_parts.proofs.GroupLaws.{below_or_at, owned}
 use Rattle.channel_parts.proofs.Labels.{together_further}
 use Rattle.channel_parts.proofs.NetKinds.{plain_is}
@@ -13,7 +12,8 @@ use Rattle.channel_parts.proofs.RankLaws.{rank_arc_gate, rank_given, rank_plain,
 use Rattle.channel_parts.specs.Groups.{IsPlaced, device_owner, net_owner}
 use Rattle.channel_parts.specs.KnownTables.{known_at}
 use Rattle.channel_parts.specs.Labels.{AreBelow}
-use Rattle.channel_parts.specs.Levels.{AreInside, AreLevels, AreStuck, sources_at}
+use Rattle.graphs.specs.Graphs.{AreInside, sources_at}
+use Rattle.graphs.specs.Levels.{AreLevels, AreStuck}
 use Rattle.channel_parts.specs.OneSolution.{IsKnownTable}
 use Rattle.channel_parts.specs.Conduction.{is_plain_at}
 use Rattle.channel_parts.specs.Ranks.{AreLeast, IsAcyclicArcs, has_unknown_gate, rank_by}
@@ -101,14 +101,14 @@ more_sources c known least n d old new at joined so = record {
 -- ---- what is in the table
 
 row_of : (table : List (List ℕ)) (n q : ℕ) → Among (sources_at table n) q → (row : List ℕ) × At table n row × Among row q
-row_of table n q m = pick (slice_get table n) refl m
+row_of table n q m = pick (slice_get table n) refl (subst (λ (xs : List ℕ). Among xs q) (sym (unwrap_or-slice_get table n [])) m)
   where
     pick : (o : Option (List ℕ)) → slice_get table n ≡ o → Among (unwrap_or o []) q → (row : List ℕ) × At table n row × Among row q
     pick None e m = absurd (none-some q m.1)
     pick (Some row) e m = (row, e, m)
 
 of_row : (table : List (List ℕ)) (n q : ℕ) (row : List ℕ) → At table n row → Among row q → Among (sources_at table n) q
-of_row table n q row a m = subst (λ (o : Option (List ℕ)). Among (unwrap_or o []) q) (sym a) m
+of_row table n q row a m = subst (λ (xs : List ℕ). Among xs q) (sym (get_or_from_slice_get table n row [] a)) m
 
 source_parts : (c : Circuit) (known : List (Option Bool)) (least : List ℕ) (d : Device) (q : ℕ) → device_source c known least d ≡ Some q → (has_unknown_gate known d ≡ true) × IsPlain c d.gate.0 × (slice_index least d.gate.0 ≡ q)
 source_parts c known least d q e = pick (has_unknown_gate known d) refl e
@@ -118,7 +118,7 @@ source_parts c known least d q e = pick (has_unknown_gate known d) refl e
     pick false u e = absurd (none-some q e)
 
 pub sources_inside : (c : Circuit) (known : List (Option Bool)) (least : List ℕ) (bound : ℕ) (table : List (List ℕ)) → length least ≡ length c.nets → AreBelow least → AreSources c known least bound table → AreInside table
-sources_inside c known least bound table len below so n q m =
+sources_inside c known least bound table len below so q n m =
     let row = row_of table n q m in
     let from = so.only n q row.0 row.1 row.2 in
     let own = source_parts c known least from.0 q from.2.0 in
@@ -222,20 +222,5 @@ module _ (c : Circuit) (phase : Phase) (known : List (Option Bool)) (least : Lis
   pub stuck_around : AreStuck sources levels → (k : ℕ) → k < length sources → slice_index levels k ≡ 0 → IsAcyclicArcs c phase → ⊥
   stuck_around stuck k lt none acyclic =
       let first = stuck_net stuck k lt none in
-      none_behind c phase (λ (m : ℕ). IsPlain c m × (slice_index levels (slice_index least m) ≡ 0)) (λ m p. p.0)
+      none_plain c phase (λ (m : ℕ). IsPlain c m × (slice_index levels (slice_index least m) ≡ 0)) (λ m p. p.0)
       (λ m p. let next = stuck_back stuck m p.0 p.1 in (next.0, (next.1, next.3), next.2)) acyclic first.0 (first.1, first.2)
-
--- ---- all numbers have a level, or some number has none
-
-pub levels_all : (levels : List ℕ) → list_all (λ l. nat_lt 0 l) levels ≡ true → (n : ℕ) → n < length levels → 0 < slice_index levels n
-levels_all [] e n lt = absurd (omega (arith, lt))
-levels_all (x ∷ xs) e zero lt = ltb-true 0 x (and_parts (nat_lt 0 x) (list_all (λ l. nat_lt 0 l) xs) e).0
-levels_all (x ∷ xs) e (suc n) lt = levels_all xs (and_parts (nat_lt 0 x) (list_all (λ l. nat_lt 0 l) xs) e).1 n (omega (arith, lt))
-
-pub levels_none : (levels : List ℕ) → list_all (λ l. nat_lt 0 l) levels ≡ false → (n : ℕ) × (n < length levels) × (slice_index levels n ≡ 0)
-levels_none [] e = absurd (false≢true (sym e))
-levels_none (x ∷ xs) e =
-    elim (and_cases (nat_lt 0 x) (list_all (λ l. nat_lt 0 l) xs) e) [
-      | inl f ↦ (let le = ltb-false 0 x f in (zero, omega arith, omega (arith, le)))
-      | inr f ↦ (let h = levels_none xs f in let lt = h.1 in (suc h.0, omega (arith, lt), h.2))
-    ]

@@ -10,7 +10,7 @@ use Rattle.channel_parts.specs.Incidence.{HasEnds, IsOtherEnd}
 use Rattle.channel_parts.specs.Conduction.{conduction_of, is_plain_at, is_plain_kind}
 use Rattle.channel_parts.specs.Spreads.{ArePlain, HasArrived, HasCrossed, HasGone, HasGrown, HasPassedAll, HasPassedFirst, HasPassedOver, IsClear, IsEndOver, IsKnownOn, IsListedFrom, IsPassedOn, IsRaised, before, given, given_amount, onward, passed}
 use Rattle.channel_parts.specs.declared.spread.Spread.{Spread}
-use Rattle.graph_cycles.specs.Graphs.{sources_at}
+use Rattle.graphs.specs.Graphs.{sources_at}
 use Rattle.vrt_model.specs.Lists.{At, Among}
 use Rattle.vrt_model.specs.Path.{Joins}
 use Rattle.vrt_model.specs.declared.circuit.Circuit.{Circuit}

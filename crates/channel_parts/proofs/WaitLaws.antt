@@ -10,7 +10,7 @@ use Rattle.channel_parts.specs.Regions.{AreClear, HasMarkedEnds, IsReady}
 use Rattle.channel_parts.specs.Spreads.{IsClear}
 use Rattle.channel_parts.specs.declared.signals.Tables.{Tables}
 use Rattle.channel_parts.specs.Waits.{HasWaited}
-use Rattle.graph_cycles.specs.Graphs.{ArcIn, sources_at}
+use Rattle.graphs.specs.Graphs.{ArcIn, sources_at}
 use Rattle.plain_paths.specs.Marks.{MarksGrow, mark_at}
 use Rattle.vrt_model.specs.Known.{IsPlain}
 use Rattle.vrt_model.specs.Lists.{At, Among}

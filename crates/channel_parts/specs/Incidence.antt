@@ -1,7 +1,7 @@
 -- The devices of a circuit by net: those whose channels end there, and those that the net gates.
 use Rattle.std.specs.Prelude.{◌≡◌, ℕ, ◌<◌, ◌↔◌, Bool, true, List, None, Option, Some, length}
 use Rattle.channel_parts.specs.declared.incidence.Incidence.{Incidence}
-use Rattle.graph_cycles.specs.Graphs.{ArcIn}
+use Rattle.graphs.specs.Graphs.{ArcIn}
 use Rattle.plain_paths.specs.Marks.{mark_at}
 use Rattle.vrt_model.specs.Known.{IsHeld}
 use Rattle.vrt_model.specs.Lists.{At}

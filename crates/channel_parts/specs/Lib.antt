@@ -4,7 +4,6 @@ pub mod Incidence
 pub mod KnownTables
 pub mod Labels
 pub mod Learned
-pub mod Levels
 pub mod Listings
 pub mod NetGraphs
 pub mod OneSolution

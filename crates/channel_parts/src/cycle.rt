@@ -10,7 +10,7 @@ ghost use Rattle.vrt_model.specs.Known.{HasArc, IsCycle, IsFirstCycle};
 ghost use Rattle.vrt_model.specs.declared.rules.Phase.{Phase as PhaseValue};
 
 use crate::net_graph::net_graph;
-use graph_cycles::first_cycle;
+use graphs::first_cycle;
 use std::alloc::Global;
 use vrt_model::{Circuit, NoMemory};
 

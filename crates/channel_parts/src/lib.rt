@@ -11,7 +11,6 @@ mod incidence;
 mod known;
 mod learn;
 mod least;
-mod levels;
 mod listing;
 mod lists;
 mod net_graph;

@@ -1,7 +1,6 @@
 //! Ranks of nets: a part is above each net that is not known and at the gate of a device of the part.
 
-ghost use Rattle.std.specs.Prelude.{◌≡◌, ℕ, ◌<◌, length, nat_lt, slice_index, IfOk, IfSome, IsNone};
-ghost use Rattle.std.specs.List.{list_all};
+ghost use Rattle.std.specs.Prelude.{◌≡◌, ℕ, ◌<◌, length, slice_index, IfOk, IfSome, IsNone};
 ghost use Rattle.channel_parts.specs.KnownTables.{known_at};
 ghost use Rattle.channel_parts.specs.Labels.{AreBelow};
 ghost use Rattle.channel_parts.specs.OneSolution.{IsKnownTable};
@@ -11,8 +10,8 @@ ghost use Rattle.vrt_model.specs.Known.{IsRanking};
 ghost use Rattle.vrt_model.specs.declared.rules.Phase.{Phase as PhaseValue};
 
 use crate::conduction::{is_plain, known_bit};
-use crate::levels::levels_of;
 use crate::sources::sources_by_part;
+use graphs::{all_levelled, levels_of};
 use std::alloc::Global;
 use vrt_model::{Circuit, Device, NoMemory};
 
@@ -62,13 +61,6 @@ fn by_net(
         };
     }
     Ok(table)
-}
-
-/// Whether all numbers have a level.
-fn all_levelled(levels: &[usize]) -> bool
-    ensures { result ≡ list_all (λ l. nat_lt 0 l) levels.now }
-{
-    levels.iter().all(|level| 0 < *level)
 }
 
 /// The ranks where these nets are known and these are the least nets of the parts, or none where there are no ranks.

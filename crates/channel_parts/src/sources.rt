@@ -2,7 +2,7 @@
 
 ghost use Rattle.std.specs.Prelude.{◌≡◌, ◌<◌, length, IfOk, OnOk};
 ghost use Rattle.channel_parts.specs.Labels.{AreBelow};
-ghost use Rattle.channel_parts.specs.Levels.{AreInside};
+ghost use Rattle.graphs.specs.Graphs.{AreInside};
 ghost use Rattle.channel_parts.specs.Sources.{AreSources, HasJoined, device_source};
 ghost use Rattle.plain_paths.specs.FlatCircuits.{IsFlat};
 

@@ -6,7 +6,7 @@ ghost use Rattle.std.specs.Prelude.{◌≡◌, ℕ, ◌<◌, ◌≤◌, ◌⊎�
 ghost use Rattle.channel_parts.specs.Incidence.{HasEnds};
 ghost use Rattle.channel_parts.specs.Conduction.{conduction_of, is_plain_at};
 ghost use Rattle.channel_parts.specs.Spreads.{ArePlain, HasArrived, HasCrossed, HasGone, HasPassedAll, HasPassedFirst, HasPassedOver, IsClear, IsEndOver, IsPassedOn, IsRaised, given_amount, level_of_end, passed};
-ghost use Rattle.graph_cycles.specs.Graphs.{sources_at};
+ghost use Rattle.graphs.specs.Graphs.{sources_at};
 ghost use Rattle.vrt_model.specs.Lists.{At, Among};
 ghost use Rattle.vrt_model.specs.Path.{Joins};
 ghost use Rattle.vrt_model.specs.Reading.{is_in};

@@ -7,7 +7,7 @@ use Rattle.bdd_ops.proofs.WithinLaws.{within_same}
 use Rattle.bdd_ops.specs.Counting.{Counts, IsSpanWithin}
 use Rattle.std.proofs.lemmas.Option.{get_or_from_slice_get}
 use Rattle.blif_eval.proofs.CountLaws.{rows_more, rows_take, rows_within, span_within}
-use Rattle.blif_eval.proofs.Lists.{item_at}
+use Rattle.graphs.proofs.Lists.{item_at}
 use Rattle.blif_eval.proofs.GivesLaws.{gives_refused, live_kept, rows_next, rows_none, rows_upto}
 use Rattle.blif_eval.specs.Gives.{Gives, bits_in}
 use Rattle.blif_eval.specs.Operations.{rows_operations}

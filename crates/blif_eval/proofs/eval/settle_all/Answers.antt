@@ -7,7 +7,7 @@ use Rattle.bdd_ops.proofs.CountingLaws.{counted_more, counted_none, counted_then
 use Rattle.bdd_ops.specs.Counting.{IsCounted}
 use Rattle.blif_eval.proofs.EvalLaws.{inputs_within, settled_here, settled_stays, spans_kept, within_next}
 use Rattle.blif_eval.proofs.Frames.{writes_none, writes_then}
-use Rattle.blif_eval.proofs.Lists.{at_within, one_at}
+use Rattle.graphs.proofs.Lists.{at_within, one_at}
 use Rattle.blif_eval.specs.Operations.{signal_operations}
 use Rattle.blif_eval.specs.Settled.{HasSignalSpans, IsSettled}
 use Rattle.vrt_model.specs.Lists.{At}

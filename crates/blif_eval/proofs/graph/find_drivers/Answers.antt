@@ -2,7 +2,7 @@ use Rattle.std.proofs.Common.{ℕ, ◌+◌, length, replicate, sym, subst, ◌�
 use Rattle.std.proofs.Math.Path.{ap₂}
 use Rattle.blif_eval.proofs.Drivers.{covered_below}
 use Rattle.blif_eval.proofs.GraphLaws.{drivers_next, drivers_none}
-use Rattle.blif_eval.proofs.Lists.{item_at}
+use Rattle.graphs.proofs.Lists.{item_at}
 use Rattle.blif_eval.specs.Drivers.{AreDrivers}
 use Rattle.vrt_model.specs.Lists.{At}
 use Rattle.blif_eval.proofs.graph.find_drivers.Goals as goal

@@ -1,7 +1,7 @@
 use Rattle.std.proofs.Common.{◌≡◌, ℕ, List, sym, subst}
 use Rattle.blif_eval.proofs.GraphLaws.{graph_arcs, graph_inside}
 use Rattle.blif_eval.specs.Drivers.{graph_by}
-use Rattle.blif_eval.specs.Graphs.{AreInside, HasArcs}
+use Rattle.graphs.specs.Graphs.{AreInside, HasArcs}
 use Rattle.blif_eval.specs.Plans.{ArcOf}
 use Rattle.blif_eval.proofs.graph.graph_of.Goals as goal
 

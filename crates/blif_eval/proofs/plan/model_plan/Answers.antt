@@ -1,6 +1,6 @@
 use Rattle.std.proofs.Common.{ℕ, List, subst}
 use Rattle.blif_eval.specs.Plans.{PlanGives, plan_by}
-use Rattle.blif_eval.specs.declared.order.Order.{Order}
+use Rattle.graphs.specs.declared.order.Order.{Order}
 use Rattle.blif_eval.proofs.plan.model_plan.Goals as goal
 
 pub returns-in-Ok-Steps : goal.returns-in-Ok-Steps

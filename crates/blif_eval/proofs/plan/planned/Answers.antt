@@ -1,11 +1,11 @@
 use Rattle.std.proofs.Common.{ℕ, List, sym, subst}
 use Rattle.blif_eval.proofs.GraphLaws.{plan_gives}
-use Rattle.blif_eval.specs.Graphs.{AreInside}
-use Rattle.blif_eval.specs.Orders.{OrderGives}
+use Rattle.graphs.specs.Graphs.{AreInside}
+use Rattle.graphs.specs.Orders.{OrderGives}
 use Rattle.blif_eval.proofs.plan.planned.Goals as goal
 
-pub order_of-requires-clause-inside : goal.order_of-requires-clause-inside
-order_of-requires-clause-inside c = subst AreInside (sym c.as_slice.ensures) c.in_ok-graph.ensures.inside
+pub order_of-requires : goal.order_of-requires
+order_of-requires c = subst AreInside (sym c.as_slice.ensures) c.in_ok-graph.ensures.inside
 
 pub returns : goal.returns
 returns c =

@@ -3,7 +3,7 @@ use Rattle.std.specs.Prelude.{filter, is_some, nat_lt}
 use Rattle.channel_parts.proofs.NetGraphLaws.{first_nets, graph_inside, none_nets}
 use Rattle.channel_parts.proofs.RankLaws.{at_some}
 use Rattle.channel_parts.specs.NetGraphs.{IsNetGraph}
-use Rattle.graph_cycles.specs.Graphs.{ArcIn}
+use Rattle.graphs.specs.Graphs.{ArcIn}
 use Rattle.vrt_model.specs.Known.{HasArc, IsFirstCycle}
 use Rattle.channel_parts.proofs.cycle.search_all.Goals as goal
 

@@ -3,8 +3,10 @@ use Rattle.std.specs.Prelude.{nat_lt}
 use Rattle.std.specs.List.{list_all}
 use Rattle.channel_parts.proofs.Acyclic.{ranks_acyclic}
 use Rattle.channel_parts.proofs.RankLaws.{same_ranking}
-use Rattle.channel_parts.proofs.SourceLaws.{levels_all, levels_none, levels_rank, stuck_around}
-use Rattle.channel_parts.specs.Levels.{AreInside, AreLevels, AreStuck}
+use Rattle.channel_parts.proofs.SourceLaws.{levels_rank, stuck_around}
+use Rattle.graphs.proofs.LevelLaws.{levels_all, levels_none}
+use Rattle.graphs.specs.Graphs.{AreInside}
+use Rattle.graphs.specs.Levels.{AreLevels, AreStuck}
 use Rattle.channel_parts.specs.Ranks.{rank_by}
 use Rattle.channel_parts.specs.Sources.{AreSources}
 use Rattle.channel_parts.proofs.ranking.ranked.Goals as goal

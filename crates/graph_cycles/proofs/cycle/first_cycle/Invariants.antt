@@ -1,8 +1,0 @@
-use Rattle.std.proofs.Common.{ℕ, ◌<◌, List, ◌∷◌}
-use Rattle.graph_cycles.specs.Graphs.{ArcIn}
-use Rattle.vrt_model.specs.Known.{IsCycle}
-use Rattle.graph_cycles.proofs.cycle.first_cycle.Given as goal
-
--- no cycle begins with the numbers so far
-abbrev pub invariant-loop-number : goal.invariant-loop-number
-invariant-loop-number l = (m : ℕ) → m < l.number → (others : List ℕ) → ¬ IsCycle (ArcIn l.sources) (m ∷ others)

@@ -1,5 +1,0 @@
-use Rattle.std.proofs.Common.{vec_len}
-use Rattle.graph_cycles.proofs.groups.close.Given as goal
-
-abbrev pub decreases-open : goal.decreases-open
-decreases-open l = vec_len l.walk.open

@@ -1,9 +1,0 @@
-use Rattle.std.proofs.Common.{arith}
-use Rattle.graph_cycles.proofs.GroupLaws.{arc_within}
-use Rattle.graph_cycles.proofs.marks.none_falls.Goals as goal
-
-pub returns : goal.returns
-returns c e from to arc =
-    let inside = arc_within c.args.sources.now from to arc in
-    let end = c.loop-to-test.false in
-    c.loop-to.invariant to (omega (arith, inside, end)) from arc

@@ -1,0 +1,5 @@
+pub mod Graphs
+pub mod Groups
+pub mod Levels
+pub mod Orders
+pub mod Trails
