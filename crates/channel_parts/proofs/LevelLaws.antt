@@ -6,10 +6,10 @@ use Rattle.std.proofs.lemmas.Bool.{cases_eq, cases_lt, cond-false, ne_eqb}
 use Rattle.std.proofs.lemmas.List.{get_or-set_other, get_or-set_same}
 use Rattle.std.proofs.lemmas.List.Sums.{sum_by-set}
 use Rattle.std.proofs.lemmas.Option.{get_or_from_slice_get, none-some, same_Some, slice_get-get_or, slice_get_within}
-use Rattle.channel_parts.proofs.GroupLaws.{below_or_at}
 use Rattle.channel_parts.proofs.PartLaws.{at_end, at_front, zero_ranks}
 use Rattle.channel_parts.specs.Levels.{AreLevels, AreStuck, HasPassed, IsLevelled, IsLevelling, IsListed, IsWaitingAt, sources_at, without_level}
 use Rattle.channel_parts.specs.declared.levels.Waiter.{Waiter}
+use Rattle.known_nets.proofs.PlaceLaws.{below_or_at}
 use Rattle.vrt_model.proofs.Members.{among_either, among_left, among_right}
 use Rattle.vrt_model.specs.Lists.{At, Among}
 

@@ -1,9 +1,5 @@
-pub mod Conduction
 pub mod Groups
-pub mod Incidence
-pub mod KnownTables
 pub mod Labels
-pub mod Learned
 pub mod Levels
 pub mod Listings
 pub mod NetGraphs
@@ -11,8 +7,5 @@ pub mod OneSolution
 pub mod Orders
 pub mod PartLists
 pub mod Ranks
-pub mod Regions
 pub mod Sources
-pub mod Spreads
 pub mod Unions
-pub mod Waits

@@ -6,7 +6,7 @@ ghost use Rattle.channel_parts.specs.Levels.{AreInside, AreLevels, AreStuck, IsF
 ghost use Rattle.vrt_model.specs.Lists.{At, Among};
 ghost use Rattle.channel_parts.specs.declared.levels.Waiter.{Waiter as WaiterValue};
 
-use crate::grouping::small;
+use known_nets::small;
 use std::alloc::Global;
 use vrt_model::{NoMemory, Seq};
 
