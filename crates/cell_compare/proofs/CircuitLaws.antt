@@ -3,7 +3,6 @@ use Rattle.std.proofs.Common.{◌≡◌, ℕ, zero, suc, ◌+◌, ◌*◌, ◌<�
 use Rattle.std.specs.Prelude.{◌↔◌, slice_get}
 use Rattle.std.proofs.lemmas.Bool.{cases_eq, false≢true}
 use Rattle.std.proofs.lemmas.Option.{none-some, same_Some, slice_get_within}
-use Rattle.node_pool.specs.declared.region.Span.{Span}
 use Rattle.bdd_core.proofs.Meaning.{meaning_one, meaning_zero}
 use Rattle.bdd_core.specs.Diagram.{Valuation, meaning}
 use Rattle.bdd_core.specs.Store.{Diagrams, IsLive, function_of}
@@ -18,10 +17,11 @@ use Rattle.cell_compare.specs.Frames.{WritesTwo}
 use Rattle.cell_compare.specs.Results.{HasCircuitSpans, IsClearCircuit, first_word, root_at}
 use Rattle.cell_compare.specs.Scans.{IsInside, IsPartClear, IsPartFault}
 use Rattle.cell_compare.specs.declared.net.CircuitFault.{CircuitFault}
-use Rattle.channel_parts.proofs.OneSolution.{given_or_plain}
-use Rattle.channel_parts.specs.KnownTables.{known_at}
 use Rattle.channel_parts.specs.OneSolution.{AreObserved}
 use Rattle.channel_parts.specs.declared.part.Part.{Part}
+use Rattle.known_nets.proofs.NetKinds.{given_or_plain}
+use Rattle.known_nets.specs.KnownTables.{known_at}
+use Rattle.node_pool.specs.declared.region.Span.{Span}
 use Rattle.path_fixpoint.proofs.SolveLaws.{is_finite}
 use Rattle.path_fixpoint.specs.Parts.{IsPlace, part_devices}
 use Rattle.path_fixpoint.specs.Solved.{HasRootSpans, network_at}

@@ -4,7 +4,6 @@ use Rattle.std.proofs.Common.{◌≡◌, ℕ, ◌<◌, ◌≤◌, ◌⊎◌, ◌
 use Rattle.std.specs.Prelude.{nat_eq, nat_lt, option_map, slice_get, slice_index_or}
 use Rattle.std.proofs.lemmas.Bool.{and_parts, cases_eq, cases_lt, eqb-true, false≢true, ltb-true, or_cases}
 use Rattle.std.proofs.lemmas.Option.{same_Some, slice_get-get_or, slice_get-map, slice_get_within}
-use Rattle.node_pool.specs.declared.region.Span.{Span}
 use Rattle.bdd_core.specs.Diagram.{Valuation}
 use Rattle.bdd_core.specs.Store.{Diagrams}
 use Rattle.bdd_core.specs.declared.handle.H.{H}
@@ -14,11 +13,12 @@ use Rattle.cell_compare.specs.Faults.{HasFault, HasFixedBits, IsSolvedAt}
 use Rattle.cell_compare.specs.Results.{HasLeastNets, IsFirstFault, root_at}
 use Rattle.cell_compare.specs.Scans.{IsInside}
 use Rattle.cell_compare.specs.declared.net.CircuitFault.{CircuitFault}
-use Rattle.channel_parts.proofs.OneSolution.{given_or_plain}
 use Rattle.channel_parts.specs.OneSolution.{AreObserved}
 use Rattle.channel_parts.specs.PartLists.{AreParts, IsPartOf, IsRising, device_numbers, least_of, net_numbers}
 use Rattle.channel_parts.specs.declared.part.Part.{Part}
 use Rattle.channel_parts.specs.declared.part.Parts.{Parts}
+use Rattle.known_nets.proofs.NetKinds.{given_or_plain}
+use Rattle.node_pool.specs.declared.region.Span.{Span}
 use Rattle.path_fixpoint.proofs.Spreading.{among_filter_map, filter_map_among}
 use Rattle.path_fixpoint.specs.Parts.{IsGiven, IsPart, IsPlace, part_devices}
 use Rattle.plain_paths.specs.FlatCircuits.{IsFlat}

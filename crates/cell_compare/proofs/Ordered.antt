@@ -2,7 +2,6 @@
 -- before a float.
 use Rattle.std.proofs.Common.{◌≡◌, ◌≢◌, ℕ, ◌<◌, ◌⊎◌, Bool, true, List, Option, length}
 use Rattle.std.specs.Prelude.{◌↔◌}
-use Rattle.node_pool.specs.declared.region.Span.{Span}
 use Rattle.bdd_core.specs.Diagram.{Valuation}
 use Rattle.bdd_core.specs.Store.{Diagrams, IsLive, function_of}
 use Rattle.bdd_core.specs.declared.handle.H.{H}
@@ -10,9 +9,9 @@ use Rattle.cell_compare.specs.Faults.{HasFault, IsSolvedAt}
 use Rattle.cell_compare.specs.Results.{root_at}
 use Rattle.cell_compare.specs.Scans.{IsInside}
 use Rattle.cell_compare.specs.declared.net.CircuitFault.{CircuitFault}
-use Rattle.channel_parts.specs.KnownTables.{known_at}
-use Rattle.channel_parts.specs.OneSolution.{IsKnownTable}
 use Rattle.channel_parts.specs.declared.part.Part.{Part}
+use Rattle.known_nets.specs.KnownTables.{IsKnownTable, known_at}
+use Rattle.node_pool.specs.declared.region.Span.{Span}
 use Rattle.path_fixpoint.specs.Parts.{IsPart, IsPlace, part_devices}
 use Rattle.vrt_model.specs.Known.{IsChannel, IsPlain, IsUnknown}
 use Rattle.vrt_model.specs.Lists.{At, Among}

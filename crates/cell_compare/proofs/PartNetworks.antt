@@ -1,10 +1,14 @@
 -- A net of a part responds in the circuit, in each state that agrees with a solution, as in the network of the part alone.
 use Rattle.std.proofs.Common.{◌≡◌, ℕ, ◌<◌, ◌⊎◌, Bool, true, false, [], Option, Some, length, arith, ap, refl, sym, subst, ◌∙◌, inl, inr}
 use Rattle.std.specs.Prelude.{slice_get}
+use Rattle.cell_compare.specs.Scans.{IsInside}
+use Rattle.cell_compare.proofs.Ordered.{IsWholePart}
+use Rattle.cell_compare.specs.Faults.{HasFault, HasFixedBits, IsSettingAt, ShowsFault}
+use Rattle.cell_compare.proofs.Solutions.{circuit_in, given_reading, known_bit, levels, no_output, some_state, some_state_agrees, some_state_is, source}
 use Rattle.channel_parts.proofs.Bounded.{Covers, response_inside}
-use Rattle.channel_parts.proofs.OneSolution.{given_or_plain}
 use Rattle.channel_parts.specs.OneSolution.{AreObserved}
 use Rattle.channel_parts.specs.declared.part.Part.{Part}
+use Rattle.known_nets.proofs.NetKinds.{given_or_plain}
 use Rattle.path_fixpoint.specs.Parts.{part_devices}
 use Rattle.path_fixpoint.specs.Solved.{net_of}
 use Rattle.plain_paths.specs.FlatCircuits.{IsFlat}
@@ -26,10 +30,6 @@ use Rattle.vrt_model.specs.declared.circuit.Hold.{Hold}
 use Rattle.vrt_model.specs.declared.rules.Phase.{Phase}
 use Rattle.vrt_model.specs.declared.verdict.FaultKind.{FaultKind}
 use Rattle.vrt_model.specs.declared.verdict.FaultKind.TheVariants.{Fight, FightKept, Float, Unsettled, Constraint, Differs, Next, Apart, Enter}
-use Rattle.cell_compare.specs.Scans.{IsInside}
-use Rattle.cell_compare.proofs.Ordered.{IsWholePart}
-use Rattle.cell_compare.specs.Faults.{HasFault, HasFixedBits, IsSettingAt, ShowsFault}
-use Rattle.cell_compare.proofs.Solutions.{circuit_in, given_reading, known_bit, levels, no_output, some_state, some_state_agrees, some_state_is, source}
 
 -- the network of a part, where the gates have these bits and the roots those
 abbrev pub part_network : Circuit → Part → (ℕ → Bool) → (ℕ → Bool) → Network

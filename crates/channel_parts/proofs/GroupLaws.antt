@@ -1,22 +1,18 @@
 -- Numbers are put into groups in order, so that each group rises and has exactly the numbers of its owner.
-use Rattle.std.proofs.Common.{◌≡◌, ℕ, zero, suc, ◌+◌, ◌<◌, ◌⊎◌, Bool, List, [], ◌∷◌, ◌++◌, length, None, Option, Some, get_or, arith, ap, subst, sym, refl, ◌∙◌, inl, inr}
-use Rattle.std.proofs.lemmas.Bool.{cases_eq, cases_lt}
+use Rattle.std.proofs.Common.{◌≡◌, ℕ, zero, suc, ◌+◌, ◌<◌, ◌⊎◌, Bool, List, [], ◌∷◌, ◌++◌, None, Option, Some, arith, ap, subst, sym, inl, inr}
+use Rattle.std.proofs.lemmas.Bool.{cases_eq}
 use Rattle.std.specs.Prelude.{option_map, unwrap_or}
-use Rattle.std.proofs.lemmas.Option.{none-some, same_Some, slice_get-get_or, slice_get_within}
-use Rattle.channel_parts.specs.Groups.{AreGroups, IsGroup, IsPlaced, device_owner, device_owner_at}
+use Rattle.std.proofs.lemmas.Option.{none-some, same_Some, slice_get_within}
+use Rattle.channel_parts.specs.Groups.{AreGroups, IsGroup, device_owner, device_owner_at}
 use Rattle.channel_parts.specs.PartLists.{IsRising}
+use Rattle.known_nets.proofs.PlaceLaws.{at_last, below_or_at}
+use Rattle.known_nets.specs.Placed.{IsPlaced}
 use Rattle.vrt_model.proofs.Members.{among_either, among_left, among_right}
 use Rattle.vrt_model.specs.Lists.{At, Among}
 use Rattle.vrt_model.specs.declared.circuit.Circuit.{Circuit}
 use Rattle.vrt_model.specs.declared.circuit.Device.{Device}
 
 -- ---- one more at the end
-
-pub at_last : {X : Type 0} (xs : List X) (y x : X) (i : ℕ) → At (xs ++ y ∷ []) i x → At xs i x ⊎ ((i ≡ length xs) × (y ≡ x))
-at_last [] y x zero e = inr (refl, same_Some y x e)
-at_last [] y x (suc i) e = absurd (none-some x e)
-at_last (z ∷ xs) y x zero e = inl e
-at_last (z ∷ xs) y x (suc i) e = elim (at_last xs y x i e) [ inl h ↦ inl h | inr h ↦ inr (ap suc h.0, h.1) ]
 
 rising_more : (xs : List ℕ) (n : ℕ) → IsRising xs → ((x : ℕ) → Among xs x → x < n) → IsRising (xs ++ n ∷ [])
 rising_more xs n up low i j a b p q lt =
@@ -46,10 +42,6 @@ none_grouped owner groups empty k group at =
 pub owned : (o : Option ℕ) (k : ℕ) → (o ≡ Some k) ⊎ (o ≡ Some k → ⊥)
 owned None k = inr (λ e. none-some k e)
 owned (Some m) k = elim (cases_eq m k) [ inl e ↦ inl (ap Some e) | inr ne ↦ inr (λ e. ne (same_Some m k e)) ]
-
--- a number below the next bound is below this one, or is this one
-pub below_or_at : (n m : ℕ) → m < n + 1 → (m < n) ⊎ (m ≡ n)
-below_or_at n m lt = elim (cases_lt m n) [ inl low ↦ inl low | inr high ↦ inr (omega (arith, lt, high)) ]
 
 the_one : (n m : ℕ) → Among (n ∷ []) m → n ≡ m
 the_one n m (zero, q) = same_Some n m q
@@ -92,10 +84,7 @@ more_grouped owner n old new placed groups k group at =
       | inr ne ↦ other_group owner n k group ne (groups k group (placed.others k group at ne))
     ]
 
--- ---- the owner of a device by its number, and the item of a turn
-
-pub item_at : {X : Type 0} (xs ys : List X) (i : ℕ) (x : X) → ys ≡ xs → i < length ys → x ≡ get_or ys i x → At xs i x
-item_at {X} xs ys i x same lt is = subst (λ (zs : List X). At zs i x) same (slice_get-get_or ys i x lt ∙ ap Some (sym is))
+-- ---- the owner of a device by its number
 
 pub device_placed : (c : Circuit) (known : List (Option Bool)) (least : List ℕ) (bare : Bool) (k : ℕ) (d : Device) → At c.devices k d → device_owner c known least bare d ≡ device_owner_at c known least bare k
 device_placed c known least bare k d at = sym (ap (λ (o : Option Device). unwrap_or (option_map (device_owner c known least bare) o) None) at)

@@ -4,11 +4,10 @@ use Rattle.std.specs.Prelude.{◌&&◌, option_map}
 use Rattle.std.proofs.lemmas.Bool.{and_from, and_parts, cases_lt}
 use Rattle.std.proofs.lemmas.List.{get_or_past}
 use Rattle.std.proofs.lemmas.Option.{slice_get_within}
-use Rattle.channel_parts.proofs.NetKinds.{is_plain_is, plain_is}
-use Rattle.channel_parts.specs.KnownTables.{known_at}
 use Rattle.channel_parts.specs.Labels.{AreOfParts, IsLeastTogether, joins_plain_nets, may_conduct}
-use Rattle.channel_parts.specs.OneSolution.{IsKnownTable}
-use Rattle.channel_parts.specs.Conduction.{conduction_of, is_plain_at}
+use Rattle.known_nets.proofs.NetKinds.{is_plain_is, plain_is}
+use Rattle.known_nets.specs.Conduction.{conduction_of, is_plain_at}
+use Rattle.known_nets.specs.KnownTables.{IsKnownTable, known_at}
 use Rattle.vrt_model.proofs.Filtered.{among_devices, device_among}
 use Rattle.vrt_model.proofs.Ranked.{together_plain}
 use Rattle.vrt_model.specs.Known.{IsChannel, IsPlain, IsTogether, itself, onward}

@@ -1,23 +1,14 @@
--- Known nets, parts, ranks, cycles, and the law of one solution.
+-- Parts, ranks, cycles, and the law of one solution.
 pub mod Acyclic
 pub mod Bounded
 pub mod Found
 pub mod GroupLaws
-pub mod IncidenceLaws
-pub mod KnownOnce
 pub mod Labels
 pub mod ListLaws
 pub mod NetGraphLaws
-pub mod NetKinds
 pub mod OneSolution
 pub mod PartLaws
 pub mod RankLaws
-pub mod RegionLaws
-pub mod SettleLaws
-pub mod ShutLaws
 pub mod SourceLaws
-pub mod SpreadLaws
-pub mod TableLaws
 pub mod UnionLaws
 pub mod Unique
-pub mod WaitLaws

@@ -7,9 +7,9 @@ use Rattle.std.proofs.lemmas.Bool.{cases_eq, eq-eqb, ne_eqb}
 use Rattle.std.proofs.lemmas.List.Sorted.{Contains-permutation, IsPermutation-sym}
 use Rattle.std.proofs.lemmas.Map.Keys.{IsDistinct-cons, IsDistinct-IsPermutation}
 use Rattle.std.proofs.lemmas.Option.{get_or_from_slice_get, none-some, same_Some, slice_get-get_or, slice_get-map, slice_get_within}
-use Rattle.channel_parts.proofs.NetKinds.{is_plain_is, plain_is}
 use Rattle.channel_parts.specs.Listings.{AreInOrder, AreKeys, order_cmp, plain_pairs_of, same_net}
-use Rattle.channel_parts.specs.Conduction.{is_plain_at}
+use Rattle.known_nets.proofs.NetKinds.{is_plain_is, plain_is}
+use Rattle.known_nets.specs.Conduction.{is_plain_at}
 use Rattle.vrt_model.proofs.Filtered.{among_kept, filter_among}
 use Rattle.vrt_model.proofs.Members.{among_later, among_map}
 use Rattle.vrt_model.specs.Known.{IsPlain}

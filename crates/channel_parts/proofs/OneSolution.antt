@@ -6,7 +6,9 @@ use Rattle.std.proofs.lemmas.Option.{none-some, same_Some}
 use Rattle.channel_parts.proofs.Bounded.{Covers, reaches_inside}
 use Rattle.channel_parts.proofs.Found.{solution, solution_fixed, solution_shows, shows_solution}
 use Rattle.channel_parts.proofs.Unique.{solution_unique}
-use Rattle.channel_parts.specs.OneSolution.{HasDrives, HasKnownBits, HasOneSolution, IsKnownTable, KnownStand, SameBelow}
+use Rattle.channel_parts.specs.OneSolution.{HasDrives, HasKnownBits, HasOneSolution, KnownStand, SameBelow}
+use Rattle.known_nets.proofs.NetKinds.{given_or_plain}
+use Rattle.known_nets.specs.KnownTables.{IsKnownTable}
 use Rattle.vrt_model.proofs.Decidable.{reaches_test, reaches_test_ok}
 use Rattle.vrt_model.proofs.Filtered.{device_among}
 use Rattle.vrt_model.proofs.GatesGiven.{IsGiven, base_reading, given_once, plain_any}
@@ -41,23 +43,6 @@ at_map : {X Y : Type 0} (f : X → Y) (xs : List X) (i : ℕ) (y : Y) → At (ma
 at_map f [] i y e = absurd (at_none i y e)
 at_map f (x ∷ xs) zero y e = (x, refl, same_Some (f x) y e)
 at_map f (x ∷ xs) (suc i) y e = at_map f xs i y e
-
-net_there : (xs : List FlatNet) (k : ℕ) → k < length xs → (x : FlatNet) × At xs k x
-net_there [] k h = absurd (omega arith)
-net_there (x ∷ xs) zero h = (x, refl)
-net_there (x ∷ xs) (suc k) h = net_there xs k (omega arith)
-
-kind_plain : (k : NetKind) → is_given k ≡ false → k ≡ Plain
-kind_plain (Supply value) g = absurd (false≢true (sym g))
-kind_plain (Clock clock) g = absurd (false≢true (sym g))
-kind_plain Input g = absurd (false≢true (sym g))
-kind_plain Plain g = refl
-
--- a net of the circuit has a given value or is plain
-pub given_or_plain : (c : Circuit) (n : ℕ) → n < length c.nets → IsGiven c n ⊎ IsPlain c n
-given_or_plain c n lt =
-    let at = net_there c.nets n lt in
-    elim (cases_Bool (is_given at.0.kind)) [ inl t ↦ inl (at.0, at.1, t) | inr f ↦ inr (at.0, at.1, kind_plain at.0.kind f) ]
 
 given_found : (o : Option FlatNet) → unwrap_or (option_map (λ (net : FlatNet). is_given net.kind) o) false ≡ true → (net : FlatNet) × (o ≡ Some net) × (is_given net.kind ≡ true)
 given_found None f = absurd (false≢true f)

@@ -15,21 +15,20 @@ use Rattle.std.proofs.lemmas.List.{get_or-replicate, get_or_past, length-append,
 use Rattle.std.proofs.lemmas.List.MinMax.{ranks_by}
 use Rattle.std.proofs.lemmas.List.Sorted.{sorted_far}
 use Rattle.std.proofs.lemmas.Option.{get_or_from_slice_get, none-some, same_Some, slice_get_within}
-use Rattle.channel_parts.proofs.GroupLaws.{at_last}
 use Rattle.channel_parts.proofs.Labels.{channel_may, may_channel, together_further}
-use Rattle.channel_parts.proofs.NetKinds.{is_plain_is, plain_is}
 use Rattle.channel_parts.proofs.RankLaws.{rank_arc_gate, together_back}
 use Rattle.channel_parts.specs.Groups.{AreGroups, AreMade, IsMade, device_owner, device_owner_at, is_head, net_owner}
-use Rattle.channel_parts.specs.KnownTables.{known_at}
 use Rattle.channel_parts.specs.Labels.{IsLeastTogether, may_conduct}
 use Rattle.channel_parts.specs.Listings.{AreInOrder, order_cmp, same_net}
-use Rattle.channel_parts.specs.OneSolution.{IsKnownTable}
-use Rattle.channel_parts.specs.Conduction.{conduction_of, is_plain_at}
 use Rattle.channel_parts.specs.PartLists.{AreParts, IsBefore, IsPartOf, IsRising, device_numbers, least_of, net_numbers}
 use Rattle.channel_parts.specs.declared.part.Part.{Part}
+use Rattle.known_nets.proofs.NetKinds.{is_plain_is, plain_is}
+use Rattle.known_nets.proofs.PlaceLaws.{at_last, there_at}
+use Rattle.known_nets.specs.Conduction.{conduction_of, is_plain_at}
+use Rattle.known_nets.specs.KnownTables.{IsKnownTable, known_at}
+use Rattle.plain_paths.specs.FlatCircuits.{IsFlat}
 use Rattle.vrt_model.proofs.Filtered.{among_kept, device_among, filter_among}
 use Rattle.vrt_model.proofs.Ranked.{together_first, together_plain}
-use Rattle.plain_paths.specs.FlatCircuits.{IsFlat}
 use Rattle.vrt_model.specs.Known.{HasRankArc, IsInPart, IsPlain, IsRanking, IsTogether, itself, onward}
 use Rattle.vrt_model.specs.Lists.{At, Among}
 use Rattle.vrt_model.specs.Reading.{is_in}
@@ -196,11 +195,6 @@ zero_ranks count = fun_ext zero_rank
         ]
 
 -- ---- the first of a rising list
-
-pub there_at : {X : Type 0} (xs : List X) (i : ℕ) → i < length xs → (x : X) × At xs i x
-there_at [] i lt = absurd (omega (arith, lt))
-there_at (x ∷ xs) zero lt = (x, refl)
-there_at (x ∷ xs) (suc i) lt = there_at xs i (omega (arith, lt))
 
 first_least : (xs : List ℕ) (m : ℕ) → IsRising xs → Among xs m → ((x : ℕ) → Among xs x → m ≤ x) → At xs 0 m
 first_least xs m up (zero, e) low = e

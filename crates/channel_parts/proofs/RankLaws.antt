@@ -5,12 +5,11 @@ use Rattle.std.proofs.lemmas.Bool.{and_parts, cases_Bool, cond-false, cond-true,
 use Rattle.std.proofs.Math.Path.{fun_ext}
 use Rattle.std.proofs.lemmas.Option.{none-some, same_Some, slice_get_within}
 use Rattle.channel_parts.proofs.Labels.{may_channel, together_further}
-use Rattle.channel_parts.proofs.NetKinds.{is_plain_is, plain_is}
-use Rattle.channel_parts.specs.KnownTables.{known_at}
 use Rattle.channel_parts.specs.Labels.{may_conduct}
-use Rattle.channel_parts.specs.OneSolution.{IsKnownTable}
-use Rattle.channel_parts.specs.Conduction.{conduction_of, is_plain_at}
 use Rattle.channel_parts.specs.Ranks.{AreLeast, has_unknown_gate, rank_by}
+use Rattle.known_nets.proofs.NetKinds.{is_plain_is, plain_is}
+use Rattle.known_nets.specs.Conduction.{conduction_of, is_plain_at}
+use Rattle.known_nets.specs.KnownTables.{IsKnownTable, known_at}
 use Rattle.plain_paths.specs.FlatCircuits.{IsFlat}
 use Rattle.vrt_model.proofs.GatesGiven.{IsGiven}
 use Rattle.vrt_model.proofs.Members.{at_none}

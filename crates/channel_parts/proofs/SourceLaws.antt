@@ -4,20 +4,21 @@ use Rattle.std.specs.Prelude.{is_none, slice_get, unwrap_or}
 use Rattle.std.proofs.lemmas.Bool.{and_from, cases_Bool, cond-false, cond-true}
 use Rattle.std.proofs.lemmas.Option.{get_or_from_slice_get, none-some, same_Some, slice_get_within, unwrap_or-slice_get}
 use Rattle.channel_parts.proofs.Acyclic.{none_plain}
-use Rattle.channel_parts.proofs.GroupLaws.{below_or_at, owned}
+use Rattle.channel_parts.proofs.GroupLaws.{owned}
 use Rattle.channel_parts.proofs.Labels.{together_further}
-use Rattle.channel_parts.proofs.NetKinds.{plain_is}
 use Rattle.channel_parts.proofs.PartLaws.{device_inside, inside_device, owner_plain, plain_owner, same_least_net}
 use Rattle.channel_parts.proofs.RankLaws.{rank_arc_gate, rank_given, rank_plain, together_back, unknown_entry, unknown_gate, unknown_parts}
-use Rattle.channel_parts.specs.Groups.{IsPlaced, device_owner, net_owner}
-use Rattle.channel_parts.specs.KnownTables.{known_at}
+use Rattle.channel_parts.specs.Groups.{device_owner, net_owner}
 use Rattle.channel_parts.specs.Labels.{AreBelow}
 use Rattle.graphs.specs.Graphs.{AreInside, sources_at}
 use Rattle.graphs.specs.Levels.{AreLevels, AreStuck}
-use Rattle.channel_parts.specs.OneSolution.{IsKnownTable}
-use Rattle.channel_parts.specs.Conduction.{is_plain_at}
 use Rattle.channel_parts.specs.Ranks.{AreLeast, IsAcyclicArcs, has_unknown_gate, rank_by}
 use Rattle.channel_parts.specs.Sources.{AreSources, HasJoined, IsBetween, device_source}
+use Rattle.known_nets.proofs.NetKinds.{plain_is}
+use Rattle.known_nets.proofs.PlaceLaws.{below_or_at}
+use Rattle.known_nets.specs.Conduction.{is_plain_at}
+use Rattle.known_nets.specs.KnownTables.{IsKnownTable, known_at}
+use Rattle.known_nets.specs.Placed.{IsPlaced}
 use Rattle.plain_paths.specs.FlatCircuits.{IsFlat}
 use Rattle.vrt_model.proofs.Filtered.{device_among}
 use Rattle.vrt_model.proofs.Members.{among_either, among_left, among_right}

@@ -1,9 +1,9 @@
 -- Numbers in groups by their owners: the nets and the devices of each part, at the least net of the part.
-use Rattle.std.specs.Prelude.{◌≡◌, ℕ, ◌<◌, ◌↔◌, ◌&&◌, Bool, cond, List, [], ◌∷◌, ◌++◌, None, Option, Some, length, option_map, slice_get, slice_index, unwrap_or, ◌==◌}
+use Rattle.std.specs.Prelude.{◌≡◌, ℕ, ◌<◌, ◌↔◌, ◌&&◌, Bool, cond, List, None, Option, Some, length, option_map, slice_get, slice_index, unwrap_or, ◌==◌}
 use Rattle.channel_parts.specs.Labels.{may_conduct}
-use Rattle.channel_parts.specs.Conduction.{conduction_of, is_plain_at}
 use Rattle.channel_parts.specs.PartLists.{IsRising, device_numbers, net_numbers}
 use Rattle.channel_parts.specs.declared.part.Part.{Part}
+use Rattle.known_nets.specs.Conduction.{conduction_of, is_plain_at}
 use Rattle.vrt_model.specs.Lists.{At, Among}
 use Rattle.vrt_model.specs.Reading.{is_in}
 use Rattle.vrt_model.specs.declared.circuit.Circuit.{Circuit}
@@ -32,12 +32,6 @@ pub record IsGroup (owner : ℕ → Option ℕ) (bound k : ℕ) (group : List �
 
 abbrev pub AreGroups : (ℕ → Option ℕ) → ℕ → List (List ℕ) → Type 0
 AreGroups owner bound groups = (k : ℕ) (group : List ℕ) → At groups k group → IsGroup owner bound k group
-
--- a number is at the end of its owner's group, and the other groups are as they were
-pub record IsPlaced (owner : Option ℕ) (number : ℕ) (old new : List (List ℕ)) : Type 0 where
-  pub count : length new ≡ length old
-  pub own : (k : ℕ) (group : List ℕ) → At new k group → owner ≡ Some k → (before : List ℕ) × At old k before × (group ≡ before ++ number ∷ [])
-  pub others : (k : ℕ) (group : List ℕ) → At new k group → (owner ≡ Some k → ⊥) → At old k group
 
 -- ---- parts of groups
 

@@ -1,6 +1,6 @@
 -- The parts of plain nets by labels: the label of a net is a net of its part, and in the end the least.
 use Rattle.std.specs.Prelude.{ℕ, ◌≤◌, ◌&&◌, Bool, true, List, None, Option, Some, slice_index}
-use Rattle.channel_parts.specs.Conduction.{conduction_of, is_plain_at}
+use Rattle.known_nets.specs.Conduction.{conduction_of, is_plain_at}
 use Rattle.vrt_model.specs.Known.{IsPlain, IsTogether}
 use Rattle.vrt_model.specs.Reading.{is_in}
 use Rattle.vrt_model.specs.declared.circuit.Circuit.{Circuit}

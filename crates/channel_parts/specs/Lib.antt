@@ -1,17 +1,10 @@
-pub mod Conduction
 pub mod Groups
-pub mod Incidence
-pub mod KnownTables
 pub mod Labels
-pub mod Learned
 pub mod Listings
 pub mod NetGraphs
 pub mod OneSolution
 pub mod Orders
 pub mod PartLists
 pub mod Ranks
-pub mod Regions
 pub mod Sources
-pub mod Spreads
 pub mod Unions
-pub mod Waits

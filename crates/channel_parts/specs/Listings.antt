@@ -4,7 +4,7 @@ use Rattle.std.specs.List.{IsDistinct, enumerate_from}
 use Rattle.std.specs.List.Sorted.{IsSorted}
 use Rattle.std.specs.Ordering.{nat_cmp, ordering_then}
 use Rattle.std.specs.declared.cmp.Ordering.{Ordering}
-use Rattle.channel_parts.specs.Conduction.{is_plain_at}
+use Rattle.known_nets.specs.Conduction.{is_plain_at}
 use Rattle.vrt_model.specs.Known.{IsPlain}
 use Rattle.vrt_model.specs.Lists.{Among}
 use Rattle.vrt_model.specs.declared.circuit.Circuit.{Circuit}

@@ -2,22 +2,12 @@
 -- that are not known. The numbers of the nets come first, and behind them, in their order, the parts by their least nets.
 use Rattle.std.specs.Prelude.{◌≡◌, ℕ, ◌+◌, ◌<◌, ◌⊎◌, Bool, true, List, Option, Some, length, slice_index}
 use Rattle.channel_parts.specs.Groups.{device_owner}
-use Rattle.channel_parts.specs.Conduction.{is_plain_at}
 use Rattle.channel_parts.specs.Ranks.{has_unknown_gate}
 use Rattle.graphs.specs.Graphs.{ArcIn}
+use Rattle.known_nets.specs.Conduction.{is_plain_at}
 use Rattle.vrt_model.specs.Lists.{At}
 use Rattle.vrt_model.specs.declared.circuit.Circuit.{Circuit}
 use Rattle.vrt_model.specs.declared.circuit.Device.{Device}
-
--- arcs more, to the numbers that there are
-pub record Adds (Arc : ℕ → ℕ → Type 0) (old new : List (List ℕ)) : Type 0 where
-  pub count : length new ≡ length old
-  pub only : (from to : ℕ) → ArcIn new from to → ArcIn old from to ⊎ Arc from to
-  pub stays : (from to : ℕ) → ArcIn old from to → ArcIn new from to
-  pub joined : (from to : ℕ) → Arc from to → to < length old → ArcIn new from to
-
-abbrev pub IsArc : ℕ → ℕ → ℕ → ℕ → Type 0
-IsArc from to f t = (f ≡ from) × (t ≡ to)
 
 -- the arc to a plain net from its part
 pub record IsNetArc (c : Circuit) (least : List ℕ) (from to : ℕ) : Type 0 where

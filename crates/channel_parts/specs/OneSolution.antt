@@ -1,5 +1,5 @@
 -- A circuit has exactly one solution; and what the law of one solution asks of known nets and of whole instances.
-use Rattle.std.specs.Prelude.{◌≡◌, ℕ, ◌<◌, ◌↔◌, Bool, true, Option, Some, length}
+use Rattle.std.specs.Prelude.{◌≡◌, ℕ, ◌<◌, Bool, true, Option, Some, length}
 use Rattle.vrt_model.specs.Known.{IsKnown, IsPlain, IsTogether}
 use Rattle.vrt_model.specs.Lists.{At, Among}
 use Rattle.vrt_model.specs.Reading.{IsReading, devices_of}
@@ -20,10 +20,6 @@ pub record HasOneSolution (c : Circuit) (phase : Phase) (observed : ℕ → Bool
   pub bits : ℕ → Option Bool
   pub solves : IsSolution c phase observed setting bits
   pub only : (a : ℕ → Option Bool) → IsSolution c phase observed setting a → SameObserved observed bits a
-
--- a table has exactly the known nets, with their bits
-abbrev pub IsKnownTable : Circuit → Phase → (ℕ → Option Bool) → Type 0
-IsKnownTable c phase known = (n : ℕ) (v : Bool) → (known n ≡ Some v) ↔ IsKnown c phase n v
 
 -- a reading with the bits of the known nets that are observed
 abbrev pub HasKnownBits : Circuit → Phase → (ℕ → Bool) → (ℕ → Bool) → (ℕ → Bool) → Type 0

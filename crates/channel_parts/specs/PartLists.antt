@@ -1,13 +1,12 @@
 -- The channel-connected parts of a circuit in a phase, in their order.
 use Rattle.std.specs.Prelude.{◌≡◌, ℕ, ◌<◌, ◌⊎◌, ◌↔◌, Bool, true, false, List, length, map, slice_get, slice_index, Result, Ok, Err, Some}
-use Rattle.channel_parts.specs.KnownTables.{known_at}
-use Rattle.channel_parts.specs.OneSolution.{IsKnownTable}
 use Rattle.channel_parts.specs.Orders.{IsSolvedOnce}
 use Rattle.channel_parts.specs.Ranks.{IsAcyclicArcs}
 use Rattle.channel_parts.specs.declared.part.Part.{Part}
 use Rattle.channel_parts.specs.declared.part.PartFault.{PartFault}
 use Rattle.channel_parts.specs.declared.part.PartFault.TheVariants.{Cycle, NoMemory}
 use Rattle.channel_parts.specs.declared.part.Parts.{Parts}
+use Rattle.known_nets.specs.KnownTables.{IsKnownTable, known_at}
 use Rattle.vrt_model.specs.Known.{HasArc, IsFirstCycle, IsInPart, IsPlain, IsRanking, IsTogether}
 use Rattle.vrt_model.specs.Lists.{At, Among}
 use Rattle.vrt_model.specs.declared.circuit.Circuit.{Circuit}

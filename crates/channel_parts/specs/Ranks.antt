@@ -1,8 +1,8 @@
 -- Ranks of nets by a table that has them at the least nets of the parts.
 use Rattle.std.specs.Prelude.{ℕ, ◌&&◌, Bool, true, cond, List, Option, is_none, slice_index}
-use Rattle.channel_parts.specs.KnownTables.{known_at}
 use Rattle.channel_parts.specs.Labels.{IsLeastTogether}
-use Rattle.channel_parts.specs.Conduction.{is_plain_at}
+use Rattle.known_nets.specs.Conduction.{is_plain_at}
+use Rattle.known_nets.specs.KnownTables.{known_at}
 use Rattle.vrt_model.specs.Known.{HasArc, IsCycle, IsPlain}
 use Rattle.vrt_model.specs.Reading.{is_in}
 use Rattle.vrt_model.specs.declared.circuit.Circuit.{Circuit}

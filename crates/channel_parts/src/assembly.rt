@@ -2,22 +2,21 @@
 
 ghost use Rattle.std.specs.Prelude.{◌≡◌, ℕ, ◌<◌, ◌++◌, ◌∷◌, [], Ok, Err, false, true, filter, length, replicate, slice_index, IfOk, OnOk};
 ghost use Rattle.channel_parts.specs.Groups.{AreMade, IsMade, is_head};
-ghost use Rattle.channel_parts.specs.KnownTables.{known_at};
 ghost use Rattle.channel_parts.specs.Labels.{IsLeastTogether};
-ghost use Rattle.channel_parts.specs.OneSolution.{IsKnownTable};
 ghost use Rattle.channel_parts.specs.PartLists.{AreParts, PartsGive, device_numbers, net_numbers};
+ghost use Rattle.known_nets.specs.KnownTables.{IsKnownTable, known_at};
 ghost use Rattle.plain_paths.specs.FlatCircuits.{IsFlat};
 ghost use Rattle.vrt_model.specs.Known.{IsPlain, IsTogether};
 ghost use Rattle.vrt_model.specs.Lists.{At};
 ghost use Rattle.vrt_model.specs.declared.rules.Phase.{Phase as PhaseValue};
 
 use crate::cycle::search_all;
-use crate::grouping::{devices_by_part, nets_by_part, small};
-use crate::known::known_nets;
+use crate::grouping::{devices_by_part, nets_by_part};
 use crate::least::least_nets;
 use crate::listing::in_order;
 use crate::part::{Part, PartFault, Parts};
 use crate::ranking::ranked;
+use known_nets::{known_nets, small};
 use std::alloc::Global;
 use vrt_model::{Circuit, Dev, Net, NoMemory, Phase, Seq};
 

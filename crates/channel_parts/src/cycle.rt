@@ -1,10 +1,9 @@
 //! The first cycle of arcs: the first of the graph of nets and parts, without its parts.
 
 ghost use Rattle.std.specs.Prelude.{◌≡◌, ℕ, List, filter, length, nat_lt, IfOk, IfSome, IsNone};
-ghost use Rattle.channel_parts.specs.KnownTables.{known_at};
 ghost use Rattle.channel_parts.specs.Labels.{AreBelow};
-ghost use Rattle.channel_parts.specs.OneSolution.{IsKnownTable};
 ghost use Rattle.channel_parts.specs.Ranks.{AreLeast};
+ghost use Rattle.known_nets.specs.KnownTables.{IsKnownTable, known_at};
 ghost use Rattle.plain_paths.specs.FlatCircuits.{IsFlat};
 ghost use Rattle.vrt_model.specs.Known.{HasArc, IsCycle, IsFirstCycle};
 ghost use Rattle.vrt_model.specs.declared.rules.Phase.{Phase as PhaseValue};

@@ -1,67 +1,13 @@
 //! The nets and the devices of each part, as lists of numbers that stand at the least net of the part.
 
-ghost use Rattle.std.specs.Prelude.{◌≡◌, ℕ, ◌<◌, ◌++◌, ◌∷◌, [], List, length, IfOk, OnOk};
-ghost use Rattle.channel_parts.specs.Groups.{AreGroups, IsPlaced, device_owner, device_owner_at, net_owner};
+ghost use Rattle.std.specs.Prelude.{◌≡◌, ◌<◌, length, IfOk};
+ghost use Rattle.channel_parts.specs.Groups.{AreGroups, device_owner, device_owner_at, net_owner};
 ghost use Rattle.plain_paths.specs.FlatCircuits.{IsFlat};
-ghost use Rattle.vrt_model.specs.Lists.{At};
 
-use crate::conduction::{conduction, is_plain};
 use crate::least::{is_in, may_conduct};
+use known_nets::{conduction, is_plain, no_groups, place, small};
 use std::alloc::Global;
 use vrt_model::{Circuit, Device, NoMemory, Seq};
-
-/// A number as one of 32 bits. Where it needs more, as the number of a net or a device behind the first 2^32, it is
-/// refused as want of memory.
-pub(crate) fn small(number: usize) -> Result<u32, NoMemory>
-    ensures { IfOk result (λ n. n ≡ number) }
-{
-    match u32::try_from(number) {
-        Ok(number) => Ok(number),
-        Err(_) => Err(NoMemory),
-    }
-}
-
-/// Adds a number at the end.
-fn append(group: &mut Seq<u32>, number: u32) -> Result<(), NoMemory>
-    ensures { OnOk result (group.new ≡ group.old ++ number ∷ []) }
-{
-    match group.push(number) {
-        Ok(()) => Ok(()),
-        Err(_) => Err(NoMemory),
-    }
-}
-
-/// Puts a number at the end of its owner's group. There is no group for an owner past the last.
-pub(crate) fn place(
-    groups: &mut Vec<Seq<u32>>,
-    owner: Option<usize>,
-    number: u32,
-) -> Result<(), NoMemory>
-    ensures { OnOk result (IsPlaced owner number groups.old.items groups.new.items) }
-{
-    let Some(at) = owner else {
-        return Ok(());
-    };
-    if at < groups.len() {
-        append(&mut groups[at], number)
-    } else {
-        Ok(())
-    }
-}
-
-/// As many empty groups as there are nets.
-pub(crate) fn no_groups(alloc: Global, count: usize) -> Result<Vec<Seq<u32>>, NoMemory>
-    ensures len { IfOk result (λ t. length t.items ≡ count) }
-    ensures empty { IfOk result (λ t. (k : ℕ) (group : List ℕ) → At t.items k group → group ≡ []) }
-{
-    let mut groups = Vec::new(alloc);
-    for _net in 0..count {
-        let Ok(()) = groups.push(Seq::new(alloc)) else {
-            return Err(NoMemory);
-        };
-    }
-    Ok(groups)
-}
 
 /// The least net of the part of a plain net.
 pub(crate) fn net_owner(circuit: &Circuit, least: &[usize], net: usize) -> Option<usize>

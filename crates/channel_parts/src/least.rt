@@ -2,10 +2,9 @@
 //! net of a part stands for it.
 
 ghost use Rattle.std.specs.Prelude.{◌≡◌, ℕ, ◌<◌, true, length, slice_index, vec_len, IfOk};
-ghost use Rattle.channel_parts.specs.KnownTables.{known_at};
 ghost use Rattle.channel_parts.specs.Labels.{AreBelow, AreOfParts, IsLeastTogether, joins_plain_nets, may_conduct};
-ghost use Rattle.channel_parts.specs.OneSolution.{IsKnownTable};
 ghost use Rattle.channel_parts.specs.Unions.{Respects};
+ghost use Rattle.known_nets.specs.KnownTables.{IsKnownTable, known_at};
 ghost use Rattle.plain_paths.specs.FlatCircuits.{IsFlat};
 ghost use Rattle.vrt_model.specs.Known.{IsPlain};
 ghost use Rattle.vrt_model.specs.Lists.{Among};
@@ -13,8 +12,8 @@ ghost use Rattle.vrt_model.specs.Reading.{is_in};
 ghost use Rattle.vrt_model.specs.declared.circuit.Device.{Device as DeviceValue};
 ghost use Rattle.vrt_model.specs.declared.rules.Phase.{Phase as PhaseValue};
 
-use crate::conduction::{conduction, is_plain};
 use crate::unions::{flatten, join};
+use known_nets::{conduction, is_plain};
 use std::alloc::Global;
 use vrt_model::{Circuit, Device, NoMemory};
 

@@ -3,7 +3,7 @@
 ghost use Rattle.std.specs.Prelude.{◌≡◌, length, IfOk};
 ghost use Rattle.channel_parts.specs.Listings.{AreInOrder, AreKeys, plain_pairs_of};
 
-use crate::conduction::is_plain;
+use known_nets::is_plain;
 use std::alloc::Global;
 use vrt_model::{Circuit, NoMemory};
 

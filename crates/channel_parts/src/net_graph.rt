@@ -2,23 +2,15 @@
 //! that are not known. It has as many numbers as there are nets, twice, and at most an arc for each net and each device.
 
 ghost use Rattle.std.specs.Prelude.{◌≡◌, ◌+◌, ◌<◌, length, IfOk, OnOk};
-ghost use Rattle.channel_parts.specs.NetGraphs.{Adds, IsArc, IsDeviceArc, IsDeviceArcBelow, IsNetArcBelow, IsNetGraph, IsOneNetArc};
+ghost use Rattle.channel_parts.specs.NetGraphs.{IsDeviceArc, IsDeviceArcBelow, IsNetArcBelow, IsNetGraph, IsOneNetArc};
+ghost use Rattle.known_nets.specs.Placed.{Adds};
 ghost use Rattle.plain_paths.specs.FlatCircuits.{IsFlat};
 
-use crate::conduction::is_plain;
-use crate::grouping::{device_owner, no_groups, place, small};
+use crate::grouping::device_owner;
 use crate::ranking::has_unknown_gate;
+use known_nets::{is_plain, lead, no_groups};
 use std::alloc::Global;
 use vrt_model::{Circuit, Device, NoMemory, Seq};
-
-/// Adds an arc. There is none to a number past the last.
-pub(crate) fn lead(graph: &mut Vec<Seq<u32>>, from: usize, to: usize) -> Result<(), NoMemory>
-    ensures { OnOk result (Adds (IsArc from to) graph.old.items graph.new.items) }
-{
-    let number = small(from)?;
-    place(graph, Some(to), number)?;
-    Ok(())
-}
 
 /// The number of a part, behind those of the nets.
 fn part_number(least: &[usize], part: usize) -> Result<usize, NoMemory>

@@ -1,17 +1,16 @@
 //! Ranks of nets: a part is above each net that is not known and at the gate of a device of the part.
 
 ghost use Rattle.std.specs.Prelude.{◌≡◌, ℕ, ◌<◌, length, slice_index, IfOk, IfSome, IsNone};
-ghost use Rattle.channel_parts.specs.KnownTables.{known_at};
 ghost use Rattle.channel_parts.specs.Labels.{AreBelow};
-ghost use Rattle.channel_parts.specs.OneSolution.{IsKnownTable};
 ghost use Rattle.channel_parts.specs.Ranks.{AreLeast, IsAcyclicArcs, has_unknown_gate, rank_by};
+ghost use Rattle.known_nets.specs.KnownTables.{IsKnownTable, known_at};
 ghost use Rattle.plain_paths.specs.FlatCircuits.{IsFlat};
 ghost use Rattle.vrt_model.specs.Known.{IsRanking};
 ghost use Rattle.vrt_model.specs.declared.rules.Phase.{Phase as PhaseValue};
 
-use crate::conduction::{is_plain, known_bit};
 use crate::sources::sources_by_part;
 use graphs::{all_levelled, levels_of};
+use known_nets::{is_plain, known_bit};
 use std::alloc::Global;
 use vrt_model::{Circuit, Device, NoMemory};
 

@@ -6,8 +6,9 @@ ghost use Rattle.graphs.specs.Graphs.{AreInside};
 ghost use Rattle.channel_parts.specs.Sources.{AreSources, HasJoined, device_source};
 ghost use Rattle.plain_paths.specs.FlatCircuits.{IsFlat};
 
-use crate::grouping::{device_owner, net_owner, no_groups, place, small};
+use crate::grouping::{device_owner, net_owner};
 use crate::ranking::has_unknown_gate;
+use known_nets::{no_groups, place, small};
 use std::alloc::Global;
 use vrt_model::{Circuit, Device, NoMemory, Seq};
 

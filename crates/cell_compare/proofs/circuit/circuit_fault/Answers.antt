@@ -2,20 +2,20 @@ use Rattle.std.proofs.Common.{◌≡◌, ℕ, ◌+◌, ◌<◌, Bool, List, Opti
 use Rattle.std.specs.Prelude.{sum_by}
 use Rattle.std.proofs.lemmas.List.Sums.{sum_by-take-le}
 use Rattle.bdd_core.specs.Store.{Diagrams, function_of}
+use Rattle.bdd_core.specs.Words.{word_at}
 use Rattle.bdd_ops.proofs.CountingLaws.{counted_more, counted_same, counted_then, counts_ok}
 use Rattle.bdd_ops.proofs.WithinLaws.{within_same}
 use Rattle.cell_compare.proofs.CircuitLaws.{IsSolvedBefore, root_spans, solved_all, solved_none, step_clear, step_fault, words_within}
-use Rattle.bdd_core.specs.Words.{word_at}
 use Rattle.cell_compare.proofs.CountLaws.{opened_within, reads_variables, roots_within, sum_next, used_counted}
 use Rattle.cell_compare.proofs.FrameLaws.{two_first, two_then, two_wider}
 use Rattle.cell_compare.proofs.OrderLaws.{first_fault, ordered_parts}
 use Rattle.cell_compare.proofs.Ordered.{AreOrderedParts}
 use Rattle.cell_compare.specs.Operations.{circuit_operations, part_operations}
 use Rattle.cell_compare.specs.Results.{first_word}
-use Rattle.channel_parts.specs.KnownTables.{known_at}
 use Rattle.cell_compare.specs.Scans.{IsPartClear, IsPartFault, PartGives}
 use Rattle.cell_compare.specs.declared.net.CircuitFault.{CircuitFault}
 use Rattle.channel_parts.specs.declared.part.Part.{Part}
+use Rattle.known_nets.specs.KnownTables.{known_at}
 use Rattle.path_fixpoint.proofs.SpendingLaws.{spends_behind, spends_more, spends_value}
 use Rattle.plain_paths.proofs.Items.{item_at}
 use Rattle.plain_paths.specs.Marks.{mark_at}

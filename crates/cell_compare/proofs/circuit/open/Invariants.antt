@@ -1,7 +1,7 @@
 use Rattle.std.proofs.Common.{◌≡◌, ℕ, ◌+◌, ◌<◌, ◌≤◌, ◌⊎◌, length, slice_index}
 use Rattle.bdd_core.specs.Words.{word_at}
 use Rattle.cell_compare.specs.Results.{first_word}
-use Rattle.channel_parts.specs.KnownTables.{known_at}
+use Rattle.known_nets.specs.KnownTables.{known_at}
 use Rattle.cell_compare.proofs.circuit.open.Given as goal
 
 abbrev pub invariant-loop-n : goal.invariant-loop-n

@@ -1,9 +1,8 @@
 use Rattle.std.proofs.Common.{◌≡◌, ℕ, Bool, List, Option, false, slice_index, ap, subst, sym, ◌∙◌}
 use Rattle.channel_parts.proofs.PartLaws.{zero_ranks}
-use Rattle.channel_parts.specs.KnownTables.{known_at}
 use Rattle.channel_parts.specs.Labels.{IsLeastTogether}
-use Rattle.channel_parts.specs.OneSolution.{IsKnownTable}
 use Rattle.channel_parts.specs.PartLists.{AreParts}
+use Rattle.known_nets.specs.KnownTables.{IsKnownTable, known_at}
 use Rattle.vrt_model.specs.Known.{IsPlain}
 use Rattle.channel_parts.proofs.assembly.kept_parts.Goals as goal
 

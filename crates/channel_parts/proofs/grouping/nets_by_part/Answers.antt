@@ -1,6 +1,7 @@
 use Rattle.std.proofs.Common.{◌≡◌, ℕ, Option, length, arith, subst, ◌∙◌}
 use Rattle.channel_parts.proofs.GroupLaws.{more_grouped, none_grouped, placed_as}
-use Rattle.channel_parts.specs.Groups.{AreGroups, IsPlaced, net_owner}
+use Rattle.channel_parts.specs.Groups.{AreGroups, net_owner}
+use Rattle.known_nets.specs.Placed.{IsPlaced}
 use Rattle.channel_parts.proofs.grouping.nets_by_part.Goals as goal
 
 pub loop-net-init : goal.loop-net-init

@@ -1,4 +1,5 @@
-use Rattle.channel_parts.specs.NetGraphs.{Adds, IsDeviceArcBelow}
+use Rattle.channel_parts.specs.NetGraphs.{IsDeviceArcBelow}
+use Rattle.known_nets.specs.Placed.{Adds}
 use Rattle.channel_parts.proofs.net_graph.lead_devices.Given as goal
 
 abbrev pub invariant-loop-device : goal.invariant-loop-device

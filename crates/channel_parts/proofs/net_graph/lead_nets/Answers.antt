@@ -1,6 +1,7 @@
 use Rattle.std.proofs.Common.{◌≡◌, ℕ, length, arith, subst}
 use Rattle.channel_parts.proofs.NetGraphLaws.{more_nets, none_adds}
-use Rattle.channel_parts.specs.NetGraphs.{Adds, IsNetArcBelow}
+use Rattle.channel_parts.specs.NetGraphs.{IsNetArcBelow}
+use Rattle.known_nets.specs.Placed.{Adds}
 use Rattle.channel_parts.proofs.net_graph.lead_nets.Goals as goal
 
 pub loop-net-init : goal.loop-net-init

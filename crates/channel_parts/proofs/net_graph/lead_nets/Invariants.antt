@@ -1,4 +1,5 @@
-use Rattle.channel_parts.specs.NetGraphs.{Adds, IsNetArcBelow}
+use Rattle.channel_parts.specs.NetGraphs.{IsNetArcBelow}
+use Rattle.known_nets.specs.Placed.{Adds}
 use Rattle.channel_parts.proofs.net_graph.lead_nets.Given as goal
 
 abbrev pub invariant-loop-net : goal.invariant-loop-net

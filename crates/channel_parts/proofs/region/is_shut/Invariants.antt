@@ -1,7 +1,0 @@
-use Rattle.std.proofs.Common.{ℕ, ◌<◌}
-use Rattle.channel_parts.specs.Regions.{IsShutAt}
-use Rattle.vrt_model.specs.Lists.{At}
-use Rattle.channel_parts.proofs.region.is_shut.Given as goal
-
-abbrev pub invariant-loop-net : goal.invariant-loop-net
-invariant-loop-net l = (i : ℕ) → i < l.net-index → (n : ℕ) → At l.nets i n → IsShutAt l.circuit l.known n

@@ -1,4 +1,0 @@
-use Rattle.channel_parts.proofs.region.keeps_shut.Goals as goal
-
-pub returns-in_default-clause-yes : goal.returns-in_default-clause-yes
-returns-in_default-clause-yes c e bare m j = absurd (c.in_default.ensures m j)

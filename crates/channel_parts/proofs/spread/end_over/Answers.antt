@@ -1,9 +1,0 @@
-use Rattle.std.proofs.Common.{◌≡◌, true, Some, ap, sym, ◌∙◌}
-use Rattle.channel_parts.proofs.SpreadLaws.{end_is}
-use Rattle.channel_parts.specs.Conduction.{conduction_of}
-use Rattle.channel_parts.proofs.spread.end_over.Goals as goal
-
-pub returns : goal.returns
-returns c =
-    let on : conduction_of c.args.known.now c.args.device.now ≡ Some true = sym c.in-Some.ensures ∙ ap Some c.if-not-on.false in
-    end_is c.args.known.now c.args.device.now c.args.net c.other_end.result c.if-device.false on c.other_end.ensures

@@ -1,0 +1,11 @@
+-- Known nets.
+pub mod IncidenceLaws
+pub mod KnownOnce
+pub mod NetKinds
+pub mod PlaceLaws
+pub mod RegionLaws
+pub mod SettleLaws
+pub mod ShutLaws
+pub mod SpreadLaws
+pub mod TableLaws
+pub mod WaitLaws

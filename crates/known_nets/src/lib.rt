@@ -1,0 +1,18 @@
+//! The nets that are known before anything is solved.
+#![tactic(auto)]
+
+mod conducting;
+mod fixed;
+mod incidence;
+mod known;
+mod learn;
+mod lists;
+mod placing;
+mod region;
+mod signals;
+mod spread;
+mod waiting;
+
+pub use conducting::{conduction, is_plain, known_bit};
+pub use known::known_nets;
+pub use placing::{lead, no_groups, place, small};
