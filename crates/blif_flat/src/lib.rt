@@ -30,8 +30,3 @@ pub use judge::check_drivers;
 pub use nesting::check_nesting;
 pub use subs::check_subs;
 pub use tables::{Tables, tables_of};
-
-#[cfg(test)]
-mod flat_tests;
-#[cfg(test)]
-mod tests;

@@ -18,8 +18,6 @@ mod keys;
 mod known;
 mod laws;
 mod reader;
-#[cfg(test)]
-mod tests;
 mod tokens;
 mod words;
 
