@@ -19,6 +19,3 @@ pub use cards::Card;
 pub use faults::BlifFault;
 pub use laws::computed_fault;
 pub use reader::read_blif;
-
-#[cfg(test)]
-mod tests;

@@ -8,4 +8,3 @@ pub mod LastCounts
 pub mod NameLists
 pub mod NetNumbers
 pub mod NetTurns
-pub mod SmallRules

@@ -18,6 +18,3 @@ pub use circuit::flat;
 pub use faults::FlatFault;
 pub use sizes_of::{FlatSizes, sizes};
 pub use structures::structure;
-
-#[cfg(test)]
-mod tests;

@@ -1,7 +1,7 @@
-//! A library of models, as text.
+//! Libraries of models, as texts.
 
-/// Gates, adders, latches and registers.
-pub const LIBRARY: &[u8] = b"\
+/// 22 gates, adders, latches and registers.
+pub const REGISTERS: &[u8] = b"\
 # A small library of gates, adders and registers.\n\
 .model inv\n\
 .inputs a\n\
@@ -163,3 +163,113 @@ pub const LIBRARY: &[u8] = b"\
 .subckt flipflop d=d3 clk=clk q=q3\n\
 .subckt buf a=q0 y=q0b\n\
 .end\n";
+
+/// 20 gates, adders of them, latches and a clock gate.
+pub const GATES: &[u8] = b"# gates
+.model INV
+.inputs A
+.outputs Y
+.names A Y
+0 1
+.model BUF
+.inputs A
+.outputs Y
+.names A Y
+1 1
+.model NAND2
+.inputs A B
+.outputs Y
+.names A B Y
+11 0
+.model NOR2
+.inputs A B
+.outputs Y
+.names A B Y
+00 1
+.model AND2
+.inputs A B
+.outputs Y
+.subckt NAND2 A=A B=B Y=n
+.subckt INV A=n Y=Y
+.model OR2
+.inputs A B
+.outputs Y
+.subckt NOR2 A=A B=B Y=n
+.subckt INV A=n Y=Y
+.model XOR2
+.inputs A B
+.outputs Y
+.names A B Y
+10 1
+01 1
+.model XNOR2
+.inputs A B
+.outputs Y
+.subckt XOR2 A=A B=B Y=n
+.subckt INV A=n Y=Y
+.model NAND3
+.inputs A B C
+.outputs Y
+.names A B C Y
+111 0
+.model NOR3
+.inputs A B C
+.outputs Y
+.names A B C Y
+000 1
+.model AOI21
+.inputs A B \\
+ C
+.outputs Y
+.names A B C Y
+11- 0
+--1 0
+.model OAI21
+.inputs A B C
+.outputs Y
+.names A B C Y
+1-1 0
+-11 0
+.model MUX2
+.inputs A B S
+.outputs Y
+.names A B S Y
+1-0 1
+-11 1
+.model TIEHI
+.outputs Y
+.names Y
+1
+.model TIELO
+.outputs Y
+.names Y
+.model HA
+.inputs A B
+.outputs S CO
+.subckt XOR2 A=A B=B Y=S
+.subckt AND2 A=A B=B Y=CO
+.model FA
+.inputs A B CI
+.outputs S CO
+.subckt HA A=A B=B S=s CO=c1
+.subckt HA A=s B=CI S=S CO=c2
+.subckt OR2 A=c1 B=c2 Y=CO
+.model LATH
+.inputs D
+.clock G
+.outputs Q
+.latch D Q ah G 3
+.model DFF
+.inputs D
+.clock CK
+.outputs Q QN
+.latch D Q re CK 2
+.subckt INV A=Q Y=QN
+.model CLKGATE
+.inputs EN
+.clock CK
+.outputs GCK
+.latch EN q al CK
+.subckt AND2 A=q B=CK Y=GCK
+.end
+";
