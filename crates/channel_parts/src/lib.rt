@@ -29,10 +29,3 @@ pub use known::known_nets;
 pub use least::least_nets;
 pub use listing::in_order;
 pub use part::{Part, PartFault, Parts};
-
-#[cfg(test)]
-mod known_tests;
-#[cfg(test)]
-mod part_tests;
-#[cfg(test)]
-mod tests;
