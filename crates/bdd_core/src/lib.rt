@@ -19,6 +19,3 @@ mod store;
 
 pub use handle::{H, ONE, Spent, ZERO};
 pub use store::Store;
-
-#[cfg(test)]
-mod tests;

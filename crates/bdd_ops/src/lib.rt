@@ -10,6 +10,3 @@ mod valuation;
 
 pub use boolean::{and, implies, not, or, restrict, xor};
 pub use valuation::{least, value_at};
-
-#[cfg(test)]
-mod tests;

@@ -7,5 +7,4 @@ pub mod Frames
 pub mod EvalLaws
 pub mod CountLaws
 pub mod OperationLaws
-pub mod CheckLaws
 pub mod CoverRows

@@ -10,10 +10,3 @@ mod plan;
 pub use cover::cover_diagram;
 pub use eval::eval_model;
 pub use plan::{ModelPlan, PlanFault, model_plan};
-
-#[cfg(test)]
-mod checks;
-#[cfg(test)]
-mod models;
-#[cfg(test)]
-mod tests;

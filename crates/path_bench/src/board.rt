@@ -3,13 +3,13 @@
 ghost use Rattle.std.specs.Prelude.{◌≡◌, IsTrue};
 ghost use Rattle.bdd_core.specs.Store.{IsSpan};
 
-use crate::draft::{HIGH, Refused};
 use bdd_core::{H, ONE, Spent, Store};
+use circuit_draft::HIGH;
 use node_pool::Span;
 use path_fixpoint::{Part, are_spans, is_part, solve_part};
 use plain_paths::is_flat;
 use std::alloc::Global;
-use vrt_model::{Circuit, Dev, Net, NetKind, Seq, Var};
+use vrt_model::{Circuit, Dev, Net, NetKind, NoMemory, Seq, Var};
 
 /// How many variables the store has.
 const VARS: u32 = 1000;
@@ -19,6 +19,23 @@ const BUDGET: u32 = 8_000_000;
 
 /// The most nets and devices of a circuit.
 const MOST: usize = 10_000;
+
+/// Why a part was not solved.
+#[derive(Clone, Copy, Debug, PartialEq, Eq)]
+pub enum Refused {
+    /// The budget of nodes is used up.
+    Spent,
+    /// The circuit, its part or its words are not as `solve_part` asks.
+    Unfit,
+    /// Memory could not be had.
+    NoMemory,
+}
+
+impl From<NoMemory> for Refused {
+    fn from(_none: NoMemory) -> Refused {
+        Refused::NoMemory
+    }
+}
 
 /// A circuit, the part of its plain nets, and a store with the words of both. The gates and the roots have the same
 /// words: for an input the bit of a variable, in the order of the inputs.

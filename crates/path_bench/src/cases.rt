@@ -2,9 +2,9 @@
 
 ghost use Rattle.std.specs.Prelude.{◌≤◌};
 
-use crate::draft::{Draft, HIGH, LOW, Refused};
+use circuit_draft::{Draft, HIGH, LOW};
 use std::alloc::Global;
-use vrt_model::{Circuit, Kind, Net, NetKind};
+use vrt_model::{Circuit, Kind, Net, NetKind, NoMemory};
 
 /// A known circuit.
 #[derive(Clone, Copy, Debug, PartialEq, Eq)]
@@ -54,53 +54,53 @@ pub(crate) fn usual_size(case: Case) -> u32 {
 }
 
 /// The circuit of a case of a size. The multiplexer has at most 8 selecting inputs.
-pub(crate) fn circuit(alloc: Global, case: Case, size: u32) -> Result<Circuit, Refused> {
+pub(crate) fn circuit(alloc: Global, case: Case, size: u32) -> Result<Circuit, NoMemory> {
     let mut draft = Draft::new(alloc)?;
     match case {
-        Case::Chain => chain(alloc, &mut draft, size)?,
-        Case::ChainBackwards => chain_backwards(alloc, &mut draft, size)?,
-        Case::Ladder => ladder(alloc, &mut draft, size)?,
-        Case::Multiplexer => multiplexer(alloc, &mut draft, size.min(8))?,
-        Case::AndOr => and_or(alloc, &mut draft, size)?,
+        Case::Chain => chain(&mut draft, size)?,
+        Case::ChainBackwards => chain_backwards(&mut draft, size)?,
+        Case::Ladder => ladder(&mut draft, size)?,
+        Case::Multiplexer => multiplexer(&mut draft, size.min(8))?,
+        Case::AndOr => and_or(&mut draft, size)?,
     }
-    Ok(draft.done())
+    Ok(draft.circuit)
 }
 
 // Adds a device with a gate of its own, which is an input.
-fn pass(alloc: Global, draft: &mut Draft, left: Net, right: Net) -> Result<(), Refused> {
-    let gate = draft.net(alloc, NetKind::Input)?;
-    draft.device(alloc, Kind::N, gate, left, right)
+fn pass(draft: &mut Draft, left: Net, right: Net) -> Result<(), NoMemory> {
+    let gate = draft.net(NetKind::Input)?;
+    draft.device(Kind::N, 6, gate, left, right)
 }
 
-fn chain(alloc: Global, draft: &mut Draft, devices: u32) -> Result<(), Refused> {
+fn chain(draft: &mut Draft, devices: u32) -> Result<(), NoMemory> {
     let mut end = HIGH;
     for _ in 0..devices {
-        let next = draft.net(alloc, NetKind::Plain)?;
-        pass(alloc, draft, end, next)?;
+        let next = draft.net(NetKind::Plain)?;
+        pass(draft, end, next)?;
         end = next;
     }
     Ok(())
 }
 
-fn chain_backwards(alloc: Global, draft: &mut Draft, devices: u32) -> Result<(), Refused> {
-    let mut end = draft.net(alloc, NetKind::Plain)?;
+fn chain_backwards(draft: &mut Draft, devices: u32) -> Result<(), NoMemory> {
+    let mut end = draft.net(NetKind::Plain)?;
     for _ in 1..devices {
-        let next = draft.net(alloc, NetKind::Plain)?;
-        pass(alloc, draft, next, end)?;
+        let next = draft.net(NetKind::Plain)?;
+        pass(draft, next, end)?;
         end = next;
     }
-    pass(alloc, draft, HIGH, end)
+    pass(draft, HIGH, end)
 }
 
-fn ladder(alloc: Global, draft: &mut Draft, rungs: u32) -> Result<(), Refused> {
+fn ladder(draft: &mut Draft, rungs: u32) -> Result<(), NoMemory> {
     let mut first = HIGH;
-    let mut second = draft.net(alloc, NetKind::Plain)?;
+    let mut second = draft.net(NetKind::Plain)?;
     for _ in 0..rungs {
-        let next = draft.net(alloc, NetKind::Plain)?;
-        let other = draft.net(alloc, NetKind::Plain)?;
-        pass(alloc, draft, first, next)?;
-        pass(alloc, draft, second, other)?;
-        pass(alloc, draft, next, other)?;
+        let next = draft.net(NetKind::Plain)?;
+        let other = draft.net(NetKind::Plain)?;
+        pass(draft, first, next)?;
+        pass(draft, second, other)?;
+        pass(draft, next, other)?;
         first = next;
         second = other;
     }
@@ -108,65 +108,59 @@ fn ladder(alloc: Global, draft: &mut Draft, rungs: u32) -> Result<(), Refused> {
 }
 
 // Adds so many inputs and gives the first.
-fn inputs(alloc: Global, draft: &mut Draft, count: u32) -> Result<Net, Refused> {
-    let first = draft.net(alloc, NetKind::Input)?;
+fn inputs(draft: &mut Draft, count: u32) -> Result<Net, NoMemory> {
+    let first = draft.net(NetKind::Input)?;
     for _ in 1..count {
-        draft.net(alloc, NetKind::Input)?;
+        draft.net(NetKind::Input)?;
     }
     Ok(first)
 }
 
 // Adds a net for each pair of nets that stand one behind another from `from` on: the first where the gate is 0, the
 // second where it is 1. Gives the net behind the pairs.
-fn row(alloc: Global, draft: &mut Draft, gate: Net, from: Net, pairs: u32) -> Result<Net, Refused> {
+fn row(draft: &mut Draft, gate: Net, from: Net, pairs: u32) -> Result<Net, NoMemory> {
     let mut first = from;
     for _ in 0..pairs {
         let second = Net(first.0.saturating_add(1));
-        let chosen = draft.net(alloc, NetKind::Plain)?;
-        draft.device(alloc, Kind::P, gate, first, chosen)?;
-        draft.device(alloc, Kind::N, gate, second, chosen)?;
+        let chosen = draft.net(NetKind::Plain)?;
+        draft.device(Kind::P, 6, gate, first, chosen)?;
+        draft.device(Kind::N, 6, gate, second, chosen)?;
         first = Net(second.0.saturating_add(1));
     }
     Ok(first)
 }
 
-fn multiplexer(alloc: Global, draft: &mut Draft, selects: u32) -> Result<(), Refused>
+fn multiplexer(draft: &mut Draft, selects: u32) -> Result<(), NoMemory>
     requires { selects ≤ 8 }
 {
-    let select = inputs(alloc, draft, selects)?;
-    let mut from = inputs(alloc, draft, 1 << selects)?;
+    let select = inputs(draft, selects)?;
+    let mut from = inputs(draft, 1 << selects)?;
     for at in (0..selects).rev() {
         let gate = Net(select.0.saturating_add(at));
-        from = row(alloc, draft, gate, from, 1 << at)?;
+        from = row(draft, gate, from, 1 << at)?;
     }
     Ok(())
 }
 
 // Adds a product of two inputs: devices in a row from the output to the low supply, and side by side from one net to
 // another on the way from the high supply to the output.
-fn product(
-    alloc: Global,
-    draft: &mut Draft,
-    output: Net,
-    above: Net,
-    below: Net,
-) -> Result<(), Refused> {
-    let first = draft.net(alloc, NetKind::Input)?;
-    let second = draft.net(alloc, NetKind::Input)?;
-    let middle = draft.net(alloc, NetKind::Plain)?;
-    draft.device(alloc, Kind::N, first, output, middle)?;
-    draft.device(alloc, Kind::N, second, middle, LOW)?;
-    draft.device(alloc, Kind::P, first, above, below)?;
-    draft.device(alloc, Kind::P, second, above, below)
+fn product(draft: &mut Draft, output: Net, above: Net, below: Net) -> Result<(), NoMemory> {
+    let first = draft.net(NetKind::Input)?;
+    let second = draft.net(NetKind::Input)?;
+    let middle = draft.net(NetKind::Plain)?;
+    draft.device(Kind::N, 6, first, output, middle)?;
+    draft.device(Kind::N, 6, second, middle, LOW)?;
+    draft.device(Kind::P, 6, first, above, below)?;
+    draft.device(Kind::P, 6, second, above, below)
 }
 
-fn and_or(alloc: Global, draft: &mut Draft, products: u32) -> Result<(), Refused> {
-    let output = draft.net(alloc, NetKind::Plain)?;
+fn and_or(draft: &mut Draft, products: u32) -> Result<(), NoMemory> {
+    let output = draft.net(NetKind::Plain)?;
     let mut above = HIGH;
     for _ in 1..products {
-        let below = draft.net(alloc, NetKind::Plain)?;
-        product(alloc, draft, output, above, below)?;
+        let below = draft.net(NetKind::Plain)?;
+        product(draft, output, above, below)?;
         above = below;
     }
-    product(alloc, draft, output, above, output)
+    product(draft, output, above, output)
 }

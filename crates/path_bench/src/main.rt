@@ -7,12 +7,10 @@
 
 mod board;
 mod cases;
-mod draft;
 
 use anyhow::{Result, bail};
-use board::Board;
+use board::{Board, Refused};
 use cases::{ALL, Case};
-use draft::Refused;
 use std::alloc::Global;
 use std::env;
 use std::time::Instant;

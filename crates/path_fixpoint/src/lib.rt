@@ -17,6 +17,3 @@ pub use channel_parts::Part;
 pub use levels::strengths;
 pub use ranges::{are_spans, is_part};
 pub use solve::solve_part;
-
-#[cfg(test)]
-mod tests;

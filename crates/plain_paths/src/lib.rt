@@ -8,8 +8,6 @@ mod marks;
 mod ranges;
 mod signals;
 mod strengths;
-#[cfg(test)]
-mod tests;
 
 pub use channels::bit;
 pub use ranges::is_flat;

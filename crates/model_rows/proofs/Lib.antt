@@ -1,0 +1,2 @@
+-- How often a signal of a model is driven.
+pub mod CheckLaws
