@@ -28,20 +28,3 @@ pub use least::least_valuation;
 pub use net::CircuitFault;
 pub use outputs::{Output, OutputFault, output_fault};
 pub use roots::open_roots;
-
-#[cfg(test)]
-mod circuit_tests;
-#[cfg(test)]
-mod compare_tests;
-#[cfg(test)]
-mod least_tests;
-#[cfg(test)]
-mod output_tests;
-#[cfg(test)]
-mod phase_tests;
-#[cfg(test)]
-mod port_tests;
-#[cfg(test)]
-mod root_tests;
-#[cfg(test)]
-mod tests;

@@ -97,7 +97,7 @@ fn add_output(outputs: &mut Vec<Output>, output: Option<Output>) -> Result<(), N
 
 /// The outputs at ports that are observed in a phase.
 #[tactic(auto, using(crate::proofs::PortLaws::pushed))]
-pub(crate) fn outputs_at(
+fn outputs_at(
     alloc: Global,
     rules: &Rules,
     cell: &Cell,
@@ -144,7 +144,7 @@ pub(crate) fn seen_outputs(
 }
 
 /// No mark yet.
-pub(crate) fn no_marks(alloc: Global, count: usize) -> Result<Vec<bool>, NoMemory>
+fn no_marks(alloc: Global, count: usize) -> Result<Vec<bool>, NoMemory>
     ensures { IfOk result (λ marks. marks.items ≡ replicate count false) }
 {
     match vec![in alloc; false; count] {
@@ -163,7 +163,7 @@ fn mark(marks: &mut Vec<bool>, net: Net)
 }
 
 /// Marks the gates of devices.
-pub(crate) fn mark_gates(marks: &mut Vec<bool>, devices: &[Device])
+fn mark_gates(marks: &mut Vec<bool>, devices: &[Device])
     requires { All (λ (d : DeviceValue). d.gate.0 < length marks.old.items) devices.now }
     ensures len { length marks.new.items ≡ length marks.old.items }
     ensures is { (n : ℕ) → mark_at marks.new.items n ≡ (mark_at marks.old.items n || list_any (λ (d : DeviceValue). d.gate.0 == n) devices.now) }
@@ -174,7 +174,7 @@ pub(crate) fn mark_gates(marks: &mut Vec<bool>, devices: &[Device])
 }
 
 /// Marks the nets of outputs.
-pub(crate) fn mark_outputs(marks: &mut Vec<bool>, outputs: &[Output])
+fn mark_outputs(marks: &mut Vec<bool>, outputs: &[Output])
     requires { All (λ (o : Output). o.net.0 < length marks.old.items) outputs.now }
     ensures len { length marks.new.items ≡ length marks.old.items }
     ensures is { (n : ℕ) → mark_at marks.new.items n ≡ (mark_at marks.old.items n || list_any (λ (o : Output). o.net.0 == n) outputs.now) }
@@ -214,7 +214,7 @@ fn phase_of(rules: &Rules, phase: u32) -> &Phase
 }
 
 /// Writes the bit of the clock that a signal carries, as a constant.
-pub(crate) fn open_clock(store: &mut Store, phase: &Phase, one: ClockedSignal, inputs: Span)
+fn open_clock(store: &mut Store, phase: &Phase, one: ClockedSignal, inputs: Span)
     requires inputs { IsSpan store.old inputs × IsFilled store.old inputs }
     requires within { one.signal < inputs.len }
     ensures writes { Writes inputs store.old store.new }
@@ -243,7 +243,7 @@ fn open_clocks(store: &mut Store, phase: &Phase, clocked: &[ClockedSignal], inpu
 }
 
 /// Writes the root of a port's net as the bit of its signal, if it is an input port.
-pub(crate) fn open_tie(store: &mut Store, port: Port, roots: Span, inputs: Span)
+fn open_tie(store: &mut Store, port: Port, roots: Span, inputs: Span)
     requires roots { IsSpan store.old roots × IsFilled store.old roots }
     requires inputs { IsSpan store.old inputs × IsFilled store.old inputs }
     requires within { (s : ℕ) → input_signal port.role ≡ Some s → (port.net < roots.len) × (s < inputs.len) }
@@ -337,7 +337,7 @@ fn add_name(alloc: Global, names: &mut Seq<Text>, net: &FlatNet) -> Result<(), N
 
 /// The names of the input nets among some nets.
 #[tactic(auto, using(crate::proofs::PortLaws::chosen))]
-pub(crate) fn names_of_inputs(alloc: Global, nets: &[FlatNet]) -> Result<Seq<Text>, NoMemory>
+fn names_of_inputs(alloc: Global, nets: &[FlatNet]) -> Result<Seq<Text>, NoMemory>
     ensures { IfOk result (λ names. names ≡ input_names_of nets.now) }
 {
     let mut names = Seq::new(alloc);

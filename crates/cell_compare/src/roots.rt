@@ -47,12 +47,7 @@ pub(crate) fn count_of(kind: NetKind) -> u32
 }
 
 /// The bit of a net with a given value, as a function: that of an input net is a variable.
-pub(crate) fn root_of(
-    store: &mut Store,
-    phase: &Phase,
-    kind: NetKind,
-    variable: u32,
-) -> Result<H, Spent>
+fn root_of(store: &mut Store, phase: &Phase, kind: NetKind, variable: u32) -> Result<H, Spent>
     requires { kind ≡ Input → variable < store.old.vars }
     ensures adds { Adds store.old store.new }
     ensures is { IfOk result (λ h. Means store.new h (root_bit phase.now kind variable)) }

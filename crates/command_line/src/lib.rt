@@ -10,6 +10,3 @@ mod words;
 pub use manual::{help, version};
 pub use request::{Asked, FileWords, Request};
 pub use words::{WordsFault, read_words};
-
-#[cfg(test)]
-mod tests;

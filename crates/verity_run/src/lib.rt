@@ -15,6 +15,3 @@ mod verdict_text;
 
 pub use status::Status;
 pub use top::run;
-
-#[cfg(test)]
-mod tests;
