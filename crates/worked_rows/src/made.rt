@@ -1,20 +1,27 @@
 //! Texts that are made.
 
-use crate::case::{Case, THREE_FILES, shown};
-use crate::texts::{INVERTER_CELL, RULES};
+use crate::row::{Row, shown};
 use anyhow::Result;
 use std::alloc::Global;
 
-/// A netlist and models that were made, with the rules that most cases have.
-fn case_of<'a>(name: &'a str, netlist: &'a str, models: &'a str) -> Case<'a> {
-    Case {
-        name,
+/// The words that name the three files and nothing else.
+pub const THREE_FILES: &str = "c.sp m.blif r.txt";
+
+/// The netlist of an inverter.
+pub const INVERTER: &str = "t\n.subckt inv a y\nm1 y a vdd vdd p\nm2 y a gnd gnd n\n.ends\n";
+
+/// The two supplies, and the two kinds of devices.
+pub const RULES: &str = "supply 1 vdd\nsupply 0 gnd\ndevice n n\ndevice p p\n";
+
+/// Runs over a netlist and models that were made, by plain rules.
+fn shown_of(alloc: Global, name: &str, netlist: &str, models: &str) -> Result<String> {
+    let row = Row {
         words: THREE_FILES,
         netlist,
         models,
         rules: RULES,
-        more_rules: "",
-    }
+    };
+    shown(alloc, name, row)
 }
 
 /// Models each within the one before, so many.
@@ -27,8 +34,7 @@ pub fn nested(alloc: Global, depth: u32) -> Result<String> {
     }
     let last = format!(in alloc; ".model m{depth}\n.end\n")?;
     models.push_str(last.as_str())?;
-    let case = case_of("nested_models", INVERTER_CELL, models.as_str());
-    shown(alloc, &case)
+    shown_of(alloc, "nested_models", INVERTER, models.as_str())
 }
 
 /// A cell of so many inputs, and its model.
@@ -45,6 +51,10 @@ pub fn wide(alloc: Global, inputs: u32) -> Result<String> {
     let models = format!(in alloc;
         ".model wide\n.inputs{names}\n.outputs y\n.names i1 y\n0 1\n.end\n"
     )?;
-    let case = case_of("one_input_too_many", netlist.as_str(), models.as_str());
-    shown(alloc, &case)
+    shown_of(
+        alloc,
+        "one_input_too_many",
+        netlist.as_str(),
+        models.as_str(),
+    )
 }

@@ -1,8 +1,7 @@
 //! Files and sinks in memory: alone, and over several runs.
 
-use crate::case::{THREE_FILES, sufficed, text_of};
-use crate::failures::ended;
-use crate::texts::{INVERTER_CELL, RULES};
+use crate::made::{INVERTER, RULES, THREE_FILES};
+use crate::row::{ended, sufficed, text_of};
 use anyhow::Result;
 use std::alloc::Global;
 use vrt_io::{Files, MAX_FILE_LEN, MemFiles, MemSink, Sink, SureFiles, SureSink};
@@ -95,7 +94,7 @@ pub fn sure_ones(alloc: Global) -> Result<String> {
 /// The files of an inverter, with a card outside a model.
 fn refused_files(alloc: Global) -> Result<MemFiles> {
     let mut files = MemFiles::new(alloc);
-    sufficed(files.add("c.sp", INVERTER_CELL.as_bytes()))?;
+    sufficed(files.add("c.sp", INVERTER.as_bytes()))?;
     sufficed(files.add("m.blif", b".inputs a\n"))?;
     sufficed(files.add("r.txt", RULES.as_bytes()))?;
     Ok(files)
