@@ -1,11 +1,13 @@
 //! Lines on nets, devices, cells and models.
 
-ghost use Rattle.std.specs.Prelude.{◌≡◌, IfOk};
-ghost use Rattle.rules_lines.specs.Words.{cut_first};
+ghost use Rattle.std.specs.Prelude.{◌≡◌, Some, IfOk};
+ghost use Rattle.text_lines.specs.Bytes.{lowered};
+ghost use Rattle.rules_lines.specs.declared.entry.Entry.TheVariants.{HoldLine, InstanceMatchLine, MatchLine};
+ghost use Rattle.rules_lines.specs.Words.{cut_first, signed};
 ghost use Rattle.rules_lines.specs.Lines.{device_by, device_entry, hold_entry, keeper_entry, match_by, match_entry, pair_entry, paired_model, port_entry, strength_entry, supply_entry};
 
 use crate::entry::Entry;
-use crate::words::{bit, cut, digit, kind, lower, lower_all, sign_off};
+use crate::words::{bit, cut, digit, kind, lower, lower_all, lower_two, sign_off};
 use std::alloc::Global;
 use vrt_model::{Kind, NoMemory, Text};
 
@@ -69,11 +71,15 @@ pub fn strength(alloc: Global, words: &[Text]) -> Result<Option<Entry>, NoMemory
     ensures { IfOk result (λ entry. entry ≡ strength_entry words.now) }
 {
     match words {
-        [cell, device, level] => Ok(Some(Entry::StrengthLine {
-            cell: lower(alloc, cell.as_bytes())?,
-            device: lower(alloc, device.as_bytes())?,
-            level: digit(4, 7, level.as_bytes()),
-        })),
+        [cell, device, level] => {
+            let (cell, device) = lower_two(alloc, cell, device)?;
+            let level = digit(4, 7, level.as_bytes());
+            Ok(Some(Entry::StrengthLine {
+                cell,
+                device,
+                level,
+            }))
+        }
         _ => Ok(None),
     }
 }
@@ -94,10 +100,11 @@ pub fn pair(alloc: Global, words: &[Text]) -> Result<Option<Entry>, NoMemory>
     ensures { IfOk result (λ entry. entry ≡ pair_entry words.now) }
 {
     match words {
-        [cell, model] => Ok(Some(Entry::PairLine {
-            cell: lower(alloc, cell.as_bytes())?,
-            model: paired(alloc, model)?,
-        })),
+        [cell, model] => {
+            let model = paired(alloc, model)?;
+            let cell = lower(alloc, cell.as_bytes())?;
+            Ok(Some(Entry::PairLine { cell, model }))
+        }
         _ => Ok(None),
     }
 }
@@ -107,13 +114,25 @@ pub fn port(alloc: Global, words: &[Text]) -> Result<Option<Entry>, NoMemory>
     ensures { IfOk result (λ entry. entry ≡ port_entry words.now) }
 {
     match words {
-        [cell, port, signal] => Ok(Some(Entry::PortLine {
-            cell: lower(alloc, cell.as_bytes())?,
-            port: lower(alloc, port.as_bytes())?,
-            signal: Text::from_bytes(alloc, signal.as_bytes())?,
-        })),
+        [cell, port, signal] => {
+            let signal = Text::from_bytes(alloc, signal.as_bytes())?;
+            let (cell, port) = lower_two(alloc, cell, port)?;
+            Ok(Some(Entry::PortLine { cell, port, signal }))
+        }
         _ => Ok(None),
     }
+}
+
+fn hold_of(
+    alloc: Global,
+    cell: &Text,
+    net: &Text,
+    size: Option<u8>,
+) -> Result<Option<Entry>, NoMemory>
+    ensures { IfOk result (λ entry. entry ≡ Some (HoldLine (lowered cell.now) (lowered net.now) size)) }
+{
+    let (cell, net) = lower_two(alloc, cell, net)?;
+    Ok(Some(Entry::HoldLine { cell, net, size }))
 }
 
 /// `hold CELL NET [SIZE]`
@@ -121,16 +140,8 @@ pub fn hold(alloc: Global, words: &[Text]) -> Result<Option<Entry>, NoMemory>
     ensures { IfOk result (λ entry. entry ≡ hold_entry words.now) }
 {
     match words {
-        [cell, net] => Ok(Some(Entry::HoldLine {
-            cell: lower(alloc, cell.as_bytes())?,
-            net: lower(alloc, net.as_bytes())?,
-            size: Some(1),
-        })),
-        [cell, net, size] => Ok(Some(Entry::HoldLine {
-            cell: lower(alloc, cell.as_bytes())?,
-            net: lower(alloc, net.as_bytes())?,
-            size: digit(1, 3, size.as_bytes()),
-        })),
+        [cell, net] => hold_of(alloc, cell, net, Some(1)),
+        [cell, net, size] => hold_of(alloc, cell, net, digit(1, 3, size.as_bytes())),
         _ => Ok(None),
     }
 }
@@ -145,29 +156,48 @@ pub fn keeper(alloc: Global, words: &[Text]) -> Result<Option<Entry>, NoMemory>
             if devices.is_empty() {
                 return Ok(None);
             }
-            Ok(Some(Entry::KeeperLine {
-                cell: lower(alloc, cell.as_bytes())?,
-                devices: lower_all(alloc, devices)?,
-            }))
+            let devices = lower_all(alloc, devices)?;
+            let cell = lower(alloc, cell.as_bytes())?;
+            Ok(Some(Entry::KeeperLine { cell, devices }))
         }
     }
+}
+
+// A latch of an instance within a cell.
+fn instance_match(
+    alloc: Global,
+    cell: &Text,
+    instance: &Text,
+    inner: Text,
+    latch: &Text,
+) -> Result<Entry, NoMemory>
+    ensures { IfOk result (λ entry. entry ≡ InstanceMatchLine (lowered cell.now) (lowered «instance».now) inner (signed latch.now)) }
+{
+    let latch = sign_off(alloc, latch.as_bytes())?;
+    let (cell, instance) = lower_two(alloc, cell, instance)?;
+    Ok(Entry::InstanceMatchLine {
+        cell,
+        instance,
+        inner,
+        latch,
+    })
+}
+
+// A net of a cell itself.
+fn net_match(alloc: Global, cell: &Text, net: &Text, latch: &Text) -> Result<Entry, NoMemory>
+    ensures { IfOk result (λ entry. entry ≡ MatchLine (lowered cell.now) (lowered net.now) (signed latch.now)) }
+{
+    let latch = sign_off(alloc, latch.as_bytes())?;
+    let (cell, net) = lower_two(alloc, cell, net)?;
+    Ok(Entry::MatchLine { cell, net, latch })
 }
 
 fn match_of(alloc: Global, cell: &Text, place: &Text, latch: &Text) -> Result<Entry, NoMemory>
     ensures { IfOk result (λ entry. entry ≡ match_by cell.now place.now (cut_first 58 place.now) latch.now) }
 {
     match cut(alloc, b':', place.as_bytes())? {
-        Some((instance, inner)) => Ok(Entry::InstanceMatchLine {
-            cell: lower(alloc, cell.as_bytes())?,
-            instance: lower(alloc, instance.as_bytes())?,
-            inner,
-            latch: sign_off(alloc, latch.as_bytes())?,
-        }),
-        None => Ok(Entry::MatchLine {
-            cell: lower(alloc, cell.as_bytes())?,
-            net: lower(alloc, place.as_bytes())?,
-            latch: sign_off(alloc, latch.as_bytes())?,
-        }),
+        Some((instance, inner)) => instance_match(alloc, cell, &instance, inner, latch),
+        None => net_match(alloc, cell, place, latch),
     }
 }
 

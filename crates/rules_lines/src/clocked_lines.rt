@@ -2,11 +2,13 @@
 
 ghost use Rattle.std.specs.Prelude.{◌≡◌, map, IfOk};
 ghost use Rattle.std.specs.List.{list_all};
+ghost use Rattle.text_lines.specs.Bytes.{lowered};
+ghost use Rattle.rules_lines.specs.Words.{signed};
 ghost use Rattle.rules_lines.specs.Lines.{assume_entry, assumed_phase, clock_bit, clock_entry, clocked_entry, clockport_entry, defaultclock_entry, enter_entry, entry_by, entry_of, has_equals, observe_entry, phase_entry};
 
 use crate::circuit_lines::{device, hold, keeper, matching, pair, port, strength, supply};
-use crate::entry::{ClockBit, Entry};
-use crate::words::{bit, cut, has_equals_sign, lower, lower_all, sign_off};
+use crate::entry::{ClockBit, Entry, Signed};
+use crate::words::{bit, cut, has_equals_sign, lower, lower_all, lower_two, sign_off};
 use rules_expression::tokens_of_words;
 use std::alloc::Global;
 use vrt_model::{NoMemory, Seq, Text};
@@ -68,12 +70,19 @@ fn phase(alloc: Global, words: &[Text]) -> Result<Option<Entry>, NoMemory>
             if bits.is_empty() || !all_have_equals(bits) {
                 return Ok(None);
             }
-            Ok(Some(Entry::PhaseLine {
-                name: lower(alloc, name.as_bytes())?,
-                bits: clock_bits(alloc, bits)?,
-            }))
+            let bits = clock_bits(alloc, bits)?;
+            let name = lower(alloc, name.as_bytes())?;
+            Ok(Some(Entry::PhaseLine { name, bits }))
         }
     }
+}
+
+// A clock, lowered, with or without `!`.
+fn lowered_sign(alloc: Global, clock: &Text) -> Result<Signed, NoMemory>
+    ensures { IfOk result (λ s. s ≡ signed (lowered clock.now)) }
+{
+    let clock = lower(alloc, clock.as_bytes())?;
+    sign_off(alloc, clock.as_bytes())
 }
 
 // `clockport CELL PORT [!]CLOCK`
@@ -82,12 +91,9 @@ fn clockport(alloc: Global, words: &[Text]) -> Result<Option<Entry>, NoMemory>
 {
     match words {
         [cell, port, clock] => {
-            let clock = lower(alloc, clock.as_bytes())?;
-            Ok(Some(Entry::ClockportLine {
-                cell: lower(alloc, cell.as_bytes())?,
-                port: lower(alloc, port.as_bytes())?,
-                clock: sign_off(alloc, clock.as_bytes())?,
-            }))
+            let clock = lowered_sign(alloc, clock)?;
+            let (cell, port) = lower_two(alloc, cell, port)?;
+            Ok(Some(Entry::ClockportLine { cell, port, clock }))
         }
         _ => Ok(None),
     }
@@ -110,12 +116,17 @@ fn enter(alloc: Global, words: &[Text]) -> Result<Option<Entry>, NoMemory>
     ensures { IfOk result (λ entry. entry ≡ enter_entry words.now) }
 {
     match words {
-        [cell, phase, net, value] => Ok(Some(Entry::EnterLine {
-            cell: lower(alloc, cell.as_bytes())?,
-            phase: lower(alloc, phase.as_bytes())?,
-            net: lower(alloc, net.as_bytes())?,
-            bit: bit(value.as_bytes()),
-        })),
+        [cell, phase, net, value] => {
+            let net = lower(alloc, net.as_bytes())?;
+            let (cell, phase) = lower_two(alloc, cell, phase)?;
+            let bit = bit(value.as_bytes());
+            Ok(Some(Entry::EnterLine {
+                cell,
+                phase,
+                net,
+                bit,
+            }))
+        }
         _ => Ok(None),
     }
 }
@@ -129,11 +140,9 @@ fn observe(alloc: Global, words: &[Text]) -> Result<Option<Entry>, NoMemory>
             if phases.is_empty() {
                 return Ok(None);
             }
-            Ok(Some(Entry::ObserveLine {
-                cell: lower(alloc, cell.as_bytes())?,
-                port: lower(alloc, port.as_bytes())?,
-                phases: lower_all(alloc, phases)?,
-            }))
+            let phases = lower_all(alloc, phases)?;
+            let (cell, port) = lower_two(alloc, cell, port)?;
+            Ok(Some(Entry::ObserveLine { cell, port, phases }))
         }
         _ => Ok(None),
     }
@@ -159,10 +168,13 @@ fn assume(alloc: Global, words: &[Text]) -> Result<Option<Entry>, NoMemory>
             if expression.is_empty() {
                 return Ok(None);
             }
+            let tokens = tokens_of_words(alloc, expression)?;
+            let phase = assumed(alloc, phase)?;
+            let cell = lower(alloc, cell.as_bytes())?;
             Ok(Some(Entry::AssumeLine {
-                cell: lower(alloc, cell.as_bytes())?,
-                phase: assumed(alloc, phase)?,
-                tokens: tokens_of_words(alloc, expression)?,
+                cell,
+                phase,
+                tokens,
             }))
         }
         _ => Ok(None),

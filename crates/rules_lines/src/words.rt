@@ -37,6 +37,15 @@ pub fn lower_all(alloc: Global, words: &[Text]) -> Result<Seq<Text>, NoMemory>
     Ok(texts)
 }
 
+/// Two names, lowered.
+pub fn lower_two(alloc: Global, first: &Text, second: &Text) -> Result<(Text, Text), NoMemory>
+    ensures { IfOk result (λ two. (two.0 ≡ lowered first.now) × (two.1 ≡ lowered second.now)) }
+{
+    let first = lower(alloc, first.as_bytes())?;
+    let second = lower(alloc, second.as_bytes())?;
+    Ok((first, second))
+}
+
 /// A digit of a range, none for any other word.
 pub fn digit(least: u8, greatest: u8, word: &[u8]) -> Option<u8>
     requires least { 48 + least < 256 }
