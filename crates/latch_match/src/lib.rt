@@ -15,6 +15,3 @@ mod table;
 pub use faults::PairFault;
 pub use models::{is_skipped, model_of};
 pub use ports::pair_ports;
-
-#[cfg(test)]
-mod tests;
