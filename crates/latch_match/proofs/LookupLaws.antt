@@ -67,17 +67,15 @@ facts_are flat rules cell l port are =
     (are.assumed port)
 
 -- the tables of a cell
-pub lookups_are : (flat : FlatModel) (rules : Rules) (cell : List ℕ) (signals : List ℕ) (supplies : List SupplyRule) (clockports : List ClockportRule) (ports : List PortRule) (assumes : List AssumeRule) (names : Table ℕ) (l : Lookups)
-    → signals ≡ interface flat → supplies ≡ rules.supplies → clockports ≡ rules.clockports → ports ≡ rules.ports → assumes ≡ rules.assumes → IsTable (map (by_name flat) signals) names
+pub lookups_are : (flat : FlatModel) (rules : Rules) (cell : List ℕ) (signals : List ℕ) (supplies : List SupplyRule) (clockports : List ClockportRule) (ports : List PortRule) (assumes : List AssumeRule) (l : Lookups)
+    → signals ≡ interface flat → supplies ≡ rules.supplies → clockports ≡ rules.clockports → ports ≡ rules.ports → assumes ≡ rules.assumes
     → IsTable (map (by_lower_name flat) signals) l.signals → IsTable (map supply_named supplies) l.supplies → IsTable (filter_map (clock_named cell) clockports) l.clocks
-    → IsTable (filter_map (signal_ruled (first_in names) cell) ports) l.ruled
+    → IsTable (filter_map (signal_ruled (signal_at flat) cell) ports) l.ruled
     → ((m : List ℕ) → is_among l.assumed m ≡ list_any (λ (r : AssumeRule). bytes_eq r.cell cell && has_name (names_in r.expression) m) assumes) → AreLookups flat rules cell l
-lookups_are flat rules cell signals supplies clockports ports assumes names l e s c p a n by_low by_supply by_clock by_rule by_assume = record {
+lookups_are flat rules cell signals supplies clockports ports assumes l e s c p a by_low by_supply by_clock by_rule by_assume = record {
   signals = subst (λ (xs : List ℕ). IsTable (map (by_lower_name flat) xs) l.signals) e by_low;
   supplies = subst (λ (xs : List SupplyRule). IsTable (map supply_named xs) l.supplies) s by_supply;
   clocks = subst (λ (xs : List ClockportRule). IsTable (filter_map (clock_named cell) xs) l.clocks) c by_clock;
-  ruled =
-      subst (λ (xs : List PortRule). IsTable (filter_map (signal_ruled (signal_at flat) cell) xs) l.ruled) p
-      (subst (λ (f : List ℕ → Option ℕ). IsTable (filter_map (signal_ruled f cell) ports) l.ruled) (signals_named flat signals names e n) by_rule);
+  ruled = subst (λ (xs : List PortRule). IsTable (filter_map (signal_ruled (signal_at flat) cell) xs) l.ruled) p by_rule;
   assumed = λ m. by_assume m ∙ ap (list_any (λ (r : AssumeRule). bytes_eq r.cell cell && has_name (names_in r.expression) m)) a;
 }

@@ -52,15 +52,15 @@ clocks_are : (flat : FlatModel) (rules : Rules) (cell : Cell) (facts : List Port
 clocks_are flat rules cell facts test e same =
     ap₂ (λ (xs : List ClockedSignal) (t : ℕ → Bool). xs ++ clocked_without_port flat rules t (flat.inputs ++ flat.clocks)) (ap (filter_map clock_carried) e ∙ made clock_carried (port_facts flat rules cell.name) cell.ports) same
 
-pub paired_are : (flat : FlatModel) (rules : Rules) (cell : Cell) (facts facts' facts'' : List PortFacts) (signals signals' interface_list outputs_list : List ℕ) (counts : Counts) (clocked clocked' : List ClockedSignal) (carried outputs : NumberSet)
-    → interface_list ≡ interface flat → facts ≡ all_facts flat rules cell → facts' ≡ facts → facts'' ≡ facts → signals ≡ filter_map signal_paired facts' → signals' ≡ signals → AreCounts signals' counts
-    → clocked ≡ filter_map clock_carried facts'' ++ clocked_without_port flat rules (has_in counts.once) (flat.inputs ++ flat.clocks) → clocked' ≡ clocked → IsSetOf (carriers clocked') carried
+pub paired_are : (flat : FlatModel) (rules : Rules) (cell : Cell) (facts facts' : List PortFacts) (interface_list outputs_list : List ℕ) (counts : Counts) (clocked clocked' : List ClockedSignal) (carried outputs : NumberSet)
+    → interface_list ≡ interface flat → facts ≡ all_facts flat rules cell → facts' ≡ facts → AreCounts (filter_map signal_paired facts') counts
+    → clocked ≡ filter_map clock_carried facts' ++ clocked_without_port flat rules (has_in counts.once) (flat.inputs ++ flat.clocks) → clocked' ≡ clocked → IsSetOf (carriers clocked') carried
     → outputs_list ≡ flat.outputs → IsSetOf outputs_list outputs
     → ArePaired flat rules cell (record { facts = facts; interface = interface_list; outputs = outputs; counts = counts; clocked = clocked; carriers = carried })
-paired_are flat rules cell facts facts' facts'' signals signals' interface_list outputs_list counts clocked clocked' carried outputs i f f' f'' s s' k c c' b o p =
-    let paired : signals' ≡ paired_signals flat rules cell = s' ∙ s ∙ signals_are flat rules cell facts' (f' ∙ f) in
+paired_are flat rules cell facts facts' interface_list outputs_list counts clocked clocked' carried outputs i f f' k c c' b o p =
+    let paired : filter_map signal_paired facts' ≡ paired_signals flat rules cell = signals_are flat rules cell facts' (f' ∙ f) in
     let once : (n : ℕ) → has_in counts.once n ≡ has_number (paired_signals flat rules cell) n = λ n. k.once n ∙ ap (λ (xs : List ℕ). has_number xs n) paired in
-    let clocks : clocked ≡ clocked_signals flat rules cell = c ∙ clocks_are flat rules cell facts'' (has_in counts.once) (f'' ∙ f) (fun_ext once) in
+    let clocks : clocked ≡ clocked_signals flat rules cell = c ∙ clocks_are flat rules cell facts' (has_in counts.once) (f' ∙ f) (fun_ext once) in
     record {
       facts = f;
       interface = i;

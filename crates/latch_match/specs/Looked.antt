@@ -43,6 +43,14 @@ signal_at flat name = find (λ s. bytes_eq (signal_name flat s) name) (interface
 abbrev pub Grows : {X V : Type 0} → (X → Option (Named V)) → X → Table V → Table V → Type 0
 Grows {X} {V} h x t u = (entries : List (Named V)) → IsTable entries t → IsTable (entries ++ filter_map h (x ∷ [])) u
 
+-- tables with no values
+pub record AreEmpty (l : Lookups) : Type 0 where
+  pub signals : IsTable [] l.signals
+  pub supplies : IsTable [] l.supplies
+  pub clocks : IsTable [] l.clocks
+  pub ruled : IsTable [] l.ruled
+  pub assumed : l.assumed ≡ []
+
 -- the tables that a cell's ports are looked up in
 pub record AreLookups (flat : FlatModel) (rules : Rules) (cell : List ℕ) (l : Lookups) : Type 0 where
   pub signals : IsTable (map (by_lower_name flat) (interface flat)) l.signals

@@ -1,6 +1,6 @@
 //! Which numbers stand in a list, and which more than once.
 
-ghost use Rattle.std.specs.Prelude.{◌++◌, ◌∷◌, [], ℕ, List, IfOk, OnOk};
+ghost use Rattle.std.specs.Prelude.{◌++◌, ◌∷◌, [], ℕ, List, OnOk};
 ghost use Rattle.latch_match.specs.Marked.{AreCounts};
 
 use crate::numbers::NumberSet;
@@ -14,7 +14,19 @@ pub(crate) struct Counts {
     pub(crate) again: NumberSet,
 }
 
-// Counts a number more.
+impl Counts {
+    /// No number is counted. It takes no memory.
+    pub(crate) fn new(alloc: Global) -> Self
+        ensures { AreCounts [] result }
+    {
+        Counts {
+            once: NumberSet::new(alloc),
+            again: NumberSet::new(alloc),
+        }
+    }
+}
+
+/// Counts a number more.
 fn count(counts: &mut Counts, number: u32) -> Result<(), NoMemory>
     ensures { OnOk result ((numbers : List ℕ) → AreCounts numbers counts.old → AreCounts (numbers ++ number ∷ []) counts.new) }
 {
@@ -26,16 +38,23 @@ fn count(counts: &mut Counts, number: u32) -> Result<(), NoMemory>
     Ok(())
 }
 
-/// Counts the numbers of a list; there is room for those below a limit.
-pub(crate) fn counts_of(alloc: Global, limit: usize, numbers: &[u32]) -> Result<Counts, NoMemory>
-    ensures { IfOk result (AreCounts numbers.now) }
+/// Makes room for the numbers below a limit.
+fn make_room(counts: &mut Counts, limit: usize) -> Result<(), NoMemory>
+    ensures { OnOk result ((numbers : List ℕ) → AreCounts numbers counts.old → AreCounts numbers counts.new) }
 {
-    let mut counts = Counts {
-        once: NumberSet::new(alloc, limit)?,
-        again: NumberSet::new(alloc, limit)?,
-    };
+    counts.once.make_room(limit)?;
+    counts.again.make_room(limit)?;
+    Ok(())
+}
+
+/// Counts the numbers of a list, where none is counted yet; there is room for those below a limit.
+pub(crate) fn count_all(counts: &mut Counts, limit: usize, numbers: &[u32]) -> Result<(), NoMemory>
+    requires { AreCounts [] counts.old }
+    ensures { OnOk result (AreCounts numbers.now counts.new) }
+{
+    make_room(counts, limit)?;
     for number in numbers {
-        count(&mut counts, *number)?;
+        count(counts, *number)?;
     }
-    Ok(counts)
+    Ok(())
 }

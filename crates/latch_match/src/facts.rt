@@ -9,7 +9,7 @@ use vrt_model::{ClockRef, ClockedSignal, PortRole};
 
 /// A port: the supply that it is named as, its clock, whether a `port` rule names it, the signal that its rule names or
 /// that fits it by name, whether a second signal fits it by name, and whether an `assume` names it.
-#[derive(Clone, Copy, Debug, PartialEq, Eq)]
+#[derive(Clone, Copy)]
 pub(crate) struct PortFacts {
     pub(crate) supply: Option<bool>,
     pub(crate) clock: Option<ClockRef>,
@@ -56,7 +56,7 @@ impl PortFacts {
         }
     }
 
-    // Whether the signal that the port pairs with is in a set.
+    /// Whether the signal that the port pairs with is in a set.
     fn is_paired_in(self, signals: &NumberSet) -> bool
         ensures { result ≡ leads_out (has_in signals.now) self }
     {

@@ -1,14 +1,14 @@
 //! What is looked up by the names of the ports of a cell, in tables.
 
-ghost use Rattle.std.specs.Prelude.{◌≡◌, ◌++◌, ◌∷◌, ◌||◌, ◌&&◌, [], ℕ, List, map, filter_map, bytes_eq, IfOk, OnOk};
+ghost use Rattle.std.specs.Prelude.{◌≡◌, ◌++◌, ◌∷◌, ◌||◌, ◌&&◌, [], ℕ, List, map, filter_map, bytes_eq, OnOk};
 ghost use Rattle.std.specs.Str.{str_to_ascii_lowercase};
 ghost use Rattle.text_lines.specs.Names.{is_among};
 ghost use Rattle.vrt_model.specs.Elements.{signal_name};
 ghost use Rattle.vrt_model.specs.Expressions.{names_in};
 ghost use Rattle.vrt_model.specs.Lists.{has_name};
 ghost use Rattle.vrt_model.specs.PairedPorts.{interface, is_assumed};
-ghost use Rattle.latch_match.specs.Looked.{AreLookups, Grows, by_lower_name, by_name, clock_named, facts_in, signal_ruled, supply_named};
-ghost use Rattle.latch_match.specs.Tables.{IsTable, first_in};
+ghost use Rattle.latch_match.specs.Looked.{AreEmpty, AreLookups, Grows, by_lower_name, by_name, clock_named, facts_in, signal_at, signal_ruled, supply_named};
+ghost use Rattle.latch_match.specs.Tables.{IsTable, Named, first_in};
 ghost use Rattle.vrt_model.specs.declared.rules.AssumeRule.{AssumeRule as AssumeValue};
 ghost use Rattle.std.specs.List.{list_any};
 
@@ -33,52 +33,66 @@ pub(crate) struct Lookups {
     assumed: Names,
 }
 
-// The signals by their names.
-fn signals_by_name(alloc: Global, flat: &FlatModel, signals: &[u32]) -> Result<Table<u32>, NoMemory>
-    ensures { IfOk result (IsTable (map (by_name flat.now) signals.now)) }
+/// Adds signals under their names.
+fn add_by_name(table: &mut Table<u32>, flat: &FlatModel, signals: &[u32]) -> Result<(), NoMemory>
+    requires { IsTable [] table.old }
+    ensures { OnOk result (IsTable (map (by_name flat.now) signals.now) table.new) }
 {
-    let mut table = Table::new(alloc);
     for signal in signals {
         table.add(signal_name(flat, *signal), *signal)?;
     }
-    Ok(table)
+    Ok(())
 }
 
-// The signals by their names in lower case.
-fn signals_by_lower_name(
+/// Adds a signal under its name in lower case.
+fn add_lowered(
     alloc: Global,
+    table: &mut Table<u32>,
+    flat: &FlatModel,
+    signal: u32,
+) -> Result<(), NoMemory>
+    ensures { OnOk result ((entries : List (Named ℕ)) → IsTable entries table.old → IsTable (entries ++ by_lower_name flat.now signal ∷ []) table.new) }
+{
+    let name = lowered_name(alloc, signal_name(flat, signal))?;
+    table.add(name.as_bytes(), signal)?;
+    Ok(())
+}
+
+/// Adds signals under their names in lower case.
+fn add_by_lower_name(
+    alloc: Global,
+    table: &mut Table<u32>,
     flat: &FlatModel,
     signals: &[u32],
-) -> Result<Table<u32>, NoMemory>
-    ensures { IfOk result (IsTable (map (by_lower_name flat.now) signals.now)) }
+) -> Result<(), NoMemory>
+    requires { IsTable [] table.old }
+    ensures { OnOk result (IsTable (map (by_lower_name flat.now) signals.now) table.new) }
 {
-    let mut table = Table::new(alloc);
     for signal in signals {
-        let name = lowered_name(alloc, signal_name(flat, *signal))?;
-        table.add(name.as_bytes(), *signal)?;
+        add_lowered(alloc, table, flat, *signal)?;
     }
-    Ok(table)
+    Ok(())
 }
 
-// The supplies by their names.
-fn supplies_by_name(alloc: Global, supplies: &[SupplyRule]) -> Result<Table<bool>, NoMemory>
-    ensures { IfOk result (IsTable (map supply_named supplies.now)) }
+/// Adds supplies under their names.
+fn add_supplies(table: &mut Table<bool>, supplies: &[SupplyRule]) -> Result<(), NoMemory>
+    requires { IsTable [] table.old }
+    ensures { OnOk result (IsTable (map supply_named supplies.now) table.new) }
 {
-    let mut table = Table::new(alloc);
     for rule in supplies {
         table.add(rule.net.as_bytes(), rule.value)?;
     }
-    Ok(table)
+    Ok(())
 }
 
-// Whether a name is this one.
+/// Whether a name is this one.
 fn is_same(name: &Text, other: &[u8]) -> bool
     ensures { result ≡ bytes_eq name.now other.now }
 {
     name.as_bytes() == other
 }
 
-// Adds the clock of a port, if the rule is for this cell.
+/// Adds the clock of a port, if the rule is for this cell.
 fn add_clock(table: &mut Table<ClockRef>, cell: &[u8], rule: &ClockportRule) -> Result<(), NoMemory>
     ensures { OnOk result (Grows (clock_named cell.now) rule.now table.old table.new) }
 {
@@ -89,22 +103,22 @@ fn add_clock(table: &mut Table<ClockRef>, cell: &[u8], rule: &ClockportRule) -> 
     Ok(())
 }
 
-// The clocks of the ports of a cell.
-fn clocks_by_port(
-    alloc: Global,
+/// Adds the clocks of the ports of a cell.
+fn add_clocks(
+    table: &mut Table<ClockRef>,
     cell: &[u8],
     rules: &[ClockportRule],
-) -> Result<Table<ClockRef>, NoMemory>
-    ensures { IfOk result (IsTable (filter_map (clock_named cell.now) rules.now)) }
+) -> Result<(), NoMemory>
+    requires { IsTable [] table.old }
+    ensures { OnOk result (IsTable (filter_map (clock_named cell.now) rules.now) table.new) }
 {
-    let mut table = Table::new(alloc);
     for rule in rules {
-        add_clock(&mut table, cell, rule)?;
+        add_clock(table, cell, rule)?;
     }
-    Ok(table)
+    Ok(())
 }
 
-// Adds the signal of a `port` rule, if it is for this cell.
+/// Adds the signal of a `port` rule, if it is for this cell.
 fn add_signal(
     table: &mut Table<Option<u32>>,
     signals: &Table<u32>,
@@ -121,23 +135,59 @@ fn add_signal(
     Ok(())
 }
 
-// The signals of the `port` rules of a cell.
-fn signals_by_port(
-    alloc: Global,
+/// Adds the signals of the `port` rules of a cell, found in a table by their names.
+fn add_signals(
+    table: &mut Table<Option<u32>>,
     signals: &Table<u32>,
     cell: &[u8],
     rules: &[PortRule],
-) -> Result<Table<Option<u32>>, NoMemory>
-    ensures { IfOk result (IsTable (filter_map (signal_ruled (first_in signals.now) cell.now) rules.now)) }
+) -> Result<(), NoMemory>
+    requires { IsTable [] table.old }
+    ensures { OnOk result (IsTable (filter_map (signal_ruled (first_in signals.now) cell.now) rules.now) table.new) }
 {
-    let mut table = Table::new(alloc);
     for rule in rules {
-        add_signal(&mut table, signals, cell, rule)?;
+        add_signal(table, signals, cell, rule)?;
     }
-    Ok(table)
+    Ok(())
 }
 
-// Adds the names of an expression.
+/// Adds the interface signals of the `port` rules of a cell, found in a table that is filled with the interface first.
+fn add_ruled_by(
+    table: &mut Table<Option<u32>>,
+    names: &mut Table<u32>,
+    flat: &FlatModel,
+    signals: &[u32],
+    cell: &[u8],
+    rules: &[PortRule],
+) -> Result<(), NoMemory>
+    requires empty { IsTable [] table.old }
+    requires names { IsTable [] names.old }
+    requires signals { signals.now ≡ interface flat.now }
+    ensures { OnOk result (IsTable (filter_map (signal_ruled (signal_at flat.now) cell.now) rules.now) table.new) }
+{
+    add_by_name(names, flat, signals)?;
+    add_signals(table, names, cell, rules)?;
+    Ok(())
+}
+
+/// Adds the interface signals of the `port` rules of a cell.
+fn add_ruled(
+    alloc: Global,
+    table: &mut Table<Option<u32>>,
+    flat: &FlatModel,
+    signals: &[u32],
+    cell: &[u8],
+    rules: &[PortRule],
+) -> Result<(), NoMemory>
+    requires empty { IsTable [] table.old }
+    requires signals { signals.now ≡ interface flat.now }
+    ensures { OnOk result (IsTable (filter_map (signal_ruled (signal_at flat.now) cell.now) rules.now) table.new) }
+{
+    let mut names = Table::new(alloc);
+    add_ruled_by(table, &mut names, flat, signals, cell, rules)
+}
+
+/// Adds the names of an expression.
 #[tactic(auto, using(crate::proofs::ListLaws::names_joined))]
 fn add_names(names: &mut Names, expression: &Expr) -> Result<(), NoMemory>
     ensures { OnOk result ((m : List ℕ) → is_among names.new m ≡ (is_among names.old m || has_name (names_in expression.now) m)) }
@@ -166,7 +216,7 @@ fn add_names(names: &mut Names, expression: &Expr) -> Result<(), NoMemory>
     }
 }
 
-// Adds the names of an assumption, if it is for this cell.
+/// Adds the names of an assumption, if it is for this cell.
 fn add_assumed(names: &mut Names, cell: &[u8], rule: &AssumeRule) -> Result<(), NoMemory>
     ensures { OnOk result ((m : List ℕ) → is_among names.new m ≡ (is_among names.old m || (bytes_eq rule.now.cell cell.now && has_name (names_in rule.now.expression) m))) }
 {
@@ -177,44 +227,56 @@ fn add_assumed(names: &mut Names, cell: &[u8], rule: &AssumeRule) -> Result<(), 
     Ok(())
 }
 
-// The names that the assumptions of a cell name.
-fn assumed_names(alloc: Global, cell: &[u8], rules: &[AssumeRule]) -> Result<Names, NoMemory>
-    ensures { IfOk result (λ names. (m : List ℕ) → is_among names m ≡ list_any (λ (r : AssumeValue). bytes_eq r.cell cell.now && has_name (names_in r.expression) m) rules.now) }
+/// Adds the names that the assumptions of a cell name.
+fn add_all_assumed(names: &mut Names, cell: &[u8], rules: &[AssumeRule]) -> Result<(), NoMemory>
+    requires { names.old ≡ [] }
+    ensures { OnOk result ((m : List ℕ) → is_among names.new m ≡ list_any (λ (r : AssumeValue). bytes_eq r.cell cell.now && has_name (names_in r.expression) m) rules.now) }
 {
-    let mut names = Names::new(alloc);
     for rule in rules {
-        add_assumed(&mut names, cell, rule)?;
+        add_assumed(names, cell, rule)?;
     }
-    Ok(names)
+    Ok(())
 }
 
-/// The tables of a cell, in time and memory in proportion to the interface and the rules.
-pub(crate) fn lookups_of(
-    alloc: Global,
-    flat: &FlatModel,
-    rules: &Rules,
-    cell: &[u8],
-    signals: &[u32],
-) -> Result<Lookups, NoMemory>
-    requires { signals.now ≡ interface flat.now }
-    ensures { IfOk result (AreLookups flat.now rules.now cell.now) }
-{
-    let names = signals_by_name(alloc, flat, signals)?;
-    let assumed = assumed_names(alloc, cell, rules.assumes.as_slice())?;
-    let supplies = supplies_by_name(alloc, rules.supplies.as_slice())?;
-    let clocks = clocks_by_port(alloc, cell, rules.clockports.as_slice())?;
-    let ruled = signals_by_port(alloc, &names, cell, rules.ports.as_slice())?;
-    let signals = signals_by_lower_name(alloc, flat, signals)?;
-    Ok(Lookups {
-        signals,
-        supplies,
-        clocks,
-        ruled,
-        assumed,
-    })
+impl Lookups {
+    /// Tables with no values. It takes no memory.
+    pub(crate) fn new(alloc: Global) -> Self
+        ensures { AreEmpty result }
+    {
+        Lookups {
+            signals: Table::new(alloc),
+            supplies: Table::new(alloc),
+            clocks: Table::new(alloc),
+            ruled: Table::new(alloc),
+            assumed: Names::new(alloc),
+        }
+    }
+
+    /// Adds what the interface and the rules say of a cell, to tables with no values, in time and memory in proportion
+    /// to them.
+    pub(crate) fn fill(
+        &mut self,
+        alloc: Global,
+        flat: &FlatModel,
+        rules: &Rules,
+        cell: &[u8],
+        signals: &[u32],
+    ) -> Result<(), NoMemory>
+        requires empty { AreEmpty self.old }
+        requires signals { signals.now ≡ interface flat.now }
+        ensures { OnOk result (AreLookups flat.now rules.now cell.now self.new) }
+    {
+        let ports = rules.ports.as_slice();
+        add_by_lower_name(alloc, &mut self.signals, flat, signals)?;
+        add_supplies(&mut self.supplies, rules.supplies.as_slice())?;
+        add_clocks(&mut self.clocks, cell, rules.clockports.as_slice())?;
+        add_ruled(alloc, &mut self.ruled, flat, signals, cell, ports)?;
+        add_all_assumed(&mut self.assumed, cell, rules.assumes.as_slice())?;
+        Ok(())
+    }
 }
 
-// The supply that a name is; `0` is supply 0 where no rule declares it.
+/// The supply that a name is; `0` is supply 0 where no rule declares it.
 fn supply_of(lookups: &Lookups, port: &[u8]) -> Option<bool>
     ensures { result ≡ (facts_in lookups.now port.now).supply }
 {
@@ -225,7 +287,7 @@ fn supply_of(lookups: &Lookups, port: &[u8]) -> Option<bool>
     }
 }
 
-// The signal that the rule of a port names, else the first that fits it by name.
+/// The signal that the rule of a port names, else the first that fits it by name.
 fn signal_of(lookups: &Lookups, port: &[u8]) -> Option<u32>
     ensures { result ≡ (facts_in lookups.now port.now).signal }
 {

@@ -12,21 +12,21 @@ ghost use Rattle.vrt_model.specs.declared.rules.PairRule.{PairRule as RuleValue}
 use crate::names::is_lowered;
 use vrt_model::{Blif, BlifModel, Design, PairRule, Rules};
 
-// Whether the name of a model in lower case is this one.
+/// Whether the name of a model in lower case is this one.
 fn has_lower_name(name: &[u8], model: &BlifModel) -> bool
     ensures { result ≡ has_lower_name name.now model.now }
 {
     is_lowered(model.name.as_bytes(), name)
 }
 
-// The first model whose name in lower case is this one.
+/// The first model whose name in lower case is this one.
 fn first_like(models: &[BlifModel], name: &[u8]) -> Option<usize>
     ensures { result ≡ position (has_lower_name name.now) models.now }
 {
     models.iter().position(|model| has_lower_name(name, model))
 }
 
-// How many models have a name that in lower case is this one.
+/// How many models have a name that in lower case is this one.
 fn count_like(models: &[BlifModel], name: &[u8]) -> usize
     ensures { result ≡ length (filter (has_lower_name name.now) models.now) }
 {
@@ -36,7 +36,7 @@ fn count_like(models: &[BlifModel], name: &[u8]) -> usize
         .count()
 }
 
-// The one model whose name in lower case is this one.
+/// The one model whose name in lower case is this one.
 fn only_like(models: &[BlifModel], name: &[u8]) -> Option<usize>
     ensures { result ≡ cond (length (filter (has_lower_name name.now) models.now) == 1) (position (has_lower_name name.now) models.now) None }
 {
@@ -47,7 +47,7 @@ fn only_like(models: &[BlifModel], name: &[u8]) -> Option<usize>
     }
 }
 
-// The model of a name.
+/// The model of a name.
 fn first_named(models: &[BlifModel], name: &[u8]) -> Option<usize>
     ensures { result ≡ position (λ (m : ModelValue). bytes_eq m.name name.now) models.now }
 {
@@ -56,14 +56,14 @@ fn first_named(models: &[BlifModel], name: &[u8]) -> Option<usize>
         .position(|model| model.name.as_bytes() == name)
 }
 
-// The `pair` rule of a cell.
+/// The `pair` rule of a cell.
 fn rule_of<'a>(rules: &'a [PairRule], cell: &[u8]) -> Option<&'a PairRule>
     ensures { option_copied result ≡ find (λ (r : RuleValue). bytes_eq r.cell cell.now) rules.entry.now }
 {
     rules.iter().find(|rule| rule.cell.as_bytes() == cell)
 }
 
-// The name of a cell, empty where there is none.
+/// The name of a cell, empty where there is none.
 fn name_of(design: &Design, cell: u32) -> &[u8]
     ensures { result.now ≡ (cell_at design.now cell).name }
 {
@@ -73,7 +73,7 @@ fn name_of(design: &Design, cell: u32) -> &[u8]
     }
 }
 
-// The model that a `pair` rule names, if it names one.
+/// The model that a `pair` rule names, if it names one.
 fn named_by(models: &[BlifModel], rule: &PairRule) -> Option<usize>
     ensures { result ≡ option_and_then (λ name. position (λ (m : ModelValue). bytes_eq m.name name) models.now) rule.now.model }
 {
@@ -83,7 +83,7 @@ fn named_by(models: &[BlifModel], rule: &PairRule) -> Option<usize>
     }
 }
 
-// The place of the model with which a cell of a name pairs.
+/// The place of the model with which a cell of a name pairs.
 fn place_of(blif: &Blif, rules: &Rules, cell: &[u8]) -> Option<usize>
     ensures { result ≡ model_of_paired (paired_by blif.now cell.now (find (λ (r : RuleValue). bytes_eq r.cell cell.now) rules.now.pairs)) }
 {
@@ -94,7 +94,7 @@ fn place_of(blif: &Blif, rules: &Rules, cell: &[u8]) -> Option<usize>
     }
 }
 
-// A place as a number of a model.
+/// A place as a number of a model.
 fn number_of(place: Option<usize>) -> Option<u32>
     requires { IfSome place (λ n. n < 4096) }
     ensures { result ≡ place }
@@ -114,7 +114,7 @@ pub fn model_of(design: &Design, blif: &Blif, rules: &Rules, cell: u32) -> Optio
     number_of(place_of(blif, rules, name_of(design, cell)))
 }
 
-// Whether the `pair` rule of a cell of a name names no model.
+/// Whether the `pair` rule of a cell of a name names no model.
 fn is_left_out(rules: &Rules, cell: &[u8]) -> bool
     ensures { (blif : BlifValue) → IsTrue result ↔ (paired_by blif cell.now (find (λ (r : RuleValue). bytes_eq r.cell cell.now) rules.now.pairs) ≡ Skipped) }
 {

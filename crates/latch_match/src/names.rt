@@ -8,7 +8,7 @@ ghost use Rattle.vrt_model.specs.Elements.{signal_name};
 use std::alloc::Global;
 use vrt_model::{FlatModel, NoMemory, Text};
 
-// A byte with its letter lowered.
+/// A byte with its letter lowered.
 fn lowered(byte: u8) -> u8
     ensures { result ≡ to_ascii_lowercase byte }
 {

@@ -1,6 +1,6 @@
 //! Sets of numbers.
 
-ghost use Rattle.std.specs.Prelude.{◌≡◌, ◌≤◌, ◌||◌, ◌==◌, ℕ, false, length, get_or, IfOk, OnOk};
+ghost use Rattle.std.specs.Prelude.{◌≡◌, ◌≤◌, ◌||◌, ◌==◌, ℕ, false, length, get_or, OnOk};
 ghost use Rattle.latch_match.specs.Marked.{has_in};
 ghost use Rattle.vrt_model.specs.Lists.{has_number};
 
@@ -13,7 +13,7 @@ pub(crate) struct NumberSet {
     marks: Vec<bool>,
 }
 
-// At least this many marks; those that are new are unset.
+/// At least this many marks; those that are new are unset.
 #[tactic(auto, using(crate::proofs::MarkLaws::mark_reached))]
 fn reach(marks: &mut Vec<bool>, len: usize) -> Result<(), NoMemory>
     ensures long { OnOk result (len ≤ length marks.new.items) }
@@ -29,15 +29,20 @@ fn reach(marks: &mut Vec<bool>, len: usize) -> Result<(), NoMemory>
 }
 
 impl NumberSet {
-    /// No numbers, with room for those below a count.
-    #[tactic(auto, using(crate::proofs::MarkLaws::no_mark))]
-    pub(crate) fn new(alloc: Global, count: usize) -> Result<Self, NoMemory>
-        ensures { IfOk result (λ set. (n : ℕ) → has_in set n ≡ false) }
+    /// No numbers. It takes no memory.
+    pub(crate) fn new(alloc: Global) -> Self
+        ensures { (n : ℕ) → has_in result n ≡ false }
     {
-        match vec![in alloc; false; count] {
-            Ok(marks) => Ok(NumberSet { marks }),
-            Err(_) => Err(NoMemory),
+        NumberSet {
+            marks: Vec::new(alloc),
         }
+    }
+
+    /// Makes room for the numbers below a count.
+    pub(crate) fn make_room(&mut self, count: usize) -> Result<(), NoMemory>
+        ensures { OnOk result ((n : ℕ) → has_in self.new n ≡ has_in self.old n) }
+    {
+        reach(&mut self.marks, count)
     }
 
     /// Whether a number is there.

@@ -18,7 +18,7 @@ use crate::signals::{Paired, add_some, paired_of};
 use std::alloc::Global;
 use vrt_model::{Cell, Design, FlatModel, NoMemory, Pairing, PortRole, Rules, Seq, Text};
 
-// The place of the first port in the way.
+/// The place of the first port in the way.
 fn port_in_way(paired: &Paired) -> Option<usize>
     ensures { result ≡ port_in_way paired.now }
 {
@@ -30,7 +30,7 @@ fn port_in_way(paired: &Paired) -> Option<usize>
         .position(|port| port.is_in_way(outputs, shared))
 }
 
-// The first signal in the way.
+/// The first signal in the way.
 fn signal_in_way(paired: &Paired) -> Option<u32>
     ensures { result ≡ signal_in_way paired.now }
 {
@@ -44,7 +44,7 @@ fn signal_in_way(paired: &Paired) -> Option<u32>
     None
 }
 
-// The first of some signals that is an output.
+/// The first of some signals that is an output.
 fn first_output(signals: &[u32], outputs: &NumberSet) -> Option<u32>
     ensures { result ≡ find (has_in outputs.now) signals.now }
 {
@@ -58,7 +58,7 @@ fn first_output(signals: &[u32], outputs: &NumberSet) -> Option<u32>
     None
 }
 
-// The first input or clock that is an output.
+/// The first input or clock that is an output.
 fn output_in_way(flat: &FlatModel, paired: &Paired) -> Option<u32>
     ensures { result ≡ option_or (find (has_in paired.now.outputs) flat.now.inputs) (find (has_in paired.now.outputs) flat.now.clocks) }
 {
@@ -68,7 +68,7 @@ fn output_in_way(flat: &FlatModel, paired: &Paired) -> Option<u32>
     }
 }
 
-// The name of the port at a place.
+/// The name of the port at a place.
 fn port_named(ports: &[Text], place: Option<usize>) -> Option<&[u8]>
     ensures { option_copied result ≡ option_and_then (slice_get ports.now) place }
 {
@@ -78,7 +78,7 @@ fn port_named(ports: &[Text], place: Option<usize>) -> Option<&[u8]>
     }
 }
 
-// The name of a signal, if there is one.
+/// The name of a signal, if there is one.
 fn signal_named(flat: &FlatModel, signal: Option<u32>) -> Option<&[u8]>
     ensures { option_copied result ≡ option_map (signal_name flat.now) signal }
 {
@@ -88,7 +88,7 @@ fn signal_named(flat: &FlatModel, signal: Option<u32>) -> Option<&[u8]>
     }
 }
 
-// The name of the first port in the way, else of the first signal.
+/// The name of the first port in the way, else of the first signal.
 fn way_in<'a>(flat: &'a FlatModel, ports: &'a [Text], paired: &Paired) -> Option<&'a [u8]>
     ensures { option_copied result ≡ way_in flat.now ports.now paired.now }
 {
@@ -98,7 +98,7 @@ fn way_in<'a>(flat: &'a FlatModel, ports: &'a [Text], paired: &Paired) -> Option
     }
 }
 
-// The roles of the ports.
+/// The roles of the ports.
 #[tactic(auto, using(crate::proofs::ListLaws::pushed))]
 fn roles_of(
     alloc: Global,
@@ -116,7 +116,7 @@ fn roles_of(
     Ok(roles)
 }
 
-// The fault that a port or a signal is in the way.
+/// The fault that a port or a signal is in the way.
 fn refused_ports(alloc: Global, name: &[u8]) -> PairFault
     ensures { (result ≡ NoMemory') ⊎ (result ≡ Ports' name.now) }
 {
@@ -126,7 +126,7 @@ fn refused_ports(alloc: Global, name: &[u8]) -> PairFault
     }
 }
 
-// The fault that an output is an input.
+/// The fault that an output is an input.
 fn refused_output(alloc: Global, name: &[u8]) -> PairFault
     ensures { (result ≡ NoMemory') ⊎ (result ≡ OutputIsInput' name.now) }
 {
@@ -136,7 +136,7 @@ fn refused_output(alloc: Global, name: &[u8]) -> PairFault
     }
 }
 
-// The fault of an output that is an input, where nothing is in the way.
+/// The fault of an output that is an input, where nothing is in the way.
 fn output_fault(alloc: Global, flat: &FlatModel, paired: &Paired) -> Option<PairFault>
     ensures { (way : Option (List ℕ)) → way ≡ None → Tells way (output_in flat.now paired.now) result }
 {
@@ -146,7 +146,7 @@ fn output_fault(alloc: Global, flat: &FlatModel, paired: &Paired) -> Option<Pair
     }
 }
 
-// The fault that stands, if one does.
+/// The fault that stands, if one does.
 fn fault_of(alloc: Global, flat: &FlatModel, ports: &[Text], paired: &Paired) -> Option<PairFault>
     ensures { Tells (way_in flat.now ports.now paired.now) (output_in flat.now paired.now) result }
 {
@@ -156,7 +156,7 @@ fn fault_of(alloc: Global, flat: &FlatModel, ports: &[Text], paired: &Paired) ->
     }
 }
 
-// The pairing that is made of what is known.
+/// The pairing that is made of what is known.
 fn pairing_by(alloc: Global, model: u32, paired: Paired) -> Result<Pairing, PairFault>
     ensures { MatchResult result (λ p. p ≡ record { model = model; ports = filter_map (role_in (has_in paired.outputs)) paired.facts; clocked = paired.clocked }) (λ f. f ≡ NoMemory') }
 {
@@ -172,7 +172,7 @@ fn pairing_by(alloc: Global, model: u32, paired: Paired) -> Result<Pairing, Pair
     }
 }
 
-// The pairing of a cell with a model.
+/// The pairing of a cell with a model.
 fn pair_cell(
     alloc: Global,
     cell: &Cell,

@@ -5,13 +5,13 @@ ghost use Rattle.std.specs.List.{cons_option};
 ghost use Rattle.vrt_model.specs.Lists.{place_of};
 ghost use Rattle.vrt_model.specs.PairedPorts.{clocked_by_name, interface};
 ghost use Rattle.latch_match.specs.Facts.{all_facts, clock_carried, signal_paired};
-ghost use Rattle.latch_match.specs.Looked.{facts_in};
-ghost use Rattle.latch_match.specs.Marked.{has_in};
-ghost use Rattle.latch_match.specs.Paired.{ArePaired, IsSetOf, carriers, clocked_without_port, interface_by};
+ghost use Rattle.latch_match.specs.Looked.{AreEmpty, facts_in};
+ghost use Rattle.latch_match.specs.Marked.{AreCounts, has_in};
+ghost use Rattle.latch_match.specs.Paired.{ArePaired, IsBlank, IsSetOf, carriers, clocked_without_port, interface_by};
 
-use crate::counts::{Counts, counts_of};
+use crate::counts::{Counts, count_all};
 use crate::facts::PortFacts;
-use crate::lookups::{Lookups, facts_of, lookups_of};
+use crate::lookups::{Lookups, facts_of};
 use crate::names::signal_name;
 use crate::numbers::NumberSet;
 use std::alloc::Global;
@@ -42,7 +42,7 @@ pub(crate) fn add_some<T: Copy>(list: &mut Seq<T>, item: Option<T>) -> Result<()
     }
 }
 
-// Adds numbers.
+/// Adds numbers.
 #[tactic(auto, using(crate::proofs::ListLaws::pushed))]
 fn add_all(list: &mut Seq<u32>, numbers: &[u32]) -> Result<(), NoMemory>
     ensures { OnOk result (list.new ≡ list.old ++ numbers.now) }
@@ -55,7 +55,7 @@ fn add_all(list: &mut Seq<u32>, numbers: &[u32]) -> Result<(), NoMemory>
     Ok(())
 }
 
-// A number that is not in a set.
+/// A number that is not in a set.
 fn outside(set: &NumberSet, number: u32) -> Option<u32>
     ensures { cons_option result [] ≡ filter (λ n. not (has_in set.now n)) (number ∷ []) }
 {
@@ -66,7 +66,7 @@ fn outside(set: &NumberSet, number: u32) -> Option<u32>
     }
 }
 
-// Adds the numbers that are not in a set.
+/// Adds the numbers that are not in a set.
 #[tactic(auto, using(crate::proofs::ListLaws::chosen))]
 fn add_others(list: &mut Seq<u32>, set: &NumberSet, numbers: &[u32]) -> Result<(), NoMemory>
     ensures { OnOk result (list.new ≡ list.old ++ filter (λ n. not (has_in set.now n)) numbers.now) }
@@ -79,90 +79,136 @@ fn add_others(list: &mut Seq<u32>, set: &NumberSet, numbers: &[u32]) -> Result<(
     Ok(())
 }
 
-// The set of the numbers of a list; there is room for those below a limit.
-fn set_of(alloc: Global, limit: usize, numbers: &[u32]) -> Result<NumberSet, NoMemory>
-    ensures { IfOk result (IsSetOf numbers.now) }
+/// Adds the numbers of a list to a set; there is room for those below a limit.
+fn add_numbers(set: &mut NumberSet, limit: usize, numbers: &[u32]) -> Result<(), NoMemory>
+    requires { IsSetOf [] set.old }
+    ensures { OnOk result (IsSetOf numbers.now set.new) }
 {
-    let mut set = NumberSet::new(alloc, limit)?;
+    set.make_room(limit)?;
     set.add_all(numbers)?;
-    Ok(set)
+    Ok(())
 }
 
-// The interface, by a set of the inputs and clocks.
-fn interface_by(alloc: Global, flat: &FlatModel, inputs: &NumberSet) -> Result<Seq<u32>, NoMemory>
-    ensures { IfOk result (λ list. list ≡ interface_by flat.now (has_in inputs.now)) }
+/// Adds the interface, by a set of the inputs and clocks.
+fn add_interface_by(
+    list: &mut Seq<u32>,
+    flat: &FlatModel,
+    inputs: &NumberSet,
+) -> Result<(), NoMemory>
+    requires { list.old ≡ [] }
+    ensures { OnOk result (list.new ≡ interface_by flat.now (has_in inputs.now)) }
 {
-    let mut list = Seq::new(alloc);
-    add_all(&mut list, flat.inputs.as_slice())?;
-    add_all(&mut list, flat.clocks.as_slice())?;
-    add_others(&mut list, inputs, flat.outputs.as_slice())?;
-    Ok(list)
+    add_all(list, flat.inputs.as_slice())?;
+    add_all(list, flat.clocks.as_slice())?;
+    add_others(list, inputs, flat.outputs.as_slice())?;
+    Ok(())
 }
 
-// The set of the inputs and clocks.
-fn inputs_of(alloc: Global, flat: &FlatModel) -> Result<NumberSet, NoMemory>
-    ensures { IfOk result (IsSetOf (flat.now.inputs ++ flat.now.clocks)) }
+/// Adds the inputs and clocks.
+fn add_inputs(set: &mut NumberSet, flat: &FlatModel) -> Result<(), NoMemory>
+    requires { IsSetOf [] set.old }
+    ensures { OnOk result (IsSetOf (flat.now.inputs ++ flat.now.clocks) set.new) }
 {
-    let mut set = NumberSet::new(alloc, flat.signals.len())?;
+    set.make_room(flat.signals.len())?;
     set.add_all(flat.inputs.as_slice())?;
     set.add_all(flat.clocks.as_slice())?;
-    Ok(set)
+    Ok(())
 }
 
-// The interface.
-fn interface_of(alloc: Global, flat: &FlatModel) -> Result<Seq<u32>, NoMemory>
-    ensures { IfOk result (λ list. list ≡ interface flat.now) }
+/// Adds the interface.
+fn add_interface(alloc: Global, list: &mut Seq<u32>, flat: &FlatModel) -> Result<(), NoMemory>
+    requires { list.old ≡ [] }
+    ensures { OnOk result (list.new ≡ interface flat.now) }
 {
-    let inputs = inputs_of(alloc, flat)?;
-    interface_by(alloc, flat, &inputs)
+    let mut inputs = NumberSet::new(alloc);
+    add_inputs(&mut inputs, flat)?;
+    add_interface_by(list, flat, &inputs)?;
+    Ok(())
 }
 
-// What the tables say of ports.
-fn facts_of_all(
-    alloc: Global,
+/// Adds what the tables say of ports.
+fn add_facts_by(
+    facts: &mut Seq<PortFacts>,
     lookups: &Lookups,
     ports: &[Text],
-) -> Result<Seq<PortFacts>, NoMemory>
-    ensures { IfOk result (λ facts. facts ≡ map (facts_in lookups.now) ports.now) }
+) -> Result<(), NoMemory>
+    requires { facts.old ≡ [] }
+    ensures { OnOk result (facts.new ≡ map (facts_in lookups.now) ports.now) }
 {
-    let mut facts = Seq::new(alloc);
     for port in ports {
-        add_some(&mut facts, Some(facts_of(lookups, port.as_bytes())))?;
+        add_some(facts, Some(facts_of(lookups, port.as_bytes())))?;
     }
-    Ok(facts)
+    Ok(())
 }
 
-// What is said of the ports of a cell.
-fn all_facts(
+/// Adds what is said of the ports of a cell, looked up in tables that are filled first.
+fn look_up(
+    facts: &mut Seq<PortFacts>,
+    lookups: &mut Lookups,
     alloc: Global,
     flat: &FlatModel,
     rules: &Rules,
     cell: &Cell,
     signals: &[u32],
-) -> Result<Seq<PortFacts>, NoMemory>
-    requires { signals.now ≡ interface flat.now }
-    ensures { IfOk result (λ facts. facts ≡ all_facts flat.now rules.now cell.now) }
+) -> Result<(), NoMemory>
+    requires empty { facts.old ≡ [] }
+    requires lookups { AreEmpty lookups.old }
+    requires signals { signals.now ≡ interface flat.now }
+    ensures { OnOk result (facts.new ≡ all_facts flat.now rules.now cell.now) }
 {
-    let lookups = lookups_of(alloc, flat, rules, cell.name.as_bytes(), signals)?;
-    let facts = facts_of_all(alloc, &lookups, cell.ports.as_slice())?;
-    Ok(facts)
+    lookups.fill(alloc, flat, rules, cell.name.as_bytes(), signals)?;
+    add_facts_by(facts, lookups, cell.ports.as_slice())?;
+    Ok(())
 }
 
-// The signals that ports pair with.
-#[tactic(auto, using(crate::proofs::ListLaws::pushed))]
-fn signals_paired(alloc: Global, facts: &[PortFacts]) -> Result<Seq<u32>, NoMemory>
-    ensures { IfOk result (λ list. list ≡ filter_map signal_paired facts.now) }
+/// Adds what is said of the ports of a cell.
+fn add_facts(
+    alloc: Global,
+    facts: &mut Seq<PortFacts>,
+    flat: &FlatModel,
+    rules: &Rules,
+    cell: &Cell,
+    signals: &[u32],
+) -> Result<(), NoMemory>
+    requires empty { facts.old ≡ [] }
+    requires signals { signals.now ≡ interface flat.now }
+    ensures { OnOk result (facts.new ≡ all_facts flat.now rules.now cell.now) }
 {
-    let mut list = Seq::new(alloc);
+    let mut lookups = Lookups::new(alloc);
+    look_up(facts, &mut lookups, alloc, flat, rules, cell, signals)
+}
+
+/// Adds the signals that ports pair with.
+#[tactic(auto, using(crate::proofs::ListLaws::pushed))]
+fn add_paired(list: &mut Seq<u32>, facts: &[PortFacts]) -> Result<(), NoMemory>
+    requires { list.old ≡ [] }
+    ensures { OnOk result (list.new ≡ filter_map signal_paired facts.now) }
+{
     let mut rest = facts;
     'facts: while let Some((port, behind)) = rest.split_first() {
-        add_some(&mut list, port.paired())?;
+        add_some(list, port.paired())?;
         rest = behind;
     }
-    Ok(list)
+    Ok(())
 }
 
-// Adds the clocks that ports give their signals.
+/// Counts the signals that ports pair with.
+fn count_paired(
+    alloc: Global,
+    counts: &mut Counts,
+    limit: usize,
+    facts: &[PortFacts],
+) -> Result<(), NoMemory>
+    requires { AreCounts [] counts.old }
+    ensures { OnOk result (AreCounts (filter_map signal_paired facts.now) counts.new) }
+{
+    let mut signals = Seq::new(alloc);
+    add_paired(&mut signals, facts)?;
+    count_all(counts, limit, signals.as_slice())?;
+    Ok(())
+}
+
+/// Adds the clocks that ports give their signals.
 #[tactic(auto, using(crate::proofs::ListLaws::pushed))]
 fn add_clocked_ports(list: &mut Seq<ClockedSignal>, facts: &[PortFacts]) -> Result<(), NoMemory>
     ensures { OnOk result (list.new ≡ list.old ++ filter_map clock_carried facts.now) }
@@ -175,14 +221,14 @@ fn add_clocked_ports(list: &mut Seq<ClockedSignal>, facts: &[PortFacts]) -> Resu
     Ok(())
 }
 
-// The place of a name.
+/// The place of a name.
 fn place_of(names: &[Text], name: &[u8]) -> Option<usize>
     ensures { result ≡ place_of names.now name.now }
 {
     names.iter().position(|other| name == other.as_bytes())
 }
 
-// The number of the clock of a name.
+/// The number of the clock of a name.
 fn clock_of(rules: &Rules, name: &[u8]) -> Option<u32>
     requires { length rules.now.clocks ≤ 16 }
     ensures { result ≡ place_of rules.now.clocks name.now }
@@ -193,7 +239,7 @@ fn clock_of(rules: &Rules, name: &[u8]) -> Option<u32>
     }
 }
 
-// The clock that a signal carries by its name.
+/// The clock that a signal carries by its name.
 fn clocked_by_name(flat: &FlatModel, rules: &Rules, signal: u32) -> Option<ClockedSignal>
     requires { length rules.now.clocks ≤ 16 }
     ensures { result ≡ clocked_by_name flat.now rules.now signal }
@@ -206,7 +252,7 @@ fn clocked_by_name(flat: &FlatModel, rules: &Rules, signal: u32) -> Option<Clock
     Some(ClockedSignal { signal, clock })
 }
 
-// The clock that a signal carries by its name, where no port pairs with it.
+/// The clock that a signal carries by its name, where no port pairs with it.
 fn clocked_without_port(
     flat: &FlatModel,
     rules: &Rules,
@@ -223,7 +269,7 @@ fn clocked_without_port(
     }
 }
 
-// Adds the clocks that signals without port carry by their names.
+/// Adds the clocks that signals without port carry by their names.
 #[tactic(auto, using(crate::proofs::ListLaws::pushed))]
 fn add_clocked_signals(
     list: &mut Seq<ClockedSignal>,
@@ -243,39 +289,86 @@ fn add_clocked_signals(
     Ok(())
 }
 
-// The signals that carry clocks.
-fn clocked_signals(
-    alloc: Global,
+/// Adds the signals that carry clocks.
+fn add_clocked(
+    list: &mut Seq<ClockedSignal>,
     flat: &FlatModel,
     rules: &Rules,
     facts: &[PortFacts],
     paired: &NumberSet,
-) -> Result<Seq<ClockedSignal>, NoMemory>
-    requires { length rules.now.clocks ≤ 16 }
-    ensures { IfOk result (λ list. list ≡ filter_map clock_carried facts.now ++ clocked_without_port flat.now rules.now (has_in paired.now) (flat.now.inputs ++ flat.now.clocks)) }
+) -> Result<(), NoMemory>
+    requires few { length rules.now.clocks ≤ 16 }
+    requires empty { list.old ≡ [] }
+    ensures { OnOk result (list.new ≡ filter_map clock_carried facts.now ++ clocked_without_port flat.now rules.now (has_in paired.now) (flat.now.inputs ++ flat.now.clocks)) }
 {
-    let mut list = Seq::new(alloc);
-    add_clocked_ports(&mut list, facts)?;
-    add_clocked_signals(&mut list, flat, rules, paired, flat.inputs.as_slice())?;
-    add_clocked_signals(&mut list, flat, rules, paired, flat.clocks.as_slice())?;
-    Ok(list)
+    add_clocked_ports(list, facts)?;
+    add_clocked_signals(list, flat, rules, paired, flat.inputs.as_slice())?;
+    add_clocked_signals(list, flat, rules, paired, flat.clocks.as_slice())?;
+    Ok(())
 }
 
-// The signals of a list that carry clocks; there is room for those below a limit.
-fn carriers_of(
-    alloc: Global,
+/// Adds the signals of a list that carry clocks; there is room for those below a limit.
+fn add_carriers(
+    set: &mut NumberSet,
     limit: usize,
     clocked: &[ClockedSignal],
-) -> Result<NumberSet, NoMemory>
-    ensures { IfOk result (IsSetOf (carriers clocked.now)) }
+) -> Result<(), NoMemory>
+    requires { IsSetOf [] set.old }
+    ensures { OnOk result (IsSetOf (carriers clocked.now) set.new) }
 {
-    let mut set = NumberSet::new(alloc, limit)?;
+    set.make_room(limit)?;
     let mut rest = clocked;
     'clocked: while let Some((one, behind)) = rest.split_first() {
         set.add(one.signal)?;
         rest = behind;
     }
-    Ok(set)
+    Ok(())
+}
+
+impl Paired {
+    /// With nothing known. It takes no memory.
+    fn new(alloc: Global) -> Self
+        ensures { IsBlank result }
+    {
+        Paired {
+            facts: Seq::new(alloc),
+            interface: Seq::new(alloc),
+            outputs: NumberSet::new(alloc),
+            counts: Counts::new(alloc),
+            clocked: Seq::new(alloc),
+            carriers: NumberSet::new(alloc),
+        }
+    }
+
+    /// Adds what is known of the ports of a cell and the signals of a model, where nothing is known yet.
+    fn fill(
+        &mut self,
+        alloc: Global,
+        flat: &FlatModel,
+        rules: &Rules,
+        cell: &Cell,
+    ) -> Result<(), NoMemory>
+        requires few { length rules.now.clocks ≤ 16 }
+        requires blank { IsBlank self.old }
+        ensures { OnOk result (ArePaired flat.now rules.now cell.now self.new) }
+    {
+        let limit = flat.signals.len();
+        add_interface(alloc, &mut self.interface, flat)?;
+        add_facts(
+            alloc,
+            &mut self.facts,
+            flat,
+            rules,
+            cell,
+            self.interface.as_slice(),
+        )?;
+        let facts = self.facts.as_slice();
+        count_paired(alloc, &mut self.counts, limit, facts)?;
+        add_clocked(&mut self.clocked, flat, rules, facts, &self.counts.once)?;
+        add_carriers(&mut self.carriers, limit, self.clocked.as_slice())?;
+        add_numbers(&mut self.outputs, limit, flat.outputs.as_slice())?;
+        Ok(())
+    }
 }
 
 /// What is known of the ports of a cell and the signals of a model.
@@ -288,20 +381,7 @@ pub(crate) fn paired_of(
     requires { length rules.now.clocks ≤ 16 }
     ensures { IfOk result (ArePaired flat.now rules.now cell.now) }
 {
-    let limit = flat.signals.len();
-    let interface = interface_of(alloc, flat)?;
-    let facts = all_facts(alloc, flat, rules, cell, interface.as_slice())?;
-    let signals = signals_paired(alloc, facts.as_slice())?;
-    let counts = counts_of(alloc, limit, signals.as_slice())?;
-    let clocked = clocked_signals(alloc, flat, rules, facts.as_slice(), &counts.once)?;
-    let carriers = carriers_of(alloc, limit, clocked.as_slice())?;
-    let outputs = set_of(alloc, limit, flat.outputs.as_slice())?;
-    Ok(Paired {
-        facts,
-        interface,
-        outputs,
-        counts,
-        clocked,
-        carriers,
-    })
+    let mut paired = Paired::new(alloc);
+    paired.fill(alloc, flat, rules, cell)?;
+    Ok(paired)
 }

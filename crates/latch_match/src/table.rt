@@ -46,7 +46,7 @@ impl<V: Copy> Table<V> {
         self.seconds.contains(name)
     }
 
-    // Notes that a name has a second value.
+    /// Notes that a name has a second value.
     fn add_second(&mut self, name: &[u8]) -> Result<(), NoMemory>
         ensures names { OnOk result (self.new.names ≡ self.old.names) }
         ensures firsts { OnOk result (self.new.firsts ≡ self.old.firsts) }
@@ -56,7 +56,7 @@ impl<V: Copy> Table<V> {
         Ok(())
     }
 
-    // Adds a name with its first value.
+    /// Adds a name with its first value.
     fn add_first(&mut self, name: &[u8], value: V) -> Result<(), NoMemory>
         ensures names { OnOk result (self.new.names ≡ with_name self.old.names name.now) }
         ensures firsts { OnOk result (self.new.firsts ≡ self.old.firsts ++ value ∷ []) }

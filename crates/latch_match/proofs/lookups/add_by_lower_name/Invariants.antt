@@ -1,0 +1,8 @@
+use Rattle.std.proofs.Common.{map, take}
+use Rattle.latch_match.specs.Looked.{by_lower_name}
+use Rattle.latch_match.specs.Tables.{IsTable}
+use Rattle.latch_match.proofs.lookups.add_by_lower_name.Given as goal
+
+-- the signals so far
+abbrev pub invariant-loop-signal : goal.invariant-loop-signal
+invariant-loop-signal l = IsTable (map (by_lower_name l.flat) (take l.signal-index l.signals)) l.table

@@ -1,8 +1,0 @@
-use Rattle.std.proofs.Common.{map, take}
-use Rattle.latch_match.specs.Looked.{by_name}
-use Rattle.latch_match.specs.Tables.{IsTable}
-use Rattle.latch_match.proofs.lookups.signals_by_name.Given as goal
-
--- the signals so far
-abbrev pub invariant-loop-signal : goal.invariant-loop-signal
-invariant-loop-signal l = IsTable (map (by_name l.flat) (take l.signal-index l.signals)) l.table
