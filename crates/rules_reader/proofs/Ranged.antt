@@ -1,5 +1,5 @@
 -- Levels and sizes of the lines of a text are in their ranges.
-use Rattle.std.proofs.Common.{◌≡◌, ◌++◌, ◌∷◌, [], ℕ, List, Bool, true, false, cond, subst}
+use Rattle.std.proofs.Common.{◌++◌, ◌∷◌, [], ℕ, List, Bool, true, false, cond, subst}
 use Rattle.std.specs.Prelude.{flat_map}
 use Rattle.text_lines.specs.Bytes.{words_of}
 use Rattle.text_lines.specs.Lines.{lines_of}

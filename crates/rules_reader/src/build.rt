@@ -234,15 +234,25 @@ fn add_all(alloc: Global, phases: &mut Seq<Phase>, clocks: &[Text]) -> Result<()
     append(phases, all)
 }
 
+// Adds the rules of all lines, where there are none yet.
+fn fill(alloc: Global, known: &Known, rules: &mut Rules, cards: &[Card]) -> Result<(), NoMemory>
+    requires known { known.now ≡ known_by cards.now }
+    requires none { AreSoFar known.now.clocks known.now.phases known.now.clocks [] rules.old }
+    ensures { OnOk result (AreRulesOf cards.now rules.new) }
+{
+    let names = known.clocks.to_texts(alloc)?;
+    tables(alloc, known, names.as_slice(), rules, cards)?;
+    add_all(alloc, &mut rules.phases, names.as_slice())?;
+    Ok(())
+}
+
 /// The rules of lines, of which this is known.
 pub fn build(alloc: Global, known: &Known, cards: &[Card]) -> Result<Rules, NoMemory>
     requires { known.now ≡ known_by cards.now }
     ensures { IfOk result (AreRulesOf cards.now) }
 {
-    let names = known.clocks.to_texts(alloc)?;
     let clocks = known.clocks.to_texts(alloc)?;
     let mut rules = empty(alloc, clocks);
-    tables(alloc, known, names.as_slice(), &mut rules, cards)?;
-    add_all(alloc, &mut rules.phases, names.as_slice())?;
+    fill(alloc, known, &mut rules, cards)?;
     Ok(rules)
 }

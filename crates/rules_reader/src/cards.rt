@@ -1,7 +1,7 @@
 //! The lines of a text that are not passed over.
 
 ghost use Rattle.std.specs.Prelude.{◌≡◌, ◌≤◌, ◌++◌, length, map, IfOk, OnOk};
-ghost use Rattle.text_lines.specs.Bytes.{is_blank_line, starts, without_blanks};
+ghost use Rattle.text_lines.specs.Bytes.{is_blank_line, starts, without_blanks, words_of};
 ghost use Rattle.rules_reader.specs.Entries.{card_of, cards_of, cards_on, is_passed_over};
 
 use crate::texts::append;
@@ -66,16 +66,24 @@ fn texts_of(alloc: Global, words: &[&[u8]]) -> Result<Seq<Text>, NoMemory>
     Ok(texts)
 }
 
+// The words of a line, as texts.
+fn texts_on(alloc: Global, bytes: &[u8]) -> Result<Seq<Text>, NoMemory>
+    ensures { IfOk result (λ texts. texts ≡ words_of bytes.now) }
+{
+    let words = cut_words(alloc, bytes)?;
+    texts_of(alloc, words.as_slice())
+}
+
 // The card of a line.
 fn read_card(alloc: Global, line: u32, bytes: &[u8]) -> Result<Card, NoMemory>
     ensures { IfOk result (λ card. card ≡ card_of (line, bytes.now)) }
 {
-    let words = cut_words(alloc, bytes)?;
-    let texts = texts_of(alloc, words.as_slice())?;
+    let texts = texts_on(alloc, bytes)?;
+    let entry = read_entry(alloc, texts.as_slice())?;
     Ok(Card {
         line,
         is_all_text: is_text_line(bytes),
-        entry: read_entry(alloc, texts.as_slice())?,
+        entry,
     })
 }
 

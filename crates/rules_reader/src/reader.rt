@@ -9,10 +9,22 @@ ghost use Rattle.rules_reader.specs.Tables.{AreRulesOf};
 
 use crate::RulesFault;
 use crate::build::build;
-use crate::cards::read_cards;
+use crate::cards::{Card, read_cards};
 use crate::check::check_cards;
 use std::alloc::Global;
 use vrt_model::Rules;
+
+// The rules of lines, or their first fault.
+fn rules_of(alloc: Global, cards: &[Card]) -> Result<Rules, RulesFault>
+    ensures ok { IfOk result (λ rules. IsClean fault_of cards.now × AreRulesOf cards.now rules) }
+    ensures err { IfErr result (λ fault. (fault ≡ RulesFault.NoMemory) ⊎ IsFirst fault_of cards.now fault) }
+{
+    let known = check_cards(alloc, cards)?;
+    match build(alloc, &known, cards) {
+        Ok(rules) => Ok(rules),
+        Err(_) => Err(RulesFault::NoMemory),
+    }
+}
 
 /// Reads a rules file. The text has at most 16,777,216 bytes. It takes time and memory in proportion to them, but for
 /// lines of a `keeper` or a `phase` with a long name, which is copied for each word behind it.
@@ -29,9 +41,5 @@ pub fn read_rules(alloc: Global, text: &[u8]) -> Result<Rules, RulesFault>
     let Ok(cards) = read_cards(alloc, text) else {
         return Err(RulesFault::NoMemory);
     };
-    let known = check_cards(alloc, cards.as_slice())?;
-    match build(alloc, &known, cards.as_slice()) {
-        Ok(rules) => Ok(rules),
-        Err(_) => Err(RulesFault::NoMemory),
-    }
+    rules_of(alloc, cards.as_slice())
 }
