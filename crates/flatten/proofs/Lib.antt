@@ -2,6 +2,7 @@ pub mod CellFlat
 pub mod CellNets
 pub mod CellSizes
 pub mod CellTests
+pub mod CircuitParts
 pub mod FirstNotes
 pub mod KeeperNotes
 pub mod LastCounts

@@ -14,3 +14,8 @@ value_in table name = first_in table.names table.values name
 -- each name has a value
 abbrev pub IsEven : {X : Type 0} → FirstValues X → Type 0
 IsEven table = length table.names ≡ length table.values
+
+-- nothing was noted
+pub record IsFresh {X : Type 0} (table : FirstValues X) : Type 0 where
+  pub even : IsEven table
+  pub none : (name : List ℕ) → value_in table name ≡ None

@@ -1,3 +1,4 @@
+pub mod CellTables
 pub mod Circuits
 pub mod Firsts
 pub mod NetTables

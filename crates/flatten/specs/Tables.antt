@@ -1,9 +1,9 @@
 -- What rules and `.model` cards say of names, and tables that say the same.
-use Rattle.std.specs.Prelude.{◌≡◌, ℕ, List, Bool, false, Option, Some, None, option_map, unwrap_or, find, cond, ◌&&◌, bytes_eq, codes}
+use Rattle.std.specs.Prelude.{◌≡◌, ℕ, List, [], Bool, false, Option, Some, None, option_map, unwrap_or, find, cond, ◌&&◌, bytes_eq, codes}
 use Rattle.std.specs.List.{list_any}
 use Rattle.std.specs.Option.{option_or}
 use Rattle.text_lines.specs.Names.{is_among}
-use Rattle.flatten.specs.Firsts.{value_in}
+use Rattle.flatten.specs.Firsts.{IsFresh, value_in}
 use Rattle.flatten.specs.declared.firsts.FirstValues.{FirstValues}
 use Rattle.flatten.specs.declared.rule_tables.Declared.{Declared}
 use Rattle.flatten.specs.declared.rule_tables.DeviceTable.{DeviceTable}
@@ -40,6 +40,21 @@ declared_level rules cell device =
 
 abbrev pub is_kept : List KeeperRule → List ℕ → List ℕ → Bool
 is_kept rules cell device = list_any (λ (r : KeeperRule). bytes_eq r.cell cell && bytes_eq r.device device) rules
+
+-- ---- tables in which nothing is noted
+
+pub record AreFreshModels (table : ModelTable) : Type 0 where
+  pub rules : IsFresh table.rules
+  pub cards : IsFresh table.cards
+
+pub record AreFreshOwn (table : DeviceTable) : Type 0 where
+  pub strengths : IsFresh table.strengths
+  pub keepers : table.keepers ≡ []
+
+pub record AreFreshTables (table : RuleTables) : Type 0 where
+  pub supplies : IsFresh table.supplies
+  pub models : AreFreshModels table.models
+  pub devices : AreFreshOwn table.devices
 
 -- ---- tables that say the same
 

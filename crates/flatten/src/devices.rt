@@ -1,6 +1,6 @@
 //! The devices of a circuit.
 
-ghost use Rattle.std.specs.Prelude.{◌≡◌, ◌≤◌, ◌+◌, IfOk, find, is_none, length, map, unwrap_or};
+ghost use Rattle.std.specs.Prelude.{◌≡◌, ◌≤◌, ◌+◌, ◌++◌, ◌∷◌, [], IfOk, OnOk, find, is_none, length, map, unwrap_or};
 ghost use Rattle.std.specs.Option.{option_copied};
 ghost use Rattle.flatten.specs.NetTables.{device_in};
 ghost use Rattle.flatten.specs.Tables.{kind_in};
@@ -56,6 +56,39 @@ fn device(
     })
 }
 
+/// Adds the device of a card.
+fn add_device(
+    alloc: Global,
+    found: &mut Seq<Device>,
+    tables: &RuleTables,
+    names: &Names,
+    card: &DeviceCard,
+) -> Result<(), NoMemory>
+    requires few { length names.now + 2 ≤ 20000 }
+    ensures { OnOk result (found.new ≡ found.old ++ device_in tables.now names.now card.now ∷ []) }
+{
+    append(found, device(alloc, tables, names, card)?)?;
+    Ok(())
+}
+
+/// Adds the devices of some cards, to none.
+fn add_devices(
+    alloc: Global,
+    found: &mut Seq<Device>,
+    tables: &RuleTables,
+    names: &Names,
+    cards: &[DeviceCard],
+) -> Result<(), NoMemory>
+    requires empty { found.old ≡ [] }
+    requires few { length names.now + 2 ≤ 20000 }
+    ensures { OnOk result (found.new ≡ map (device_in tables.now names.now) cards.now) }
+{
+    for card in cards {
+        add_device(alloc, found, tables, names, card)?;
+    }
+    Ok(())
+}
+
 /// The devices of some cards.
 pub fn devices(
     alloc: Global,
@@ -67,9 +100,6 @@ pub fn devices(
     ensures { IfOk result (λ found. found ≡ map (device_in tables.now names.now) cards.now) }
 {
     let mut found = Seq::new(alloc);
-    for card in cards {
-        let one = device(alloc, tables, names, card)?;
-        append(&mut found, one)?;
-    }
+    add_devices(alloc, &mut found, tables, names, cards)?;
     Ok(found)
 }

@@ -2,7 +2,7 @@
 
 ghost use Rattle.std.specs.Prelude.{◌≡◌, ℕ, List, Some, None, OnOk, bytes_eq, cond};
 ghost use Rattle.std.specs.Option.{option_copied, option_or};
-ghost use Rattle.flatten.specs.Firsts.{IsEven, value_in};
+ghost use Rattle.flatten.specs.Firsts.{IsEven, IsFresh, value_in};
 
 use crate::lists::append;
 use std::alloc::Global;
@@ -11,17 +11,25 @@ use vrt_model::{NoMemory, Seq};
 
 /// For each name the value that was noted first under it. A name is found by its hash, in a time that does not grow with
 /// the number of names.
-#[derive(Drop)]
 pub struct FirstValues<T> {
     names: Names,
     values: Seq<T>,
 }
 
+/// By hand, so that a table is let go by a call where one is owned.
+impl<T: Drop> Drop for FirstValues<T> {
+    fn drop(self) {
+        let FirstValues {
+            names: _names,
+            values: _values,
+        } = self;
+    }
+}
+
 impl<T: Drop> FirstValues<T> {
     /// With no name. It takes no memory.
     pub fn new(alloc: Global) -> Self
-        ensures even { IsEven result }
-        ensures none { (name : List ℕ) → value_in result name ≡ None }
+        ensures { IsFresh result }
     {
         FirstValues {
             names: Names::new(alloc),

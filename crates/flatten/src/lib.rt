@@ -12,6 +12,7 @@ mod nets;
 mod rule_tables;
 mod sizes_of;
 mod structures;
+mod tables;
 
 pub use cells::{has_no_hold, is_leaf};
 pub use circuit::flat;

@@ -1,6 +1,6 @@
 //! The names of the nets of a cell, in the order of its flat circuit.
 
-ghost use Rattle.std.specs.Prelude.{◌≡◌, ◌≤◌, ◌+◌, [], length, filter, IfOk, OnOk};
+ghost use Rattle.std.specs.Prelude.{◌≡◌, ◌≤◌, ◌+◌, [], length, filter, OnOk};
 ghost use Rattle.text_lines.specs.Names.{is_among, with_names};
 ghost use Rattle.flatten.specs.NetTables.{IsNetTable, card_nets, globals_named, nets_named, number_in, place_in, with_named, with_net, with_nets};
 ghost use Rattle.flatten.specs.Tables.{supply_in};
@@ -80,15 +80,15 @@ fn name_card(names: &mut Names, card: &DeviceCard) -> Result<(), NoMemory>
     Ok(())
 }
 
-/// The names that cards have.
-fn names_of(alloc: Global, cards: &[DeviceCard]) -> Result<Names, NoMemory>
-    ensures { IfOk result (λ names. names ≡ with_names [] (nets_named cards.now)) }
+/// Adds the names that cards have, to none.
+fn name_cards(names: &mut Names, cards: &[DeviceCard]) -> Result<(), NoMemory>
+    requires { names.old ≡ [] }
+    ensures { OnOk result (names.new ≡ with_names [] (nets_named cards.now)) }
 {
-    let mut names = Names::new(alloc);
     for card in cards {
-        name_card(&mut names, card)?;
+        name_card(names, card)?;
     }
-    Ok(names)
+    Ok(())
 }
 
 /// Adds the name of a net, the last, if it is among others and is neither there nor a supply.
@@ -131,28 +131,42 @@ fn add_globals(
 ) -> Result<(), NoMemory>
     ensures { OnOk result (names.new ≡ with_nets (supply_in supplies.now) names.old (globals_named cards.now globals.now)) }
 {
-    let named = names_of(alloc, cards)?;
+    let mut named = Names::new(alloc);
+    name_cards(&mut named, cards)?;
     add_all_named(names, supplies, &named, globals)?;
     Ok(())
 }
 
-/// The names of the nets of a cell of a netlist.
-pub fn net_table(
-    alloc: Global,
-    supplies: &FirstValues<bool>,
-    design: &Design,
-    cell: &Cell,
-) -> Result<NetTable, NoMemory>
-    ensures { IfOk result (IsNetTable (supply_in supplies.now) design.now.globals cell.now) }
-{
-    let globals = design.globals.as_slice();
-    let cards = cell.devices.as_slice();
-    let mut names = Names::new(alloc);
-    add_ports(&mut names, supplies, cell.ports.as_slice())?;
-    let port_count = names.len();
-    add_globals(alloc, &mut names, supplies, globals, cards)?;
-    add_cards(&mut names, supplies, cards)?;
-    Ok(NetTable { names, port_count })
+impl NetTable {
+    /// With no names. It takes no memory.
+    pub fn new(alloc: Global) -> Self
+        ensures { result.names ≡ [] }
+    {
+        NetTable {
+            names: Names::new(alloc),
+            port_count: 0,
+        }
+    }
+
+    /// Adds the names of the nets of a cell of a netlist, to none.
+    pub fn fill(
+        &mut self,
+        alloc: Global,
+        supplies: &FirstValues<bool>,
+        design: &Design,
+        cell: &Cell,
+    ) -> Result<(), NoMemory>
+        requires { self.old.names ≡ [] }
+        ensures { OnOk result (IsNetTable (supply_in supplies.now) design.now.globals cell.now self.new) }
+    {
+        let globals = design.globals.as_slice();
+        let cards = cell.devices.as_slice();
+        add_ports(&mut self.names, supplies, cell.ports.as_slice())?;
+        self.port_count = self.names.len();
+        add_globals(alloc, &mut self.names, supplies, globals, cards)?;
+        add_cards(&mut self.names, supplies, cards)?;
+        Ok(())
+    }
 }
 
 /// The number of a net that is no supply.

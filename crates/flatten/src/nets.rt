@@ -143,20 +143,53 @@ fn add_plain(alloc: Global, nets: &mut Seq<FlatNet>, names: &[Text]) -> Result<(
     ensures { OnOk result (nets.new ≡ nets.old ++ map plain_net names.now) }
 {
     'names: for name in names {
-        let net = plain(alloc, name.as_bytes())?;
-        append(nets, net)?;
+        append(nets, plain(alloc, name.as_bytes())?)?;
     }
     Ok(())
 }
 
-/// The two supplies.
-fn supplies_of(alloc: Global, rules: &Rules) -> Result<Seq<FlatNet>, NoMemory>
-    ensures { IfOk result (λ nets. nets ≡ supply_flat rules.now false ∷ supply_flat rules.now true ∷ []) }
+/// Adds the net of a supply.
+fn add_supply(
+    alloc: Global,
+    nets: &mut Seq<FlatNet>,
+    rules: &Rules,
+    value: bool,
+) -> Result<(), NoMemory>
+    ensures { OnOk result (nets.new ≡ nets.old ++ supply_flat rules.now value ∷ []) }
 {
-    let mut nets = Seq::new(alloc);
-    append(&mut nets, supply_net(alloc, rules, false)?)?;
-    append(&mut nets, supply_net(alloc, rules, true)?)?;
-    Ok(nets)
+    append(nets, supply_net(alloc, rules, value)?)?;
+    Ok(())
+}
+
+/// Adds the nets behind the ports of a table.
+fn add_inner(alloc: Global, nets: &mut Seq<FlatNet>, table: &NetTable) -> Result<(), NoMemory>
+    requires { table.now.port_count ≤ length table.now.names }
+    ensures { OnOk result (nets.new ≡ nets.old ++ map plain_net (drop table.now.port_count table.now.names)) }
+{
+    let names = table.names.to_texts(alloc)?;
+    add_plain(alloc, nets, &names.as_slice()[table.port_count..])?;
+    Ok(())
+}
+
+/// Adds the nets of a cell, to none.
+fn add_nets(
+    alloc: Global,
+    nets: &mut Seq<FlatNet>,
+    rules: &Rules,
+    supplies: &FirstValues<bool>,
+    ports: &[Text],
+    roles: &[PortRole],
+    table: &NetTable,
+) -> Result<(), NoMemory>
+    requires empty { nets.old ≡ [] }
+    requires within { table.now.port_count ≤ length table.now.names }
+    ensures { OnOk result (nets.new ≡ nets_in rules.now (supply_in supplies.now) ports.now roles.now table.now) }
+{
+    add_supply(alloc, nets, rules, false)?;
+    add_supply(alloc, nets, rules, true)?;
+    add_ports(alloc, nets, supplies, ports, roles)?;
+    add_inner(alloc, nets, table)?;
+    Ok(())
 }
 
 /// The nets of a cell: the two supplies, the other ports by their roles, and the nets behind these in the table.
@@ -171,9 +204,7 @@ pub fn nets(
     requires within { table.now.port_count ≤ length table.now.names }
     ensures { IfOk result (λ nets. nets ≡ nets_in rules.now (supply_in supplies.now) ports.now roles.now table.now) }
 {
-    let names = table.names.to_texts(alloc)?;
-    let mut nets = supplies_of(alloc, rules)?;
-    add_ports(alloc, &mut nets, supplies, ports, roles)?;
-    add_plain(alloc, &mut nets, &names.as_slice()[table.port_count..])?;
+    let mut nets = Seq::new(alloc);
+    add_nets(alloc, &mut nets, rules, supplies, ports, roles, table)?;
     Ok(nets)
 }

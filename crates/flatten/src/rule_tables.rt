@@ -1,21 +1,20 @@
 //! What rules and `.model` cards say of names.
 
-ghost use Rattle.std.specs.Prelude.{◌≡◌, ℕ, List, Some, None, IfOk, OnOk, cond, ◌&&◌, ◌||◌, bytes_eq};
+ghost use Rattle.std.specs.Prelude.{◌≡◌, [], ℕ, List, Some, None, OnOk, cond, ◌&&◌, ◌||◌, bytes_eq};
 ghost use Rattle.std.specs.Option.{option_or};
 ghost use Rattle.text_lines.specs.Names.{is_among};
-ghost use Rattle.flatten.specs.Firsts.{IsEven, value_in};
-ghost use Rattle.flatten.specs.Tables.{AreModels, AreOwn, AreTables, card_kind, declared_device, declared_level, declared_supply, is_kept, kind_in, level_in, supply_in};
+ghost use Rattle.flatten.specs.Firsts.{IsEven, IsFresh, value_in};
+ghost use Rattle.flatten.specs.Tables.{AreFreshModels, AreFreshOwn, AreFreshTables, AreModels, AreOwn, card_kind, declared_device, declared_level, declared_supply, is_kept, kind_in, level_in, supply_in};
 
 use crate::firsts::FirstValues;
 use std::alloc::Global;
 use text_lines::Names;
 use vrt_model::{
-    Cell, Design, DeviceRule, KeeperRule, Kind, ModelCard, NoMemory, Rules, StrengthRule,
-    SupplyRule,
+    Design, DeviceRule, KeeperRule, Kind, ModelCard, NoMemory, Rules, StrengthRule, SupplyRule,
 };
 
 /// The kind and the level that a `device` rule declares.
-#[derive(Clone, Copy, Debug, PartialEq, Eq)]
+#[derive(Clone, Copy)]
 pub struct Declared {
     pub kind: Kind,
     pub level: u8,
@@ -43,29 +42,25 @@ pub struct RuleTables {
     pub devices: DeviceTable,
 }
 
-/// The supplies that rules declare.
-fn supply_table(alloc: Global, rules: &[SupplyRule]) -> Result<FirstValues<bool>, NoMemory>
-    ensures { IfOk result (λ table. (name : List ℕ) → value_in table name ≡ declared_supply rules.now name) }
+/// Notes the supplies that rules declare, in a table with nothing noted.
+pub fn note_supplies(table: &mut FirstValues<bool>, rules: &[SupplyRule]) -> Result<(), NoMemory>
+    requires { IsFresh table.old }
+    ensures { OnOk result ((name : List ℕ) → value_in table.new name ≡ declared_supply rules.now name) }
 {
-    let mut table = FirstValues::new(alloc);
     for rule in rules {
         table.note(rule.net.as_bytes(), rule.value)?;
     }
-    Ok(table)
+    Ok(())
 }
 
-/// The supplies that the rules declare.
-pub fn supplies_of(alloc: Global, rules: &Rules) -> Result<FirstValues<bool>, NoMemory>
-    ensures { IfOk result (λ table. (name : List ℕ) → value_in table name ≡ declared_supply rules.now.supplies name) }
+/// Notes the kinds and levels that `device` rules declare, in a table with nothing noted.
+fn note_device_rules(
+    table: &mut FirstValues<Declared>,
+    rules: &[DeviceRule],
+) -> Result<(), NoMemory>
+    requires { IsFresh table.old }
+    ensures { OnOk result ((name : List ℕ) → value_in table.new name ≡ declared_device rules.now name) }
 {
-    supply_table(alloc, rules.supplies.as_slice())
-}
-
-/// The kinds and levels that `device` rules declare.
-fn device_rule_table(alloc: Global, rules: &[DeviceRule]) -> Result<FirstValues<Declared>, NoMemory>
-    ensures { IfOk result (λ table. (name : List ℕ) → value_in table name ≡ declared_device rules.now name) }
-{
-    let mut table = FirstValues::new(alloc);
     for rule in rules {
         let declared = Declared {
             kind: rule.kind,
@@ -73,18 +68,18 @@ fn device_rule_table(alloc: Global, rules: &[DeviceRule]) -> Result<FirstValues<
         };
         table.note(rule.model.as_bytes(), declared)?;
     }
-    Ok(table)
+    Ok(())
 }
 
-/// The kinds of `.model` cards.
-fn card_table(alloc: Global, cards: &[ModelCard]) -> Result<FirstValues<Kind>, NoMemory>
-    ensures { IfOk result (λ table. (name : List ℕ) → value_in table name ≡ card_kind cards.now name) }
+/// Notes the kinds of `.model` cards, in a table with nothing noted.
+fn note_cards(table: &mut FirstValues<Kind>, cards: &[ModelCard]) -> Result<(), NoMemory>
+    requires { IsFresh table.old }
+    ensures { OnOk result ((name : List ℕ) → value_in table.new name ≡ card_kind cards.now name) }
 {
-    let mut table = FirstValues::new(alloc);
     for card in cards {
         table.note(card.name.as_bytes(), card.kind)?;
     }
-    Ok(table)
+    Ok(())
 }
 
 /// Notes the level of a `strength` rule, if it is of this cell.
@@ -103,19 +98,19 @@ fn note_strength(
     Ok(())
 }
 
-/// The levels of the `strength` rules of a cell.
-fn strength_table(
-    alloc: Global,
+/// Notes the levels of the `strength` rules of a cell, in a table with nothing noted.
+fn note_strengths(
+    table: &mut FirstValues<u8>,
     cell: &[u8],
     rules: &[StrengthRule],
-) -> Result<FirstValues<u8>, NoMemory>
-    ensures { IfOk result (λ table. (name : List ℕ) → value_in table name ≡ declared_level rules.now cell.now name) }
+) -> Result<(), NoMemory>
+    requires { IsFresh table.old }
+    ensures { OnOk result ((name : List ℕ) → value_in table.new name ≡ declared_level rules.now cell.now name) }
 {
-    let mut table = FirstValues::new(alloc);
     for rule in rules {
-        note_strength(&mut table, cell, rule)?;
+        note_strength(table, cell, rule)?;
     }
-    Ok(table)
+    Ok(())
 }
 
 /// Adds the device of a `keeper` rule, if it is of this cell.
@@ -128,51 +123,72 @@ fn add_keeper(names: &mut Names, cell: &[u8], rule: &KeeperRule) -> Result<(), N
     Ok(())
 }
 
-/// The keepers of a cell.
-fn keeper_names(alloc: Global, cell: &[u8], rules: &[KeeperRule]) -> Result<Names, NoMemory>
-    ensures { IfOk result (λ names. (device : List ℕ) → is_among names device ≡ is_kept rules.now cell.now device) }
+/// Adds the keepers of a cell, to no names.
+fn add_keepers(names: &mut Names, cell: &[u8], rules: &[KeeperRule]) -> Result<(), NoMemory>
+    requires { names.old ≡ [] }
+    ensures { OnOk result ((device : List ℕ) → is_among names.new device ≡ is_kept rules.now cell.now device) }
 {
-    let mut names = Names::new(alloc);
     for rule in rules {
-        add_keeper(&mut names, cell, rule)?;
+        add_keeper(names, cell, rule)?;
     }
-    Ok(names)
+    Ok(())
 }
 
-/// What is said of models.
-pub fn model_table(alloc: Global, design: &Design, rules: &Rules) -> Result<ModelTable, NoMemory>
-    ensures { IfOk result (AreModels design.now rules.now) }
-{
-    Ok(ModelTable {
-        rules: device_rule_table(alloc, rules.devices.as_slice())?,
-        cards: card_table(alloc, design.models.as_slice())?,
-    })
+impl ModelTable {
+    /// With nothing said. It takes no memory.
+    fn new(alloc: Global) -> Self
+        ensures { AreFreshModels result }
+    {
+        ModelTable {
+            rules: FirstValues::new(alloc),
+            cards: FirstValues::new(alloc),
+        }
+    }
+
+    /// Notes what is said of models, where nothing is said yet.
+    pub fn fill(&mut self, design: &Design, rules: &Rules) -> Result<(), NoMemory>
+        requires { AreFreshModels self.old }
+        ensures { OnOk result (AreModels design.now rules.now self.new) }
+    {
+        note_device_rules(&mut self.rules, rules.devices.as_slice())?;
+        note_cards(&mut self.cards, design.models.as_slice())?;
+        Ok(())
+    }
 }
 
-/// What is said of the devices of a cell.
-fn device_table(alloc: Global, rules: &Rules, cell: &[u8]) -> Result<DeviceTable, NoMemory>
-    ensures { IfOk result (AreOwn rules.now cell.now) }
-{
-    Ok(DeviceTable {
-        strengths: strength_table(alloc, cell, rules.strengths.as_slice())?,
-        keepers: keeper_names(alloc, cell, rules.keepers.as_slice())?,
-    })
+impl DeviceTable {
+    /// With nothing said. It takes no memory.
+    fn new(alloc: Global) -> Self
+        ensures { AreFreshOwn result }
+    {
+        DeviceTable {
+            strengths: FirstValues::new(alloc),
+            keepers: Names::new(alloc),
+        }
+    }
+
+    /// Notes what is said of the devices of a cell, where nothing is said yet.
+    pub fn fill(&mut self, rules: &Rules, cell: &[u8]) -> Result<(), NoMemory>
+        requires { AreFreshOwn self.old }
+        ensures { OnOk result (AreOwn rules.now cell.now self.new) }
+    {
+        note_strengths(&mut self.strengths, cell, rules.strengths.as_slice())?;
+        add_keepers(&mut self.keepers, cell, rules.keepers.as_slice())?;
+        Ok(())
+    }
 }
 
-/// What is said of the names in a cell.
-pub fn rule_tables(
-    alloc: Global,
-    design: &Design,
-    rules: &Rules,
-    cell: &Cell,
-) -> Result<RuleTables, NoMemory>
-    ensures { IfOk result (AreTables design.now rules.now cell.now.name) }
-{
-    Ok(RuleTables {
-        supplies: supplies_of(alloc, rules)?,
-        models: model_table(alloc, design, rules)?,
-        devices: device_table(alloc, rules, cell.name.as_bytes())?,
-    })
+impl RuleTables {
+    /// With nothing said. It takes no memory.
+    pub fn new(alloc: Global) -> Self
+        ensures { AreFreshTables result }
+    {
+        RuleTables {
+            supplies: FirstValues::new(alloc),
+            models: ModelTable::new(alloc),
+            devices: DeviceTable::new(alloc),
+        }
+    }
 }
 
 /// The value of the supply that a name is, if it is one: as a rule declares it, and `0` is supply 0 where no rule

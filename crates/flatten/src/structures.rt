@@ -1,6 +1,7 @@
 //! What stands in the way of a flat circuit.
 
 ghost use Rattle.std.specs.Prelude.{◌≡◌, ◌<◌, ◌+◌, [], length, nat_lt};
+ghost use Rattle.flatten.specs.CellTables.{AreFreshCellTables};
 ghost use Rattle.flatten.specs.Structures.{StructureGives, TestGives};
 ghost use Rattle.vrt_model.specs.Comparison.{cell_at};
 ghost use Rattle.vrt_model.specs.Inputs.{IsDesign};
@@ -9,8 +10,8 @@ ghost use Rattle.vrt_model.specs.Unsupported.{carried, top_before};
 use crate::cells::cell_of;
 use crate::devices::without_kind;
 use crate::faults::FlatFault;
-use crate::names::net_table;
-use crate::rule_tables::{ModelTable, model_table, supplies_of};
+use crate::rule_tables::ModelTable;
+use crate::tables::CellTables;
 use std::alloc::Global;
 use text_lines::Names;
 use vrt_model::{Design, DeviceCard, Rules, Text};
@@ -53,6 +54,26 @@ pub fn test(
     }
 }
 
+/// Tests a cell, by tables that are filled first.
+fn structure_by(
+    alloc: Global,
+    design: &Design,
+    rules: &Rules,
+    cell: u32,
+    tables: &mut CellTables,
+) -> Result<(), FlatFault>
+    requires netlist { IsDesign design.now }
+    requires there { cell < length design.now.cells }
+    requires leaf { (cell_at design.now cell).instances ≡ [] }
+    requires fresh { AreFreshCellTables tables.old }
+    ensures { StructureGives (top_before design.now rules.now cell) result }
+{
+    let cell = cell_of(design, cell);
+    tables.fill_names(alloc, design, rules, cell)?;
+    let cards = cell.devices.as_slice();
+    test(alloc, &tables.rules.models, &tables.nets.names, cards)
+}
+
 /// Tests, before a cell is paired, what stands in the way of its flat circuit, in this order: a count of nets, devices or
 /// instances that passes its limit; a device whose model has no kind; an instance that ties a supply to another net. It
 /// is a condition that the cell has no instances, and then no supply is ever tied.
@@ -62,9 +83,6 @@ pub fn structure(alloc: Global, design: &Design, rules: &Rules, cell: u32) -> Re
     requires leaf { (cell_at design.now cell).instances ≡ [] }
     ensures { StructureGives (top_before design.now rules.now cell) result }
 {
-    let cell = cell_of(design, cell);
-    let supplies = supplies_of(alloc, rules)?;
-    let models = model_table(alloc, design, rules)?;
-    let nets = net_table(alloc, &supplies, design, cell)?;
-    test(alloc, &models, &nets.names, cell.devices.as_slice())
+    let mut tables = CellTables::new(alloc);
+    structure_by(alloc, design, rules, cell, &mut tables)
 }
