@@ -1,6 +1,6 @@
 //! Checks of models.
 
-ghost use Rattle.blif_flat.specs.Tables.{AreTables};
+ghost use Rattle.blif_checks.specs.Tables.{AreTables};
 ghost use Rattle.vrt_model.specs.Inputs.{IsBlif};
 
 use crate::MOST_BYTES;
