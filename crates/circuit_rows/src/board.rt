@@ -101,7 +101,8 @@ impl Board {
         let nets = circuit.nets.len().min(MOST) as u32;
         let words = 10 * part.nets.len().min(MOST) as u32;
         let budget = budget.clamp(2, 64_000_000);
-        let mut store = Store::with_budget(alloc, budget, 2 * nets + words, variables(circuit))?;
+        let vars = variables(circuit).min(MOST as u32);
+        let mut store = Store::with_budget(alloc, budget, 2 * nets + words, vars)?;
         let gates = take(&mut store, nets)?;
         let roots = take(&mut store, nets)?;
         let out = take(&mut store, words)?;
