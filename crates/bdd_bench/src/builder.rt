@@ -19,9 +19,15 @@ pub enum Refused {
 }
 
 /// A store of 1,000 variables.
-#[derive(Drop)]
 pub struct Builder {
     store: Store,
+}
+
+/// By hand, so that letting go of one is a call.
+impl Drop for Builder {
+    fn drop(self) {
+        let Builder { store: _store } = self;
+    }
 }
 
 // An operation's answer, with its refusal as one of this crate.

@@ -27,11 +27,21 @@ const EMPTY: Entry = Entry {
 const FEWEST: u32 = 1024;
 
 /// A table of entries, in which what was asked has one place. It grows with the count of a store's nodes.
-#[derive(Drop)]
 pub struct Memo {
     entries: Vec<Entry>,
     mask: u32,
     most: u32,
+}
+
+/// By hand, so that letting go of one is a call.
+impl Drop for Memo {
+    fn drop(self) {
+        let Memo {
+            entries: _entries,
+            mask: _mask,
+            most: _most,
+        } = self;
+    }
 }
 
 impl Model for Memo {

@@ -13,12 +13,23 @@ use std::marker::Model;
 use vrt_model::{NoMemory, Var};
 
 /// Ordered decision diagrams over so many variables, within a budget of nodes, and words beside them.
-#[derive(Drop)]
 pub struct Store {
     pool: Pool,
     memo: Memo,
     budget: u32,
     vars: u32,
+}
+
+/// By hand, so that letting go of one is a call.
+impl Drop for Store {
+    fn drop(self) {
+        let Store {
+            pool: _pool,
+            memo: _memo,
+            budget: _budget,
+            vars: _vars,
+        } = self;
+    }
 }
 
 impl Model for Store {

@@ -196,11 +196,21 @@ fn judge_mentions(
 }
 
 /// The names of a model's signals, what is noted of them, and where they are mentioned.
-#[derive(Drop)]
 pub(crate) struct Shown {
     pub(crate) names: Names,
     pub(crate) notes: Vec<Note>,
     pub(crate) mentions: Seq<Mention>,
+}
+
+/// By hand, so that letting go of one is a call.
+impl Drop for Shown {
+    fn drop(self) {
+        let Shown {
+            names: _names,
+            notes: _notes,
+            mentions: _mentions,
+        } = self;
+    }
 }
 
 // What is shown of a model.

@@ -12,10 +12,19 @@ use text_lines::Names;
 use vrt_model::{Blif, BlifModel, NoMemory, Seq};
 
 /// The numbers of models by name, and of each model the signals of its interface.
-#[derive(Drop)]
 pub struct Tables {
     pub names: Names,
     pub interfaces: Seq<Names>,
+}
+
+/// By hand, so that letting go of one is a call.
+impl Drop for Tables {
+    fn drop(self) {
+        let Tables {
+            names: _names,
+            interfaces: _interfaces,
+        } = self;
+    }
 }
 
 // The names of models.

@@ -12,14 +12,23 @@ use vrt_model::{FlatModel, NoMemory, Seq};
 
 /// The signals and elements of a model in an order that follows what depends on what. Elements are numbered after the
 /// signals. `drivers` has for each signal the place of the cover that gives it, or the number of covers where none does.
-#[derive(Debug, Drop)]
 pub struct ModelPlan {
     pub steps: Seq<u32>,
     pub drivers: Seq<usize>,
 }
 
+/// By hand, so that letting go of one is a call.
+impl Drop for ModelPlan {
+    fn drop(self) {
+        let ModelPlan {
+            steps: _steps,
+            drivers: _drivers,
+        } = self;
+    }
+}
+
 /// Why a model has no plan: what depends on what leads around. The cycle begins with the least number on any.
-#[derive(Debug, Drop)]
+#[derive(Drop)]
 pub enum PlanFault {
     ModelCycle { signals: Seq<u32> },
     NoMemory,

@@ -11,11 +11,21 @@ use text_lines::{cut_lines, cut_words, is_text_line};
 use vrt_model::{NoMemory, Seq, Text};
 
 /// A card: the number of its first line, from 1, whether all its bytes are text, and its words.
-#[derive(Drop)]
 pub struct Card {
     pub line: u32,
     pub is_all_text: bool,
     pub words: Seq<Text>,
+}
+
+/// By hand, so that letting go of one is a call.
+impl Drop for Card {
+    fn drop(self) {
+        let Card {
+            line: _line,
+            is_all_text: _is_all_text,
+            words: _words,
+        } = self;
+    }
 }
 
 /// Lines that are to be joined with the next: the number of the first, and their bytes.

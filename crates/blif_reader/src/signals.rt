@@ -11,10 +11,19 @@ use text_lines::Names;
 use vrt_model::{NoMemory, Seq, Text};
 
 /// A signal, and the line of the card that lists it first.
-#[derive(Drop)]
 pub struct Listed {
     pub line: u32,
     pub name: Text,
+}
+
+/// By hand, so that letting go of one is a call.
+impl Drop for Listed {
+    fn drop(self) {
+        let Listed {
+            line: _line,
+            name: _name,
+        } = self;
+    }
 }
 
 // Adds a signal, unless it is there.

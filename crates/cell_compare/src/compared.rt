@@ -19,7 +19,7 @@ use vrt_model::{Blif, CellFacts, Design, NoMemory, Rules, Seq, Verdict, Why};
 
 /// The verdict on a cell, and what is known of the cell then. Where a cycle is told, its flat circuit and flat model are
 /// there, by which the cycle is named.
-#[derive(Debug, Drop)]
+#[derive(Drop)]
 pub struct Compared {
     pub verdict: Verdict,
     pub facts: CellFacts,

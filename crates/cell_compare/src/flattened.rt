@@ -5,22 +5,41 @@ use channel_parts::Parts;
 use vrt_model::{Circuit, FaultAt, FlatModel, Pairing};
 
 /// The flat circuit and the flat model of a cell, and how its ports and the signals of the model pair.
-#[derive(Debug, Drop)]
 pub struct Flattened {
     pub pairing: Pairing,
     pub circuit: Circuit,
     pub model: FlatModel,
 }
 
+/// By hand, so that letting go of one is a call.
+impl Drop for Flattened {
+    fn drop(self) {
+        let Flattened {
+            pairing: _pairing,
+            circuit: _circuit,
+            model: _model,
+        } = self;
+    }
+}
+
 /// The order in which a phase is worked through: the parts of the circuit, and the signals of the model.
-#[derive(Debug, Drop)]
 pub struct PhasePlan {
     pub parts: Parts,
     pub model: ModelPlan,
 }
 
+/// By hand, so that letting go of one is a call.
+impl Drop for PhasePlan {
+    fn drop(self) {
+        let PhasePlan {
+            parts: _parts,
+            model: _model,
+        } = self;
+    }
+}
+
 /// What is found in a phase.
-#[derive(Debug, Drop)]
+#[derive(Drop)]
 pub enum PhaseFound {
     /// The circuit and the model agree at each valuation.
     Clear,

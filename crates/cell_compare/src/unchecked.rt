@@ -5,7 +5,7 @@ ghost use Rattle.std.specs.Prelude.{◌≡◌};
 use vrt_model::{NoMemory, Why};
 
 /// What stops a step of a comparison.
-#[derive(Debug, Drop)]
+#[derive(Drop)]
 pub(crate) enum Unchecked {
     /// The cell cannot be checked.
     Because(Why),

@@ -4,7 +4,7 @@ use crate::stop::Stop;
 use crate::words::{Ask, behind, bit, number};
 use anyhow::Result;
 use channel_parts::{PartFault, Parts, in_order, known_nets, least_nets, parts};
-use plain_paths::{Response, is_flat, signals_at};
+use plain_paths::{Response, Signals, is_flat, signals_at};
 use std::alloc::Global;
 use vrt_model::{Circuit, Net, Phase, Seq, Text};
 
@@ -199,11 +199,20 @@ fn bits(alloc: Global, numbers: &[u32]) -> Result<Vec<bool>, Stop> {
     Ok(bits)
 }
 
-/// The strengths of all nets, and what one of them shows.
-#[derive(Drop)]
+/// The signals of all nets, and what one of them shows.
 struct Shown {
-    strengths: Vec<u8>,
+    signals: Signals,
     response: Response,
+}
+
+/// By hand, so that letting go of one is a call.
+impl Drop for Shown {
+    fn drop(self) {
+        let Shown {
+            signals: _signals,
+            response: _response,
+        } = self;
+    }
 }
 
 // The signals of a circuit at bits of its holds and its nets.
@@ -217,22 +226,19 @@ fn signals_of(
     if !is_flat(circuit) {
         return Err(Stop::Unfit);
     }
-    let found = signals_at(alloc, circuit, true, reading, [held].as_slice())?;
-    if net >= found.zeros.len() || net >= found.ones.len() {
+    let signals = signals_at(alloc, circuit, true, reading, [held].as_slice())?;
+    if net >= signals.zeros.len() || net >= signals.ones.len() {
         return Err(Stop::NotRead);
     }
-    let response = found.response(net);
-    Ok(Shown {
-        strengths: found.strengths,
-        response,
-    })
+    let response = signals.response(net);
+    Ok(Shown { signals, response })
 }
 
 fn tell_signals(rt: HostRuntime, circuit: &Circuit, numbers: &[u32]) -> Result<()> {
     let (net, held) = (number(numbers, 0)?, bit(numbers, 1)?);
     let reading = bits(rt.alloc(), behind(numbers, 2))?;
     let shown = signals_of(rt.alloc(), circuit, net as usize, held, reading.as_slice())?;
-    let (strengths, response) = (shown.strengths.as_slice(), shown.response);
+    let (strengths, response) = (shown.signals.strengths.as_slice(), shown.response);
     println!(rt; "signals: {strengths:?}, net {net} shows {response:?}")?;
     Ok(())
 }

@@ -17,13 +17,25 @@ use vrt_model::{Circuit, Dev, Net, NetKind, Seq, Var};
 const MOST: usize = 1000;
 
 /// A part, and the spans of its words in a store.
-#[derive(Drop)]
 pub struct Board {
     pub store: Store,
     part: Part,
     gates: Span,
     roots: Span,
     out: Span,
+}
+
+/// By hand, so that letting go of one is a call.
+impl Drop for Board {
+    fn drop(self) {
+        let Board {
+            store: _store,
+            part: _part,
+            gates: _gates,
+            roots: _roots,
+            out: _out,
+        } = self;
+    }
 }
 
 // The part of all plain nets and all devices.

@@ -15,11 +15,21 @@ pub const ZEROS: u32 = 9;
 pub const ONES: u32 = 10;
 
 /// A circuit's part with its words, whether the budget was used up, and a sum of products.
-#[derive(Drop)]
 pub struct Solved {
     board: Board,
     spent: Option<Spent>,
     sum: H,
+}
+
+/// By hand, so that letting go of one is a call.
+impl Drop for Solved {
+    fn drop(self) {
+        let Solved {
+            board: _board,
+            spent: _spent,
+            sum: _sum,
+        } = self;
+    }
 }
 
 /// Tells what a line asks for, or adds to the sum of products.

@@ -21,25 +21,53 @@ pub struct Declared {
 }
 
 /// What is said of models: by `device` rules, and by `.model` cards.
-#[derive(Drop)]
 pub struct ModelTable {
     pub rules: FirstValues<Declared>,
     pub cards: FirstValues<Kind>,
 }
 
+/// By hand, so that letting go of one is a call.
+impl Drop for ModelTable {
+    fn drop(self) {
+        let ModelTable {
+            rules: _rules,
+            cards: _cards,
+        } = self;
+    }
+}
+
 /// What is said of the devices of one cell: the levels of `strength` rules, and the keepers.
-#[derive(Drop)]
 pub struct DeviceTable {
     pub strengths: FirstValues<u8>,
     pub keepers: Names,
 }
 
+/// By hand, so that letting go of one is a call.
+impl Drop for DeviceTable {
+    fn drop(self) {
+        let DeviceTable {
+            strengths: _strengths,
+            keepers: _keepers,
+        } = self;
+    }
+}
+
 /// What is said of the names in one cell.
-#[derive(Drop)]
 pub struct RuleTables {
     pub supplies: FirstValues<bool>,
     pub models: ModelTable,
     pub devices: DeviceTable,
+}
+
+/// By hand, so that letting go of one is a call.
+impl Drop for RuleTables {
+    fn drop(self) {
+        let RuleTables {
+            supplies: _supplies,
+            models: _models,
+            devices: _devices,
+        } = self;
+    }
 }
 
 /// Notes the supplies that rules declare, in a table with nothing noted.

@@ -9,10 +9,19 @@ use std::alloc::Global;
 use vrt_model::{Cell, Design, NoMemory, Rules};
 
 /// What is said of the names in one cell, and the names of its nets.
-#[derive(Drop)]
 pub struct CellTables {
     pub rules: RuleTables,
     pub nets: NetTable,
+}
+
+/// By hand, so that letting go of one is a call.
+impl Drop for CellTables {
+    fn drop(self) {
+        let CellTables {
+            rules: _rules,
+            nets: _nets,
+        } = self;
+    }
 }
 
 impl CellTables {

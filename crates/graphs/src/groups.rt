@@ -15,7 +15,7 @@ struct Stop {
 
 /// A walk: when each number was entered, from 1 on, and the earliest entry that is reached from it; the groups of the
 /// numbers, from 1 on; the numbers on the way; and the numbers that were entered and have no group yet.
-#[derive(Debug, Drop)]
+#[derive(Drop)]
 struct Walk {
     entered: Vec<usize>,
     earliest: Vec<usize>,

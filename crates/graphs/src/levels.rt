@@ -23,7 +23,7 @@ pub(crate) struct Waiter {
 }
 
 /// The levels of a graph, and the order in which its numbers got them.
-#[derive(Debug, Drop)]
+#[derive(Drop)]
 pub(crate) struct Placing {
     /// The level of each number, 0 where it has none.
     pub(crate) levels: Vec<usize>,

@@ -11,7 +11,7 @@ use vrt_model::{NoMemory, Seq};
 
 /// The numbers of a graph, each behind those from which arcs lead to it, or a cycle of arcs, which begins with the
 /// least number on any.
-#[derive(Debug, Drop)]
+#[derive(Drop)]
 pub enum Order {
     /// All numbers, each once.
     Steps(Seq<u32>),

@@ -85,10 +85,19 @@ fn no_places(alloc: Global, count: usize) -> Result<Vec<usize>, NoMemory>
 }
 
 /// What was met from a number on: where it was met, and in which order.
-#[derive(Debug, Drop)]
 struct Trail {
     places: Vec<usize>,
     met: Seq<Met>,
+}
+
+/// By hand, so that letting go of one is a call.
+impl Drop for Trail {
+    fn drop(self) {
+        let Trail {
+            places: _places,
+            met: _met,
+        } = self;
+    }
 }
 
 /// Meets all numbers from which arcs lead to a number, over others too.

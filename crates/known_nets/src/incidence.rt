@@ -13,11 +13,21 @@ use std::alloc::Global;
 use vrt_model::{Circuit, Device, NoMemory, Seq};
 
 /// The numbers of the devices whose channels end at each net, and of those that it gates, and which nets have a hold.
-#[derive(Debug, Drop)]
 pub(crate) struct Incidence {
     pub(crate) ends: Vec<Seq<u32>>,
     pub(crate) gates: Vec<Seq<u32>>,
     pub(crate) held: Vec<bool>,
+}
+
+/// By hand, so that letting go of one is a call.
+impl Drop for Incidence {
+    fn drop(self) {
+        let Incidence {
+            ends: _ends,
+            gates: _gates,
+            held: _held,
+        } = self;
+    }
 }
 
 /// The net at the other end of the channel of a device, if it has the net at one.

@@ -13,19 +13,39 @@ use std::alloc::Global;
 use vrt_model::{Circuit, NoMemory, Seq};
 
 /// Amounts by net, all 0 but while one region is looked at: the strengths of its nets, and which of them 0 and 1 reach.
-#[derive(Debug, Drop)]
 pub(crate) struct Tables {
     pub(crate) levels: Vec<u8>,
     pub(crate) zeros: Vec<u8>,
     pub(crate) ones: Vec<u8>,
 }
 
+/// By hand, so that letting go of one is a call.
+impl Drop for Tables {
+    fn drop(self) {
+        let Tables {
+            levels: _levels,
+            zeros: _zeros,
+            ones: _ones,
+        } = self;
+    }
+}
+
 /// The nets that may have amounts, in each of the tables.
-#[derive(Debug, Drop)]
 pub(crate) struct Raised {
     pub(crate) levels: Vec<usize>,
     pub(crate) zeros: Vec<usize>,
     pub(crate) ones: Vec<usize>,
+}
+
+/// By hand, so that letting go of one is a call.
+impl Drop for Raised {
+    fn drop(self) {
+        let Raised {
+            levels: _levels,
+            zeros: _zeros,
+            ones: _ones,
+        } = self;
+    }
 }
 
 /// As many amounts as there are nets, all 0.

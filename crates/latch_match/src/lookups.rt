@@ -24,13 +24,25 @@ use vrt_model::{
 
 /// The tables that the ports of one cell are looked up in: the interface signals by their names in lower case, the
 /// supplies, the clocks and the signals that the cell's rules name, and the ports that its assumptions name.
-#[derive(Drop)]
 pub(crate) struct Lookups {
     signals: Table<u32>,
     supplies: Table<bool>,
     clocks: Table<ClockRef>,
     ruled: Table<Option<u32>>,
     assumed: Names,
+}
+
+/// By hand, so that letting go of one is a call.
+impl Drop for Lookups {
+    fn drop(self) {
+        let Lookups {
+            signals: _signals,
+            supplies: _supplies,
+            clocks: _clocks,
+            ruled: _ruled,
+            assumed: _assumed,
+        } = self;
+    }
 }
 
 /// Adds signals under their names.

@@ -10,11 +10,21 @@ use vrt_model::{NoMemory, Seq};
 
 /// Values by name: under each name the first of its values, and whether there is a second. A name is found by its hash,
 /// in a time that does not grow with the number of names.
-#[derive(Drop)]
 pub(crate) struct Table<V> {
     names: Names,
     firsts: Seq<V>,
     seconds: Names,
+}
+
+/// By hand, so that letting go of one is a call.
+impl<V: Drop> Drop for Table<V> {
+    fn drop(self) {
+        let Table {
+            names: _names,
+            firsts: _firsts,
+            seconds: _seconds,
+        } = self;
+    }
 }
 
 impl<V: Copy> Table<V> {

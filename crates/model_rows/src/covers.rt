@@ -14,10 +14,19 @@ use vrt_model::{Cover, Seq, Text};
 const ROWS: u8 = 27;
 
 /// A store with the bits of three variables.
-#[derive(Drop)]
 struct Bits {
     store: Store,
     values: Span,
+}
+
+/// By hand, so that letting go of one is a call.
+impl Drop for Bits {
+    fn drop(self) {
+        let Bits {
+            store: _store,
+            values: _values,
+        } = self;
+    }
 }
 
 // The sign of a row by a number below 3.

@@ -15,9 +15,15 @@ use vrt_model::{Cover, FlatModel, Seq, Text};
 const MOST: usize = 1000;
 
 /// A model that is drawn. It has at most one input, which is its last signal.
-#[derive(Drop)]
 struct Model {
     flat: FlatModel,
+}
+
+/// By hand, so that letting go of one is a call.
+impl Drop for Model {
+    fn drop(self) {
+        let Model { flat: _flat } = self;
+    }
 }
 
 // Adds a text at the end of a list.
@@ -73,10 +79,19 @@ fn take_spans(store: &mut Store, signals: u32, input: Option<u32>) -> Result<Spa
 }
 
 /// A store with the values of all signals.
-#[derive(Drop)]
 struct Evaluated {
     store: Store,
     spans: Spans,
+}
+
+/// By hand, so that letting go of one is a call.
+impl Drop for Evaluated {
+    fn drop(self) {
+        let Evaluated {
+            store: _store,
+            spans: _spans,
+        } = self;
+    }
 }
 
 impl Evaluated {

@@ -9,7 +9,6 @@ use std::alloc::{AllocError, Global};
 use std::marker::Model;
 
 /// A list of nodes, none of them twice, and a list of words, each with its room.
-#[derive(Drop)]
 pub struct Pool {
     nodes: Vec<Node>,
     older: Vec<u32>,
@@ -19,6 +18,22 @@ pub struct Pool {
     word_room: u32,
     mask: u32,
     most_heads: u32,
+}
+
+/// By hand, so that letting go of one is a call.
+impl Drop for Pool {
+    fn drop(self) {
+        let Pool {
+            nodes: _nodes,
+            older: _older,
+            heads: _heads,
+            words: _words,
+            node_room: _node_room,
+            word_room: _word_room,
+            mask: _mask,
+            most_heads: _most_heads,
+        } = self;
+    }
 }
 
 impl Model for Pool {

@@ -39,13 +39,25 @@ impl From<NoMemory> for Refused {
 
 /// A circuit, the part of its plain nets, and a store with the words of both. The gates and the roots have the same
 /// words: for an input the bit of a variable, in the order of the inputs.
-#[derive(Drop)]
 pub struct Board {
     store: Store,
     circuit: Circuit,
     part: Part,
     given: Span,
     out: Span,
+}
+
+/// By hand, so that letting go of one is a call.
+impl Drop for Board {
+    fn drop(self) {
+        let Board {
+            store: _store,
+            circuit: _circuit,
+            part: _part,
+            given: _given,
+            out: _out,
+        } = self;
+    }
 }
 
 // The part of all plain nets and all devices.

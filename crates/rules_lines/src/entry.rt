@@ -4,17 +4,35 @@ use rules_expression::Token;
 use vrt_model::{Kind, Seq, Text};
 
 /// A name with or without `!`.
-#[derive(Drop)]
 pub struct Signed {
     pub name: Text,
     pub is_inverted: bool,
 }
 
+/// By hand, so that letting go of one is a call.
+impl Drop for Signed {
+    fn drop(self) {
+        let Signed {
+            name: _name,
+            is_inverted: _is_inverted,
+        } = self;
+    }
+}
+
 /// A clock and its bit, none where the bit is neither 0 nor 1.
-#[derive(Drop)]
 pub struct ClockBit {
     pub clock: Text,
     pub bit: Option<bool>,
+}
+
+/// By hand, so that letting go of one is a call.
+impl Drop for ClockBit {
+    fn drop(self) {
+        let ClockBit {
+            clock: _clock,
+            bit: _bit,
+        } = self;
+    }
 }
 
 /// What a line says. A level, a size or a bit is none where it is not one digit of its range. The model of a `pair`

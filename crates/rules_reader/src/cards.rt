@@ -11,11 +11,21 @@ use text_lines::{cut_words, is_blank_byte, is_text_line, numbered_lines};
 use vrt_model::{NoMemory, Seq, Text};
 
 /// A line: its number, from 1, whether all its bytes are text, and what it says, none where it does not fit.
-#[derive(Drop)]
 pub struct Card {
     pub line: u32,
     pub is_all_text: bool,
     pub entry: Option<Entry>,
+}
+
+/// By hand, so that letting go of one is a call.
+impl Drop for Card {
+    fn drop(self) {
+        let Card {
+            line: _line,
+            is_all_text: _is_all_text,
+            entry: _entry,
+        } = self;
+    }
 }
 
 // The bytes from the first on that is no blank.

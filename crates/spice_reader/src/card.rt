@@ -10,12 +10,23 @@ use text_lines::{cut_words, is_text_line};
 use vrt_model::{NoMemory, Seq, Text};
 
 /// A card: the number of its first line, whether it continues nothing, whether its bytes are text, and its words.
-#[derive(Drop)]
 pub struct Card {
     pub line: u32,
     pub is_orphan: bool,
     pub is_all_text: bool,
     pub words: Seq<Text>,
+}
+
+/// By hand, so that letting go of one is a call.
+impl Drop for Card {
+    fn drop(self) {
+        let Card {
+            line: _line,
+            is_orphan: _is_orphan,
+            is_all_text: _is_all_text,
+            words: _words,
+        } = self;
+    }
 }
 
 /// A card that may go on: the number of its first line, and the bytes of its lines.

@@ -11,10 +11,19 @@ use std::alloc::Global;
 use vrt_model::{Valuation, Var};
 
 /// A store with the function of each table, in the order of the tables.
-#[derive(Drop)]
 pub struct Tables {
     pub store: Store,
     all: Vec<H>,
+}
+
+/// By hand, so that letting go of one is a call.
+impl Drop for Tables {
+    fn drop(self) {
+        let Tables {
+            store: _store,
+            all: _all,
+        } = self;
+    }
 }
 
 // The bit of a table at a valuation, which is a number below 8.

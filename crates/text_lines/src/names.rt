@@ -66,10 +66,19 @@ fn copies_of_names(alloc: Global, set: &IndexSet<Vec<u8>>) -> Result<Seq<Text>, 
 
 /// Names without repetition, in the order in which they were first seen and numbered in it from 0. A name is found by
 /// its hash, in a time that does not grow with the number of names.
-#[derive(Drop)]
 pub struct Names {
     alloc: Global,
     set: IndexSet<Vec<u8>>,
+}
+
+/// By hand, so that letting go of one is a call.
+impl Drop for Names {
+    fn drop(self) {
+        let Names {
+            alloc: _alloc,
+            set: _set,
+        } = self;
+    }
 }
 
 impl Model for Names {

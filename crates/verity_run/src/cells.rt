@@ -18,7 +18,7 @@ use std::alloc::Global;
 use vrt_model::{Cell, NoMemory, Seq, Text, Verdict};
 
 /// The verdict on a cell, and its line.
-#[derive(Debug, Drop)]
+#[derive(Drop)]
 struct CellAnswer {
     verdict: Verdict,
     line: Text,

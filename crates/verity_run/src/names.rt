@@ -28,11 +28,21 @@ pub struct MissingName<'a> {
 }
 
 /// The names of the cells, and of each cell its devices and its ports.
-#[derive(Drop)]
 pub struct Tables {
     pub cells: Names,
     pub devices: Seq<Names>,
     pub ports: Seq<Names>,
+}
+
+/// By hand, so that letting go of one is a call.
+impl Drop for Tables {
+    fn drop(self) {
+        let Tables {
+            cells: _cells,
+            devices: _devices,
+            ports: _ports,
+        } = self;
+    }
 }
 
 /// The names of cells.

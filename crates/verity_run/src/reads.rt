@@ -23,11 +23,21 @@ pub struct Stopped<'a> {
 }
 
 /// The bytes of the three files.
-#[derive(Drop)]
 pub struct Texts {
     pub spice: Vec<u8>,
     pub blif: Vec<u8>,
     pub rules: Vec<u8>,
+}
+
+/// By hand, so that letting go of one is a call.
+impl Drop for Texts {
+    fn drop(self) {
+        let Texts {
+            spice: _spice,
+            blif: _blif,
+            rules: _rules,
+        } = self;
+    }
 }
 
 /// Reads a file.

@@ -29,7 +29,7 @@ use std::alloc::Global;
 use vrt_model::{Blif, Design, NoMemory, Rules, Text};
 
 /// Why no cell is compared.
-#[derive(Debug, Drop)]
+#[derive(Drop)]
 pub enum Refusal {
     /// A file is refused, with this line.
     Told(Text),
@@ -38,11 +38,21 @@ pub enum Refusal {
 }
 
 /// What the three files say.
-#[derive(Debug, Drop)]
 pub struct Inputs {
     pub design: Design,
     pub blif: Blif,
     pub rules: Rules,
+}
+
+/// By hand, so that letting go of one is a call.
+impl Drop for Inputs {
+    fn drop(self) {
+        let Inputs {
+            design: _design,
+            blif: _blif,
+            rules: _rules,
+        } = self;
+    }
 }
 
 /// The refusal with a line.

@@ -15,12 +15,23 @@ pub struct Failure {
 }
 
 /// A sink in memory, which fails where it is told to.
-#[derive(Drop)]
 pub struct MemSink {
     bytes: Vec<u8>,
     failures: Vec<Failure>,
     calls: u32,
     faults: u64,
+}
+
+/// By hand, so that letting go of one is a call.
+impl Drop for MemSink {
+    fn drop(self) {
+        let MemSink {
+            bytes: _bytes,
+            failures: _failures,
+            calls: _calls,
+            faults: _faults,
+        } = self;
+    }
 }
 
 impl MemSink {

@@ -11,14 +11,22 @@ pub enum NetKind {
     Plain,
 }
 
-#[derive(Debug, Drop)]
 pub struct FlatNet {
     pub name: Text,
     pub kind: NetKind,
 }
 
+/// By hand, so that letting go of one is a call.
+impl Drop for FlatNet {
+    fn drop(self) {
+        let FlatNet {
+            name: _name,
+            kind: _kind,
+        } = self;
+    }
+}
+
 /// A transistor. Its channel joins `left` and `right`.
-#[derive(Debug, Drop)]
 pub struct Device {
     pub name: Text,
     pub kind: Kind,
@@ -27,6 +35,21 @@ pub struct Device {
     pub right: Net,
     pub level: u8,
     pub keeper: bool,
+}
+
+/// By hand, so that letting go of one is a call.
+impl Drop for Device {
+    fn drop(self) {
+        let Device {
+            name: _name,
+            kind: _kind,
+            gate: _gate,
+            left: _left,
+            right: _right,
+            level: _level,
+            keeper: _keeper,
+        } = self;
+    }
 }
 
 /// In this phase the hold has this value.
@@ -38,7 +61,7 @@ pub struct Enter {
 
 /// Where the `match` lines of a hold lead to: to no latch, so that the hold stands for itself, or to a latch element
 /// of an instance, by its place in the circuit's list, or of the checked cell.
-#[derive(Debug, Drop)]
+#[derive(Drop)]
 pub enum HoldEnd {
     Own(Net),
     Latch {
@@ -48,7 +71,6 @@ pub enum HoldEnd {
 }
 
 /// A net that keeps its charge.
-#[derive(Debug, Drop)]
 pub struct Hold {
     pub net: Net,
     pub size: u8,
@@ -57,20 +79,55 @@ pub struct Hold {
     pub enters: Seq<Enter>,
 }
 
+/// By hand, so that letting go of one is a call.
+impl Drop for Hold {
+    fn drop(self) {
+        let Hold {
+            net: _net,
+            size: _size,
+            end: _end,
+            inverted: _inverted,
+            enters: _enters,
+        } = self;
+    }
+}
+
 /// An instance of a cell, and the net of each of its ports.
-#[derive(Debug, Drop)]
 pub struct FlatInstance {
     pub path: Text,
     pub cell: u32,
     pub ports: Seq<Net>,
 }
 
+/// By hand, so that letting go of one is a call.
+impl Drop for FlatInstance {
+    fn drop(self) {
+        let FlatInstance {
+            path: _path,
+            cell: _cell,
+            ports: _ports,
+        } = self;
+    }
+}
+
 /// A circuit. A flat circuit has no whole instances.
-#[derive(Debug, Drop)]
 pub struct Circuit {
     pub nets: Seq<FlatNet>,
     pub devices: Seq<Device>,
     pub holds: Seq<Hold>,
     pub instances: Seq<FlatInstance>,
     pub wholes: Seq<Whole>,
+}
+
+/// By hand, so that letting go of one is a call.
+impl Drop for Circuit {
+    fn drop(self) {
+        let Circuit {
+            nets: _nets,
+            devices: _devices,
+            holds: _holds,
+            instances: _instances,
+            wholes: _wholes,
+        } = self;
+    }
 }

@@ -10,10 +10,19 @@ pub struct Member {
 }
 
 /// The holds of one bit. Where the group reaches a latch, `element` is the number of the latch element.
-#[derive(Debug, Drop)]
 pub struct Group {
     pub members: Seq<Member>,
     pub element: Option<u32>,
+}
+
+/// By hand, so that letting go of one is a call.
+impl Drop for Group {
+    fn drop(self) {
+        let Group {
+            members: _members,
+            element: _element,
+        } = self;
+    }
 }
 
 /// What a variable stands for.
@@ -25,14 +34,29 @@ pub enum Source {
 }
 
 /// The variables of a cell in a phase.
-#[derive(Debug, Drop)]
 pub struct Vars {
     pub names: Seq<Text>,
     pub sources: Seq<Source>,
 }
 
+/// By hand, so that letting go of one is a call.
+impl Drop for Vars {
+    fn drop(self) {
+        let Vars {
+            names: _names,
+            sources: _sources,
+        } = self;
+    }
+}
+
 /// A bit for each variable.
-#[derive(Debug, Drop)]
 pub struct Valuation {
     pub bits: Seq<bool>,
+}
+
+/// By hand, so that letting go of one is a call.
+impl Drop for Valuation {
+    fn drop(self) {
+        let Valuation { bits: _bits } = self;
+    }
 }

@@ -8,9 +8,15 @@ use std::alloc::Global;
 use std::marker::Model;
 
 /// A list of items, in the order in which they were pushed.
-#[derive(Debug, Drop)]
 pub struct Seq<T> {
     items: Vec<T>,
+}
+
+/// By hand, so that letting go of one is a call.
+impl<T: Drop> Drop for Seq<T> {
+    fn drop(self) {
+        let Seq { items: _items } = self;
+    }
 }
 
 impl<T> Model for Seq<T> {

@@ -17,7 +17,6 @@ pub enum FaultKind {
 }
 
 /// A fault, its place by name, and the valuation at which it stands.
-#[derive(Debug, Drop)]
 pub struct FaultAt {
     pub kind: FaultKind,
     pub phase: u32,
@@ -28,8 +27,23 @@ pub struct FaultAt {
     pub valuation: Valuation,
 }
 
+/// By hand, so that letting go of one is a call.
+impl Drop for FaultAt {
+    fn drop(self) {
+        let FaultAt {
+            kind: _kind,
+            phase: _phase,
+            place: _place,
+            circuit: _circuit,
+            wanted: _wanted,
+            names: _names,
+            valuation: _valuation,
+        } = self;
+    }
+}
+
 /// Why a cell cannot be checked.
-#[derive(Debug, Drop)]
+#[derive(Drop)]
 pub enum Why {
     Ports { name: Text },
     Cycle { phase: u32, nets: Seq<Net> },
@@ -45,7 +59,7 @@ pub enum Why {
 }
 
 /// The answer for one cell.
-#[derive(Debug, Drop)]
+#[derive(Drop)]
 pub enum Verdict {
     Equal,
     Skipped,

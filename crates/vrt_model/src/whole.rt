@@ -22,7 +22,6 @@ pub struct WholePin {
 /// In the phase of that name, an arc from a net to each net of the part that holds the output pin at a place. Where
 /// `named` is set, the net is at a port that a constraint of the cell names, and the arc counts for ranks though the
 /// net be known.
-#[derive(Debug, Drop)]
 pub struct Link {
     pub phase: Text,
     pub from: Net,
@@ -30,8 +29,19 @@ pub struct Link {
     pub named: bool,
 }
 
+/// By hand, so that letting go of one is a call.
+impl Drop for Link {
+    fn drop(self) {
+        let Link {
+            phase: _phase,
+            from: _from,
+            output: _output,
+            named: _named,
+        } = self;
+    }
+}
+
 /// An instance left whole.
-#[derive(Debug, Drop)]
 pub struct Whole {
     pub path: Text,
     pub cell: u32,
@@ -42,11 +52,36 @@ pub struct Whole {
     pub links: Seq<Link>,
 }
 
+/// By hand, so that letting go of one is a call.
+impl Drop for Whole {
+    fn drop(self) {
+        let Whole {
+            path: _path,
+            cell: _cell,
+            model: _model,
+            clocked: _clocked,
+            inputs: _inputs,
+            outputs: _outputs,
+            links: _links,
+        } = self;
+    }
+}
+
 /// What is known of a checked cell: whether it is equal, whether it has neither hold nor latch, and how strongly
 /// each output port of an equal cell drives.
-#[derive(Debug, Drop)]
 pub struct CellFacts {
     pub equal: bool,
     pub stateless: bool,
     pub drives: Seq<Drive>,
+}
+
+/// By hand, so that letting go of one is a call.
+impl Drop for CellFacts {
+    fn drop(self) {
+        let CellFacts {
+            equal: _equal,
+            stateless: _stateless,
+            drives: _drives,
+        } = self;
+    }
 }

@@ -26,7 +26,6 @@ enum Part {
 }
 
 /// What the lines so far give.
-#[derive(Drop)]
 pub struct Script {
     words: String,
     netlist: String,
@@ -34,6 +33,20 @@ pub struct Script {
     rules: String,
     part: Part,
     failures: Failures,
+}
+
+/// By hand, so that letting go of one is a call.
+impl Drop for Script {
+    fn drop(self) {
+        let Script {
+            words: _words,
+            netlist: _netlist,
+            models: _models,
+            rules: _rules,
+            part: _part,
+            failures: _failures,
+        } = self;
+    }
 }
 
 /// A number, 0 where the word is none.
