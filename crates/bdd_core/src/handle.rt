@@ -13,5 +13,6 @@ pub const ONE: H = H(1);
 /// The budget of nodes is used up. `nodes` is the budget.
 #[derive(Clone, Copy, Debug, PartialEq, Eq)]
 pub struct Spent {
+    /// The most nodes that the store may have, its two ends among them.
     pub nodes: u32,
 }

@@ -10,9 +10,13 @@ use std::marker::Model;
 /// What was asked, in three numbers, and the place that was answered. `f` is 0 in an entry that is empty.
 #[derive(Clone, Copy, PartialEq, Eq)]
 pub struct Entry {
+    /// The handle of the function that was asked about.
     pub f: u32,
+    /// For `ite` the handle of the function where `f` is 1, for `restrict` the number of the fixed variable.
     pub g: u32,
+    /// For `ite` the handle of the function where `f` is 0, for `restrict` a mark of the fixed bit.
     pub h: u32,
+    /// The handle that was answered.
     pub r: u32,
 }
 

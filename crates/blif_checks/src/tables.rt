@@ -13,7 +13,9 @@ use vrt_model::{Blif, BlifModel, NoMemory, Seq};
 
 /// The numbers of models by name, and of each model the signals of its interface.
 pub struct Tables {
+    /// The names of the models. The place of a name is the number of its model, from 0.
     pub names: Names,
+    /// For each model, by its number, the names of its inputs, clocks and outputs, each once.
     pub interfaces: Seq<Names>,
 }
 

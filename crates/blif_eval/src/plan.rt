@@ -13,7 +13,9 @@ use vrt_model::{FlatModel, NoMemory, Seq};
 /// The signals and elements of a model in an order that follows what depends on what. Elements are numbered after the
 /// signals. `drivers` has for each signal the place of the cover that gives it, or the number of covers where none does.
 pub struct ModelPlan {
+    /// The numbers of the signals, and behind these of the elements, each once, each after those that it hangs on.
     pub steps: Seq<u32>,
+    /// For each signal, by its number, the place of its cover in `FlatModel.covers`, from 0, or their count.
     pub drivers: Seq<usize>,
 }
 
@@ -30,7 +32,9 @@ impl Drop for ModelPlan {
 /// Why a model has no plan: what depends on what leads around. The cycle begins with the least number on any.
 #[derive(Drop)]
 pub enum PlanFault {
+    /// The numbers of the signals on the first cycle, each of which the next hangs on.
     ModelCycle { signals: Seq<u32> },
+    /// Memory could not be had.
     NoMemory,
 }
 

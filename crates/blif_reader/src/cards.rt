@@ -12,8 +12,11 @@ use vrt_model::{NoMemory, Seq, Text};
 
 /// A card: the number of its first line, from 1, whether all its bytes are text, and its words.
 pub struct Card {
+    /// The number of its first line, from 1, which faults tell.
     pub line: u32,
+    /// Whether each byte outside comments is a tab or from the space to the tilde.
     pub is_all_text: bool,
+    /// Its words as written, without comments, at least one.
     pub words: Seq<Text>,
 }
 
@@ -31,7 +34,9 @@ impl Drop for Card {
 /// Lines that are to be joined with the next: the number of the first, and their bytes.
 #[derive(Drop)]
 pub struct Open {
+    /// The number of the first of the lines, from 1.
     pub line: u32,
+    /// The bytes of the lines so far, without comments and without the `\` at their ends.
     pub bytes: Text,
 }
 

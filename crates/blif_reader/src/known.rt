@@ -4,8 +4,11 @@ use text_lines::Names;
 
 /// The names of all models, whether a model is open, and the cover that goes on.
 pub struct Known {
+    /// The names on the `.model` cards so far.
     pub models: Names,
+    /// Whether a `.model` card was met and no `.end` behind it.
     pub is_inside: bool,
+    /// The cover to which rows may still come; none behind another card that begins with `.`.
     pub cover: Option<OpenCover>,
 }
 
@@ -23,6 +26,8 @@ impl Drop for Known {
 /// A cover that goes on: how many inputs it has, and the output of its first row.
 #[derive(Clone, Copy)]
 pub struct OpenCover {
+    /// How many inputs the cover has, and so how many bytes a row.
     pub width: usize,
+    /// The output of the first row, which all others must have; none before the first row.
     pub first: Option<bool>,
 }

@@ -11,8 +11,11 @@ use vrt_model::{LatchKind, LatchLine, NoMemory, Seq, Text};
 /// What is behind the input and the output of a latch: its type, its control and its initial value.
 #[derive(Drop)]
 pub struct LatchEnd {
+    /// The TYPE: `re`, `fe`, `ah` or `al`; none where the card has no TYPE.
     pub kind: Option<LatchKind>,
+    /// The name of the signal of CONTROL; none for `NIL` and where the card has no CONTROL.
     pub control: Option<Text>,
+    /// INIT, 0 to 3, and 3 where the card has none.
     pub init: u8,
 }
 

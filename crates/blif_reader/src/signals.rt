@@ -12,7 +12,9 @@ use vrt_model::{NoMemory, Seq, Text};
 
 /// A signal, and the line of the card that lists it first.
 pub struct Listed {
+    /// The line of the card that lists the signal first, from 1.
     pub line: u32,
+    /// The name of the signal as written.
     pub name: Text,
 }
 

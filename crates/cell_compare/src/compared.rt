@@ -21,8 +21,11 @@ use vrt_model::{Blif, CellFacts, Design, NoMemory, Rules, Seq, Verdict, Why};
 /// there, by which the cycle is named.
 #[derive(Drop)]
 pub struct Compared {
+    /// The answer for the cell, which is printed in one line.
     pub verdict: Verdict,
+    /// What cells above may use of this one.
     pub facts: CellFacts,
+    /// What was compared; none for `Skipped` and where no circuit and model were made.
     pub flattened: Option<Flattened>,
 }
 

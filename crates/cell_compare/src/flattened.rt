@@ -6,8 +6,11 @@ use vrt_model::{Circuit, FaultAt, FlatModel, Pairing};
 
 /// The flat circuit and the flat model of a cell, and how its ports and the signals of the model pair.
 pub struct Flattened {
+    /// Which model it is, and which signals its ports pair with.
     pub pairing: Pairing,
+    /// The circuit of the cell with all instances unrolled.
     pub circuit: Circuit,
+    /// The model with all sub-models unrolled.
     pub model: FlatModel,
 }
 
@@ -24,7 +27,9 @@ impl Drop for Flattened {
 
 /// The order in which a phase is worked through: the parts of the circuit, and the signals of the model.
 pub struct PhasePlan {
+    /// The channel-connected parts of the circuit in the order in which they are solved.
     pub parts: Parts,
+    /// The signals of the model in the order in which they take their bits.
     pub model: ModelPlan,
 }
 

@@ -15,8 +15,11 @@ use vrt_model::{FaultKind, Net};
 /// `at` is the function that is 1 at the valuations of the care set at which the fault stands.
 #[derive(Clone, Copy, Debug, PartialEq, Eq)]
 pub struct CircuitFault {
+    /// `Fight` or `Float`.
     pub kind: FaultKind,
+    /// The net at which the fault stands.
     pub net: Net,
+    /// At which valuations it stands: a function that is not constant 0.
     pub at: H,
 }
 

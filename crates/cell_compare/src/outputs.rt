@@ -17,8 +17,11 @@ use vrt_model::Net;
 /// An output port that is compared: its place among the ports, its net in the circuit, and its signal in the model.
 #[derive(Clone, Copy, Debug, PartialEq, Eq)]
 pub struct Output {
+    /// The place of the port in `Cell.ports`, from 0.
     pub place: u32,
+    /// The net of the port in the circuit.
     pub net: Net,
+    /// The number of the signal, a place in `FlatModel.signals`.
     pub signal: u32,
 }
 
@@ -26,7 +29,9 @@ pub struct Output {
 /// set at which the two differ.
 #[derive(Clone, Copy, Debug, PartialEq, Eq)]
 pub struct OutputFault {
+    /// The output port that differs from its model.
     pub output: Output,
+    /// At which valuations it differs: a function that is not constant 0.
     pub at: H,
 }
 

@@ -14,12 +14,19 @@ use vrt_model::{Circuit, NoMemory};
 /// the model with its default clock, its elements and its signals, and a word for each variable.
 #[derive(Clone, Copy, Debug)]
 pub struct PhaseWords {
+    /// One word for each net, by its number: the bit that a net with a given value has.
     pub roots: Span,
+    /// One word for each net, by its number: its bit as gates see it, which is known, given, or found in its part.
     pub gates: Span,
+    /// Ten words for each net, in which part after part is solved: which levels its nets have, and which values.
     pub out: Span,
+    /// One word for each signal, the bits of inputs and clocks, and one for the bit of the default clock.
     pub inputs: Span,
+    /// The held bits of latch elements: no word, since no model with latches is compared yet.
     pub held: Span,
+    /// One word for each signal, by its number: the bit that the model gives it.
     pub values: Span,
+    /// One word for each variable, in which the least valuation of a fault is found.
     pub least: Span,
 }
 

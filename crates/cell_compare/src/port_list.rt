@@ -10,8 +10,11 @@ use vrt_model::{NoMemory, PortRole};
 /// A port of a cell: its place among the ports, its net in the circuit, and its role.
 #[derive(Clone, Copy, Debug, PartialEq, Eq)]
 pub struct Port {
+    /// The place of the port in `Cell.ports`, from 0.
     pub place: u32,
+    /// The number of its net: 0 or 1 for a supply of that value, from 2 on for the others in their order.
     pub net: u32,
+    /// Whether it is a supply, a clock, an input or an output, and of which signal.
     pub role: PortRole,
 }
 

@@ -16,6 +16,7 @@ pub const HIGH: Net = Net(1);
 /// the two supplies, and no names.
 #[derive(Drop)]
 pub struct Draft {
+    /// What is drawn so far. Net 0 is supply 0, and net 1 supply 1.
     pub circuit: Circuit,
     alloc: Global,
 }

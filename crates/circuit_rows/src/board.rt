@@ -18,6 +18,7 @@ const MOST: usize = 1000;
 
 /// A part, and the spans of its words in a store.
 pub struct Board {
+    /// The diagrams of the part, with a variable for each input and then for each hold.
     pub store: Store,
     part: Part,
     gates: Span,

@@ -65,8 +65,11 @@ pub enum Path {
 pub enum Word {
     /// `circuit`: a new one is drawn.
     Circuit,
+    /// A line that adds to the circuit.
     Drawing(Drawing),
+    /// A line that asks for what is known, for parts, or for what nets show at one valuation.
     Ask(Ask),
+    /// A line that asks for strengths and values at all valuations at once.
     Path(Path),
     /// `small`: all circuits of three plain nets with at most three devices.
     Small,

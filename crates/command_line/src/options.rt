@@ -26,12 +26,19 @@ pub enum Mode {
 /// The values of the options, where they are there, and the three files; no files where no file is named.
 #[derive(Clone, Copy)]
 pub struct Choices<'a> {
+    /// The value of `--do`, and `Check` where it is not there.
     pub mode: Mode,
+    /// The value of `--cell`, the name of a cell.
     pub cell: Option<&'a str>,
+    /// The value of `--phase`, the name of a phase.
     pub phase: Option<&'a str>,
+    /// The value of `--at`, bits of variables as `a=1,b=0`.
     pub at: Option<&'a str>,
+    /// The value of `--budget`, in nodes of diagrams, from 65,536 to 64,000,000.
     pub budget: Option<u32>,
+    /// The value of `--size`, of the hierarchy that is generated, from 1 to 32.
     pub size: Option<u32>,
+    /// The three words that are no options; none where there is no such word.
     pub files: Option<FileWords<'a>>,
 }
 

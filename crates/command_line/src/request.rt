@@ -9,8 +9,11 @@ use crate::options::{Choices, Mode};
 /// The names of the three files.
 #[derive(Clone, Copy)]
 pub struct FileWords<'a> {
+    /// The file of the netlist, the first of the three words.
     pub spice: &'a str,
+    /// The file of the models, the second.
     pub blif: &'a str,
+    /// The rules file, the third.
     pub rules: &'a str,
 }
 

@@ -14,7 +14,9 @@ use vrt_model::{Cell, Design, DeviceCard, Net, NoMemory, Text};
 /// The names of nets without the two supplies: the other ports, how many they are, then the global nets that a card
 /// names and the other nets in the order of first mention.
 pub struct NetTable {
+    /// The names of the nets. The place of a name and 2 more is the number of its net in the flat circuit.
     pub names: Names,
+    /// How many of the names, the first ones, are those of ports.
     pub port_count: usize,
 }
 

@@ -16,13 +16,17 @@ use vrt_model::{
 /// The kind and the level that a `device` rule declares.
 #[derive(Clone, Copy)]
 pub struct Declared {
+    /// Whether the transistors of the model conduct at gate 1 or at gate 0.
     pub kind: Kind,
+    /// The level of these transistors, 4 to 7.
     pub level: u8,
 }
 
 /// What is said of models: by `device` rules, and by `.model` cards.
 pub struct ModelTable {
+    /// What `device` rules declare, by the name of the device model. It goes before the cards.
     pub rules: FirstValues<Declared>,
+    /// The kinds of `.model` cards, by the name of the device model.
     pub cards: FirstValues<Kind>,
 }
 
@@ -38,7 +42,9 @@ impl Drop for ModelTable {
 
 /// What is said of the devices of one cell: the levels of `strength` rules, and the keepers.
 pub struct DeviceTable {
+    /// The levels of single transistors of the cell, 4 to 7, by their names.
     pub strengths: FirstValues<u8>,
+    /// The names of the transistors of the cell that `keeper` rules name.
     pub keepers: Names,
 }
 
@@ -54,8 +60,11 @@ impl Drop for DeviceTable {
 
 /// What is said of the names in one cell.
 pub struct RuleTables {
+    /// The values of supplies, 1 for true, by the names that `supply` rules declare.
     pub supplies: FirstValues<bool>,
+    /// The kinds and levels of device models.
     pub models: ModelTable,
+    /// What is said of the transistors of this cell alone.
     pub devices: DeviceTable,
 }
 

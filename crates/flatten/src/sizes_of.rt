@@ -19,8 +19,11 @@ use vrt_model::{Cell, Design, DeviceCard, Rules, SupplyRule, Text};
 /// How many nets, devices and instances a flat circuit has; a count past the greatest number is that number.
 #[derive(Clone, Copy, Debug, PartialEq, Eq)]
 pub struct FlatSizes {
+    /// The nets, the two supplies among them. With more than 20,000 the cell is not checked.
     pub nets: u64,
+    /// The transistors. With more than 40,000 the cell is not checked.
     pub devices: u64,
+    /// The instances at all depths. With more than 40,000 the cell is not checked.
     pub instances: u64,
 }
 

@@ -10,7 +10,9 @@ use vrt_model::{Cell, Design, NoMemory, Rules};
 
 /// What is said of the names in one cell, and the names of its nets.
 pub struct CellTables {
+    /// What the rules and `.model` cards say of supplies, device models and transistors.
     pub rules: RuleTables,
+    /// The names of the nets of the cell, whose places give the nets their numbers.
     pub nets: NetTable,
 }
 

@@ -32,12 +32,14 @@ fn are_rows(rows: &[Text], width: usize) -> bool
     rows.iter().all(|row| is_row(row, width))
 }
 
+/// Whether numbers, as those of signals, are all below a count.
 pub(crate) fn are_below(numbers: &[u32], count: u32) -> bool
     ensures { result ≡ true → All (λ s. s < count) numbers.now }
 {
     numbers.iter().all(|s| *s < count)
 }
 
+/// Whether a cover reads and gives signals below a count, and each row has a `0`, `1` or `-` for each input.
 pub(crate) fn is_cover(cover: &Cover, count: u32) -> bool
     ensures { result ≡ true → IsCover count cover.now }
 {
@@ -147,7 +149,7 @@ fn is_well_formed(flat: &FlatModel, outputs: &[u32]) -> bool
     have_one_driver(flat, outputs)
 }
 
-// Whether a model is well formed and has no latches.
+/// Whether a model is well formed and has no latches.
 pub(crate) fn is_flat_model(alloc: Global, flat: &FlatModel) -> Result<bool, NoMemory>
     ensures { IfOk result (λ b. b ≡ true → IsFlatModel flat.now × (flat.now.latches ≡ [])) }
 {
@@ -167,7 +169,7 @@ fn are_apart(a: Span, b: Span) -> bool
     a.start as u64 + a.len as u64 <= b.start as u64
 }
 
-// Whether spans are those of a model without latches.
+/// Whether spans are those of a model without latches.
 pub(crate) fn are_model_spans(
     store: &Store,
     flat: &FlatModel,
@@ -203,7 +205,7 @@ fn append_unknown(list: &mut Seq<Option<bool>>) -> Result<(), NoMemory>
     }
 }
 
-// No bit is known.
+/// A list of this length in which no bit is known.
 pub(crate) fn unknown(alloc: Global, count: usize) -> Result<Seq<Option<bool>>, NoMemory>
     ensures size { IfOk result (λ known. length known ≡ count) }
     ensures none { IfOk result (λ known. (s : ℕ) → entry_of known s ≡ None) }

@@ -16,16 +16,22 @@ use vrt_model::{Circuit, NoMemory};
 /// What a net shows: both values reach it, neither does, or the one that does.
 #[derive(Clone, Copy, Debug, PartialEq, Eq)]
 pub enum Response {
+    /// Clear paths from roots of both values end at the net.
     Fight,
+    /// No clear path ends at the net.
     Float,
+    /// Clear paths from roots of this value alone end at the net.
     Bit(bool),
 }
 
 /// The signals of a circuit at one valuation, by the numbers of the nets: the strength of each net, from 0 to 8, and
 /// whether a clear path from a root of value 0, and of value 1, ends there.
 pub struct Signals {
+    /// The greatest level of a path that ends at the net, 1 to 8, and 0 where none does (Bryant 1984).
     pub strengths: Vec<u8>,
+    /// Whether the value 0 reaches the net.
     pub zeros: Vec<bool>,
+    /// Whether the value 1 reaches the net.
     pub ones: Vec<bool>,
 }
 

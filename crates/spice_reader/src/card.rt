@@ -11,9 +11,13 @@ use vrt_model::{NoMemory, Seq, Text};
 
 /// A card: the number of its first line, whether it continues nothing, whether its bytes are text, and its words.
 pub struct Card {
+    /// The number of its first line, from 1, which faults tell.
     pub line: u32,
+    /// Whether it is a `+` line behind no card, which is a fault.
     pub is_orphan: bool,
+    /// Whether each byte outside comments is a tab or from the space to the tilde.
     pub is_all_text: bool,
+    /// Its words in lower case, without comments and without blanks around `=`.
     pub words: Seq<Text>,
 }
 
@@ -32,7 +36,9 @@ impl Drop for Card {
 /// A card that may go on: the number of its first line, and the bytes of its lines.
 #[derive(Drop)]
 pub struct Open {
+    /// The number of its first line, from 1.
     pub line: u32,
+    /// The bytes of its lines so far, without comments, a blank in place of each `+`.
     pub bytes: Text,
 }
 

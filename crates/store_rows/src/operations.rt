@@ -9,9 +9,13 @@ use std::alloc::Global;
 /// An operation of two functions.
 #[derive(Clone, Copy, Debug, PartialEq, Eq)]
 pub enum Operation {
+    /// 1 where both are.
     And,
+    /// 1 where one is, or both.
     Or,
+    /// 1 where exactly one is.
     Xor,
+    /// 0 exactly where the first is 1 and the second 0.
     Implies,
 }
 

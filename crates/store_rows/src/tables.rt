@@ -12,6 +12,7 @@ use vrt_model::{Valuation, Var};
 
 /// A store with the function of each table, in the order of the tables.
 pub struct Tables {
+    /// The store of all 256 functions, with three variables: 0 is x, 1 is y, 2 is z.
     pub store: Store,
     all: Vec<H>,
 }

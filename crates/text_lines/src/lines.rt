@@ -10,7 +10,9 @@ use vrt_model::NoMemory;
 /// A line of a text, without its line feed and a carriage return before that. Lines are counted from 1.
 #[derive(Clone, Copy)]
 pub struct Line<'a> {
+    /// Which line of the text it is, from 1.
     pub number: u32,
+    /// Its bytes without the line end. They need not be text.
     pub bytes: &'a [u8],
 }
 

@@ -23,14 +23,19 @@ use vrt_model::{
 /// A name on a line of the rules that is not there.
 #[derive(Clone, Copy)]
 pub struct MissingName<'a> {
+    /// The line of the rules file, from 1.
     pub line: u32,
+    /// The name of a cell, or of a device or a port of a cell, in lower case.
     pub name: &'a [u8],
 }
 
 /// The names of the cells, and of each cell its devices and its ports.
 pub struct Tables {
+    /// The names of the cells. The place of a name is the number of its cell, from 0.
     pub cells: Names,
+    /// For each cell, by its number, the names of its transistors.
     pub devices: Seq<Names>,
+    /// For each cell, by its number, the names of its ports.
     pub ports: Seq<Names>,
 }
 

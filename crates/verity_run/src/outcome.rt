@@ -20,7 +20,9 @@ use vrt_model::{NoMemory, Seq, Text};
 
 /// A status, and the lines that are written with it.
 pub struct Answer {
+    /// How the run ends, where the lines can be written.
     pub status: Status,
+    /// The verdict lines in the order of the cells, or the one line of a refusal, each with its line feed.
     pub lines: Seq<Text>,
 }
 

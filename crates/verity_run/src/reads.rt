@@ -10,22 +10,30 @@ use vrt_io::{Files, Loaded};
 /// Why a file was not read.
 #[derive(Clone, Copy, Debug, PartialEq, Eq)]
 pub enum Stop {
+    /// The source of files failed: `verity: FILE: read failed`.
     Failed,
+    /// It has more than 16,777,216 bytes: `verity: FILE line 0: longer than 16777216 bytes`.
     TooLong,
+    /// Memory could not be had. No line is printed.
     NoMemory,
 }
 
 /// The file that was not read, and why.
 #[derive(Clone, Copy)]
 pub struct Stopped<'a> {
+    /// The name of the file as on the command line.
     pub name: &'a str,
+    /// What stood in the way.
     pub stop: Stop,
 }
 
 /// The bytes of the three files.
 pub struct Texts {
+    /// The netlist, at most 16,777,216 bytes.
     pub spice: Vec<u8>,
+    /// The models, at most 16,777,216 bytes.
     pub blif: Vec<u8>,
+    /// The rules, at most 16,777,216 bytes.
     pub rules: Vec<u8>,
 }
 

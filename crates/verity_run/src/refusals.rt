@@ -39,8 +39,11 @@ pub enum Refusal {
 
 /// What the three files say.
 pub struct Inputs {
+    /// The netlist of cells.
     pub design: Design,
+    /// The models, which can be unrolled.
     pub blif: Blif,
+    /// What the rules file declares.
     pub rules: Rules,
 }
 

@@ -18,8 +18,11 @@ use vrt_model::{
 /// Which file has a form that is not built yet, and in which line.
 #[derive(Clone, Copy, Debug, PartialEq, Eq)]
 pub enum Unbuilt {
+    /// An instance: the line of the first instance card in the SPICE file, from 1.
     Netlist(u32),
+    /// A latch: the line of the `.model` card of the first model with one in the BLIF file, from 1.
     Model(u32),
+    /// A `hold`, `match`, `enter`, `keeper` or `assume` line: the first such line of the rules file, from 1.
     Rules(u32),
 }
 

@@ -10,7 +10,9 @@ use std::alloc::Global;
 /// The call that fails, counted from 1, and how many bytes it takes before.
 #[derive(Clone, Copy, Debug)]
 pub struct Failure {
+    /// Which call of `put` fails, counted from 1.
     pub call: u32,
+    /// How many bytes of its piece that call takes at most.
     pub kept: u32,
 }
 

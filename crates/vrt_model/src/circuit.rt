@@ -5,14 +5,20 @@ use crate::{ClockRef, Kind, Net, Seq, Text, Whole};
 /// What gives a net its value.
 #[derive(Clone, Copy, Debug, PartialEq, Eq)]
 pub enum NetKind {
+    /// A supply of this value, 1 for true: a root of level 8 in every phase.
     Supply(bool),
+    /// The net of a port with a `clockport` rule: a root of level 8 with the bit of what it carries in the phase.
     Clock(ClockRef),
+    /// The net of an input port: a root of level 8, whose bit is a variable in each phase.
     Input,
+    /// Every other net, those of outputs among them: its value comes by paths.
     Plain,
 }
 
 pub struct FlatNet {
+    /// The name of the net, in an instance with its path, as `x1/n3`; of a supply by its first rule, else its digit.
     pub name: Text,
+    /// Whether the net has a given value, and which, or is plain.
     pub kind: NetKind,
 }
 
@@ -28,12 +34,19 @@ impl Drop for FlatNet {
 
 /// A transistor. Its channel joins `left` and `right`.
 pub struct Device {
+    /// The name of the transistor, in an instance with its path, as `x1/m3`.
     pub name: Text,
+    /// Whether it conducts at gate 1 or at gate 0.
     pub kind: Kind,
+    /// The net whose bit says whether the channel conducts.
     pub gate: Net,
+    /// The net of the drain. A channel has no direction, so the two ends may be exchanged.
     pub left: Net,
+    /// The net of the source.
     pub right: Net,
+    /// Behind it a signal has at most this level, 4 to 7 (Bryant 1984): by `strength`, else by `device`, else 6.
     pub level: u8,
+    /// Whether a `keeper` line names it: the bare circuit, which is solved first, leaves it out.
     pub keeper: bool,
 }
 
@@ -55,7 +68,9 @@ impl Drop for Device {
 /// In this phase the hold has this value.
 #[derive(Clone, Copy, Debug, PartialEq, Eq)]
 pub struct Enter {
+    /// The number of the phase that begins so, from 0, a place in the phases of the rules.
     pub phase: u32,
+    /// The bit that the hold has as this phase begins.
     pub value: bool,
 }
 
@@ -63,7 +78,10 @@ pub struct Enter {
 /// of an instance, by its place in the circuit's list, or of the checked cell.
 #[derive(Drop)]
 pub enum HoldEnd {
+    /// No `match` line leads on: the hold's own net.
     Own(Net),
+    /// The `match` lines lead to a latch element, by its name: that of the latch's output, with `#m` for a master. It
+    /// is of the instance at this place in `Circuit.instances`, or of the checked cell where there is none.
     Latch {
         instance: Option<u32>,
         element: Text,
@@ -72,10 +90,15 @@ pub enum HoldEnd {
 
 /// A net that keeps its charge.
 pub struct Hold {
+    /// The net that keeps its charge. No other hold has it.
     pub net: Net,
+    /// The level of its charge, 1 to 3 (the size of a node, Bryant 1984): where charges meet, the greatest counts.
     pub size: u8,
+    /// For what the hold stands. Holds with the same end share one bit.
     pub end: HoldEnd,
+    /// Whether the hold has the inverse of the bit at its end, by the `!` on the `match` lines.
     pub inverted: bool,
+    /// The values of its `enter` lines, at most one for each phase.
     pub enters: Seq<Enter>,
 }
 
@@ -94,8 +117,11 @@ impl Drop for Hold {
 
 /// An instance of a cell, and the net of each of its ports.
 pub struct FlatInstance {
+    /// Where the instance stands, as `x1/x2` for `x2` in the instance `x1`.
     pub path: Text,
+    /// The number of its cell, from 0, a place in `Design.cells`.
     pub cell: u32,
+    /// The net of each port of that cell, in the order of the ports.
     pub ports: Seq<Net>,
 }
 
@@ -112,10 +138,15 @@ impl Drop for FlatInstance {
 
 /// A circuit. A flat circuit has no whole instances.
 pub struct Circuit {
+    /// The nets by their numbers: supply 0, supply 1, the other ports, the global nets, the other nets.
     pub nets: Seq<FlatNet>,
+    /// The transistors by their numbers, keepers among them.
     pub devices: Seq<Device>,
+    /// The nets that keep their charge, at most one hold for each net.
     pub holds: Seq<Hold>,
+    /// The instances at all depths, but the checked cell itself and what is inside whole instances.
     pub instances: Seq<FlatInstance>,
+    /// The instances left whole, whose models drive their outputs.
     pub wholes: Seq<Whole>,
 }
 

@@ -5,14 +5,19 @@ use crate::{Kind, Seq, Text};
 /// A clock, and whether it is carried inverted.
 #[derive(Clone, Copy, Debug, PartialEq, Eq)]
 pub struct ClockRef {
+    /// The number of the clock, from 0, a place in `Rules.clocks`.
     pub clock: u32,
+    /// Whether the bit is the inverse of the clock's, by a `!` before the name.
     pub inverted: bool,
 }
 
 /// A phase gives each clock a bit.
 pub struct Phase {
+    /// The line of the `phase` line, from 1; 0 for the phase `all`, which stands where there is no such line.
     pub line: u32,
+    /// The name of the phase, in lower case, as verdict lines print it.
     pub name: Text,
+    /// The bit of each clock in this phase, in the order of `Rules.clocks`.
     pub bits: Seq<bool>,
 }
 
@@ -30,16 +35,24 @@ impl Drop for Phase {
 /// An expression over the ports of a cell.
 #[derive(Drop)]
 pub enum Expr {
+    /// The bit at a port of the cell, by its name in lower case.
     Port(Text),
+    /// `!E`, which binds closest.
     Not(Box<Expr>),
+    /// `E & F`, which binds closer than `^`.
     And(Box<Expr>, Box<Expr>),
+    /// `E ^ F`, which binds closer than `|`: exactly one of the two.
     Xor(Box<Expr>, Box<Expr>),
+    /// `E | F`.
     Or(Box<Expr>, Box<Expr>),
 }
 
 pub struct SupplyRule {
+    /// The line of the `supply` line in the rules file, from 1.
     pub line: u32,
+    /// The value of the supply, 1 for true.
     pub value: bool,
+    /// The name that is this supply in every cell, in lower case.
     pub net: Text,
 }
 
@@ -55,9 +68,13 @@ impl Drop for SupplyRule {
 }
 
 pub struct DeviceRule {
+    /// The line of the `device` line in the rules file, from 1.
     pub line: u32,
+    /// The name of the device model, in lower case.
     pub model: Text,
+    /// Of which kind the transistors of the model are, whatever its `.model` card says.
     pub kind: Kind,
+    /// The level of the transistors of the model, 4 to 7, and 6 where the line has none.
     pub level: u8,
 }
 
@@ -74,9 +91,13 @@ impl Drop for DeviceRule {
 }
 
 pub struct StrengthRule {
+    /// The line of the `strength` line in the rules file, from 1.
     pub line: u32,
+    /// The name of the cell that the rule is of, in lower case.
     pub cell: Text,
+    /// The name of the transistor in the cell, in lower case.
     pub device: Text,
+    /// The level of that transistor, 4 to 7, which goes before that of its model.
     pub level: u8,
 }
 
@@ -93,9 +114,13 @@ impl Drop for StrengthRule {
 }
 
 pub struct ClockportRule {
+    /// The line of the `clockport` line in the rules file, from 1.
     pub line: u32,
+    /// The name of the cell that the rule is of, in lower case.
     pub cell: Text,
+    /// The name of the port that carries a clock, in lower case.
     pub port: Text,
+    /// The clock that the port carries, or its inverse.
     pub clock: ClockRef,
 }
 
@@ -113,14 +138,19 @@ impl Drop for ClockportRule {
 
 #[derive(Clone, Copy, Debug, PartialEq, Eq)]
 pub struct DefaultclockRule {
+    /// The line of the `defaultclock` line in the rules file, from 1.
     pub line: u32,
+    /// The number of the clock of all latches without a control, from 0, a place in `Rules.clocks`.
     pub clock: u32,
 }
 
 /// The model is none for `-`.
 pub struct PairRule {
+    /// The line of the `pair` line in the rules file, from 1.
     pub line: u32,
+    /// The name of the cell that the rule is of, in lower case.
     pub cell: Text,
+    /// The name of the BLIF model as written; none says that the cell has no model on purpose.
     pub model: Option<Text>,
 }
 
@@ -136,9 +166,13 @@ impl Drop for PairRule {
 }
 
 pub struct PortRule {
+    /// The line of the `port` line in the rules file, from 1.
     pub line: u32,
+    /// The name of the cell that the rule is of, in lower case.
     pub cell: Text,
+    /// The name of the port, in lower case.
     pub port: Text,
+    /// The name of the signal with which it pairs, as written.
     pub signal: Text,
 }
 
@@ -155,9 +189,13 @@ impl Drop for PortRule {
 }
 
 pub struct HoldRule {
+    /// The line of the `hold` line in the rules file, from 1.
     pub line: u32,
+    /// The name of the cell that the rule is of, in lower case.
     pub cell: Text,
+    /// The name of the net that keeps its charge, in lower case.
     pub net: Text,
+    /// The size of the charge, 1 to 3, and 1 where the line has none.
     pub size: u8,
 }
 
@@ -174,8 +212,11 @@ impl Drop for HoldRule {
 }
 
 pub struct KeeperRule {
+    /// The line of the `keeper` line in the rules file, from 1.
     pub line: u32,
+    /// The name of the cell that the rule is of, in lower case.
     pub cell: Text,
+    /// The name of the transistor that only keeps what is there, in lower case.
     pub device: Text,
 }
 
@@ -191,10 +232,15 @@ impl Drop for KeeperRule {
 }
 
 pub struct MatchRule {
+    /// The line of the `match` line in the rules file, from 1.
     pub line: u32,
+    /// The name of the cell that the rule is of, in lower case.
     pub cell: Text,
+    /// The name of the net that stores the bit, in lower case.
     pub net: Text,
+    /// The name of the latch element in the cell's model, as written: `q`, or `q#m` for a master.
     pub latch: Text,
+    /// Whether the net has the inverse of the element's bit, by a `!` before the name.
     pub inverted: bool,
 }
 
@@ -212,11 +258,17 @@ impl Drop for MatchRule {
 }
 
 pub struct InstanceMatchRule {
+    /// The line of the `match` line in the rules file, from 1.
     pub line: u32,
+    /// The name of the cell that the rule is of, in lower case.
     pub cell: Text,
+    /// The name of the instance in that cell, in lower case.
     pub instance: Text,
+    /// The name of the latch element in the model of the instance's cell, as written.
     pub inner: Text,
+    /// The name of the latch element in the model of `cell`, as written.
     pub latch: Text,
+    /// Whether the two have inverse bits, by a `!` before the second name.
     pub inverted: bool,
 }
 
@@ -235,10 +287,15 @@ impl Drop for InstanceMatchRule {
 }
 
 pub struct EnterRule {
+    /// The line of the `enter` line in the rules file, from 1.
     pub line: u32,
+    /// The name of the cell that the rule is of, in lower case.
     pub cell: Text,
+    /// The number of the phase that begins so, from 0, a place in `Rules.phases`.
     pub phase: u32,
+    /// The name of the net that keeps its charge, in lower case.
     pub net: Text,
+    /// The bit of that charge as the phase begins.
     pub value: bool,
 }
 
@@ -256,9 +313,13 @@ impl Drop for EnterRule {
 }
 
 pub struct ObserveRule {
+    /// The line of the `observe` line in the rules file, from 1.
     pub line: u32,
+    /// The name of the cell that the rule is of, in lower case.
     pub cell: Text,
+    /// The name of the output port, in lower case.
     pub port: Text,
+    /// The numbers of the phases in which it is compared, from 0, places in `Rules.phases`.
     pub phases: Seq<u32>,
 }
 
@@ -276,9 +337,13 @@ impl Drop for ObserveRule {
 
 /// The phase is none for `*`.
 pub struct AssumeRule {
+    /// The line of the `assume` line in the rules file, from 1.
     pub line: u32,
+    /// The name of the cell that the rule is of, in lower case.
     pub cell: Text,
+    /// The number of the phase in which the expression holds, from 0; none for all phases.
     pub phase: Option<u32>,
+    /// What holds of the inputs of the cell: only valuations at which it is 1 are checked.
     pub expression: Expr,
 }
 
@@ -296,21 +361,37 @@ impl Drop for AssumeRule {
 
 /// The rules by their first words, each list in the order of the lines.
 pub struct Rules {
+    /// The names of the clocks, in lower case, at most 16, each once. Their places are their numbers.
     pub clocks: Seq<Text>,
+    /// The phases, from 1 to 16, in the order in which they follow each other; after the last comes the first.
     pub phases: Seq<Phase>,
+    /// Which names are supplies in every cell.
     pub supplies: Seq<SupplyRule>,
+    /// The kinds and levels of device models.
     pub devices: Seq<DeviceRule>,
+    /// The levels of single transistors.
     pub strengths: Seq<StrengthRule>,
+    /// Which ports carry clocks.
     pub clockports: Seq<ClockportRule>,
+    /// The clock of latches without a control, at most one.
     pub defaultclocks: Seq<DefaultclockRule>,
+    /// Which cells have a model of another name, or none on purpose.
     pub pairs: Seq<PairRule>,
+    /// Which ports pair with a signal of another name.
     pub ports: Seq<PortRule>,
+    /// Which nets keep their charge, and with what size.
     pub holds: Seq<HoldRule>,
+    /// Which transistors only keep what is there.
     pub keepers: Seq<KeeperRule>,
+    /// Which nets store the bit of a latch element.
     pub matches: Seq<MatchRule>,
+    /// Which latch elements of instances are which of the cell around.
     pub instance_matches: Seq<InstanceMatchRule>,
+    /// Which charges are constant as a phase begins.
     pub enters: Seq<EnterRule>,
+    /// Which outputs are compared in some phases only; an output without a rule is compared in all.
     pub observes: Seq<ObserveRule>,
+    /// What holds of the inputs of cells.
     pub assumes: Seq<AssumeRule>,
 }
 
