@@ -17,9 +17,8 @@ use latch_match::{is_skipped, model_of};
 use std::alloc::Global;
 use vrt_model::{Blif, CellFacts, Design, NoMemory, Rules, Seq, Verdict, Why};
 
-/// The verdict on a cell, and what is known of the cell then. Where a cycle is told, its flat circuit and flat model are
-/// there, by which the cycle is named.
-#[derive(Drop)]
+/// The verdict on a cell, and what is known of the cell then, with its flat circuit and flat model, by which what the
+/// verdict speaks of is named.
 pub struct Compared {
     /// The answer for the cell, which is printed in one line.
     pub verdict: Verdict,

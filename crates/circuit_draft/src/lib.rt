@@ -7,9 +7,10 @@ ghost use Rattle.circuit_draft.specs.Drawn.{supplies, HasNet, HasDevice, HasInve
 use std::alloc::Global;
 use vrt_model::{Circuit, Device, FlatNet, Hold, HoldEnd, Kind, Net, NetKind, NoMemory, Seq, Text};
 
-/// The supplies of a drawn circuit.
+/// The low supply of a drawn circuit.
 pub const LOW: Net = Net(0);
 
+/// The high supply of a drawn circuit.
 pub const HIGH: Net = Net(1);
 
 /// A circuit to which nets, devices and holds are added. Nets have numbers in the order in which they are added, behind

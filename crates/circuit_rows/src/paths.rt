@@ -9,9 +9,10 @@ use bdd_ops::{and, not, or};
 use std::alloc::Global;
 use vrt_model::{Circuit, Net};
 
-/// The entries of the values 0 and 1.
+/// The entry of the value 0.
 pub const ZEROS: u32 = 9;
 
+/// The entry of the value 1.
 pub const ONES: u32 = 10;
 
 /// A circuit's part with its words, whether the budget was used up, and a sum of products.

@@ -15,6 +15,7 @@ pub enum NetKind {
     Plain,
 }
 
+/// A net of a flat circuit.
 pub struct FlatNet {
     /// The name of the net, in an instance with its path, as `x1/n3`; of a supply by its first rule, else its digit.
     pub name: Text,

@@ -47,6 +47,7 @@ pub enum Expr {
     Or(Box<Expr>, Box<Expr>),
 }
 
+/// A name of a `supply` line: the nets of this name are a supply.
 pub struct SupplyRule {
     /// The line of the `supply` line in the rules file, from 1.
     pub line: u32,
@@ -67,6 +68,7 @@ impl Drop for SupplyRule {
     }
 }
 
+/// A `device` line: the kind and the level of the transistors of a device model.
 pub struct DeviceRule {
     /// The line of the `device` line in the rules file, from 1.
     pub line: u32,
@@ -90,6 +92,7 @@ impl Drop for DeviceRule {
     }
 }
 
+/// A `strength` line: the level of one transistor.
 pub struct StrengthRule {
     /// The line of the `strength` line in the rules file, from 1.
     pub line: u32,
@@ -113,6 +116,7 @@ impl Drop for StrengthRule {
     }
 }
 
+/// A `clockport` line: a port that carries a clock.
 pub struct ClockportRule {
     /// The line of the `clockport` line in the rules file, from 1.
     pub line: u32,
@@ -136,6 +140,7 @@ impl Drop for ClockportRule {
     }
 }
 
+/// The `defaultclock` line.
 #[derive(Clone, Copy, Debug, PartialEq, Eq)]
 pub struct DefaultclockRule {
     /// The line of the `defaultclock` line in the rules file, from 1.
@@ -165,6 +170,7 @@ impl Drop for PairRule {
     }
 }
 
+/// A `port` line: the signal with which a port pairs.
 pub struct PortRule {
     /// The line of the `port` line in the rules file, from 1.
     pub line: u32,
@@ -188,6 +194,7 @@ impl Drop for PortRule {
     }
 }
 
+/// A `hold` line: a net that stores charge.
 pub struct HoldRule {
     /// The line of the `hold` line in the rules file, from 1.
     pub line: u32,
@@ -211,6 +218,7 @@ impl Drop for HoldRule {
     }
 }
 
+/// A transistor of a `keeper` line.
 pub struct KeeperRule {
     /// The line of the `keeper` line in the rules file, from 1.
     pub line: u32,
@@ -231,6 +239,7 @@ impl Drop for KeeperRule {
     }
 }
 
+/// A `match` line of a net: the latch element whose bit the net stores.
 pub struct MatchRule {
     /// The line of the `match` line in the rules file, from 1.
     pub line: u32,
@@ -257,6 +266,7 @@ impl Drop for MatchRule {
     }
 }
 
+/// A `match` line of an instance: two latch elements that store the same, one of them in the instance.
 pub struct InstanceMatchRule {
     /// The line of the `match` line in the rules file, from 1.
     pub line: u32,
@@ -286,6 +296,7 @@ impl Drop for InstanceMatchRule {
     }
 }
 
+/// An `enter` line: the bit with which a net enters a phase.
 pub struct EnterRule {
     /// The line of the `enter` line in the rules file, from 1.
     pub line: u32,
@@ -312,6 +323,7 @@ impl Drop for EnterRule {
     }
 }
 
+/// An `observe` line: the phases in which an output is compared.
 pub struct ObserveRule {
     /// The line of the `observe` line in the rules file, from 1.
     pub line: u32,
