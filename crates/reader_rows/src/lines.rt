@@ -1,30 +1,9 @@
 //! Lines of texts, and their words.
 
 use crate::MOST_BYTES;
-use crate::case::Case;
 use anyhow::{Result, bail};
 use std::alloc::Global;
 use text_lines::{Line, cut_lines, cut_words, numbered_lines};
-
-/// Texts whose last line is looked at.
-const CASES: &[Case] = &[
-    Case {
-        name: "two lines with a carriage return, blanks and tabs",
-        text: b"a b\r\n\tc  d\t",
-    },
-    Case {
-        name: "a last line that is empty",
-        text: b"a\n\r\n",
-    },
-    Case {
-        name: "a carriage return at the end of the text",
-        text: b"\n x\r",
-    },
-    Case {
-        name: "ten words",
-        text: b"1 2 3 4 5 6 7 8 9 10",
-    },
-];
 
 /// How many lines a text has.
 fn count(alloc: Global, text: &[u8]) -> Result<usize> {
@@ -57,22 +36,11 @@ fn word_count(alloc: Global, line: &[u8]) -> Result<usize> {
 }
 
 /// How many lines a text has, and the number, the bytes and the count of words of the last.
-fn told(alloc: Global, text: &[u8]) -> Result<String> {
+pub fn told(alloc: Global, text: &[u8]) -> Result<String> {
     let count = count(alloc, text)?;
     let line = last(alloc, text)?;
     let number = line.number;
     let bytes = line.bytes;
     let words = word_count(alloc, bytes)?;
-    let told = format!(in alloc; "{count} lines, line {number} is {bytes:?}, {words} words")?;
-    Ok(told)
-}
-
-/// Prints what is told of each text.
-pub fn tell(rt: HostRuntime) -> Result<()> {
-    for case in CASES {
-        let name = case.name;
-        let told = told(rt.alloc(), case.text)?;
-        println!(rt; "{name}: {told}")?;
-    }
-    Ok(())
+    Ok(format!(in alloc; "{count} lines, line {number} is {bytes:?}, {words} words")?)
 }

@@ -1,43 +1,48 @@
 //! Texts, models and cells that are worked out by hand, each with what the readers, the checks of models, the pairing and
-//! the flat circuits answer of it: one line a case, with its name.
+//! the flat circuits answer of it: one line a case, with its name. Standard input gives the texts and says what is asked of
+//! them, a line at a time (`script`, `desk`).
 //!
 //! | module | of what |
 //! |---|---|
 //! | `lines`, `names` | the lines and words of a text, sets of names |
-//! | `netlists`, `models`, `rules` | each fault of the three readers, their limits, each front of a text |
+//! | `netlists`, `models`, `rules` | what the three readers answer of a text, and of each front of it |
 //! | `checks` | each fault of models, which stand in one another up to 32 deep |
 //! | `unrollings` | models with their sub-models unrolled, and the limits of these |
 //! | `pairings` | the model of a cell, and the signals of its ports |
 //! | `circuits` | the flat circuit of a cell, its sizes, and what stands in its way |
 #![tactic(auto)]
 
-mod case;
 mod checks;
 mod circuits;
-mod library;
+mod desk;
 mod lines;
+mod marks;
 mod models;
 mod names;
 mod netlists;
 mod pairings;
-mod refusals;
 mod rules;
+mod script;
 mod texts;
 mod unrollings;
 
 use anyhow::Result;
+use script::Script;
 
 /// The most bytes of a text that a reader takes.
 const MOST_BYTES: usize = 16_777_216;
 
+/// Prints what a line asked for, where it was answered.
+fn show(rt: HostRuntime, answered: Result<String>) -> Result<()> {
+    let text = answered?;
+    print!(rt; "{text}")?;
+    Ok(())
+}
+
 fn main(rt: HostRuntime) -> Result<()> {
-    lines::tell(rt)?;
-    names::tell(rt)?;
-    netlists::tell(rt)?;
-    models::tell(rt)?;
-    rules::tell(rt)?;
-    checks::tell(rt)?;
-    unrollings::tell(rt)?;
-    pairings::tell(rt)?;
-    circuits::tell(rt)
+    let mut script = Script::new(rt.alloc());
+    for line in rt.lines(rt.alloc()) {
+        show(rt, desk::take(rt.alloc(), &mut script, line?.as_str()))?;
+    }
+    Ok(())
 }

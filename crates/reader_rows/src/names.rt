@@ -4,59 +4,89 @@ use anyhow::{Result, bail};
 use std::alloc::Global;
 use text_lines::Names;
 
-/// Names, of which one stands twice and one is empty.
-const GIVEN: &[&[u8]] = &[b"vdd", b"gnd", b"vdd", b""];
+/// What is told of a set to which names are added, with a comma between two.
+///
+/// | word | what is told |
+/// |---|---|
+/// | `empty` | whether it is empty before |
+/// | `numbers` | the numbers of the names while they are added |
+/// | `copies` | how many names there are then, and how many copies are made of them |
+/// | `place` | the place of `gnd` |
+/// | `upper` | whether `VDD` is there |
+/// | `joined` | how many names a set has that has `gnd` and `clk` first, and then all of this |
+pub fn told(alloc: Global, asked: &str) -> Result<String> {
+    let (word, given) = asked.split_once(' ').unwrap_or((asked, ""));
+    let mut names = Names::new(alloc);
+    if word == "empty" {
+        return Ok(format!(in alloc; "{}", names.is_empty())?);
+    }
+    let mut numbers = String::new(alloc);
+    add(alloc, &mut names, given, &mut numbers)?;
+    if word == "numbers" {
+        return Ok(numbers);
+    }
+    told_of(alloc, &names, word)
+}
 
-/// The numbers of the names while they are added to a set.
-fn numbers(alloc: Global, names: &mut Names) -> Result<String> {
-    let mut told = String::new(alloc);
-    for name in GIVEN {
-        let Ok(number) = names.number(name) else {
+/// Adds names to a set, and tells their numbers.
+fn add(alloc: Global, names: &mut Names, given: &str, told: &mut String) -> Result<()> {
+    for name in given.split(',') {
+        let Ok(number) = names.number(name.as_bytes()) else {
             bail!("memory");
         };
-        let shown = format!(in alloc; " {number}")?;
-        told.push_str(shown.as_str())?;
+        add_number(alloc, told, number)?;
     }
-    Ok(told)
+    Ok(())
+}
+
+/// Adds a number, with a blank before it if it is not the first.
+fn add_number(alloc: Global, told: &mut String, number: usize) -> Result<()> {
+    if !told.is_empty() {
+        told.push_str(" ")?;
+    }
+    let shown = format!(in alloc; "{number}")?;
+    told.push_str(shown.as_str())?;
+    Ok(())
+}
+
+/// What is told of a set of names.
+fn told_of(alloc: Global, names: &Names, word: &str) -> Result<String> {
+    match word {
+        "copies" => counts(alloc, names),
+        "place" => Ok(format!(in alloc; "{}", names.place(b"gnd").unwrap_or(9))?),
+        "upper" => Ok(format!(in alloc; "{}", names.contains(b"VDD"))?),
+        "joined" => joined(alloc, names),
+        _ => bail!("no such word: {word}"),
+    }
 }
 
 /// The count of names, and how many copies are made of them.
-fn counts(alloc: Global, names: &Names) -> Result<(usize, usize)> {
-    match names.to_texts(alloc) {
-        Ok(texts) => Ok((names.len(), texts.len())),
-        Err(_) => bail!("memory"),
-    }
+fn counts(alloc: Global, names: &Names) -> Result<String> {
+    let Ok(texts) = names.to_texts(alloc) else {
+        bail!("memory");
+    };
+    let (count, copies) = (names.len(), texts.len());
+    Ok(format!(in alloc; "{count} {copies}")?)
 }
 
 /// How many names a set has that has `gnd` and `clk` first, and then all of another.
-fn joined_count(alloc: Global, others: &Names) -> Result<usize> {
+fn joined(alloc: Global, others: &Names) -> Result<String> {
     let mut names = Names::new(alloc);
+    join(alloc, &mut names, others)?;
+    let count = names.len();
+    Ok(format!(in alloc; "{count}")?)
+}
+
+/// Adds `gnd` and `clk` to a set, and then all names of another.
+fn join(alloc: Global, names: &mut Names, others: &Names) -> Result<()> {
     if names.number(b"gnd").is_err() || names.number(b"clk").is_err() {
         bail!("memory");
     }
     let Ok(texts) = others.to_texts(alloc) else {
         bail!("memory");
     };
-    match names.add_all(texts.as_slice()) {
-        Ok(()) => Ok(names.len()),
-        Err(_) => bail!("memory"),
+    if names.add_all(texts.as_slice()).is_err() {
+        bail!("memory");
     }
-}
-
-/// Prints what is told of a set.
-pub fn tell(rt: HostRuntime) -> Result<()> {
-    let mut names = Names::new(rt.alloc());
-    let is_empty = names.is_empty();
-    println!(rt; "a set of names is empty at first: {is_empty}")?;
-    let numbers = numbers(rt.alloc(), &mut names)?;
-    println!(rt; "the numbers of vdd, gnd, vdd and an empty name:{numbers}")?;
-    let (count, copies) = counts(rt.alloc(), &names)?;
-    println!(rt; "the names and their copies: {count} {copies}")?;
-    let place = names.place(b"gnd").unwrap_or(9);
-    println!(rt; "the place of gnd: {place}")?;
-    let is_there = names.contains(b"VDD");
-    println!(rt; "VDD is there: {is_there}")?;
-    let joined = joined_count(rt.alloc(), &names)?;
-    println!(rt; "the names with gnd and clk before them: {joined}")?;
     Ok(())
 }

@@ -1,6 +1,6 @@
-//! Texts that are made, and what is told of texts.
+//! Names, numbers and pieces of answers.
 
-use anyhow::Result;
+use anyhow::{Result, bail};
 use std::alloc::Global;
 use std::str;
 
@@ -12,44 +12,32 @@ pub fn shown(name: &[u8]) -> &str {
     }
 }
 
-/// What is told, and the name that it is told of, if it has one.
-pub fn with_name(mut told: String, name: &[u8]) -> Result<String> {
+/// What stands before the name of a fault, if it has one.
+pub fn before(name: &[u8]) -> &'static str {
     if name.is_empty() {
-        return Ok(told);
+        return "";
     }
-    told.push_str(": ")?;
-    told.push_str(shown(name))?;
-    Ok(told)
+    ": "
 }
 
-/// Adds a text so many times.
-pub fn add_times(text: &mut String, item: &str, count: u32) -> Result<()> {
-    for _at in 0..count {
-        text.push_str(item)?;
+/// The number that a word is.
+pub fn number(word: &str) -> Result<u32> {
+    match word.parse::<u32>() {
+        Ok(number) => Ok(number),
+        Err(_) => bail!("no number: {word}"),
     }
+}
+
+/// Adds a piece, where there is one.
+pub fn add(told: &mut String, piece: Result<String>) -> Result<()> {
+    let piece = piece?;
+    told.push_str(piece.as_str())?;
     Ok(())
 }
 
-/// A text that begins with one text, has another so many times, and ends with a third.
-pub fn repeated(alloc: Global, head: &str, item: &str, count: u32, end: &str) -> Result<String> {
-    let mut text = String::new(alloc);
-    text.push_str(head)?;
-    add_times(&mut text, item, count)?;
-    text.push_str(end)?;
-    Ok(text)
-}
-
-/// Adds items of two parts with their numbers between these, from 0 on.
-pub fn add_numbered(
-    alloc: Global,
-    text: &mut String,
-    item: (&str, &str),
-    count: u32,
-) -> Result<()> {
-    let (before, behind) = item;
-    for number in 0..count {
-        let shown = format!(in alloc; "{before}{number}{behind}")?;
-        text.push_str(shown.as_str())?;
-    }
+/// Adds a number with a blank before it.
+pub fn add_number(alloc: Global, told: &mut String, number: u32) -> Result<()> {
+    let shown = format!(in alloc; " {number}")?;
+    told.push_str(shown.as_str())?;
     Ok(())
 }

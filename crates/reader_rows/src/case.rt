@@ -1,8 +1,0 @@
-//! Cases.
-
-/// A text, with the name of its line.
-#[derive(Clone, Copy)]
-pub struct Case {
-    pub name: &'static str,
-    pub text: &'static [u8],
-}
