@@ -1,17 +1,17 @@
 //! Expressions by their grammar.
 
-ghost use Rattle.std.specs.Prelude.{◌≡◌, ◌∷◌, Some, None, option_map, IfOk};
+ghost use Rattle.std.specs.Prelude.{◌≡◌, ◌∷◌, Some, None, IfOk, OnOk};
 ghost use Rattle.rules_expression.specs.Grammar.{Reads, seen};
 ghost use Rattle.rules_expression.specs.Grammar.Formula.{negation, conjunction, parity, disjunction};
-ghost use Rattle.rules_expression.specs.Readings.{behind_and, behind_or, behind_xor, closed, ended_by, first_taken, formula_of, joined, negated, next_taken, nothing, open_, start, taken, up_to_or, with_bang, with_operand};
-ghost use Rattle.rules_expression.specs.Kept.{ended_opt, seen_all, seen_level, seen_opt, seen_progress, seen_so_far, taken_opt};
+ghost use Rattle.rules_expression.specs.Readings.{behind_and, behind_or, behind_xor, closed, ended, first_taken, formula_of, joined, negated, next_taken, nothing, read_on, start, taken, up_to_or, up_to_xor, with_bang, with_operand};
+ghost use Rattle.rules_expression.specs.Kept.{Leaves, seen_all, seen_if, seen_level, seen_opt, seen_progress};
 
 use crate::tokens::Token;
 use std::alloc::Global;
+use std::mem::replace;
 use vrt_model::{Expr, NoMemory, Text};
 
 /// What waits for the next operand: the left sides of `|`, `^` and `&`, and so many `!`.
-#[derive(Drop)]
 pub struct Level {
     pub ors: Option<Expr>,
     pub xors: Option<Expr>,
@@ -19,14 +19,37 @@ pub struct Level {
     pub nots: usize,
 }
 
+/// By hand, so that letting go of one is a call.
+impl Drop for Level {
+    fn drop(self) {
+        let Level {
+            ors: _ors,
+            xors: _xors,
+            ands: _ands,
+            nots: _nots,
+        } = self;
+    }
+}
+
 /// The innermost parentheses that are open, those around them, and the operand that was just read.
-#[derive(Drop)]
 pub struct Progress {
     pub inner: Level,
     pub outer: Vec<Level>,
     pub operand: Option<Expr>,
 }
 
+/// By hand, so that letting go of one is a call.
+impl Drop for Progress {
+    fn drop(self) {
+        let Progress {
+            inner: _inner,
+            outer: _outer,
+            operand: _operand,
+        } = self;
+    }
+}
+
+/// A box of an expression.
 fn boxed(alloc: Global, e: Expr) -> Result<Box<Expr>, NoMemory>
     ensures { IfOk result (λ b. b.value ≡ e) }
 {
@@ -36,40 +59,62 @@ fn boxed(alloc: Global, e: Expr) -> Result<Box<Expr>, NoMemory>
     }
 }
 
+/// The two sides of an operator, each in a box.
+fn boxed_two(alloc: Global, left: Expr, right: Expr) -> Result<(Box<Expr>, Box<Expr>), NoMemory>
+    ensures { IfOk result (λ two. (two.0.value ≡ left) × (two.1.value ≡ right)) }
+{
+    let left = boxed(alloc, left)?;
+    let right = boxed(alloc, right)?;
+    Ok((left, right))
+}
+
+/// An expression behind `!`.
 fn not(alloc: Global, e: Expr) -> Result<Expr, NoMemory>
     ensures { IfOk result (λ made. seen made ≡ negation (seen e)) }
 {
     Ok(Expr::Not(boxed(alloc, e)?))
 }
 
+/// An expression behind `&`, if there is a left side.
 fn and(alloc: Global, left: Option<Expr>, right: Expr) -> Result<Expr, NoMemory>
     ensures { IfOk result (λ made. seen made ≡ joined conjunction (seen_opt left) (seen right)) }
 {
     match left {
-        Some(left) => Ok(Expr::And(boxed(alloc, left)?, boxed(alloc, right)?)),
+        Some(left) => {
+            let (left, right) = boxed_two(alloc, left, right)?;
+            Ok(Expr::And(left, right))
+        }
         None => Ok(right),
     }
 }
 
+/// An expression behind `^`, if there is a left side.
 fn xor(alloc: Global, left: Option<Expr>, right: Expr) -> Result<Expr, NoMemory>
     ensures { IfOk result (λ made. seen made ≡ joined parity (seen_opt left) (seen right)) }
 {
     match left {
-        Some(left) => Ok(Expr::Xor(boxed(alloc, left)?, boxed(alloc, right)?)),
+        Some(left) => {
+            let (left, right) = boxed_two(alloc, left, right)?;
+            Ok(Expr::Xor(left, right))
+        }
         None => Ok(right),
     }
 }
 
+/// An expression behind `|`, if there is a left side.
 fn or(alloc: Global, left: Option<Expr>, right: Expr) -> Result<Expr, NoMemory>
     ensures { IfOk result (λ made. seen made ≡ joined disjunction (seen_opt left) (seen right)) }
 {
     match left {
-        Some(left) => Ok(Expr::Or(boxed(alloc, left)?, boxed(alloc, right)?)),
+        Some(left) => {
+            let (left, right) = boxed_two(alloc, left, right)?;
+            Ok(Expr::Or(left, right))
+        }
         None => Ok(right),
     }
 }
 
-// So many `!` before an operand.
+/// So many `!` before an operand.
 fn negate(alloc: Global, nots: usize, e: Expr) -> Result<Expr, NoMemory>
     ensures { IfOk result (λ made. seen made ≡ negated nots (seen e)) }
 {
@@ -80,23 +125,24 @@ fn negate(alloc: Global, nots: usize, e: Expr) -> Result<Expr, NoMemory>
     Ok(made)
 }
 
-// The expression that an operand ends, up to its `^`.
-fn to_xor(alloc: Global, xors: Option<Expr>, ands: Option<Expr>, e: Expr) -> Result<Expr, NoMemory>
-    ensures { IfOk result (λ made. seen made ≡ joined parity (seen_opt xors) (joined conjunction (seen_opt ands) (seen e))) }
+/// The expression that an operand ends, up to its `^`. What it takes in waits no more.
+fn to_xor(alloc: Global, level: &mut Level, e: Expr) -> Result<Expr, NoMemory>
+    ensures made { IfOk result (λ made. seen made ≡ up_to_xor (seen_level level.old) (seen e)) }
+    ensures rest { level.new.ors ≡ level.old.ors }
 {
-    let right = and(alloc, ands, e)?;
-    xor(alloc, xors, right)
+    let right = and(alloc, level.ands.take(), e)?;
+    xor(alloc, level.xors.take(), right)
 }
 
-// The expression that an operand ends, up to its `|`.
-fn to_or(alloc: Global, level: Level, e: Expr) -> Result<Expr, NoMemory>
-    ensures { IfOk result (λ made. seen made ≡ up_to_or (seen_level level) (seen e)) }
+/// The expression that an operand ends, up to its `|`. What it takes in waits no more.
+fn to_or(alloc: Global, level: &mut Level, e: Expr) -> Result<Expr, NoMemory>
+    ensures { IfOk result (λ made. seen made ≡ up_to_or (seen_level level.old) (seen e)) }
 {
-    let right = to_xor(alloc, level.xors, level.ands, e)?;
-    or(alloc, level.ors, right)
+    let right = to_xor(alloc, level, e)?;
+    or(alloc, level.ors.take(), right)
 }
 
-// No operand and no sign.
+/// No left side and no `!`.
 fn empty() -> Level
     ensures { seen_level result ≡ nothing }
 {
@@ -108,237 +154,215 @@ fn empty() -> Level
     }
 }
 
-// An operand with its `!` before it.
-fn operand(alloc: Global, level: Level, outer: Vec<Level>, e: Expr) -> Result<Progress, NoMemory>
-    ensures { IfOk result (λ next. seen_progress next ≡ with_operand (seen_level level) (seen_all outer) (seen e)) }
+/// Puts an expression into a place.
+fn put(place: &mut Option<Expr>, e: Expr)
+    ensures { place.new ≡ Some e }
 {
-    let made = negate(alloc, level.nots, e)?;
-    Ok(Progress {
-        inner: Level {
-            ors: level.ors,
-            xors: level.xors,
-            ands: level.ands,
-            nots: 0,
-        },
-        outer,
-        operand: Some(made),
-    })
+    *place = Some(e);
 }
 
-// A level more, the innermost.
-fn add_level(outer: Vec<Level>, level: Level) -> Result<Vec<Level>, NoMemory>
-    ensures { IfOk result (λ all. seen_all all ≡ seen_level level ∷ seen_all outer) }
+/// Takes an operand with its `!` before it.
+fn take_operand(alloc: Global, progress: &mut Progress, e: Expr) -> Result<(), NoMemory>
+    ensures { OnOk result (seen_progress progress.new ≡ with_operand (seen_level progress.old.inner) (seen_all progress.old.outer) (seen e)) }
 {
-    let mut all = outer;
-    match all.push(level) {
-        Ok(()) => Ok(all),
-        Err(_) => Err(NoMemory),
-    }
+    let made = negate(alloc, progress.inner.nots, e)?;
+    progress.inner.nots = 0;
+    put(&mut progress.operand, made);
+    Ok(())
 }
 
-// An expression in parentheses is an operand of the level around them. None where no parentheses are open.
-fn close(alloc: Global, outer: Vec<Level>, e: Expr) -> Result<Option<Progress>, NoMemory>
-    ensures { IfOk result (λ next. option_map seen_progress next ≡ closed (seen_all outer) (seen e)) }
-{
-    let mut rest = outer;
-    match rest.pop() {
-        Some(level) => {
-            let next = operand(alloc, level, rest, e)?;
-            Ok(Some(next))
-        }
-        None => Ok(None),
-    }
-}
-
-// Where an operand is expected.
-fn waits(inner: Level, outer: Vec<Level>) -> Option<Progress>
-    ensures { option_map seen_progress result ≡ Some (open_ (seen_level inner) (seen_all outer)) }
-{
-    Some(Progress {
-        inner,
-        outer,
-        operand: None,
-    })
-}
-
-// A level with one `!` more. More than can be counted do not fit into memory.
-fn with_not(level: Level) -> Result<Level, NoMemory>
-    ensures { IfOk result (λ more. seen_level more ≡ with_bang (seen_level level)) }
+/// Takes `!`. More than can be counted do not fit into memory.
+fn take_not(level: &mut Level) -> Result<(), NoMemory>
+    ensures { OnOk result (seen_level level.new ≡ with_bang (seen_level level.old)) }
 {
     match level.nots.checked_add(1) {
-        Some(nots) => Ok(Level {
-            ors: level.ors,
-            xors: level.xors,
-            ands: level.ands,
-            nots,
-        }),
+        Some(nots) => {
+            level.nots = nots;
+            Ok(())
+        }
         None => Err(NoMemory),
     }
 }
 
-// Takes a token where an operand is expected.
-fn take_first(
-    alloc: Global,
-    inner: Level,
-    outer: Vec<Level>,
-    token: &Token,
-) -> Result<Option<Progress>, NoMemory>
-    ensures { IfOk result (λ next. option_map seen_progress next ≡ first_taken (seen_level inner) (seen_all outer) token.now) }
+/// A level more around the innermost.
+fn add_level(outer: &mut Vec<Level>, level: Level) -> Result<(), NoMemory>
+    ensures { OnOk result (seen_all outer.new ≡ seen_level level ∷ seen_all outer.old) }
+{
+    match outer.push(level) {
+        Ok(()) => Ok(()),
+        Err(_) => Err(NoMemory),
+    }
+}
+
+/// Takes `(`: the innermost level is one around a new one.
+fn take_opening(inner: &mut Level, outer: &mut Vec<Level>) -> Result<(), NoMemory>
+    ensures inner { seen_level inner.new ≡ nothing }
+    ensures outer { OnOk result (seen_all outer.new ≡ seen_level inner.old ∷ seen_all outer.old) }
+{
+    let around = replace(inner, empty());
+    add_level(outer, around)
+}
+
+/// Goes on in the level around the innermost, if there is one.
+fn leave_level(inner: &mut Level, outer: &mut Vec<Level>) -> bool
+    ensures { Leaves result (seen_all outer.old) (seen_level inner.new) (seen_all outer.new) }
+{
+    match outer.pop() {
+        Some(level) => {
+            *inner = level;
+            true
+        }
+        None => false,
+    }
+}
+
+/// Takes a token where an operand is expected. False where it cannot stand there.
+fn take_first(alloc: Global, progress: &mut Progress, token: &Token) -> Result<bool, NoMemory>
+    requires { progress.old.operand ≡ None }
+    ensures { IfOk result (λ stands. seen_if stands progress.new ≡ first_taken (seen_level progress.old.inner) (seen_all progress.old.outer) token.now) }
 {
     match token {
         Token::Name(name) => {
             let port = Text::from_bytes(alloc, name.as_bytes())?;
-            let next = operand(alloc, inner, outer, Expr::Port(port))?;
-            Ok(Some(next))
+            take_operand(alloc, progress, Expr::Port(port))?;
+            Ok(true)
         }
-        Token::Bang => Ok(waits(with_not(inner)?, outer)),
-        Token::Opening => Ok(waits(empty(), add_level(outer, inner)?)),
-        _ => Ok(None),
+        Token::Bang => {
+            take_not(&mut progress.inner)?;
+            Ok(true)
+        }
+        Token::Opening => {
+            take_opening(&mut progress.inner, &mut progress.outer)?;
+            Ok(true)
+        }
+        _ => Ok(false),
     }
 }
 
-// Takes `&`.
-fn take_and(
-    alloc: Global,
-    inner: Level,
-    outer: Vec<Level>,
-    e: Expr,
-) -> Result<Option<Progress>, NoMemory>
-    ensures { IfOk result (λ next. option_map seen_progress next ≡ Some (open_ (behind_and (seen_level inner) (seen e)) (seen_all outer))) }
+/// Takes `&` behind an operand.
+fn take_and(alloc: Global, level: &mut Level, e: Expr) -> Result<(), NoMemory>
+    ensures { OnOk result (seen_level level.new ≡ behind_and (seen_level level.old) (seen e)) }
 {
-    let left = and(alloc, inner.ands, e)?;
-    let next = Level {
-        ors: inner.ors,
-        xors: inner.xors,
-        ands: Some(left),
-        nots: 0,
-    };
-    Ok(waits(next, outer))
+    let left = and(alloc, level.ands.take(), e)?;
+    put(&mut level.ands, left);
+    level.nots = 0;
+    Ok(())
 }
 
-// Takes `^`.
-fn take_xor(
-    alloc: Global,
-    inner: Level,
-    outer: Vec<Level>,
-    e: Expr,
-) -> Result<Option<Progress>, NoMemory>
-    ensures { IfOk result (λ next. option_map seen_progress next ≡ Some (open_ (behind_xor (seen_level inner) (seen e)) (seen_all outer))) }
+/// Takes `^` behind an operand.
+fn take_xor(alloc: Global, level: &mut Level, e: Expr) -> Result<(), NoMemory>
+    ensures { OnOk result (seen_level level.new ≡ behind_xor (seen_level level.old) (seen e)) }
 {
-    let left = to_xor(alloc, inner.xors, inner.ands, e)?;
-    let next = Level {
-        ors: inner.ors,
-        xors: Some(left),
-        ands: None,
-        nots: 0,
-    };
-    Ok(waits(next, outer))
+    let left = to_xor(alloc, level, e)?;
+    put(&mut level.xors, left);
+    level.ands = None;
+    level.nots = 0;
+    Ok(())
 }
 
-// Takes `|`.
-fn take_or(
-    alloc: Global,
-    inner: Level,
-    outer: Vec<Level>,
-    e: Expr,
-) -> Result<Option<Progress>, NoMemory>
-    ensures { IfOk result (λ next. option_map seen_progress next ≡ Some (open_ (behind_or (seen_level inner) (seen e)) (seen_all outer))) }
+/// Takes `|` behind an operand.
+fn take_or(alloc: Global, level: &mut Level, e: Expr) -> Result<(), NoMemory>
+    ensures { OnOk result (seen_level level.new ≡ behind_or (seen_level level.old) (seen e)) }
 {
-    let left = to_or(alloc, inner, e)?;
-    let next = Level {
-        ors: Some(left),
-        xors: None,
-        ands: None,
-        nots: 0,
-    };
-    Ok(waits(next, outer))
+    let left = to_or(alloc, level, e)?;
+    *level = empty();
+    put(&mut level.ors, left);
+    Ok(())
 }
 
-// Takes a token behind an operand.
+/// Takes `)` behind an operand: what it closes is an operand of the level around it. False where no parentheses are open.
+fn take_closing(alloc: Global, progress: &mut Progress, e: Expr) -> Result<bool, NoMemory>
+    ensures { IfOk result (λ stands. seen_if stands progress.new ≡ closed (seen_all progress.old.outer) (up_to_or (seen_level progress.old.inner) (seen e))) }
+{
+    let whole = to_or(alloc, &mut progress.inner, e)?;
+    if !leave_level(&mut progress.inner, &mut progress.outer) {
+        return Ok(false);
+    }
+    take_operand(alloc, progress, whole)?;
+    Ok(true)
+}
+
+/// Takes a token behind an operand. False where it cannot stand there.
 fn take_next(
     alloc: Global,
-    inner: Level,
-    outer: Vec<Level>,
+    progress: &mut Progress,
     e: Expr,
     token: &Token,
-) -> Result<Option<Progress>, NoMemory>
-    ensures { IfOk result (λ next. option_map seen_progress next ≡ next_taken (seen_level inner) (seen_all outer) (seen e) token.now) }
+) -> Result<bool, NoMemory>
+    requires { progress.old.operand ≡ None }
+    ensures { IfOk result (λ stands. seen_if stands progress.new ≡ next_taken (seen_level progress.old.inner) (seen_all progress.old.outer) (seen e) token.now) }
 {
     match token {
-        Token::Ampersand => take_and(alloc, inner, outer, e),
-        Token::Caret => take_xor(alloc, inner, outer, e),
-        Token::Bar => take_or(alloc, inner, outer, e),
-        Token::Closing => {
-            let whole = to_or(alloc, inner, e)?;
-            close(alloc, outer, whole)
+        Token::Ampersand => {
+            take_and(alloc, &mut progress.inner, e)?;
+            Ok(true)
         }
-        _ => Ok(None),
+        Token::Caret => {
+            take_xor(alloc, &mut progress.inner, e)?;
+            Ok(true)
+        }
+        Token::Bar => {
+            take_or(alloc, &mut progress.inner, e)?;
+            Ok(true)
+        }
+        Token::Closing => take_closing(alloc, progress, e),
+        _ => Ok(false),
     }
 }
 
-// Takes a token. None where it cannot stand there.
-fn take(alloc: Global, progress: Progress, token: &Token) -> Result<Option<Progress>, NoMemory>
-    ensures { IfOk result (λ next. option_map seen_progress next ≡ taken (seen_progress progress) token.now) }
+/// Takes a token. False where it cannot stand there.
+fn take(alloc: Global, progress: &mut Progress, token: &Token) -> Result<bool, NoMemory>
+    ensures { IfOk result (λ stands. seen_if stands progress.new ≡ taken (seen_progress progress.old) token.now) }
 {
-    let Progress {
-        inner,
-        outer,
-        operand,
-    } = progress;
-    match operand {
-        None => take_first(alloc, inner, outer, token),
-        Some(e) => take_next(alloc, inner, outer, e, token),
+    match progress.operand.take() {
+        None => take_first(alloc, progress, token),
+        Some(e) => take_next(alloc, progress, e, token),
     }
 }
 
-// Takes a token, if all before it could stand there.
-fn take_on(
-    alloc: Global,
-    progress: Option<Progress>,
-    token: &Token,
-) -> Result<Option<Progress>, NoMemory>
-    ensures { IfOk result (λ next. seen_so_far next ≡ taken_opt (seen_so_far progress) token.now) }
+/// The expression that ends here: outside parentheses, behind an operand.
+fn end(alloc: Global, progress: &mut Progress) -> Result<Option<Expr>, NoMemory>
+    ensures { IfOk result (λ e. seen_opt e ≡ ended (seen_progress progress.old)) }
 {
-    match progress {
-        Some(progress) => take(alloc, progress, token),
-        None => Ok(None),
-    }
-}
-
-// The expression that ends outside parentheses behind an operand.
-fn end_level(
-    alloc: Global,
-    inner: Level,
-    outer: Vec<Level>,
-    operand: Option<Expr>,
-) -> Result<Option<Expr>, NoMemory>
-    ensures { IfOk result (λ e. seen_opt e ≡ ended_by (seen_level inner) (seen_all outer) (seen_opt operand)) }
-{
-    if !outer.is_empty() {
+    if !progress.outer.is_empty() {
         return Ok(None);
     }
-    match operand {
+    match progress.operand.take() {
         Some(e) => {
-            let whole = to_or(alloc, inner, e)?;
+            let whole = to_or(alloc, &mut progress.inner, e)?;
             Ok(Some(whole))
         }
         None => Ok(None),
     }
 }
 
-fn end(alloc: Global, progress: Option<Progress>) -> Result<Option<Expr>, NoMemory>
-    ensures { IfOk result (λ e. seen_opt e ≡ ended_opt (seen_so_far progress)) }
+/// No parentheses are open, and an operand is expected.
+fn begin(alloc: Global) -> Progress
+    ensures { seen_progress result ≡ start }
 {
-    match progress {
-        Some(progress) => end_level(alloc, progress.inner, progress.outer, progress.operand),
-        None => Ok(None),
+    Progress {
+        inner: empty(),
+        outer: Vec::new(alloc),
+        operand: None,
     }
 }
 
-fn begin(alloc: Global) -> Option<Progress>
-    ensures { seen_so_far result ≡ Some start }
+/// The expression that tokens spell behind those taken before, if they spell one.
+fn read_behind(
+    alloc: Global,
+    progress: &mut Progress,
+    tokens: &[Token],
+) -> Result<Option<Expr>, NoMemory>
+    ensures { IfOk result (λ e. seen_opt e ≡ read_on (Some (seen_progress progress.old)) tokens.now) }
 {
-    waits(empty(), Vec::new(alloc))
+    let mut at = 0;
+    'tokens: while at < tokens.len() {
+        if !take(alloc, progress, &tokens[at])? {
+            return Ok(None);
+        }
+        at += 1;
+    }
+    end(alloc, progress)
 }
 
 /// The expression that tokens spell, none exactly where they spell none. `!` binds closest, then `&`, then `^`, then
@@ -348,9 +372,5 @@ pub fn read_expression(alloc: Global, tokens: &[Token]) -> Result<Option<Expr>, 
     ensures grammar { IfOk result (Reads tokens.now) }
 {
     let mut progress = begin(alloc);
-    for token in tokens {
-        progress = take_on(alloc, progress, token)?;
-    }
-    let found = end(alloc, progress)?;
-    Ok(found)
+    read_behind(alloc, &mut progress, tokens)
 }
