@@ -18,16 +18,23 @@ use std::alloc::Global;
 /// Which reader reads a text.
 #[derive(Clone, Copy)]
 pub enum Part {
+    /// `read_spice`
     Netlist,
+    /// `read_blif`
     Models,
+    /// `read_rules`
     Rules,
 }
 
 /// The texts that the lines so far give, and which was begun last.
 pub struct Script {
+    /// The netlist that was begun last.
     pub netlist: Vec<u8>,
+    /// The models that were begun last.
     pub models: Vec<u8>,
+    /// The rules that were begun last.
     pub rules: Vec<u8>,
+    /// Which of the three goes on.
     pub part: Part,
 }
 

@@ -13,9 +13,13 @@ use vrt_model::{Expr, NoMemory, Text};
 
 /// What waits for the next operand: the left sides of `|`, `^` and `&`, and so many `!`.
 pub struct Level {
+    /// The left side of the `|` whose right side is read.
     pub ors: Option<Expr>,
+    /// The left side of the `^` whose right side is read.
     pub xors: Option<Expr>,
+    /// The left side of the `&` whose right side is read.
     pub ands: Option<Expr>,
+    /// How many `!` stand before the next operand.
     pub nots: usize,
 }
 
@@ -33,8 +37,11 @@ impl Drop for Level {
 
 /// The innermost parentheses that are open, those around them, and the operand that was just read.
 pub struct Progress {
+    /// What waits within the innermost parentheses that are open.
     pub inner: Level,
+    /// What waits around them, the outermost first.
     pub outer: Vec<Level>,
+    /// The operand that was just read, none where one is expected.
     pub operand: Option<Expr>,
 }
 

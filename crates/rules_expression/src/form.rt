@@ -10,7 +10,9 @@ use crate::tokens::Token;
 /// Whether an operand was just read, and how many parentheses are open.
 #[derive(Clone, Copy)]
 pub struct Form {
+    /// Whether an operand was just read, so that an operator or a `)` may follow.
     pub has_operand: bool,
+    /// How many parentheses are open.
     pub depth: usize,
 }
 

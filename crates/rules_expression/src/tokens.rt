@@ -12,12 +12,19 @@ use vrt_model::{NoMemory, Seq, Text};
 /// A name, or one of `!`, `&`, `^`, `|`, `(` and `)`.
 #[derive(Drop)]
 pub enum Token {
+    /// A name, in lower case.
     Name(Text),
+    /// `!`
     Bang,
+    /// `&`
     Ampersand,
+    /// `^`
     Caret,
+    /// `|`
     Bar,
+    /// `(`
     Opening,
+    /// `)`
     Closing,
 }
 

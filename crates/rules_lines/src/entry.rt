@@ -5,7 +5,9 @@ use vrt_model::{Kind, Seq, Text};
 
 /// A name with or without `!`.
 pub struct Signed {
+    /// The name behind the `!`, if there is one.
     pub name: Text,
+    /// Whether a `!` stands before it.
     pub is_inverted: bool,
 }
 
@@ -21,7 +23,9 @@ impl Drop for Signed {
 
 /// A clock and its bit, none where the bit is neither 0 nor 1.
 pub struct ClockBit {
+    /// The name of the clock.
     pub clock: Text,
+    /// Its bit in the phase.
     pub bit: Option<bool>,
 }
 
@@ -39,75 +43,91 @@ impl Drop for ClockBit {
 /// line, signals and latches are as written, other names lowered.
 #[derive(Drop)]
 pub enum Entry {
+    /// `supply VALUE NET..`
     SupplyLine {
         value: bool,
         nets: Seq<Text>,
     },
+    /// `device MODEL KIND [LEVEL]`
     DeviceLine {
         model: Text,
         kind: Kind,
         level: Option<u8>,
     },
+    /// `strength CELL DEVICE LEVEL`
     StrengthLine {
         cell: Text,
         device: Text,
         level: Option<u8>,
     },
+    /// `clock NAME..`
     ClockLine {
         names: Seq<Text>,
     },
+    /// `phase NAME CLOCK=BIT..`
     PhaseLine {
         name: Text,
         bits: Seq<ClockBit>,
     },
+    /// `clockport CELL PORT [!]CLOCK`
     ClockportLine {
         cell: Text,
         port: Text,
         clock: Signed,
     },
+    /// `defaultclock CLOCK`
     DefaultclockLine {
         clock: Text,
     },
+    /// `pair CELL MODEL`, or `pair CELL -`
     PairLine {
         cell: Text,
         model: Option<Text>,
     },
+    /// `port CELL PORT SIGNAL`
     PortLine {
         cell: Text,
         port: Text,
         signal: Text,
     },
+    /// `hold CELL NET [SIZE]`
     HoldLine {
         cell: Text,
         net: Text,
         size: Option<u8>,
     },
+    /// `keeper CELL DEVICE..`
     KeeperLine {
         cell: Text,
         devices: Seq<Text>,
     },
+    /// `match CELL NET [!]LATCH`
     MatchLine {
         cell: Text,
         net: Text,
         latch: Signed,
     },
+    /// `match CELL INSTANCE:LATCH [!]LATCH`
     InstanceMatchLine {
         cell: Text,
         instance: Text,
         inner: Text,
         latch: Signed,
     },
+    /// `enter CELL PHASE NET BIT`
     EnterLine {
         cell: Text,
         phase: Text,
         net: Text,
         bit: Option<bool>,
     },
+    /// `observe CELL PORT PHASE..`
     ObserveLine {
         cell: Text,
         port: Text,
         phases: Seq<Text>,
     },
+    /// `assume CELL PHASE EXPRESSION`
     AssumeLine {
         cell: Text,
         phase: Option<Text>,

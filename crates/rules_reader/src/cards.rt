@@ -12,8 +12,11 @@ use vrt_model::{NoMemory, Seq, Text};
 
 /// A line: its number, from 1, whether all its bytes are text, and what it says, none where it does not fit.
 pub struct Card {
+    /// The number of the line, from 1.
     pub line: u32,
+    /// Whether each byte is a tab or from the space to the tilde.
     pub is_all_text: bool,
+    /// What the line says, none where it does not fit.
     pub entry: Option<Entry>,
 }
 
