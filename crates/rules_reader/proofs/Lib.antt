@@ -10,3 +10,4 @@ pub mod Tabled
 pub mod Keyed
 pub mod Fits
 pub mod Examples
+pub mod GroupLaws

@@ -6,16 +6,9 @@ ghost use Rattle.rules_reader.specs.Refused.{known_by};
 ghost use Rattle.rules_reader.specs.Tables.{AreRulesOf, all_from};
 
 use crate::cards::Card;
-use crate::circuit_rules::{
-    add_device, add_hold, add_instance_match, add_keepers, add_match, add_pair, add_port,
-    add_strength, add_supplies,
-};
-use crate::clocked_rules::{
-    add_assume, add_clockport, add_defaultclock, add_enter, add_observe, add_phase,
-};
+use crate::entry_rules::add_entry;
 use crate::known::Known;
 use crate::texts::append;
-use rules_lines::Entry;
 use std::alloc::Global;
 use text_lines::Names;
 use vrt_model::{NoMemory, Phase, Rules, Seq, Text};
@@ -41,127 +34,6 @@ fn empty(alloc: Global, clocks: Seq<Text>) -> Rules
         enters: Seq::new(alloc),
         observes: Seq::new(alloc),
         assumes: Seq::new(alloc),
-    }
-}
-
-// Adds the rules of a line.
-fn add_entry(
-    alloc: Global,
-    clocks: &Names,
-    clock_names: &[Text],
-    phases: &Names,
-    rules: &mut Rules,
-    line: u32,
-    entry: &Entry,
-) -> Result<(), NoMemory>
-    requires { clock_names.now ≡ clocks.now }
-    ensures { OnOk result (Adds clocks.now phases.now line (Some entry.now) rules.old rules.new) }
-{
-    match entry {
-        Entry::SupplyLine { value, nets } => {
-            add_supplies(alloc, &mut rules.supplies, line, *value, nets.as_slice())
-        }
-        Entry::DeviceLine { model, kind, level } => {
-            add_device(alloc, &mut rules.devices, line, model, *kind, *level)
-        }
-        Entry::StrengthLine {
-            cell,
-            device,
-            level,
-        } => add_strength(alloc, &mut rules.strengths, line, cell, device, *level),
-        Entry::ClockLine { .. } => Ok(()),
-        Entry::PhaseLine { name, bits } => {
-            add_phase(
-                alloc,
-                &mut rules.phases,
-                line,
-                clock_names,
-                name,
-                bits.as_slice(),
-            )
-        }
-        Entry::ClockportLine { cell, port, clock } => {
-            add_clockport(
-                alloc,
-                &mut rules.clockports,
-                line,
-                clocks,
-                cell,
-                port,
-                clock,
-            )
-        }
-        Entry::DefaultclockLine { clock } => {
-            add_defaultclock(&mut rules.defaultclocks, line, clocks, clock)
-        }
-        Entry::PairLine { cell, model } => add_pair(alloc, &mut rules.pairs, line, cell, model),
-        Entry::PortLine { cell, port, signal } => {
-            add_port(alloc, &mut rules.ports, line, cell, port, signal)
-        }
-        Entry::HoldLine { cell, net, size } => {
-            add_hold(alloc, &mut rules.holds, line, cell, net, *size)
-        }
-        Entry::KeeperLine { cell, devices } => {
-            add_keepers(alloc, &mut rules.keepers, line, cell, devices.as_slice())
-        }
-        Entry::MatchLine { cell, net, latch } => {
-            add_match(alloc, &mut rules.matches, line, cell, net, latch)
-        }
-        Entry::InstanceMatchLine {
-            cell,
-            instance,
-            inner,
-            latch,
-        } => add_instance_match(
-            alloc,
-            &mut rules.instance_matches,
-            line,
-            cell,
-            instance,
-            inner,
-            latch,
-        ),
-        Entry::EnterLine {
-            cell,
-            phase,
-            net,
-            bit,
-        } => add_enter(
-            alloc,
-            &mut rules.enters,
-            line,
-            phases,
-            cell,
-            phase,
-            net,
-            *bit,
-        ),
-        Entry::ObserveLine {
-            cell,
-            port,
-            phases: named,
-        } => add_observe(
-            alloc,
-            &mut rules.observes,
-            line,
-            phases,
-            cell,
-            port,
-            named.as_slice(),
-        ),
-        Entry::AssumeLine {
-            cell,
-            phase,
-            tokens,
-        } => add_assume(
-            alloc,
-            &mut rules.assumes,
-            line,
-            phases,
-            cell,
-            phase,
-            tokens.as_slice(),
-        ),
     }
 }
 

@@ -7,6 +7,7 @@ mod check;
 mod circuit_rules;
 mod clocked_rules;
 mod conditions;
+mod entry_rules;
 mod faults;
 mod judge;
 mod keys;
