@@ -13,21 +13,12 @@ use vrt_model::{Cell, Design, DeviceCard, Net, NoMemory, Text};
 
 /// The names of nets without the two supplies: the other ports, how many they are, then the global nets that a card
 /// names and the other nets in the order of first mention.
+#[derive(Drop)]
 pub struct NetTable {
     /// The names of the nets. The place of a name and 2 more is the number of its net in the flat circuit.
     pub names: Names,
     /// How many of the names, the first ones, are those of ports.
     pub port_count: usize,
-}
-
-/// By hand, so that letting go of one is a call.
-impl Drop for NetTable {
-    fn drop(self) {
-        let NetTable {
-            names: _names,
-            port_count: _port_count,
-        } = self;
-    }
 }
 
 /// Adds the name of a net, the last, unless it is there or is a supply.

@@ -23,6 +23,7 @@ pub struct Declared {
 }
 
 /// What is said of models: by `device` rules, and by `.model` cards.
+#[derive(Drop)]
 pub struct ModelTable {
     /// What `device` rules declare, by the name of the device model. It goes before the cards.
     pub rules: FirstValues<Declared>,
@@ -30,32 +31,13 @@ pub struct ModelTable {
     pub cards: FirstValues<Kind>,
 }
 
-/// By hand, so that letting go of one is a call.
-impl Drop for ModelTable {
-    fn drop(self) {
-        let ModelTable {
-            rules: _rules,
-            cards: _cards,
-        } = self;
-    }
-}
-
 /// What is said of the devices of one cell: the levels of `strength` rules, and the keepers.
+#[derive(Drop)]
 pub struct DeviceTable {
     /// The levels of single transistors of the cell, 4 to 7, by their names.
     pub strengths: FirstValues<u8>,
     /// The names of the transistors of the cell that `keeper` rules name.
     pub keepers: Names,
-}
-
-/// By hand, so that letting go of one is a call.
-impl Drop for DeviceTable {
-    fn drop(self) {
-        let DeviceTable {
-            strengths: _strengths,
-            keepers: _keepers,
-        } = self;
-    }
 }
 
 /// What is said of the names in one cell.

@@ -8,15 +8,9 @@ use std::alloc::Global;
 use vrt_model::NoMemory;
 
 /// A set of numbers, with a mark for each number.
+#[derive(Drop)]
 pub(crate) struct NumberSet {
     marks: Vec<bool>,
-}
-
-/// By hand, so that letting go of one is a call.
-impl Drop for NumberSet {
-    fn drop(self) {
-        let NumberSet { marks: _marks } = self;
-    }
 }
 
 /// At least this many marks; those that are new are unset.

@@ -4,13 +4,13 @@ ghost use Rattle.blif_checks.specs.Tables.{AreTables};
 ghost use Rattle.vrt_model.specs.Inputs.{IsBlif};
 
 use crate::MOST_BYTES;
-use crate::texts::{add, before, shown};
 use anyhow::{Result, bail};
 use blif_flat::{
     ModelFault, Tables, are_shallow, check_drivers, check_models, check_nesting, check_subs,
     tables_of,
 };
 use blif_reader::read_blif;
+use row_script::{add, before, shown};
 use std::alloc::Global;
 use vrt_model::Blif;
 

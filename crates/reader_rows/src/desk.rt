@@ -1,4 +1,4 @@
-//! The lines of standard input that ask: what is asked, `: ` and the name of the case.
+//! What the lines of standard input ask of texts.
 //!
 //! | asked | what is told |
 //! |---|---|
@@ -10,24 +10,16 @@
 //! | `rule WHAT` | of the rules (`rules`) |
 //! | `check WHAT,..` | what these checks of the models answer (`checks`) |
 //! | `unroll`, `signals` | what the first model is unrolled to, and how many signals that has |
-//! | `model N` | the model of the cell of this number |
-//! | `pair` | the pairing of the first cell with the first model |
-//! | `circuit ROLE ..`, `sizes`, `structure` | of the first cell (`circuits`) |
 
-use crate::script::{Part, Script};
-use crate::texts::number;
-use crate::{checks, circuits, lines, models, names, netlists, pairings, rules, unrollings};
+use crate::{checks, lines, models, names, netlists, rules, unrollings};
 use anyhow::{Result, bail};
+use row_script::{Part, Script, number};
 use std::alloc::Global;
 
 /// Takes a line, and gives what is to be printed of it.
 pub fn take(alloc: Global, script: &mut Script, line: &str) -> Result<String> {
-    let (word, rest) = line.split_once(' ').unwrap_or((line, ""));
-    if script.take(alloc, word, rest)? {
+    let Some((asked, name)) = script.take(alloc, line)? else {
         return Ok(String::new(alloc));
-    }
-    let Some((asked, name)) = line.split_once(": ") else {
-        bail!("no such line: {line}");
     };
     let told = told(alloc, script, asked)?;
     Ok(format!(in alloc; "{name}: {told}\n")?)
@@ -46,9 +38,7 @@ fn told(alloc: Global, script: &Script, asked: &str) -> Result<String> {
         "check" => checks::told(alloc, script.models.as_slice(), rest),
         "unroll" => unrollings::told(alloc, script.models.as_slice(), true),
         "signals" => unrollings::told(alloc, script.models.as_slice(), false),
-        "model" => pairings::told(alloc, script, Some(number(rest)?)),
-        "pair" => pairings::told(alloc, script, None),
-        _ => circuits::told(alloc, script, word, rest),
+        _ => bail!("no such line: {asked}"),
     }
 }
 

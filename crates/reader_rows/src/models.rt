@@ -1,9 +1,9 @@
 //! Models.
 
 use crate::MOST_BYTES;
-use crate::texts::{before, shown};
 use anyhow::{Result, bail};
 use blif_reader::{BlifFault, read_blif};
+use row_script::{before, shown};
 use std::alloc::Global;
 use vrt_model::{Blif, BlifModel};
 

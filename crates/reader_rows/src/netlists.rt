@@ -1,8 +1,8 @@
 //! Netlists.
 
 use crate::MOST_BYTES;
-use crate::texts::{before, shown};
 use anyhow::{Result, bail};
+use row_script::{before, shown};
 use spice_reader::{SpiceFault, read_spice};
 use std::alloc::Global;
 use vrt_model::{Cell, Design};

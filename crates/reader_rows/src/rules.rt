@@ -1,8 +1,8 @@
 //! Rules.
 
 use crate::MOST_BYTES;
-use crate::texts::{add, before, shown};
 use anyhow::{Result, bail};
+use row_script::{add, before, shown};
 use rules_reader::{RulesFault, read_rules};
 use std::alloc::Global;
 use vrt_model::Rules;

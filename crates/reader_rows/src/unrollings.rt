@@ -4,10 +4,10 @@ ghost use Rattle.vrt_model.specs.Inputs.{IsBlif};
 ghost use Rattle.vrt_model.specs.Models.{AreModels};
 
 use crate::MOST_BYTES;
-use crate::texts::{add_number, shown};
 use anyhow::{Result, bail};
 use blif_flat::{check_models, flat_model};
 use blif_reader::read_blif;
+use row_script::{add_number, shown};
 use std::alloc::Global;
 use vrt_model::{Blif, Cover, FlatLatch, FlatModel, Text};
 

@@ -3,10 +3,9 @@
 ghost use Rattle.vrt_model.specs.Inputs.{AreRules, IsDesign};
 
 use crate::MOST_BYTES;
-use crate::script::Script;
-use crate::texts::{add, number, shown};
 use anyhow::{Result, bail};
 use flatten::{FlatFault, flat, has_no_hold, is_leaf, sizes, structure};
+use row_script::{Script, add, number, shown};
 use rules_reader::read_rules;
 use spice_reader::read_spice;
 use std::alloc::Global;

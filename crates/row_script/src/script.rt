@@ -1,4 +1,5 @@
-//! The lines of standard input that give texts. A text stays until it is begun anew.
+//! The lines of standard input. Some give texts, which stay until they are begun anew; every other asks something: what is
+//! asked, `: ` and the name of the case.
 //!
 //! | line | meaning |
 //! |---|---|
@@ -85,8 +86,20 @@ impl Script {
         self.begun().clear();
     }
 
+    /// Takes a line, and gives what it asks and the name of the case; none of a line that gives text.
+    pub fn take<'a>(&mut self, alloc: Global, line: &'a str) -> Result<Option<(&'a str, &'a str)>> {
+        let (word, rest) = line.split_once(' ').unwrap_or((line, ""));
+        if self.give(alloc, word, rest)? {
+            return Ok(None);
+        }
+        match line.split_once(": ") {
+            Some(asked) => Ok(Some(asked)),
+            None => bail!("no such line: {line}"),
+        }
+    }
+
     /// Takes a line that gives text, and says whether it was one.
-    pub fn take(&mut self, alloc: Global, word: &str, rest: &str) -> Result<bool> {
+    fn give(&mut self, alloc: Global, word: &str, rest: &str) -> Result<bool> {
         match word {
             "" => {}
             "#" => {}

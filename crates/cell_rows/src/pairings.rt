@@ -4,12 +4,11 @@ ghost use Rattle.vrt_model.specs.Inputs.{IsBlif};
 ghost use Rattle.vrt_model.specs.Models.{AreModels};
 
 use crate::MOST_BYTES;
-use crate::script::Script;
-use crate::texts::{add, before, shown};
 use anyhow::{Result, bail};
 use blif_flat::{check_models, flat_model};
 use blif_reader::read_blif;
 use latch_match::{PairFault, is_skipped, model_of, pair_ports};
+use row_script::{Script, add, before, shown};
 use rules_reader::read_rules;
 use spice_reader::read_spice;
 use std::alloc::Global;
