@@ -19,6 +19,7 @@ use vrt_model::{Blif, CellFacts, Design, NoMemory, Rules, Seq, Verdict, Why};
 
 /// The verdict on a cell, and what is known of the cell then, with its flat circuit and flat model, by which what the
 /// verdict speaks of is named.
+#[derive(Drop)]
 pub struct Compared {
     /// The answer for the cell, which is printed in one line.
     pub verdict: Verdict,
