@@ -1,11 +1,11 @@
--- What one driver for each signal says of a model without latches.
+-- What one driver for each signal says of a model: what it is the output of.
 use Rattle.std.proofs.Common.{◌≡◌, ℕ, zero, suc, ◌+◌, ◌<◌, ◌≤◌, ◌⊎◌, ◌++◌, ◌∷◌, [], List, Bool, cond, map, length, eqb, ap, arith, subst, sym, refl, ◌∙◌, inl, inr, Some}
 use Rattle.std.specs.Prelude.{count_by, slice_get, ◌==◌}
 use Rattle.std.proofs.lemmas.Bool.{cases_Bool, cases_lt, eq-eqb, eqb-true, ne_eqb}
 use Rattle.std.proofs.lemmas.List.Sums.{sum_by-cons}
 use Rattle.std.proofs.lemmas.Option.{same_Some, none-some}
-use Rattle.vrt_model.proofs.Members.{among_later, among_map, all_among}
-use Rattle.vrt_model.specs.FlatModels.{IsCover, IsFlatModel, drivers_of}
+use Rattle.vrt_model.proofs.Members.{among_either, among_later, among_map, all_among}
+use Rattle.vrt_model.specs.FlatModels.{IsCover, IsFlatModel, IsLatch, drivers_of}
 use Rattle.vrt_model.specs.Lists.{At, Among}
 use Rattle.vrt_model.specs.declared.flat_model.Cover.{Cover}
 use Rattle.vrt_model.specs.declared.flat_model.FlatLatch.{FlatLatch}
@@ -37,7 +37,7 @@ test_one s x e = let amount : Bool → ℕ = λ b. cond b 1 0 in ap amount (eq-e
 pub test_other : (s x : ℕ) → (x ≡ s → ⊥) → counts s x ≡ 0
 test_other s x ne = let amount : Bool → ℕ = λ b. cond b 1 0 in ap amount (ne_eqb x s ne)
 
-times_among : (s : ℕ) (xs : List ℕ) → Among xs s → 1 ≤ times s xs
+pub times_among : (s : ℕ) (xs : List ℕ) → Among xs s → 1 ≤ times s xs
 times_among s [] m = absurd (none-some s m.1)
 times_among s (x ∷ xs) (zero, e) =
     let here = test_one s x (same_Some x s e) in
@@ -80,12 +80,12 @@ times_once s (x ∷ xs) le (suc i) (suc j) e f =
 
 -- ---- the image of a list
 
-at_map : {X Y : Type 0} (f : X → Y) (xs : List X) (i : ℕ) (x : X) → At xs i x → At (map f xs) i (f x)
+pub at_map : {X Y : Type 0} (f : X → Y) (xs : List X) (i : ℕ) (x : X) → At xs i x → At (map f xs) i (f x)
 at_map f [] i x e = absurd (none-some x e)
 at_map f (y ∷ ys) zero x e = ap (λ z. Some (f z)) (same_Some y x e)
 at_map f (y ∷ ys) (suc i) x e = at_map f ys i x e
 
-same_at : {X : Type 0} (xs : List X) (i j : ℕ) (x y : X) → At xs i x → At xs j y → i ≡ j → x ≡ y
+pub same_at : {X : Type 0} (xs : List X) (i j : ℕ) (x y : X) → At xs i x → At xs j y → i ≡ j → x ≡ y
 same_at xs i j x y e f same = same_Some x y (sym e ∙ ap (λ k. slice_get xs k) same ∙ f)
 
 -- ---- drivers
@@ -93,29 +93,55 @@ same_at xs i j x y e f same = same_Some x y (sym e ∙ ap (λ k. slice_get xs k)
 abbrev pub outputs_of : List Cover → List ℕ
 outputs_of covers = map (λ (c : Cover). c.output) covers
 
-module _ (flat : FlatModel) (model : IsFlatModel flat) (latchless : flat.latches ≡ []) where
-  interface : List ℕ
-  interface = flat.inputs ++ flat.clocks
+abbrev pub latch_outputs : List FlatLatch → List ℕ
+latch_outputs latches = map (λ (l : FlatLatch). l.output) latches
 
-  drivers_are : (s : ℕ) → times s (drivers_of flat) ≡ times s (flat.inputs ++ flat.clocks) + times s (outputs_of flat.covers)
+module _ (flat : FlatModel) (model : IsFlatModel flat) where
+  drivers_are : (s : ℕ) → times s (drivers_of flat) ≡ times s (flat.inputs ++ flat.clocks) + times s (outputs_of flat.covers) + times s (latch_outputs flat.latches)
   drivers_are s =
-      let a = times_joined s (flat.inputs ++ flat.clocks ++ outputs_of flat.covers) (map (λ (l : FlatLatch). l.output) flat.latches) in
+      let a = times_joined s (flat.inputs ++ flat.clocks ++ outputs_of flat.covers) (latch_outputs flat.latches) in
       let b = times_joined s (flat.inputs ++ flat.clocks) (outputs_of flat.covers) in
-      let none : times s (map (λ (l : FlatLatch). l.output) flat.latches) ≡ 0 = ap (λ (ls : List FlatLatch). times s (map (λ (l : FlatLatch). l.output) ls)) latchless in
-      omega (arith, a, b, none)
+      omega (arith, a, b)
+
+  pub interface_below : (s : ℕ) → Among (flat.inputs ++ flat.clocks) s → s < length flat.signals
+  interface_below s m = elim (among_either flat.inputs flat.clocks s m) [
+    | inl i ↦ all_among (λ (n : ℕ). n < length flat.signals) flat.inputs s model.inputs i
+    | inr c ↦ all_among (λ (n : ℕ). n < length flat.signals) flat.clocks s model.clocks c
+  ]
+
+  pub cover_is : (c : Cover) → Among flat.covers c → IsCover (length flat.signals) c
+  cover_is c m = all_among (λ (k : Cover). IsCover (length flat.signals) k) flat.covers c model.covers m
 
   pub covered_below : (c : Cover) → Among flat.covers c → c.output < length flat.signals
-  covered_below c m = (all_among (λ (k : Cover). IsCover (length flat.signals) k) flat.covers c model.covers m).output
+  covered_below c m = (cover_is c m).output
 
-  -- each signal is an input, a clock or the output of a cover
-  pub driven : (s : ℕ) → s < length flat.signals → Among (flat.inputs ++ flat.clocks) s ⊎ ((c : Cover) × Among flat.covers c × (c.output ≡ s))
+  -- what a cover reads is a signal
+  pub input_below : (c : Cover) (i : ℕ) → Among flat.covers c → Among c.inputs i → i < length flat.signals
+  input_below c i m n = all_among (λ (s : ℕ). s < length flat.signals) c.inputs i (cover_is c m).inputs n
+
+  pub latch_is : (l : FlatLatch) → Among flat.latches l → IsLatch (length flat.signals) l
+  latch_is l m = all_among (λ (k : FlatLatch). IsLatch (length flat.signals) k) flat.latches l model.latches m
+
+  -- each signal is an input, a clock or the output of a cover or of a latch
+  pub driven : (s : ℕ) → s < length flat.signals
+      → Among (flat.inputs ++ flat.clocks) s ⊎ ((c : Cover) × Among flat.covers c × (c.output ≡ s)) ⊎ ((l : FlatLatch) × Among flat.latches l × (l.output ≡ s))
   driven s lt =
       let one = model.one_driver s lt in
       let sum = drivers_are s in
       elim (cases_lt 0 (times s (flat.inputs ++ flat.clocks))) [
         | inl some ↦ inl (among_times s (flat.inputs ++ flat.clocks) (omega (arith, some)))
-        | inr none ↦ inr (among_map (λ (c : Cover). c.output) flat.covers s (among_times s (outputs_of flat.covers) (omega (arith, one, sum, none))))
+        | inr none ↦ elim (cases_lt 0 (times s (outputs_of flat.covers))) [
+          | inl some ↦ inr (inl (among_map (λ (c : Cover). c.output) flat.covers s (among_times s (outputs_of flat.covers) (omega (arith, some)))))
+          | inr neither ↦
+              inr (inr (among_map (λ (l : FlatLatch). l.output) flat.latches s (among_times s (latch_outputs flat.latches) (omega (arith, one, sum, none, neither)))))
+        ]
       ]
+
+  cover_counts : (c : Cover) → Among flat.covers c → 1 ≤ times c.output (outputs_of flat.covers)
+  cover_counts c m = times_among c.output (outputs_of flat.covers) (m.0, at_map (λ (k : Cover). k.output) flat.covers m.0 c m.1)
+
+  latch_counts : (l : FlatLatch) → Among flat.latches l → 1 ≤ times l.output (latch_outputs flat.latches)
+  latch_counts l m = times_among l.output (latch_outputs flat.latches) (m.0, at_map (λ (k : FlatLatch). k.output) flat.latches m.0 l m.1)
 
   -- the output of a cover is no input and no clock
   pub apart : (c : Cover) → Among flat.covers c → ¬ Among (flat.inputs ++ flat.clocks) c.output
@@ -123,7 +149,25 @@ module _ (flat : FlatModel) (model : IsFlatModel flat) (latchless : flat.latches
       let one = model.one_driver c.output (covered_below c m) in
       let sum = drivers_are c.output in
       let here = times_among c.output (flat.inputs ++ flat.clocks) i in
-      let there = times_among c.output (outputs_of flat.covers) (m.0, at_map (λ (k : Cover). k.output) flat.covers m.0 c m.1) in
+      let there = cover_counts c m in
+      omega (arith, one, sum, here, there)
+
+  -- nor is the output of a latch
+  pub latch_apart : (l : FlatLatch) → Among flat.latches l → ¬ Among (flat.inputs ++ flat.clocks) l.output
+  latch_apart l m i =
+      let one = model.one_driver l.output (latch_is l m).output in
+      let sum = drivers_are l.output in
+      let here = times_among l.output (flat.inputs ++ flat.clocks) i in
+      let there = latch_counts l m in
+      omega (arith, one, sum, here, there)
+
+  -- and not both
+  pub cover_latch : (c : Cover) (l : FlatLatch) → Among flat.covers c → Among flat.latches l → ¬ (c.output ≡ l.output)
+  cover_latch c l m n same =
+      let one = model.one_driver c.output (covered_below c m) in
+      let sum = drivers_are c.output in
+      let here = cover_counts c m in
+      let there = subst (λ (s : ℕ). 1 ≤ times s (latch_outputs flat.latches)) (sym same) (latch_counts l n) in
       omega (arith, one, sum, here, there)
 
   -- and of no other cover
@@ -138,7 +182,11 @@ module _ (flat : FlatModel) (model : IsFlatModel flat) (latchless : flat.latches
   pub one_cover : (c d : Cover) → Among flat.covers c → Among flat.covers d → c.output ≡ d.output → c ≡ d
   one_cover c d m n same = same_at flat.covers m.0 n.0 c d m.1 n.1 (one_place m.0 n.0 c d m.1 n.1 same)
 
--- what a cover reads is a signal
-pub input_below : (flat : FlatModel) → IsFlatModel flat → (c : Cover) (i : ℕ) → Among flat.covers c → Among c.inputs i → i < length flat.signals
-input_below flat model c i m n =
-    all_among (λ (s : ℕ). s < length flat.signals) c.inputs i (all_among (λ (k : Cover). IsCover (length flat.signals) k) flat.covers c model.covers m).inputs n
+  -- and of no other latch
+  pub one_latch : (i j : ℕ) (l k : FlatLatch) → At flat.latches i l → At flat.latches j k → l.output ≡ k.output → i ≡ j
+  one_latch i j l k e f same =
+      let one = model.one_driver l.output (latch_is l (i, e)).output in
+      let sum = drivers_are l.output in
+      times_once l.output (latch_outputs flat.latches) (omega (arith, one, sum)) i j
+      (at_map (λ (x : FlatLatch). x.output) flat.latches i l e)
+      (subst (λ (n : ℕ). At (latch_outputs flat.latches) j n) (sym same) (at_map (λ (x : FlatLatch). x.output) flat.latches j k f))

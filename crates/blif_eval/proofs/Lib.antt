@@ -1,10 +1,16 @@
 -- Drivers, what depends on what, and the law that a model with an order has exactly one assignment.
 pub mod Drivers
+pub mod LatchLaws
+pub mod DriverLaws
+pub mod FoundDrivers
+pub mod KnownLaws
+pub mod FixedLaws
+pub mod LocalLaws
 pub mod OneAssignment
 pub mod GraphLaws
+pub mod EvalLaws
+pub mod OperationLaws
 pub mod GivesLaws
 pub mod Frames
-pub mod EvalLaws
 pub mod CountLaws
-pub mod OperationLaws
 pub mod CoverRows

@@ -1,22 +1,31 @@
--- The operations of the signals, in their order, are at most those of the covers, each taken once.
-use Rattle.std.proofs.Common.{◌≡◌, ℕ, zero, suc, ◌+◌, ◌*◌, ◌<◌, ◌≤◌, List, [], ◌∷◌, Some, map, length, arith, ap, refl, sym, subst, ◌∙◌, inl, inr}
+-- The operations of the signals and elements, in their order, are at most those of the covers and one for each element.
+use Rattle.std.proofs.Common.{◌≡◌, ℕ, zero, suc, ◌+◌, ◌*◌, ◌<◌, ◌≤◌, List, [], ◌∷◌, Option, Some, map, length, arith, ap, refl, sym, subst, ◌∙◌, inl, inr}
 use Rattle.std.specs.Prelude.{slice_get, sum_by}
 use Rattle.std.proofs.lemmas.Bool.{cases_eq, cases_lt}
 use Rattle.std.proofs.lemmas.List.Sums.{sum_by-cons}
 use Rattle.std.proofs.lemmas.Option.{none-some, same_Some}
 use Rattle.blif_eval.proofs.Drivers.{among_times, test_one, test_other, times, times_more}
-use Rattle.blif_eval.specs.Drivers.{AreDrivers, driver_at}
-use Rattle.blif_eval.specs.Operations.{operations_by, operations_of, signal_operations}
+use Rattle.blif_eval.proofs.FoundDrivers.{driver_there}
+use Rattle.blif_eval.proofs.LatchLaws.{names_few, part_ranges}
+use Rattle.blif_eval.specs.Drivers.{AreDrivers, IsDriver, node_count}
+use Rattle.blif_eval.specs.Operations.{driver_operations, number_operations, operations_of, weighed}
+use Rattle.blif_eval.specs.Settled.{driver_at}
+use Rattle.blif_eval.specs.declared.driver_table.Driver.{Driver}
+use Rattle.blif_eval.specs.declared.driver_table.Driver.TheVariants.{Given, Covered, Stored, Element}
+use Rattle.graphs.proofs.Lists.{one_at}
+use Rattle.vrt_model.proofs.Members.{among_later}
 use Rattle.vrt_model.specs.Budget.{literals_in, model_size}
-use Rattle.vrt_model.specs.Lists.{At}
+use Rattle.vrt_model.specs.Elements.{element_names}
+use Rattle.vrt_model.specs.FlatModels.{IsFlatModel}
+use Rattle.vrt_model.specs.Lists.{At, Among}
 use Rattle.vrt_model.specs.declared.flat_model.Cover.{Cover}
 use Rattle.vrt_model.specs.declared.flat_model.FlatModel.{FlatModel}
 
 -- ---- sums over places
 
--- the operations of the cover at a place
-abbrev at_place : List Cover → ℕ → ℕ
-at_place covers n = operations_by (slice_get covers n)
+-- the weight of the item at a place
+abbrev at_place : {X : Type 0} → (X → ℕ) → List X → ℕ → ℕ
+at_place weight xs n = weighed weight (slice_get xs n)
 
 -- the places after the first, counted from the one after it
 lowered : List ℕ → List ℕ
@@ -80,33 +89,33 @@ headed_most w (suc p ∷ ps) le =
     let sum = sum_by-cons (headed w) (suc p) ps in
     omega (arith, rest, sum)
 
-split_sum : (c : Cover) (cs : List Cover) (ps : List ℕ) → sum_by (at_place (c ∷ cs)) ps ≡ sum_by (headed (operations_of c)) ps + sum_by (at_place cs) (lowered ps)
+split_sum : {X : Type 0} (w : X → ℕ) (c : X) (cs : List X) (ps : List ℕ) → sum_by (at_place w (c ∷ cs)) ps ≡ sum_by (headed (w c)) ps + sum_by (at_place w cs) (lowered ps)
 unfolding headed lowered
-split_sum c cs [] = omega arith
-split_sum c cs (zero ∷ ps) =
-    let rest = split_sum c cs ps in
-    let whole = sum_by-cons (at_place (c ∷ cs)) zero ps in
-    let first = sum_by-cons (headed (operations_of c)) zero ps in
+split_sum w c cs [] = omega arith
+split_sum w c cs (zero ∷ ps) =
+    let rest = split_sum w c cs ps in
+    let whole = sum_by-cons (at_place w (c ∷ cs)) zero ps in
+    let first = sum_by-cons (headed (w c)) zero ps in
     omega (arith, rest, whole, first)
-split_sum c cs (suc p ∷ ps) =
-    let rest = split_sum c cs ps in
-    let whole = sum_by-cons (at_place (c ∷ cs)) (suc p) ps in
-    let first = sum_by-cons (headed (operations_of c)) (suc p) ps in
-    let later = sum_by-cons (at_place cs) p (lowered ps) in
+split_sum w c cs (suc p ∷ ps) =
+    let rest = split_sum w c cs ps in
+    let whole = sum_by-cons (at_place w (c ∷ cs)) (suc p) ps in
+    let first = sum_by-cons (headed (w c)) (suc p) ps in
+    let later = sum_by-cons (at_place w cs) p (lowered ps) in
     omega (arith, rest, whole, first, later)
 
-no_sum : (ps : List ℕ) → sum_by (at_place []) ps ≡ 0
-no_sum [] = refl
-no_sum (p ∷ ps) = let rest = no_sum ps in let sum = sum_by-cons (at_place []) p ps in omega (arith, rest, sum)
+no_sum : {X : Type 0} (w : X → ℕ) (ps : List ℕ) → sum_by (at_place w []) ps ≡ 0
+no_sum w [] = refl
+no_sum w (p ∷ ps) = let rest = no_sum w ps in let sum = sum_by-cons (at_place w []) p ps in omega (arith, rest, sum)
 
 -- places that are each taken at most once
-places_most : (covers : List Cover) (ps : List ℕ) → ((n : ℕ) → n < length covers → times n ps ≤ 1) → sum_by (at_place covers) ps ≤ sum_by operations_of covers
-places_most [] ps once = let none = no_sum ps in omega (arith, none)
-places_most (c ∷ cs) ps once =
-    let parts = split_sum c cs ps in
-    let first = headed_most (operations_of c) ps (once 0 (omega arith)) in
-    let rest = places_most cs (lowered ps) (λ n lt. let same = times_lowered n ps in let most = once (suc n) (omega (arith, lt)) in omega (arith, same, most)) in
-    let sum = sum_by-cons operations_of c cs in
+places_most : {X : Type 0} (w : X → ℕ) (xs : List X) (ps : List ℕ) → ((n : ℕ) → n < length xs → times n ps ≤ 1) → sum_by (at_place w xs) ps ≤ sum_by w xs
+places_most w [] ps once = let none = no_sum w ps in omega (arith, none)
+places_most w (c ∷ cs) ps once =
+    let parts = split_sum w c cs ps in
+    let first = headed_most (w c) ps (once 0 (omega arith)) in
+    let rest = places_most w cs (lowered ps) (λ n lt. let same = times_lowered n ps in let most = once (suc n) (omega (arith, lt)) in omega (arith, same, most)) in
+    let sum = sum_by-cons w c cs in
     omega (arith, parts, first, rest, sum)
 
 -- ---- the places of the signals
@@ -135,7 +144,7 @@ at_of_map f [] i n e = absurd (none-some n e)
 at_of_map f (x ∷ xs) zero n e = (x, refl, same_Some (f x) n e)
 at_of_map f (x ∷ xs) (suc i) n e = at_of_map f xs i n e
 
-at_there : (xs : List Cover) (n : ℕ) → n < length xs → (c : Cover) × At xs n c
+at_there : {X : Type 0} (xs : List X) (n : ℕ) → n < length xs → (x : X) × At xs n x
 at_there [] n lt = absurd (omega (arith, lt))
 at_there (x ∷ xs) zero lt = (x, refl)
 at_there (x ∷ xs) (suc n) lt = at_there xs n (omega (arith, lt))
@@ -156,23 +165,106 @@ operations_most (c ∷ cs) =
     let two = sum_by-cons (λ (k : Cover). sum_by literals_in k.rows + length k.rows) c cs in
     omega (arith, rest, one, two)
 
-module _ (flat : FlatModel) (drivers steps : List ℕ) (are : AreDrivers (length flat.signals) flat.covers (length flat.covers) drivers)
-    (once : (i j s : ℕ) → At steps i s → At steps j s → i ≡ j) where
-  places_once : (n : ℕ) → n < length flat.covers → times n (map (driver_at flat.covers drivers) steps) ≤ 1
-  places_once n lt = times_most (map (driver_at flat.covers drivers) steps) n one_place
-    where
-      one_place : (i j : ℕ) → At (map (driver_at flat.covers drivers) steps) i n → At (map (driver_at flat.covers drivers) steps) j n → i ≡ j
-      one_place i j a b =
-          let c = at_there flat.covers n lt in
-          let s = at_of_map (driver_at flat.covers drivers) steps i n a in
-          let t = at_of_map (driver_at flat.covers drivers) steps j n b in
-          let same_s = are.real s.0 c.0 (subst (λ (k : ℕ). At flat.covers k c.0) (sym s.2) c.1) in
-          let same_t = are.real t.0 c.0 (subst (λ (k : ℕ). At flat.covers k c.0) (sym t.2) c.1) in
-          once i j s.0 s.1 (subst (At steps j) (sym same_t ∙ same_s) t.1)
+-- sums item by item
+sum_both : (f g h : ℕ → ℕ) (xs : List ℕ) → ((n : ℕ) → Among xs n → f n ≤ g n + h n) → sum_by f xs ≤ sum_by g xs + sum_by h xs
+sum_both f g h [] each = omega arith
+sum_both f g h (x ∷ xs) each =
+    let rest = sum_both f g h xs (λ n m. each n (among_later x xs n m)) in
+    let here = each x (0, refl) in
+    let one = sum_by-cons f x xs in
+    let two = sum_by-cons g x xs in
+    let three = sum_by-cons h x xs in
+    omega (arith, rest, here, one, two, three)
 
-  pub signals_most : sum_by (signal_operations flat drivers) steps ≤ 20 * (model_size flat + 1)
-  signals_most =
-      let over = sum_map (at_place flat.covers) (driver_at flat.covers drivers) steps in
-      let places = places_most flat.covers (map (driver_at flat.covers drivers) steps) places_once in
+unit : {X : Type 0} → X → ℕ
+unit x = 1
+
+sum_units : {X : Type 0} (xs : List X) → sum_by unit xs ≡ length xs
+unfolding unit
+sum_units [] = refl
+sum_units (x ∷ xs) = let rest = sum_units xs in let sum = sum_by-cons unit x xs in omega (arith, rest, sum)
+
+-- the place of a cover, and that of an element, where a driver is one
+cover_place : ℕ → Driver → ℕ
+cover_place none Given = none
+cover_place none (Covered place) = place
+cover_place none (Stored number) = none
+cover_place none (Element storage) = none
+
+element_place : ℕ → Driver → ℕ
+element_place none Given = none
+element_place none (Covered place) = none
+element_place none (Stored number) = none
+element_place none (Element storage) = storage.element
+
+module _ (flat : FlatModel) (model : IsFlatModel flat) (drivers : List Driver) (are : AreDrivers flat drivers) (steps : List ℕ)
+    (low : (n : ℕ) → Among steps n → n < node_count flat) (once : (i j s : ℕ) → At steps i s → At steps j s → i ≡ j) where
+  cover_of : ℕ → ℕ
+  cover_of n = cover_place (length flat.covers) (driver_at drivers n)
+
+  element_of : ℕ → ℕ
+  element_of n = element_place (length (element_names flat)) (driver_at drivers n)
+
+  -- the driver of a step
+  driver_of : (n : ℕ) → Among steps n → IsDriver flat n (driver_at drivers n)
+  driver_of n m = are.each n (driver_at drivers n) (driver_there flat model drivers are n (low n m))
+
+  cover_output : (n place : ℕ) (c : Cover) (d : Driver) → IsDriver flat n d → cover_place (length flat.covers) d ≡ place → place < length flat.covers → At flat.covers place c → c.output ≡ n
+  unfolding cover_place
+  cover_output n place c Given is e lt at = absurd (omega (arith, e, lt))
+  cover_output n place c (Covered p) is e lt at = ap (λ (x : Cover). x.output) (one_at flat.covers place c is.0 at (subst (λ (k : ℕ). At flat.covers k is.0) e is.1)) ∙ is.2
+  cover_output n place c (Stored number) is e lt at = absurd (omega (arith, e, lt))
+  cover_output n place c (Element s) is e lt at = absurd (omega (arith, e, lt))
+
+  element_number : (n e : ℕ) (d : Driver) → IsDriver flat n d → element_place (length (element_names flat)) d ≡ e → e < length (element_names flat) → n ≡ length flat.signals + e
+  unfolding element_place
+  element_number n e Given is place lt = absurd (omega (arith, place, lt))
+  element_number n e (Covered p) is place lt = absurd (omega (arith, place, lt))
+  element_number n e (Stored number) is place lt = absurd (omega (arith, place, lt))
+  element_number n e (Element s) is place lt = sym is.2 ∙ (is.3.place ∙ ap (λ (k : ℕ). length flat.signals + k) place)
+
+  -- places of steps that say which step they are of are each taken once
+  once_by : (f : ℕ → ℕ) (n : ℕ) (is : ℕ) → ((s : ℕ) → Among steps s → f s ≡ n → is ≡ s) → times n (map f steps) ≤ 1
+  once_by f n is says = times_most (map f steps) n (λ i j a b.
+      let s = at_of_map f steps i n a in
+      let t = at_of_map f steps j n b in
+      let one = says s.0 (i, s.1) s.2 in
+      let two = says t.0 (j, t.1) t.2 in
+      once i j is (subst (At steps i) (sym one) s.1) (subst (At steps j) (sym two) t.1))
+
+  covers_once : (n : ℕ) → n < length flat.covers → times n (map cover_of steps) ≤ 1
+  unfolding cover_of
+  covers_once n lt =
+      let c = at_there flat.covers n lt in
+      once_by cover_of n c.0.output (λ s m e. cover_output s n c.0 (driver_at drivers s) (driver_of s m) e lt c.1)
+
+  elements_once : (n : ℕ) → n < length (element_names flat) → times n (map element_of steps) ≤ 1
+  unfolding element_of
+  elements_once n lt = once_by element_of n (length flat.signals + n) (λ s m e. sym (element_number s n (driver_at drivers s) (driver_of s m) e lt))
+
+  parts_of_driver : (n : ℕ) (d : Driver) → IsDriver flat n d
+      → driver_operations flat.covers d ≤ at_place operations_of flat.covers (cover_place (length flat.covers) d) + at_place unit (element_names flat) (element_place (length (element_names flat)) d)
+  unfolding cover_place element_place unit
+  parts_of_driver n Given is = omega arith
+  parts_of_driver n (Covered p) is = omega arith
+  parts_of_driver n (Stored number) is = omega arith
+  parts_of_driver n (Element s) is =
+      let r = part_ranges flat model is.0 is.1 in
+      let same : s.element ≡ r.element = (let one = is.3.place in let two = r.number in omega (arith, one, two)) in
+      let name = at_there (element_names flat) s.element (let below = r.below in omega (arith, same, below)) in
+      let here : at_place unit (element_names flat) s.element ≡ 1 = ap (λ (o : Option (List ℕ)). weighed unit o) name.1 in
+      omega (arith, here)
+
+  pub numbers_most : sum_by (number_operations flat drivers) steps ≤ 20 * (model_size flat + 1)
+  unfolding cover_of element_of
+  numbers_most =
+      let both = sum_both (number_operations flat drivers) (λ n. at_place operations_of flat.covers (cover_of n)) (λ n. at_place unit (element_names flat) (element_of n)) steps
+      (λ n m. parts_of_driver n (driver_at drivers n) (driver_of n m)) in
+      let covers_over = sum_map (at_place operations_of flat.covers) cover_of steps in
+      let elements_over = sum_map (at_place unit (element_names flat)) element_of steps in
+      let covers_few = places_most operations_of flat.covers (map cover_of steps) covers_once in
+      let elements_few = places_most unit (element_names flat) (map element_of steps) elements_once in
+      let units = sum_units (element_names flat) in
+      let names = names_few flat in
       let most = operations_most flat.covers in
-      omega (arith, over, places, most)
+      omega (arith, both, covers_over, elements_over, covers_few, elements_few, units, names, most)

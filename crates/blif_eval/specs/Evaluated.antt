@@ -1,10 +1,12 @@
 -- A model evaluated by diagrams: the bits of its one assignment, at every valuation of the variables.
-use Rattle.std.specs.Prelude.{◌≡◌, ℕ, ◌+◌, Bool, cond, List, length, Option, Some}
+use Rattle.std.specs.Prelude.{◌≡◌, ℕ, ◌+◌, ◌<◌, Bool, cond, List, length, Option, Some}
 use Rattle.bdd_core.specs.Diagram.{Valuation}
 use Rattle.bdd_core.specs.Store.{Diagrams, IsSpan}
 use Rattle.bdd_core.specs.Words.{IsApart, IsFilled, shows, word_at}
 use Rattle.blif_eval.specs.OneAssignment.{AreSame, IsAssigned}
-use Rattle.blif_eval.specs.Plans.{IsPlan, entry_of, node_count}
+use Rattle.blif_eval.specs.Drivers.{node_count}
+use Rattle.blif_eval.specs.Plans.{IsPlan, entry_of}
+use Rattle.blif_eval.specs.declared.driver_table.Driver.{Driver}
 use Rattle.blif_eval.specs.declared.plan.ModelPlan.{ModelPlan}
 use Rattle.node_pool.specs.declared.region.Span.{Span}
 use Rattle.vrt_model.specs.Assignment.{Assignment}
@@ -32,6 +34,12 @@ AreConstants known inputs d = (s : ℕ) (b : Bool) → entry_of known s ≡ Some
 -- a plan of the model for some known bits that stand in `inputs` as constants
 abbrev pub IsPlannedFor : FlatModel → ModelPlan → Span → Diagrams → Type 0
 IsPlannedFor flat plan inputs d = (known : List (Option Bool)) × IsPlan flat known plan × AreConstants known inputs d
+
+-- these are the steps of such a plan, and what gives each number its bit; the known bits are asked of the handles in `inputs` alone
+abbrev pub AreSteps : FlatModel → List Driver → List ℕ → Span → Diagrams → Type 0
+AreSteps flat drivers steps inputs d =
+    (known : List (Option Bool)) × IsPlan flat known (record { steps = steps; drivers = drivers })
+    × ((s : ℕ) (b : Bool) → s < inputs.len → entry_of known s ≡ Some b → word_at d inputs s ≡ cond b 1 0)
 
 -- at a valuation: the bits in `out`, the signals first and then the elements
 abbrev pub assignment_at : Diagrams → FlatModel → Span → Valuation → Assignment

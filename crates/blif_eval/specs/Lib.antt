@@ -1,7 +1,9 @@
 pub mod Drivers
 pub mod Evaluated
 pub mod Gives
+pub mod KnownBits
 pub mod OneAssignment
 pub mod Operations
 pub mod Plans
 pub mod Settled
+pub mod Sources

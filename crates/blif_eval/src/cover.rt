@@ -101,7 +101,7 @@ fn rows_diagram(store: &mut Store, cover: &Cover, values: Span) -> Result<H, Spe
 }
 
 /// Whether a cover is 1 where some row fits: it has rows of the on-set, or no rows.
-fn is_of_rows(cover: &Cover) -> bool
+pub(crate) fn is_of_rows(cover: &Cover) -> bool
     ensures { result ≡ (cover.now.on || is_empty cover.now.rows) }
 {
     cover.on || cover.rows.is_empty()

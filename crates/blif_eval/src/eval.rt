@@ -1,21 +1,23 @@
 //! A model evaluated at every valuation of the variables of a store.
 
-ghost use Rattle.std.specs.Prelude.{◌≡◌, ◌≢◌, ℕ, ◌+◌, ◌*◌, ◌<◌, [], length, sum_by, IfErr, IfOk};
-ghost use Rattle.bdd_core.specs.Diagram.{Valuation};
-ghost use Rattle.bdd_core.specs.Store.{IsSpan};
-ghost use Rattle.bdd_core.specs.Words.{Writes, word_at};
-ghost use Rattle.blif_eval.specs.Evaluated.{HasModelSpans, IsEvaluated, IsPlannedFor};
+ghost use Rattle.std.specs.Prelude.{◌≡◌, ◌≢◌, ℕ, ◌+◌, ◌*◌, ◌<◌, ◌≤◌, [], Some, length, slice_get, sum_by, IfErr, IfOk};
+ghost use Rattle.bdd_core.specs.Diagram.{IsWithin, Valuation};
+ghost use Rattle.bdd_core.specs.Store.{IsLive, IsSpan, function_of};
+ghost use Rattle.bdd_core.specs.Words.{IsFilled, Writes, shows, word_at};
+ghost use Rattle.blif_eval.specs.Drivers.{AreDrivers, IsDriver, node_count};
+ghost use Rattle.blif_eval.specs.Evaluated.{AreSteps, HasModelSpans, IsEvaluated, IsPlannedFor};
 ghost use Rattle.bdd_ops.specs.Counting.{Counts, IsSpanWithin};
-ghost use Rattle.blif_eval.specs.Gives.{Gives};
-ghost use Rattle.blif_eval.specs.Operations.{signal_operations};
-ghost use Rattle.blif_eval.specs.Settled.{HasSignalSpans, IsSettled, IsSignalOrder, TakesValue, value_in};
+ghost use Rattle.blif_eval.specs.Gives.{Gives, bits_in};
+ghost use Rattle.blif_eval.specs.Operations.{driver_operations, number_operations, operations_of, weighed};
+ghost use Rattle.blif_eval.specs.Settled.{AreSettled, HasRange, HasStepSpans, TakesValue, control_word, cover_value, function_at, function_by, stored};
+ghost use Rattle.blif_eval.specs.declared.driver_table.Driver.TheVariants.{Element};
 ghost use Rattle.vrt_model.specs.Budget.{model_size};
-ghost use Rattle.vrt_model.specs.FlatModels.{IsFlatModel};
-ghost use Rattle.vrt_model.specs.Lists.{Among};
+ghost use Rattle.vrt_model.specs.FlatModels.{IsControl, IsFlatModel};
 
 use crate::ModelPlan;
 use crate::cover::cover_diagram;
-use bdd_core::{H, Spent, Store};
+use crate::driver_table::{Driver, Storage};
+use bdd_core::{H, Spent, Store, ZERO};
 use node_pool::Span;
 use vrt_model::FlatModel;
 
@@ -32,78 +34,157 @@ fn clear(store: &mut Store, out: Span)
     }
 }
 
-/// The value of a signal: that of its cover, by the values in `out`, or else that of the input.
-fn value_of(
-    store: &mut Store,
-    flat: &FlatModel,
-    drivers: &[usize],
-    inputs: Span,
-    out: Span,
-    signal: u32,
-) -> Result<H, Spent>
+/// The function of the cover at a place.
+fn covered(store: &mut Store, flat: &FlatModel, place: usize, out: Span) -> Result<H, Spent>
     requires model { IsFlatModel flat.now }
-    requires spans { HasSignalSpans flat.now inputs out store.old }
-    requires drivers { length drivers.now ≡ length flat.now.signals }
-    requires signal { signal < length flat.now.signals }
-    ensures gives { Gives store.old store.new (value_in store.old flat.now drivers.now inputs out signal) result }
-    ensures counts { (u : ℕ) → IsSpanWithin u store.old out → Counts u (signal_operations flat.now drivers.now signal) store.old store.new result }
+    requires span { IsSpan store.old out }
+    requires live { IsFilled store.old out }
+    requires len { length flat.now.signals ≤ out.len }
+    ensures gives { Gives store.old store.new (λ v. cover_value flat.now.covers place (bits_in store.old out v)) result }
+    ensures counts { (u : ℕ) → IsSpanWithin u store.old out → Counts u (weighed operations_of (slice_get flat.now.covers place)) store.old store.new result }
 {
     let _ends = store.node_count();
-    match flat.covers.get(drivers[signal as usize]) {
+    match flat.covers.get(place) {
         Some(cover) => cover_diagram(store, cover, out),
-        None => Ok(H(store.read(inputs, signal))),
+        None => Ok(ZERO),
     }
 }
 
-/// Writes the value of a signal.
+/// The handle of a control: that of its signal, or the one of the default clock, which stands behind those of the inputs.
+fn control_handle(store: &Store, control: Option<u32>, signals: u32, inputs: Span, out: Span) -> H
+    requires inputs { IsSpan store.now inputs }
+    requires clock { signals < inputs.len }
+    requires out { IsSpan store.now out }
+    requires control { IsControl out.len control }
+    ensures { result.0 ≡ control_word store.now signals inputs out control }
+{
+    match control {
+        Some(signal) => H(store.read(out, signal)),
+        None => H(store.read(inputs, signals)),
+    }
+}
+
+/// What an element stores: what it takes in where its control opens it, and elsewhere its old bit.
+fn choose(store: &mut Store, open_at: bool, control: H, source: H, held: H) -> Result<H, Spent>
+    requires { IsLive store.old control × IsLive store.old source × IsLive store.old held }
+    ensures gives { Gives store.old store.new (λ v. stored open_at (function_of store.old control v) (function_of store.old source v) (function_of store.old held v)) result }
+    ensures counts { (u : ℕ) → IsWithin u (function_of store.old control) → IsWithin u (function_of store.old source) → IsWithin u (function_of store.old held) → Counts u 1 store.old store.new result }
+{
+    let _ends = store.node_count();
+    if open_at {
+        store.ite(control, source, held)
+    } else {
+        store.ite(control, held, source)
+    }
+}
+
+/// The function of an element.
+fn element(
+    store: &mut Store,
+    flat: &FlatModel,
+    storage: Storage,
+    inputs: Span,
+    held: Span,
+    out: Span,
+) -> Result<H, Spent>
+    requires spans { HasStepSpans flat.now inputs held out store.old }
+    requires range { HasRange flat.now storage }
+    requires few { length flat.now.signals ≤ 20000 }
+    ensures gives { Gives store.old store.new (function_by store.old flat.now inputs held out 0 (Element storage)) result }
+    ensures counts { (u : ℕ) → IsSpanWithin u store.old inputs → IsSpanWithin u store.old held → IsSpanWithin u store.old out → Counts u 1 store.old store.new result }
+{
+    let _ends = store.node_count();
+    let signals = flat.signals.len() as u32;
+    let control = control_handle(store, storage.control, signals, inputs, out);
+    let source = H(store.read(out, storage.source));
+    let kept = H(store.read(held, storage.element));
+    choose(store, storage.open_at, control, source, kept)
+}
+
+/// The function of a number by what gives it its bit.
+fn value_by(
+    store: &mut Store,
+    flat: &FlatModel,
+    driver: Driver,
+    inputs: Span,
+    held: Span,
+    out: Span,
+    number: u32,
+) -> Result<H, Spent>
+    requires model { IsFlatModel flat.now }
+    requires spans { HasStepSpans flat.now inputs held out store.old }
+    requires driver { IsDriver flat.now number driver }
+    ensures gives { Gives store.old store.new (function_by store.old flat.now inputs held out number driver) result }
+    ensures counts { (u : ℕ) → IsSpanWithin u store.old inputs → IsSpanWithin u store.old held → IsSpanWithin u store.old out → Counts u (driver_operations flat.now.covers driver) store.old store.new result }
+{
+    let _ends = store.node_count();
+    match driver {
+        Driver::Given => Ok(H(store.read(inputs, number))),
+        Driver::Covered(place) => covered(store, flat, place, out),
+        Driver::Stored(last) => Ok(H(store.read(out, last))),
+        Driver::Element(storage) => element(store, flat, storage, inputs, held, out),
+    }
+}
+
+/// What gives a number its bit.
+fn driver_at(drivers: &[Driver], number: u32) -> Driver
+    requires { number < length drivers.now }
+    ensures { slice_get drivers.now number ≡ Some result }
+{
+    drivers[number as usize]
+}
+
+/// Writes the value of a number.
 fn settle(
     store: &mut Store,
     flat: &FlatModel,
-    drivers: &[usize],
+    drivers: &[Driver],
     inputs: Span,
+    held: Span,
     out: Span,
-    signal: u32,
+    number: u32,
 ) -> Result<(), Spent>
     requires model { IsFlatModel flat.now }
-    requires spans { HasSignalSpans flat.now inputs out store.old }
-    requires drivers { length drivers.now ≡ length flat.now.signals }
-    requires signal { signal < length flat.now.signals }
+    requires spans { HasStepSpans flat.now inputs held out store.old }
+    requires drivers { AreDrivers flat.now drivers.now }
+    requires number { number < node_count flat.now }
     ensures writes { Writes out store.old store.new }
-    ensures others { (k : ℕ) → k ≢ signal → word_at store.new out k ≡ word_at store.old out k }
-    ensures value { IfOk result (λ _. TakesValue flat.now drivers.now inputs out store.old store.new signal) }
+    ensures others { (k : ℕ) → k ≢ number → word_at store.new out k ≡ word_at store.old out k }
+    ensures value { IfOk result (λ _. TakesValue flat.now drivers.now inputs held out store.old store.new number) }
     ensures spent { IfErr result (λ spent. (spent.nodes ≡ store.new.budget) × (length store.new.nodes ≡ store.new.budget)) }
-    ensures counts { (u : ℕ) → IsSpanWithin u store.old out → Counts u (signal_operations flat.now drivers.now signal) store.old store.new result }
+    ensures counts { (u : ℕ) → IsSpanWithin u store.old inputs → IsSpanWithin u store.old held → IsSpanWithin u store.old out → Counts u (number_operations flat.now drivers.now number) store.old store.new result }
 {
     let _ends = store.node_count();
-    let value = match value_of(store, flat, drivers, inputs, out, signal) {
+    let driver = driver_at(drivers, number);
+    let value = match value_by(store, flat, driver, inputs, held, out, number) {
         Ok(value) => value,
         Err(spent) => return Err(spent),
     };
-    store.write(out, signal, value.0);
+    store.write(out, number, value.0);
     Ok(())
 }
 
-/// Writes the values of the signals in an order in which each stands behind those that its cover reads.
+/// Writes the values of the signals and elements in the order of a plan.
 fn settle_all(
     store: &mut Store,
     flat: &FlatModel,
-    drivers: &[usize],
+    drivers: &[Driver],
     steps: &[u32],
     inputs: Span,
+    held: Span,
     out: Span,
 ) -> Result<(), Spent>
     requires model { IsFlatModel flat.now }
-    requires spans { HasSignalSpans flat.now inputs out store.old }
-    requires drivers { length drivers.now ≡ length flat.now.signals }
-    requires order { IsSignalOrder flat.now drivers.now steps.now }
+    requires spans { HasStepSpans flat.now inputs held out store.old }
+    requires plan { AreSteps flat.now drivers.now steps.now inputs store.old }
     ensures writes { Writes out store.old store.new }
-    ensures settled { IfOk result (λ _. (s : ℕ) → Among steps.now s → IsSettled flat.now drivers.now inputs out store.old store.new s) }
+    ensures settled { IfOk result (λ _. AreSettled flat.now drivers.now steps.now inputs held out store.old store.new (length steps.now)) }
     ensures spent { IfErr result (λ spent. (spent.nodes ≡ store.new.budget) × (length store.new.nodes ≡ store.new.budget)) }
-    ensures counts { (u : ℕ) → IsSpanWithin u store.old inputs → IsSpanWithin u store.old out → Counts u (sum_by (signal_operations flat.now drivers.now) steps.now) store.old store.new result }
+    ensures counts { (u : ℕ) → IsSpanWithin u store.old inputs → IsSpanWithin u store.old held → IsSpanWithin u store.old out → Counts u (sum_by (number_operations flat.now drivers.now) steps.now) store.old store.new result }
 {
     let _ends = store.node_count();
-    for signal in steps {
-        match settle(store, flat, drivers, inputs, out, *signal) {
+    for number in steps {
+        match settle(store, flat, drivers, inputs, held, out, *number) {
             Ok(()) => {}
             Err(spent) => return Err(spent),
         }
@@ -111,10 +192,11 @@ fn settle_all(
     Ok(())
 }
 
-/// Writes the bits of the one assignment of a model without latches, at every valuation of the variables of the store:
-/// a handle for each signal, and behind them one for each element. `inputs` has a handle for each signal, of which those
-/// of the inputs and clocks count, and one more for the default clock, and `held` one for each element. The value of a
-/// cover is that of the Berkeley Logic Interchange Format, with rows of the off-set.
+/// Writes the bits of the one assignment of a model, at every valuation of the variables of the store: a handle for each
+/// signal, and behind them one for the new bit of each element. `inputs` has a handle for each signal, of which those of
+/// the inputs and clocks count, and one more for the default clock, and `held` one for the old bit of each element. The
+/// value of a cover is that of the Berkeley Logic Interchange Format, with rows of the off-set. The bits that were known
+/// where the plan was made stand in `inputs` as constants.
 ///
 /// Handles from before keep their functions and words outside `out` stay as they are, also after `Spent`, which has the
 /// budget and comes only where as many nodes are there.
@@ -132,7 +214,6 @@ pub fn eval_model(
     out: Span,
 ) -> Result<(), Spent>
     requires model { IsFlatModel flat.now }
-    requires latchless { flat.now.latches ≡ [] }
     requires spans { HasModelSpans flat.now inputs held out store.old }
     requires plan { IsPlannedFor flat.now plan.now inputs store.old }
     ensures writes { Writes out store.old store.new }
@@ -140,7 +221,6 @@ pub fn eval_model(
     ensures spent { IfErr result (λ spent. (spent.nodes ≡ store.new.budget) × (length store.new.nodes ≡ store.new.budget)) }
     ensures counts { (u : ℕ) → IsSpanWithin u store.old inputs → IsSpanWithin u store.old held → Counts u (20 * (model_size flat.now + 1)) store.old store.new result }
 {
-    let _no_element = held;
     clear(store, out);
     settle_all(
         store,
@@ -148,6 +228,7 @@ pub fn eval_model(
         plan.drivers.as_slice(),
         plan.steps.as_slice(),
         inputs,
+        held,
         out,
     )
 }

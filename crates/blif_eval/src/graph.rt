@@ -1,77 +1,22 @@
 //! What depends on what in a model, as a graph.
 
-ghost use Rattle.std.specs.Prelude.{◌≡◌, ◌<◌, ◌++◌, ◌∷◌, [], Bool, List, Option, length, replicate, set, IfOk, OnOk};
-ghost use Rattle.blif_eval.specs.Drivers.{AreDrivers, graph_by, inputs_at};
-ghost use Rattle.graphs.specs.Graphs.{AreInside, HasArcs};
-ghost use Rattle.blif_eval.specs.Plans.{ArcOf};
-ghost use Rattle.vrt_model.specs.FlatModels.{IsFlatModel};
+ghost use Rattle.std.specs.Prelude.{◌≡◌, ◌++◌, ◌∷◌, [], cond, IfOk, OnOk};
+ghost use Rattle.blif_eval.specs.Plans.{entry_of};
+ghost use Rattle.blif_eval.specs.Sources.{control_list, control_place, element_sources, graph_by, inputs_at, is_shut, shuts, sources_by};
 
+use crate::driver_table::{Driver, Storage};
+use crate::known::entry;
 use std::alloc::Global;
 use vrt_model::{Cover, FlatModel, NoMemory, Seq};
 
 /// Adds a number at the end.
-pub(crate) fn append(list: &mut Seq<u32>, number: u32) -> Result<(), NoMemory>
+fn append(list: &mut Seq<u32>, number: u32) -> Result<(), NoMemory>
     ensures { OnOk result (list.new ≡ list.old ++ number ∷ []) }
 {
     match list.push(number) {
         Ok(()) => Ok(()),
         Err(_) => Err(NoMemory),
     }
-}
-
-/// A signal is the output of the cover at a place.
-fn note(drivers: &mut Vec<usize>, signal: u32, place: usize)
-    requires { signal < length drivers.old.items }
-    ensures { drivers.new.items ≡ set drivers.old.items signal place }
-{
-    drivers[signal as usize] = place;
-}
-
-/// A place for each signal at which there is no cover.
-fn no_drivers(alloc: Global, signals: usize, place: usize) -> Result<Vec<usize>, NoMemory>
-    ensures { IfOk result (λ drivers. drivers.items ≡ replicate signals place) }
-{
-    match vec![in alloc; place; signals] {
-        Ok(drivers) => Ok(drivers),
-        Err(_) => Err(NoMemory),
-    }
-}
-
-/// The place of the cover that gives each signal, or the number of covers where none does.
-fn find_drivers(alloc: Global, flat: &FlatModel) -> Result<Vec<usize>, NoMemory>
-    requires model { IsFlatModel flat.now }
-    requires latchless { flat.now.latches ≡ [] }
-    ensures { IfOk result (λ drivers. AreDrivers (length flat.now.signals) flat.now.covers (length flat.now.covers) drivers.items) }
-{
-    let mut drivers = no_drivers(alloc, flat.signals.len(), flat.covers.len())?;
-    for (place, cover) in flat.covers.as_slice().iter().enumerate() {
-        note(&mut drivers, cover.output, place);
-    }
-    Ok(drivers)
-}
-
-/// Adds a place at the end.
-fn append_place(places: &mut Seq<usize>, place: usize) -> Result<(), NoMemory>
-    ensures { OnOk result (places.new ≡ places.old ++ place ∷ []) }
-{
-    match places.push(place) {
-        Ok(()) => Ok(()),
-        Err(_) => Err(NoMemory),
-    }
-}
-
-/// The place of the cover that gives each signal, or the number of covers where none does, as a list.
-pub(crate) fn drivers_of(alloc: Global, flat: &FlatModel) -> Result<Seq<usize>, NoMemory>
-    requires model { IsFlatModel flat.now }
-    requires latchless { flat.now.latches ≡ [] }
-    ensures { IfOk result (λ drivers. AreDrivers (length flat.now.signals) flat.now.covers (length flat.now.covers) drivers) }
-{
-    let found = find_drivers(alloc, flat)?;
-    let mut drivers = Seq::new(alloc);
-    for place in found.as_slice() {
-        append_place(&mut drivers, *place)?;
-    }
-    Ok(drivers)
 }
 
 /// The inputs of the cover at a place, none where there is no cover.
@@ -96,6 +41,91 @@ fn copied(alloc: Global, numbers: &[u32]) -> Result<Seq<u32>, NoMemory>
     Ok(copy)
 }
 
+/// A list of one number.
+fn one(alloc: Global, number: u32) -> Result<Seq<u32>, NoMemory>
+    ensures { IfOk result (λ list. list ≡ number ∷ []) }
+{
+    let mut list = Seq::new(alloc);
+    append(&mut list, number)?;
+    Ok(list)
+}
+
+/// The place of a control among known bits: that of its signal, or, for the default clock, the one behind all signals.
+fn control_place(control: Option<u32>, signals: usize) -> usize
+    ensures { result ≡ control_place control signals }
+{
+    match control {
+        Some(signal) => signal as usize,
+        None => signals,
+    }
+}
+
+/// Whether a control keeps an element shut, by what is known of its bit.
+fn shuts(known: Option<bool>, open_at: bool) -> bool
+    ensures { result ≡ shuts known open_at }
+{
+    match known {
+        Some(bit) => bit != open_at,
+        None => false,
+    }
+}
+
+/// Whether the known control keeps an element shut.
+fn is_shut(bits: &[Option<bool>], signals: usize, storage: Storage) -> bool
+    ensures { result ≡ is_shut bits.now signals storage }
+{
+    let place = control_place(storage.control, signals);
+    let known = entry(bits, place);
+    shuts(known, storage.open_at)
+}
+
+/// Adds what an element takes in, unless it is shut.
+fn add_source(list: &mut Seq<u32>, source: u32, shut: bool) -> Result<(), NoMemory>
+    ensures { OnOk result (list.new ≡ list.old ++ cond shut [] (source ∷ [])) }
+{
+    if shut { Ok(()) } else { append(list, source) }
+}
+
+/// Adds the signal at a control, if there is one.
+fn add_control(list: &mut Seq<u32>, control: Option<u32>) -> Result<(), NoMemory>
+    ensures { OnOk result (list.new ≡ list.old ++ control_list control) }
+{
+    match control {
+        Some(signal) => append(list, signal),
+        None => Ok(()),
+    }
+}
+
+/// The numbers from which arcs lead to an element.
+fn element_sources(alloc: Global, storage: Storage, shut: bool) -> Result<Seq<u32>, NoMemory>
+    ensures { IfOk result (λ sources. sources ≡ element_sources storage shut) }
+{
+    let mut sources = Seq::new(alloc);
+    add_source(&mut sources, storage.source, shut)?;
+    add_control(&mut sources, storage.control)?;
+    Ok(sources)
+}
+
+/// The numbers from which arcs lead to one that has this driver.
+fn sources_by(
+    alloc: Global,
+    flat: &FlatModel,
+    bits: &[Option<bool>],
+    driver: Driver,
+) -> Result<Seq<u32>, NoMemory>
+    ensures { IfOk result (λ sources. sources ≡ sources_by flat.now bits.now driver) }
+{
+    match driver {
+        Driver::Given => Ok(Seq::new(alloc)),
+        Driver::Covered(place) => copied(alloc, inputs_at(flat.covers.as_slice(), place)),
+        Driver::Stored(number) => one(alloc, number),
+        Driver::Element(storage) => {
+            let shut = is_shut(bits, flat.signals.len(), storage);
+            element_sources(alloc, storage, shut)
+        }
+    }
+}
+
 /// Adds a list of numbers at the end.
 fn append_list(lists: &mut Seq<Seq<u32>>, list: Seq<u32>) -> Result<(), NoMemory>
     ensures { OnOk result (lists.new ≡ lists.old ++ list ∷ []) }
@@ -106,31 +136,20 @@ fn append_list(lists: &mut Seq<Seq<u32>>, list: Seq<u32>) -> Result<(), NoMemory
     }
 }
 
-/// For each signal, the signals from which arcs lead to it, by the covers.
-fn graph_by(alloc: Global, flat: &FlatModel, drivers: &[usize]) -> Result<Seq<Seq<u32>>, NoMemory>
-    ensures { IfOk result (λ graph. graph ≡ graph_by flat.now drivers.now) }
-{
-    let mut graph = Seq::new(alloc);
-    for place in drivers {
-        let inputs = copied(alloc, inputs_at(flat.covers.as_slice(), *place))?;
-        append_list(&mut graph, inputs)?;
-    }
-    Ok(graph)
-}
-
-/// What depends on what in a model without latches, by the places of its covers.
+/// For each signal and each element, the numbers from which arcs lead to it, by what gives each its bit and by the bits
+/// that are known.
 pub(crate) fn graph_of(
     alloc: Global,
     flat: &FlatModel,
-    drivers: &[usize],
+    bits: &[Option<bool>],
+    drivers: &[Driver],
 ) -> Result<Seq<Seq<u32>>, NoMemory>
-    requires model { IsFlatModel flat.now }
-    requires latchless { flat.now.latches ≡ [] }
-    requires drivers { AreDrivers (length flat.now.signals) flat.now.covers (length flat.now.covers) drivers.now }
-    ensures arcs { IfOk result (λ graph. (known : List (Option Bool)) → HasArcs (ArcOf flat.now known) graph) }
-    ensures size { IfOk result (λ graph. length graph ≡ length flat.now.signals) }
-    ensures inside { IfOk result (λ graph. AreInside graph) }
+    ensures { IfOk result (λ graph. graph ≡ graph_by flat.now bits.now drivers.now) }
 {
-    let graph = graph_by(alloc, flat, drivers)?;
+    let mut graph = Seq::new(alloc);
+    for driver in drivers {
+        let sources = sources_by(alloc, flat, bits, *driver)?;
+        append_list(&mut graph, sources)?;
+    }
     Ok(graph)
 }

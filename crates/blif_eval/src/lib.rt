@@ -1,12 +1,15 @@
 //! A model evaluated by diagrams: an order of its signals and elements that follows what depends on what, the diagram
-//! of a cover from those of its inputs, and the diagrams of all signals.
+//! of a cover from those of its inputs, and the diagrams of all signals and elements.
 #![tactic(auto)]
 
 mod cover;
+mod driver_table;
 mod eval;
 mod graph;
+mod known;
 mod plan;
 
 pub use cover::cover_diagram;
+pub use driver_table::{Driver, Storage};
 pub use eval::eval_model;
 pub use plan::{ModelPlan, PlanFault, model_plan};

@@ -1,13 +1,29 @@
-use Rattle.std.proofs.Common.{ℕ, List, sym, subst}
-use Rattle.blif_eval.proofs.GraphLaws.{plan_gives}
+use Rattle.std.proofs.Common.{◌≡◌, ℕ, List, sym, subst, ◌∙◌}
+use Rattle.blif_eval.proofs.GraphLaws.{graph_inside, plan_gives}
+use Rattle.blif_eval.specs.KnownBits.{AreKnown}
+use Rattle.blif_eval.specs.Sources.{graph_by}
 use Rattle.graphs.specs.Graphs.{AreInside}
 use Rattle.graphs.specs.Orders.{OrderGives}
 use Rattle.blif_eval.proofs.plan.planned.Goals as goal
 
 pub order_of-requires : goal.order_of-requires
-order_of-requires c = subst AreInside (sym c.as_slice.ensures) c.in_ok-graph.ensures.inside
+order_of-requires c =
+    let flat = c.args.flat.now in
+    let known = c.args.known.now in
+    let bits = c.as_slice.result.now in
+    let found : AreKnown flat known c.in_ok-bits.bits.items = c.in_ok-bits.ensures in
+    let table : AreKnown flat known bits = subst (AreKnown flat known) (sym c.as_slice.ensures.value) found in
+    let graph : c.in_ok-graph.graph ≡ graph_by flat bits c.args.drivers.now = c.in_ok-graph.ensures in
+    subst AreInside (sym (c.as_slice-2.ensures ∙ graph)) (graph_inside flat c.requires.model c.args.drivers.now c.requires.drivers known bits c.requires.outside table)
 
 pub returns : goal.returns
 returns c =
-    λ known. plan_gives c.args.flat.now c.requires.model c.requires.latchless c.in_ok-graph.graph known c.in_ok-graph.ensures.size (c.in_ok-graph.ensures.arcs known) c.args.drivers.now c.requires.drivers c.in_ok-order.order
-    (subst (λ (g : List (List ℕ)). OrderGives g c.in_ok-order.order) c.as_slice.ensures c.in_ok-order.ensures)
+    let flat = c.args.flat.now in
+    let known = c.args.known.now in
+    let bits = c.as_slice.result.now in
+    let found : AreKnown flat known c.in_ok-bits.bits.items = c.in_ok-bits.ensures in
+    let table : AreKnown flat known bits = subst (AreKnown flat known) (sym c.as_slice.ensures.value) found in
+    let graph : c.in_ok-graph.graph ≡ graph_by flat bits c.args.drivers.now = c.in_ok-graph.ensures in
+    let order : OrderGives c.as_slice-2.result.now c.in_ok-order.order = c.in_ok-order.ensures in
+    plan_gives flat c.requires.model c.args.drivers.now c.requires.drivers known bits c.requires.outside table c.in_ok-order.order
+    (subst (λ (g : List (List ℕ)). OrderGives g c.in_ok-order.order) (c.as_slice-2.ensures ∙ graph) order)

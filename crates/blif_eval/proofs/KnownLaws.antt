@@ -1,0 +1,243 @@
+-- A table of known bits that grows cover by cover, until it has all.
+use Rattle.std.proofs.Common.{◌≡◌, ℕ, zero, suc, ◌+◌, ◌<◌, ◌≤◌, ◌++◌, ◌∷◌, [], ◌&&◌, Bool, true, false, List, Option, Some, None, length, get_or, set, arith, ap, subst, sym, refl, ◌∙◌, inl, inr}
+use Rattle.std.specs.Prelude.{is_none, is_some, unwrap_or}
+use Rattle.std.proofs.lemmas.Bool.{and_from, and_parts, cases_eq, cases_lt, true≢false}
+use Rattle.std.proofs.lemmas.List.{get_or-set_other, get_or-set_same}
+use Rattle.std.proofs.lemmas.List.Sums.{sum_by-set}
+use Rattle.std.proofs.lemmas.Option.{none-some, same_Some, unwrap_or-slice_get}
+use Rattle.blif_eval.proofs.Drivers.{apart, covered_below, input_below, one_cover}
+use Rattle.blif_eval.specs.KnownBits.{AreKnown, HasLearned, IsDone, IsLearned, IsSpread, all_entries, bit_in, is_entry, missing, teaches, unknown}
+use Rattle.blif_eval.specs.Plans.{entry_of}
+use Rattle.graphs.proofs.Lists.{at_within, one_at, set_size}
+use Rattle.vrt_model.proofs.Assignments.{cover_same}
+use Rattle.vrt_model.proofs.Members.{among_later}
+use Rattle.vrt_model.specs.Covers.{cover_bit}
+use Rattle.vrt_model.specs.FlatModels.{IsFlatModel}
+use Rattle.vrt_model.specs.Lists.{At, Among}
+use Rattle.vrt_model.specs.ModelArcs.{IsKnownSignal, carries, covered}
+use Rattle.vrt_model.specs.declared.flat_model.Cover.{Cover}
+use Rattle.vrt_model.specs.declared.flat_model.FlatModel.{FlatModel}
+
+-- ---- entries
+
+-- a known entry has the bit of the table
+entry_bit : (bits : List (Option Bool)) (s : ℕ) → is_entry bits s ≡ true → entry_of bits s ≡ Some (bit_in bits s)
+entry_bit bits s e = by_entry (entry_of bits s) e
+  where
+    by_entry : (o : Option Bool) → is_some o ≡ true → o ≡ Some (unwrap_or o false)
+    by_entry None e = absurd (true≢false (sym e))
+    by_entry (Some v) e = refl
+
+bit_of : (bits : List (Option Bool)) (s : ℕ) (v : Bool) → entry_of bits s ≡ Some v → bit_in bits s ≡ v
+bit_of bits s v e = ap (λ (o : Option Bool). unwrap_or o false) e
+
+is_entry_of : (bits : List (Option Bool)) (s : ℕ) (v : Bool) → entry_of bits s ≡ Some v → is_entry bits s ≡ true
+is_entry_of bits s v e = ap (λ (o : Option Bool). is_some o) e
+
+each_entry : (bits : List (Option Bool)) (xs : List ℕ) → all_entries bits xs ≡ true → (i : ℕ) → Among xs i → is_entry bits i ≡ true
+each_entry bits [] e i m = absurd (none-some i m.1)
+each_entry bits (x ∷ xs) e i (zero, at) = subst (λ (n : ℕ). is_entry bits n ≡ true) (same_Some x i at) (and_parts (is_entry bits x) (all_entries bits xs) e).0
+each_entry bits (x ∷ xs) e i (suc k, at) = each_entry bits xs (and_parts (is_entry bits x) (all_entries bits xs) e).1 i (k, at)
+
+entries_from : (bits : List (Option Bool)) (xs : List ℕ) → ((i : ℕ) → Among xs i → is_entry bits i ≡ true) → all_entries bits xs ≡ true
+entries_from bits [] each = refl
+entries_from bits (x ∷ xs) each = and_from (is_entry bits x) (all_entries bits xs) (each x (0, refl)) (entries_from bits xs (λ i m. each i (among_later x xs i m)))
+
+entry_set : (bits : List (Option Bool)) (i : ℕ) (x : Option Bool) → i < length bits → entry_of (set bits i x) i ≡ x
+entry_set bits i x lt = unwrap_or-slice_get (set bits i x) i None ∙ get_or-set_same bits i x None lt
+
+entry_other : (bits : List (Option Bool)) (i k : ℕ) (x : Option Bool) → (k ≡ i → ⊥) → entry_of (set bits i x) k ≡ entry_of bits k
+entry_other bits i k x ne = unwrap_or-slice_get (set bits i x) k None ∙ (get_or-set_other bits i k x None ne ∙ sym (unwrap_or-slice_get bits k None))
+
+-- ---- the table at first
+
+pub spread_start : (flat : FlatModel) (known bits : List (Option Bool)) → bits ≡ known → length known ≡ length flat.signals + 1 → IsSpread flat known bits
+spread_start flat known bits is size = subst (IsSpread flat known) (sym is) (record {
+  size = size;
+  kept = λ s v e. e;
+  sound = λ s v e. carries e;
+  right = λ c v m none e. absurd (none-some v (sym none ∙ e));
+})
+
+-- ---- one cover more
+
+module _ (flat : FlatModel) (model : IsFlatModel flat) (known bits new : List (Option Bool)) (cover : Cover) (there : Among flat.covers cover) (spread : IsSpread flat known bits)
+    (learned : IsLearned cover bits new) where
+  bit : Bool
+  bit = cover_bit (bit_in bits) cover
+
+  low : cover.output < length bits
+  low = let below = covered_below flat model cover there in let size = spread.size in omega (arith, below, size)
+
+  here : entry_of new cover.output ≡ Some bit
+  unfolding bit
+  here = ap (λ (t : List (Option Bool)). entry_of t cover.output) learned.list ∙ entry_set bits cover.output (Some (cover_bit (bit_in bits) cover)) low
+
+  other : (k : ℕ) → (k ≡ cover.output → ⊥) → entry_of new k ≡ entry_of bits k
+  other k ne = ap (λ (t : List (Option Bool)). entry_of t k) learned.list ∙ entry_other bits cover.output k (Some (cover_bit (bit_in bits) cover)) ne
+
+  not_before : ¬ (is_entry bits cover.output ≡ true)
+  not_before e = true≢false (sym e ∙ learned.open_before)
+
+  stays : (k : ℕ) → is_entry bits k ≡ true → entry_of new k ≡ entry_of bits k
+  stays k e = other k (λ is. not_before (subst (λ (n : ℕ). is_entry bits n ≡ true) is e))
+
+  stays_entry : (k : ℕ) → is_entry bits k ≡ true → is_entry new k ≡ true
+  stays_entry k e = ap (λ (o : Option Bool). is_some o) (stays k e) ∙ e
+
+  stays_bit : (k : ℕ) → is_entry bits k ≡ true → bit_in new k ≡ bit_in bits k
+  stays_bit k e = ap (λ (o : Option Bool). unwrap_or o false) (stays k e)
+
+  -- a cover that was known by what it reads still is
+  still : (c : Cover) (v : Bool) → all_entries bits c.inputs ≡ true → v ≡ cover_bit (bit_in bits) c → (all_entries new c.inputs ≡ true) × (v ≡ cover_bit (bit_in new) c)
+  still c v all is = (
+    entries_from new c.inputs (λ i m. stays_entry i (each_entry bits c.inputs all i m)),
+    is ∙ cover_same (bit_in bits) (bit_in new) c (λ i m. sym (stays_bit i (each_entry bits c.inputs all i m))),
+  )
+
+  pub spread_more : IsSpread flat known new
+  unfolding bit
+  spread_more = record {
+    size = ap (λ (t : List (Option Bool)). length t) learned.list ∙ (set_size bits cover.output (Some (cover_bit (bit_in bits) cover)) ∙ spread.size);
+    kept = λ s v e. let before = spread.kept s v e in stays s (is_entry_of bits s v before) ∙ before;
+    sound = λ s v e. elim (cases_eq s cover.output) [
+      | inl is ↦
+          let same : v ≡ bit = sym (same_Some bit v (sym here ∙ subst (λ (n : ℕ). entry_of new n ≡ Some v) is e)) in
+          covered cover (bit_in bits) there (λ i m. spread.sound i (bit_in bits i) (entry_bit bits i (each_entry bits cover.inputs learned.reads i m))) is same
+      | inr ne ↦ spread.sound s v (sym (other s ne) ∙ e)
+    ];
+    right = λ c v m none e. elim (cases_eq c.output cover.output) [
+      | inl is ↦
+          let same_cover : cover ≡ c = sym (one_cover flat model c cover m there is) in
+          let same : v ≡ bit = sym (same_Some bit v (sym here ∙ subst (λ (n : ℕ). entry_of new n ≡ Some v) is e)) in
+          subst (λ (x : Cover). (all_entries new x.inputs ≡ true) × (v ≡ cover_bit (bit_in new) x)) same_cover (still cover v learned.reads same)
+      | inr ne ↦ let old = spread.right c v m none (sym (other c.output ne) ∙ e) in still c v old.0 old.1
+    ];
+  }
+
+-- what is learned is one entry more
+pub unknown_falls : (bits new : List (Option Bool)) (cover : Cover) → cover.output < length bits → IsLearned cover bits new → unknown new < unknown bits
+unknown_falls bits new cover low learned =
+    let v : Bool = cover_bit (bit_in bits) cover in
+    let sum = sum_by-set missing bits cover.output (Some v) None low in
+    let is : unknown new ≡ unknown (set bits cover.output (Some v)) = ap unknown learned.list in
+    let before : missing (get_or bits cover.output None) ≡ 1 =
+    ap missing (sym (unwrap_or-slice_get bits cover.output None) ∙ none_of (entry_of bits cover.output) learned.open_before) in
+    let after : missing (Some v) ≡ 0 = refl in
+    omega (arith, sum, is, before, after)
+  where
+    none_of : (o : Option Bool) → is_some o ≡ false → o ≡ None
+    none_of None e = refl
+    none_of (Some v) e = absurd (true≢false e)
+
+-- ---- the table at last
+
+-- the default clock's bit is the one that was given
+pub default_sound : (flat : FlatModel) → IsFlatModel flat → (known bits : List (Option Bool)) → AreKnown flat known bits → (v : Bool)
+    → entry_of bits (length flat.signals) ≡ Some v → entry_of known (length flat.signals) ≡ Some v
+default_sound flat model known bits table v e = by_known (length flat.signals) v refl (table.spread.sound (length flat.signals) v e)
+  where
+    by_known : (s : ℕ) (v : Bool) → s ≡ length flat.signals → IsKnownSignal flat (entry_of known) s v → entry_of known s ≡ Some v
+    by_known s v is (carries e) = e
+    by_known s v is (covered c f m reads is_output is_bit) = absurd (let low = covered_below flat model c m in omega (arith, low, is, is_output))
+
+module _ (flat : FlatModel) (model : IsFlatModel flat) (known bits : List (Option Bool))
+    (all_outside : (s : ℕ) (v : Bool) → s < length flat.signals → entry_of known s ≡ Some v → Among (flat.inputs ++ flat.clocks) s) (table : AreKnown flat known bits) where
+  -- what is given is no output of a cover
+  not_known : (c : Cover) → Among flat.covers c → entry_of known c.output ≡ None
+  not_known c m = by_entry (entry_of known c.output) refl
+    where
+      by_entry : (o : Option Bool) → entry_of known c.output ≡ o → o ≡ None
+      by_entry None e = refl
+      by_entry (Some v) e = absurd (apart flat model c m (all_outside c.output v (covered_below flat model c m) e))
+
+  -- a cover that reads known bits has its bit in the table
+  cover_known : (c : Cover) (f : ℕ → Bool) → Among flat.covers c → ((i : ℕ) → Among c.inputs i → entry_of bits i ≡ Some (f i)) → entry_of bits c.output ≡ Some (cover_bit f c)
+  cover_known c f m reads =
+      let all = entries_from bits c.inputs (λ i a. is_entry_of bits i (f i) (reads i a)) in
+      let entry = entry_bit bits c.output (table.done c m all) in
+      let right = table.spread.right c (bit_in bits c.output) m (not_known c m) entry in
+      entry ∙ ap Some (right.1 ∙ cover_same (bit_in bits) f c (λ i a. bit_of bits i (f i) (reads i a)))
+
+  pub known_complete : (s : ℕ) (v : Bool) → IsKnownSignal flat (entry_of known) s v → s < length flat.signals → entry_of bits s ≡ Some v
+  known_complete s v (carries e) lt = table.spread.kept s v e
+  known_complete s v (covered c f m reads is_output is_bit) lt =
+      subst (λ (n : ℕ). entry_of bits n ≡ Some v) (sym is_output)
+      (cover_known c f m (λ i a. known_complete i (f i) (reads i a) (input_below flat model c i m a)) ∙ ap Some (sym is_bit))
+
+-- ---- one look at a cover
+
+-- nothing is to be learned from a cover whose output is known, or which reads what is not
+pub not_taught : (bits : List (Option Bool)) (cover : Cover) → teaches bits cover ≡ false → IsDone bits cover
+not_taught bits cover e all = by_entry (entry_of bits cover.output) e
+  where
+    by_entry : (o : Option Bool) → (is_none o && all_entries bits cover.inputs) ≡ false → is_some o ≡ true
+    by_entry None e = absurd (true≢false (sym all ∙ e))
+    by_entry (Some v) e = refl
+
+pub learned_of : (bits new : List (Option Bool)) (cover : Cover) (v : Bool) → teaches bits cover ≡ true → v ≡ cover_bit (bit_in bits) cover → new ≡ set bits cover.output (Some v)
+    → IsLearned cover bits new
+learned_of bits new cover v e is list =
+    let both = and_parts (is_none (entry_of bits cover.output)) (all_entries bits cover.inputs) e in
+    record {
+      open_before = by_entry (entry_of bits cover.output) both.0;
+      reads = both.1;
+      list = list ∙ ap (λ (b : Bool). set bits cover.output (Some b)) is;
+    }
+  where
+    by_entry : (o : Option Bool) → is_none o ≡ true → is_some o ≡ false
+    by_entry None e = refl
+    by_entry (Some v) e = absurd (true≢false (sym e))
+
+module _ (flat : FlatModel) (model : IsFlatModel flat) (first old new : List (Option Bool)) (at : ℕ) (cover : Cover) (there : At flat.covers at cover) (before after : Bool)
+    (has : HasLearned cover old new before after) (size : length old ≡ length flat.signals + 1) where
+  output_low : cover.output < length old
+  output_low = let low = covered_below flat model cover (at, there) in omega (arith, low, size)
+
+  pub next_size : length new ≡ length flat.signals + 1
+  next_size = elim has [
+    | inl same ↦ ap (λ (t : List (Option Bool)). length t) same.1 ∙ size
+    | inr l ↦ ap (λ (t : List (Option Bool)). length t) l.1.list ∙ (set_size old cover.output (Some (cover_bit (bit_in old) cover)) ∙ size)
+  ]
+
+  pub next_spread : (known : List (Option Bool)) → IsSpread flat known old → IsSpread flat known new
+  next_spread known spread = elim has [
+    | inl same ↦ subst (IsSpread flat known) (sym same.1) spread
+    | inr l ↦ spread_more flat model known old new cover (at, there) spread l.1
+  ]
+
+  pub next_quiet : (before ≡ false → (old ≡ first) × ((i : ℕ) (c : Cover) → i < at → At flat.covers i c → IsDone first c))
+      → after ≡ false → (new ≡ first) × ((i : ℕ) (c : Cover) → i < at + 1 → At flat.covers i c → IsDone first c)
+  next_quiet quiet e = elim has [
+    | inl same ↦
+        let q = quiet (sym same.0 ∙ e) in (
+          same.1 ∙ q.0,
+          λ i c lt here. elim (cases_lt i at) [
+            | inl less ↦ q.1 i c less here
+            | inr le ↦
+                let place : i ≡ at = omega (arith, lt, le) in
+                let is : c ≡ cover = one_at flat.covers at c cover (subst (λ (n : ℕ). At flat.covers n c) place here) there in
+                subst (IsDone first) (sym is) (subst (λ (t : List (Option Bool)). IsDone t cover) q.0 same.2)
+          ],
+        )
+    | inr l ↦ absurd (true≢false (sym l.0 ∙ e))
+  ]
+
+  pub next_most : unknown old ≤ unknown first → unknown new ≤ unknown first
+  next_most most = elim has [
+    | inl same ↦ (let is : unknown new ≡ unknown old = ap unknown same.1 in omega (arith, is, most))
+    | inr l ↦ (let falls = unknown_falls old new cover output_low l.1 in omega (arith, falls, most))
+  ]
+
+  pub next_fewer : unknown old ≤ unknown first → (before ≡ true → unknown old < unknown first) → after ≡ true → unknown new < unknown first
+  next_fewer most fewer e = elim has [
+    | inl same ↦ (let is : unknown new ≡ unknown old = ap unknown same.1 in let less = fewer (sym same.0 ∙ e) in omega (arith, is, less))
+    | inr l ↦ (let falls = unknown_falls old new cover output_low l.1 in omega (arith, falls, most))
+  ]
+
+-- a round in which nothing was learned
+pub round_done : (covers : List Cover) (first new : List (Option Bool)) (upto : ℕ) → length covers ≤ upto
+    → (new ≡ first) × ((i : ℕ) (c : Cover) → i < upto → At covers i c → IsDone first c) → (c : Cover) → Among covers c → IsDone new c
+round_done covers first new upto le q c m =
+    let within = at_within covers m.0 c m.1 in
+    subst (λ (t : List (Option Bool)). IsDone t c) (sym q.0) (q.1 m.0 c (omega (arith, within, le)) m.1)
