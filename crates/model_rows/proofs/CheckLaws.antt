@@ -1,9 +1,13 @@
 -- What the checks say of a model.
-use Rattle.std.proofs.Common.{◌≡◌, ℕ, zero, suc, ◌+◌, ◌++◌, List, [], ◌∷◌, Bool, Option, None, cond, map, arith, ap, refl}
+use Rattle.std.proofs.Common.{◌≡◌, ℕ, zero, suc, ◌+◌, ◌<◌, ◌⊎◌, ◌++◌, List, [], ◌∷◌, Bool, Option, Some, cond, length, map, arith, inl, inr}
 use Rattle.std.specs.Prelude.{count_by, ◌==◌}
 use Rattle.std.proofs.lemmas.List.Sums.{sum_by-append}
+use Rattle.std.proofs.lemmas.Option.{none-some}
+use Rattle.blif_eval.proofs.Drivers.{among_times}
 use Rattle.blif_eval.specs.Plans.{entry_of}
+use Rattle.model_rows.specs.Outputs.{outputs_in}
 use Rattle.vrt_model.specs.FlatModels.{drivers_of}
+use Rattle.vrt_model.specs.Lists.{Among}
 use Rattle.vrt_model.specs.declared.flat_model.Cover.{Cover}
 use Rattle.vrt_model.specs.declared.flat_model.FlatLatch.{FlatLatch}
 use Rattle.vrt_model.specs.declared.flat_model.FlatModel.{FlatModel}
@@ -15,21 +19,23 @@ times s xs = count_by (λ d. d == s) xs
 times_joined : (s : ℕ) (xs ys : List ℕ) → times s (xs ++ ys) ≡ times s xs + times s ys
 times_joined s xs ys = sum_by-append (λ (d : ℕ). cond (d == s) 1 0) xs ys
 
-abbrev pub outputs_of : List Cover → List ℕ
-outputs_of covers = map (λ (c : Cover). c.output) covers
-
--- how often a signal is driven, in a model without latches
-pub times_drivers : (flat : FlatModel) → flat.latches ≡ [] → (s : ℕ) → times s (drivers_of flat) ≡ times s flat.inputs + times s flat.clocks + times s (outputs_of flat.covers)
-times_drivers flat latchless s =
-    let a = times_joined s (flat.inputs ++ flat.clocks ++ outputs_of flat.covers) (map (λ (l : FlatLatch). l.output) flat.latches) in
-    let b = times_joined s (flat.inputs ++ flat.clocks) (outputs_of flat.covers) in
+-- how often a signal is driven
+pub times_drivers : (flat : FlatModel) → (s : ℕ) → times s (drivers_of flat) ≡ times s flat.inputs + times s flat.clocks + times s (outputs_in flat)
+times_drivers flat s =
+    let covers = map (λ (c : Cover). c.output) flat.covers in
+    let latches = map (λ (l : FlatLatch). l.output) flat.latches in
+    let a = times_joined s (flat.inputs ++ flat.clocks ++ covers) latches in
+    let b = times_joined s (flat.inputs ++ flat.clocks) covers in
     let c = times_joined s flat.inputs flat.clocks in
-    let none : times s (map (λ (l : FlatLatch). l.output) flat.latches) ≡ 0 = ap (λ (ls : List FlatLatch). times s (map (λ (l : FlatLatch). l.output) ls)) latchless in
-    omega (arith, a, b, c, none)
+    let d = times_joined s covers latches in
+    omega (arith, a, b, c, d)
 
--- one unknown entry more
-pub unknown_more : (xs : List (Option Bool)) → ((s : ℕ) → entry_of xs s ≡ None) → (s : ℕ) → entry_of (xs ++ None ∷ []) s ≡ None
-unknown_more [] none zero = refl
-unknown_more [] none (suc s) = refl
-unknown_more (x ∷ xs) none zero = none 0
-unknown_more (x ∷ xs) none (suc s) = unknown_more xs (λ n. none (suc n)) s
+-- a number that stands in one of two lists stands in both joined
+pub among_one : (s : ℕ) (xs ys : List ℕ) → (0 < times s xs) ⊎ (0 < times s ys) → Among (xs ++ ys) s
+among_one s xs ys some = among_times s (xs ++ ys) (let sum = times_joined s xs ys in elim some [ inl a ↦ omega (arith, sum, a) | inr b ↦ omega (arith, sum, b) ])
+
+-- what is known stands below the length
+pub entry_within : (known : List (Option Bool)) (s : ℕ) (b : Bool) → entry_of known s ≡ Some b → s < length known
+entry_within [] s b e = absurd (none-some b e)
+entry_within (x ∷ xs) zero b e = omega arith
+entry_within (x ∷ xs) (suc s) b e = let rest = entry_within xs s b e in omega (arith, rest)

@@ -3,6 +3,7 @@
 
 mod checks;
 mod covers;
+mod latches;
 mod models;
 mod spans;
 mod stop;
@@ -14,5 +15,7 @@ fn main(rt: HostRuntime) -> Result<()> {
     covers::tell(rt)?;
     models::tell_chain(rt)?;
     models::tell_ring(rt)?;
-    models::tell_constants(rt)
+    models::tell_constants(rt)?;
+    latches::tell_kinds(rt)?;
+    latches::tell_rings(rt)
 }

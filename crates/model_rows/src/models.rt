@@ -1,7 +1,7 @@
 //! Models and their values: a chain, a ring and constants.
 
-use crate::checks::{append, are_model_spans, is_flat_model, unknown};
-use crate::spans::{bit, put, take, word};
+use crate::checks::{append, are_constants, are_model_spans, are_outside, is_flat_model, unknown};
+use crate::spans::{bit, is_live, put, take, word};
 use crate::stop::Stop;
 use crate::values::{valuation, value};
 use anyhow::Result;
@@ -15,8 +15,9 @@ use vrt_model::{Cover, FlatModel, Seq, Text};
 const MOST: usize = 1000;
 
 /// A model that is drawn. It has at most one input, which is its last signal.
-struct Model {
-    flat: FlatModel,
+pub(crate) struct Model {
+    /// What is drawn so far.
+    pub(crate) flat: FlatModel,
 }
 
 /// By hand, so that letting go of one is a call.
@@ -44,8 +45,13 @@ fn empty(alloc: Global, output: u32, on: bool) -> Cover {
     }
 }
 
-// A cover with one row, by its signals and their bits.
-fn with_row(alloc: Global, output: u32, on: bool, reads: &[(u32, bool)]) -> Result<Cover, Stop> {
+/// A cover with one row, by its signals and their bits.
+pub(crate) fn with_row(
+    alloc: Global,
+    output: u32,
+    on: bool,
+    reads: &[(u32, bool)],
+) -> Result<Cover, Stop> {
     let mut cover = empty(alloc, output, on);
     let mut row = Text::new(alloc);
     for (signal, bit) in reads {
@@ -58,12 +64,15 @@ fn with_row(alloc: Global, output: u32, on: bool, reads: &[(u32, bool)]) -> Resu
     Ok(cover)
 }
 
-// The spans of a model's words.
+/// The spans of a model's words.
 #[derive(Clone, Copy)]
-struct Spans {
-    inputs: Span,
-    held: Span,
-    out: Span,
+pub(crate) struct Spans {
+    /// A word for each signal, and one for the default clock.
+    pub(crate) inputs: Span,
+    /// A word for the old bit of each element.
+    pub(crate) held: Span,
+    /// A word for each signal, and behind them one for each element.
+    pub(crate) out: Span,
 }
 
 // Takes the spans of a model, with the bit of the first variable as its input.
@@ -109,9 +118,53 @@ impl Evaluated {
     }
 }
 
+/// The numbers with which a model is refused, where so many bits are known.
+pub(crate) fn first_cycle(
+    alloc: Global,
+    flat: &FlatModel,
+    known: &Seq<Option<bool>>,
+) -> Result<Option<Seq<u32>>, Stop> {
+    if !is_flat_model(alloc, flat)? {
+        return Err(Stop::Unfit);
+    }
+    if known.len() != flat.signals.len() + 1 || !are_outside(flat, known) {
+        return Err(Stop::Unfit);
+    }
+    match model_plan(alloc, flat, known) {
+        Ok(_plan) => Ok(None),
+        Err(PlanFault::ModelCycle { signals }) => Ok(Some(signals)),
+        Err(PlanFault::NoMemory) => Err(Stop::NoMemory),
+    }
+}
+
+/// Writes the values of the signals and elements of a model, where so many bits are known.
+pub(crate) fn evaluate(
+    alloc: Global,
+    flat: &FlatModel,
+    known: &Seq<Option<bool>>,
+    store: &mut Store,
+    spans: Spans,
+) -> Result<(), Stop> {
+    let Spans { inputs, held, out } = spans;
+    if !is_flat_model(alloc, flat)? || !are_model_spans(store, flat, inputs, held, out) {
+        return Err(Stop::Unfit);
+    }
+    if known.len() != flat.signals.len() + 1 || !are_outside(flat, known) {
+        return Err(Stop::Unfit);
+    }
+    if !is_live(store, inputs) || !are_constants(store, known, inputs) {
+        return Err(Stop::Unfit);
+    }
+    match model_plan(alloc, flat, known) {
+        Ok(plan) => Ok(eval_model(store, flat, &plan, inputs, held, out)?),
+        Err(PlanFault::ModelCycle { .. }) => Err(Stop::Unfit),
+        Err(PlanFault::NoMemory) => Err(Stop::NoMemory),
+    }
+}
+
 impl Model {
-    // With so many signals, of which the last is its input where `has_input` holds.
-    fn new(alloc: Global, signals: u32, has_input: bool) -> Result<Model, Stop> {
+    /// With so many signals, of which the last is its input where `has_input` holds.
+    pub(crate) fn new(alloc: Global, signals: u32, has_input: bool) -> Result<Model, Stop> {
         let mut flat = FlatModel {
             signals: Seq::new(alloc),
             inputs: Seq::new(alloc),
@@ -129,7 +182,8 @@ impl Model {
         Ok(Model { flat })
     }
 
-    fn add(&mut self, cover: Cover) -> Result<(), Stop> {
+    /// Adds a cover.
+    pub(crate) fn add(&mut self, cover: Cover) -> Result<(), Stop> {
         match self.flat.covers.push(cover) {
             Ok(()) => Ok(()),
             Err(_) => Err(Stop::NoMemory),
@@ -138,29 +192,14 @@ impl Model {
 
     // The signals with which the model is refused.
     fn cycle(&self, alloc: Global) -> Result<Option<Seq<u32>>, Stop> {
-        if !is_flat_model(alloc, &self.flat)? {
-            return Err(Stop::Unfit);
-        }
-        let known = unknown(alloc, self.flat.signals.len() + 1)?;
-        match model_plan(alloc, &self.flat, &known) {
-            Ok(_plan) => Ok(None),
-            Err(PlanFault::ModelCycle { signals }) => Ok(Some(signals)),
-            Err(PlanFault::NoMemory) => Err(Stop::NoMemory),
-        }
+        let known = unknown(alloc, self.flat.signals.len().saturating_add(1))?;
+        first_cycle(alloc, &self.flat, &known)
     }
 
     // Writes the values of the signals.
     fn evaluate(&self, alloc: Global, store: &mut Store, spans: Spans) -> Result<(), Stop> {
-        let (flat, Spans { inputs, held, out }) = (&self.flat, spans);
-        if !is_flat_model(alloc, flat)? || !are_model_spans(store, flat, inputs, held, out) {
-            return Err(Stop::Unfit);
-        }
-        let known = unknown(alloc, flat.signals.len() + 1)?;
-        match model_plan(alloc, flat, &known) {
-            Ok(plan) => Ok(eval_model(store, flat, &plan, inputs, held, out)?),
-            Err(PlanFault::ModelCycle { .. }) => Err(Stop::Unfit),
-            Err(PlanFault::NoMemory) => Err(Stop::NoMemory),
-        }
+        let known = unknown(alloc, self.flat.signals.len().saturating_add(1))?;
+        evaluate(alloc, &self.flat, &known, store, spans)
     }
 
     // A store with the values of all signals.
