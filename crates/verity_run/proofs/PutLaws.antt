@@ -1,21 +1,21 @@
--- What is written by several puts.
-use Rattle.std.proofs.Common.{◌≡◌, ◌≢◌, ◌≤◌, ◌<◌, ◌+◌, ◌∷◌, ◌++◌, [], ℕ, zero, suc, List, take, drop, length, get_or, Option, Some, None, refl, sym, ap, ◌∙◌, append-nil, append_assoc, subst, arith}
+-- What is written by several puts, and how a run ends.
+use Rattle.std.proofs.Common.{◌≡◌, ◌≤◌, inl, inr, ◌∷◌, ◌++◌, [], ℕ, suc, List, take, Option, Some, None, refl, sym, ap, ◌∙◌, append-nil, append_assoc, subst, arith}
 use Rattle.std.specs.Io.KnownBytes.{Appends, Keeps}
-use Rattle.std.proofs.lemmas.List.{take-append-drop, take_all, take_more}
 use Rattle.vrt_io.specs.Causes.{Rose}
-use Rattle.vrt_io.specs.Puts.{PutGives}
-use Rattle.vrt_io.specs.declared.sink.Put.{Put}
-use Rattle.vrt_io.specs.declared.sink.Put.TheVariants.{Done, Failed, NoMemory}
 use Rattle.verity_run.specs.Messages.{joined}
-use Rattle.verity_run.specs.Runs.{PutsLines}
+use Rattle.verity_run.specs.Runs.{Ends, MayBeCut, PutsLine}
+use Rattle.verity_run.specs.declared.status.Status.{Status}
+use Rattle.verity_run.specs.declared.status.Status.TheVariants.{NoMemory, WriteFault}
 
-appended : (a b c : Option (List ℕ)) (bs cs : List ℕ) → Appends a b bs → Appends b c cs → Appends a c (bs ++ cs)
+-- ---- bytes
+
+pub appended : (a b c : Option (List ℕ)) (bs cs : List ℕ) → Appends a b bs → Appends b c cs → Appends a c (bs ++ cs)
 appended None b c bs cs p q = tt
 appended (Some x) None c bs cs p q = absurd p
 appended (Some x) (Some y) None bs cs p q = absurd q
 appended (Some x) (Some y) (Some z) bs cs p q = q ∙ ap (λ l. l ++ cs) p ∙ append_assoc x bs cs
 
-kept_behind : (a b c : Option (List ℕ)) (bs : List ℕ) → Appends a b bs → Keeps b c → Appends a c bs
+pub kept_behind : (a b c : Option (List ℕ)) (bs : List ℕ) → Appends a b bs → Keeps b c → Appends a c bs
 kept_behind None b c bs p q = tt
 kept_behind (Some x) None c bs p q = absurd p
 kept_behind (Some x) (Some y) None bs p q = absurd q
@@ -26,61 +26,59 @@ pub nothing_put : (a : Option (List ℕ)) → Appends a a []
 nothing_put None = tt
 nothing_put (Some x) = sym (append-nil x)
 
+pub unchanged : (a : Option (List ℕ)) → Keeps a a
+unchanged None = tt
+unchanged (Some x) = refl
+
 joined_behind : (xs ys : List (List ℕ)) → joined (xs ++ ys) ≡ joined xs ++ joined ys
 joined_behind [] ys = refl
 joined_behind (x ∷ xs) ys = ap (λ t. x ++ t) (joined_behind xs ys) ∙ sym (append_assoc x (joined xs) (joined ys))
 
-joined_more : (lines : List (List ℕ)) (i : ℕ) (line : List ℕ) → take (i + 1) lines ≡ take i lines ++ line ∷ []
-    → joined (take (i + 1) lines) ≡ joined (take i lines) ++ line
-joined_more lines i line e = ap joined e ∙ joined_behind (take i lines) (line ∷ []) ∙ ap (λ t. joined (take i lines) ++ t) (append-nil line)
-
--- the lines with one more
-pub next_line : (lines : List (List ℕ)) (i : ℕ) (line : List ℕ) → i < length lines → line ≡ get_or lines i line → take (i + 1) lines ≡ take i lines ++ line ∷ []
-next_line lines i line lt is = take_more lines i line lt ∙ ap (λ l. take i lines ++ l ∷ []) (sym is)
-
 -- one line more
-pub line_put : (old mid new : Option (List ℕ)) (lines : List (List ℕ)) (i : ℕ) (line : List ℕ) → take (i + 1) lines ≡ take i lines ++ line ∷ []
-    → Appends old mid (joined (take i lines)) → Appends mid new line → Appends old new (joined (take (i + 1) lines))
-line_put old mid new lines i line e before put =
-    subst (Appends old new) (sym (joined_more lines i line e)) (appended old mid new (joined (take i lines)) line before put)
+pub joined_more : (lines : List (List ℕ)) (line : List ℕ) → joined (lines ++ line ∷ []) ≡ joined lines ++ line
+joined_more lines line = joined_behind lines (line ∷ []) ∙ ap (λ t. joined lines ++ t) (append-nil line)
 
--- all lines were put
-pub all_put : (old new : Option (List ℕ)) (lines : List (List ℕ)) (i : ℕ) → length lines ≤ i → Appends old new (joined (take i lines)) → Appends old new (joined lines)
-all_put old new lines i past put = subst (λ ls. Appends old new (joined ls)) (take_all i lines past) put
-
-front_of : (n : ℕ) (line rest : List ℕ) → (k : ℕ) × (take k (line ++ rest) ≡ take n line)
-front_of zero line rest = (zero, refl)
-front_of (suc n) [] rest = (zero, refl)
-front_of (suc n) (x ∷ line) rest = let found = front_of n line rest in (suc found.0, ap (λ t. x ∷ t) found.1)
-
-front_behind : (before rest : List ℕ) (k : ℕ) → (m : ℕ) × (take m (before ++ rest) ≡ before ++ take k rest)
+-- what stands before, and a front of the rest, is a front
+pub front_behind : (before rest : List ℕ) (k : ℕ) → (m : ℕ) × (take m (before ++ rest) ≡ before ++ take k rest)
 front_behind [] rest k = (k, refl)
 front_behind (x ∷ before) rest k = let found = front_behind before rest k in (suc found.0, ap (λ t. x ∷ t) found.1)
 
--- whole lines and a front of the next are a front of all lines
-front_of_all : (lines : List (List ℕ)) (i n : ℕ) (line : List ℕ) → take (i + 1) lines ≡ take i lines ++ line ∷ []
-    → (m : ℕ) × (take m (joined lines) ≡ joined (take i lines) ++ take n line)
-front_of_all lines i n line e =
-    let rest = joined (drop (i + 1) lines) in
-    let whole : joined lines ≡ joined (take i lines) ++ (line ++ rest) =
-    sym (ap joined (take-append-drop (i + 1) lines)) ∙ joined_behind (take (i + 1) lines) (drop (i + 1) lines) ∙ ap (λ t. t ++ rest) (joined_more lines i line e)
-    ∙ append_assoc (joined (take i lines)) line rest in
-    let part = front_of n line rest in
-    let found = front_behind (joined (take i lines)) (line ++ rest) part.0 in
-    (found.0, ap (take found.0) whole ∙ found.1 ∙ ap (λ t. joined (take i lines) ++ t) part.1)
-
-rose_since : (old mid new : ℕ) → old ≤ mid → Rose mid new → Rose old new
+pub rose_since : (old mid new : ℕ) → old ≤ mid → Rose mid new → Rose old new
 rose_since old mid new le rose = omega (arith, rose)
 
--- a line was not put as a whole
-pub put_stopped : (put : Put) (old mid new : Option (List ℕ)) (before between now : ℕ) (lines : List (List ℕ)) (i : ℕ) (line : List ℕ) → put ≢ Done
-    → take (i + 1) lines ≡ take i lines ++ line ∷ [] → Appends old mid (joined (take i lines)) → before ≤ between
-    → PutGives put mid new between now line → PutsLines put lines old new before now
-put_stopped Done old mid new before between now lines i line stopped e so_far le gives = absurd (stopped refl)
-put_stopped Failed old mid new before between now lines i line stopped e so_far le gives =
-    let found = front_of_all lines i gives.1.0 line e in (
-      rose_since before between now le gives.0,
-      (found.0, subst (Appends old new) (sym found.1) (appended old mid new (joined (take i lines)) (take gives.1.0 line) so_far gives.1.1)),
-    )
-put_stopped NoMemory old mid new before between now lines i line stopped e so_far le gives =
-    (i, kept_behind old mid new (joined (take i lines)) so_far gives)
+-- ---- ends
+
+-- an end, where each answer and each beginning has another meaning
+pub ends_by : (A B : Status → List (List ℕ) → Type 0) (C D : List (List ℕ) → Type 0) (status : Status) (old new : Option (List ℕ)) (before now : ℕ)
+    → ((s : Status) (lines : List (List ℕ)) → A s lines → B s lines) → ((lines : List (List ℕ)) → C lines → D lines)
+    → Ends A C status old new before now → Ends B D status old new before now
+ends_by A B C D status old new before now f g e = record {
+  whole = λ p q. let w = e.whole p q in (w.0, f status w.0 w.1, w.2);
+  fault = λ is. let w = e.fault is in (w.0, (w.1.0, cut w.1.0 w.1.1, w.1.2));
+  memory = λ is. elim (e.memory is) [ inl kept ↦ inl kept | inr w ↦ inr (w.0, g w.0 w.1, w.2) ];
+}
+  where
+    cut : (lines : List (List ℕ)) → MayBeCut A C lines → MayBeCut B D lines
+    cut lines (inl a) = inl (a.0, f a.0 lines a.1)
+    cut lines (inr b) = inr (g lines b)
+
+-- of one line
+pub line_ends : (A : Status → List (List ℕ) → Type 0) (C : List (List ℕ) → Type 0) (wanted status : Status) (line : List ℕ) (old new : Option (List ℕ)) (before now : ℕ)
+    → A wanted (line ∷ []) → PutsLine wanted status line old new before now → Ends A C status old new before now
+line_ends A C wanted status line old new before now is put =
+    let lines : List (List ℕ) = line ∷ [] in
+    let same : line ≡ joined lines = sym (append-nil line) in
+    record {
+      whole = λ p q. let w = put.whole p q in (lines, subst (λ s. A s lines) (sym w.0) is, subst (Appends old new) same w.1);
+      fault = λ e. let w = put.fault e in (w.0, (lines, inl (wanted, is), (w.1.0, subst (λ (l : List ℕ). Appends old new (take w.1.0 l)) same w.1.1)));
+      memory = λ e. inl (put.memory e);
+    }
+
+none_is_no_fault : (status : Status) → status ≡ NoMemory → status ≡ WriteFault → ⊥
+none_is_no_fault status p q = cc
+
+-- for want of memory, with nothing put
+pub nothing_ends : (A : Status → List (List ℕ) → Type 0) (C : List (List ℕ) → Type 0) (status : Status) (old new : Option (List ℕ)) (before now : ℕ)
+    → status ≡ NoMemory → Keeps old new → Ends A C status old new before now
+nothing_ends A C status old new before now is kept =
+    record { whole = λ p q. absurd (q is); fault = λ e. absurd (none_is_no_fault status is e); memory = λ e. inl kept }

@@ -1,12 +1,15 @@
 -- The report, cell by cell.
-use Rattle.std.proofs.Common.{◌≡◌, ◌⊎◌, inl, inr, ◌∷◌, ◌++◌, ◌+◌, ◌||◌, [], ℕ, zero, suc, List, Bool, true, false, cond, length, Some, refl, sym, ap, ap₂, ◌∙◌, append_assoc, subst, length-append}
+use Rattle.std.proofs.Common.{◌≡◌, ◌≤◌, ◌<◌, arith, take, Option, ◌⊎◌, inl, inr, ◌∷◌, ◌++◌, ◌+◌, ◌||◌, [], ℕ, zero, suc, List, Bool, true, false, cond, get_or, length, Some, refl, sym, ap, ap₂, ◌∙◌, append_assoc, subst, length-append}
+use Rattle.std.specs.Io.KnownBytes.{Appends}
 use Rattle.std.specs.Prelude.{slice_get, unwrap_or}
 use Rattle.std.specs.List.{list_any}
 use Rattle.std.proofs.lemmas.List.{map-append}
 use Rattle.std.proofs.lemmas.List.Folds.{list_any-append}
-use Rattle.std.proofs.lemmas.Option.{none-some, same_Some}
+use Rattle.std.proofs.lemmas.Option.{none-some, same_Some, slice_get-get_or}
+use Rattle.verity_run.proofs.PutLaws.{appended, front_behind, joined_more, kept_behind, nothing_put, rose_since}
 use Rattle.verity_run.specs.Messages.{joined}
-use Rattle.verity_run.specs.Reports.{AreAnswers, IsEnded, ReportsCells, answer_lines, is_fault, is_undecided, status_by, with_verdict}
+use Rattle.verity_run.specs.Reports.{AreAnswers, BeginsReport, IsEnded, IsReportOf, PutsCell, PutsCells, ReportsCells, StopsAtCell, answer_lines, cell_line, is_fault, is_undecided, status_by, with_verdict}
+use Rattle.verity_run.specs.Runs.{Ends, StopsLine}
 use Rattle.verity_run.specs.declared.status.Status.{Status}
 use Rattle.verity_run.specs.declared.status.Status.TheVariants.{AllEqual, SomeFault, Undecided}
 use Rattle.vrt_model.specs.Comparison.{cell_at}
@@ -103,7 +106,7 @@ text_of design blif rules (a ∷ answers) =
 -- ---- the report
 
 -- of no cell
-pub report_none : (design : Design) (blif : Blif) (rules : Rules) (budget : ℕ) → ReportsCells design blif rules budget 0 AllEqual []
+report_none : (design : Design) (blif : Blif) (rules : Rules) (budget : ℕ) → ReportsCells design blif rules budget 0 AllEqual []
 report_none design blif rules budget = record {
   answers = [];
   verdicts = record { all = refl; cells = λ n a e. absurd (none-some a e) };
@@ -113,7 +116,7 @@ report_none design blif rules budget = record {
 }
 
 -- of one cell more
-pub report_more : (design : Design) (blif : Blif) (rules : Rules) (budget n : ℕ) (old new : Status) (before after : List (List ℕ)) (v : Verdict) (line : List ℕ)
+report_more : (design : Design) (blif : Blif) (rules : Rules) (budget n : ℕ) (old new : Status) (before after : List (List ℕ)) (v : Verdict) (line : List ℕ)
     → ReportsCells design blif rules budget n old before → IsVerdict design blif rules budget n v
     → line ≡ answer_line design blif rules (record { cell = n; verdict = v }) ++ 10 ∷ [] → new ≡ with_verdict old v → after ≡ before ++ line ∷ []
     → ReportsCells design blif rules budget (n + 1) new after
@@ -129,6 +132,95 @@ report_more design blif rules budget n old new before after v line r verdict tol
       text = ap joined listed ∙ text_of design blif rules (r.answers ++ a ∷ []);
     }
 
+-- ---- cell by cell
+
+-- no line was put yet
+pub cells_none : (design : Design) (blif : Blif) (rules : Rules) (budget : ℕ) (old : Option (List ℕ)) → PutsCells design blif rules budget 0 AllEqual old old
+cells_none design blif rules budget old = record { lines = []; cells = report_none design blif rules budget; put = nothing_put old }
+
+-- a line that was put is that of its cell
+pub cell_put : (design : Design) (blif : Blif) (rules : Rules) (budget n : ℕ) (status more : Status) (old new : Option (List ℕ)) (v : Verdict) (line : List ℕ)
+    → IsVerdict design blif rules budget n v → line ≡ cell_line design blif rules n v → more ≡ with_verdict status v → Appends old new line
+    → PutsCell design blif rules budget n status more old new
+cell_put design blif rules budget n status more old new v line verdict told counted put =
+    record { verdict = v; is = verdict; counted = counted; put = subst (Appends old new) told put }
+
+-- a line that was not put as a whole
+pub cell_stops : (design : Design) (blif : Blif) (rules : Rules) (budget n : ℕ) (status : Status) (old new : Option (List ℕ)) (before now : ℕ) (v : Verdict) (line : List ℕ)
+    → IsVerdict design blif rules budget n v → line ≡ cell_line design blif rules n v → StopsLine status line old new before now
+    → StopsAtCell design blif rules budget n status old new before now
+cell_stops design blif rules budget n status old new before now v line verdict told stops = record {
+  stopped = stops.stopped;
+  fault = λ e. let w = stops.fault e in (v, verdict, (w.0, (w.1.0, subst (λ (l : List ℕ). Appends old new (take w.1.0 l)) told w.1.1)));
+  memory = stops.memory;
+}
+
+-- one line more
+pub cells_more : (design : Design) (blif : Blif) (rules : Rules) (budget n : ℕ) (status more : Status) (old mid new : Option (List ℕ))
+    → PutsCells design blif rules budget n status old mid → PutsCell design blif rules budget n status more mid new
+    → PutsCells design blif rules budget (n + 1) more old new
+cells_more design blif rules budget n status more old mid new puts one =
+    let line = cell_line design blif rules n one.verdict in
+    record {
+      lines = puts.lines ++ line ∷ [];
+      cells = report_more design blif rules budget n status more puts.lines (puts.lines ++ line ∷ []) one.verdict line puts.cells one.is refl one.counted refl;
+      put = subst (Appends old new) (sym (joined_more puts.lines line)) (appended old mid new (joined puts.lines) line puts.put one.put);
+    }
+
+-- the beginning of the report that was put so far
+begun : (design : Design) (blif : Blif) (rules : Rules) (budget n : ℕ) (status : Status) (lines : List (List ℕ)) → n ≤ length design.cells
+    → ReportsCells design blif rules budget n status lines → BeginsReport design blif rules budget lines
+begun design blif rules budget n status lines le cells = record { count = n; within = le; status = status; cells = cells }
+
+-- the run ends in the line of a cell, or before it
+pub cells_stop : (design : Design) (blif : Blif) (rules : Rules) (budget n : ℕ) (status end : Status) (old mid new : Option (List ℕ)) (before between now : ℕ)
+    → n < length design.cells → PutsCells design blif rules budget n status old mid → before ≤ between
+    → StopsAtCell design blif rules budget n end mid new between now
+    → Ends (IsReportOf design blif rules budget) (BeginsReport design blif rules budget) end old new before now
+cells_stop design blif rules budget n status end old mid new before between now lt puts le stops = record {
+  whole = λ p q. absurd (elim stops.stopped [ inl e ↦ p e | inr e ↦ q e ]);
+  fault = λ e.
+      let w = stops.fault e in
+      let line = cell_line design blif rules n w.0 in
+      let lines = puts.lines ++ line ∷ [] in
+      let found = front_behind (joined puts.lines) line w.2.1.0 in
+      let front : take found.0 (joined lines) ≡ joined puts.lines ++ take w.2.1.0 line = ap (take found.0) (joined_more puts.lines line) ∙ found.1 in
+      let cells =
+      report_more design blif rules budget n status (with_verdict status w.0) puts.lines lines w.0 line puts.cells w.1 refl refl refl in (
+        rose_since before between now le w.2.0,
+        (
+          lines,
+          inr (begun design blif rules budget (n + 1) (with_verdict status w.0) lines (next_within n (length design.cells) lt) cells),
+          (found.0, subst (Appends old new) (sym front) (appended old mid new (joined puts.lines) (take w.2.1.0 line) puts.put w.2.1.1)),
+        ),
+      );
+  memory = λ e. inr (puts.lines, begun design blif rules budget n status puts.lines (all_within n (length design.cells) lt) puts.cells, kept_behind old mid new (joined puts.lines) puts.put (stops.memory e));
+}
+  where
+    next_within : (n all : ℕ) → n < all → n + 1 ≤ all
+    next_within n all lt = omega (arith, lt)
+
+    all_within : (n all : ℕ) → n < all → n ≤ all
+    all_within n all lt = omega (arith, lt)
+
+-- all lines were put
+pub cells_end : (design : Design) (blif : Blif) (rules : Rules) (budget n : ℕ) (cells : List Cell) (status : Status) (old new : Option (List ℕ)) (before now : ℕ)
+    → cells ≡ design.cells → length cells ≤ n → n ≤ length cells → PutsCells design blif rules budget n status old new
+    → Ends (IsReportOf design blif rules budget) (BeginsReport design blif rules budget) status old new before now
+cells_end design blif rules budget n cells status old new before now same past within puts =
+    let all : n ≡ length design.cells = equal n (length cells) within past ∙ ap length same in
+    let ended = report_ends design blif rules budget n status puts.lines puts.cells in
+    record {
+      whole = λ p q. (puts.lines, subst (λ (m : ℕ). ReportsCells design blif rules budget m status puts.lines) all puts.cells, puts.put);
+      fault = λ e. absurd (ended.written e);
+      memory = λ e. absurd (ended.had e);
+    }
+  where
+    equal : (a b : ℕ) → a ≤ b → b ≤ a → a ≡ b
+    equal a b p q = omega (arith, p, q)
+
 -- a cell by its place
-pub cell_there : (design : Design) (n : ℕ) (c : Cell) → slice_get design.cells n ≡ Some c → c ≡ cell_at design n
-cell_there design n c e = sym (ap (λ o. unwrap_or o (record { line = 0; name = []; ports = []; devices = []; instances = [] })) e)
+pub cell_there : (design : Design) (n : ℕ) (cells : List Cell) (c : Cell) → cells ≡ design.cells → n < length cells → c ≡ get_or cells n c → c ≡ cell_at design n
+cell_there design n cells c same lt is =
+    let none : Cell = record { line = 0; name = []; ports = []; devices = []; instances = [] } in
+    is ∙ sym (ap (λ (o : Option Cell). unwrap_or o none) (ap (λ (cs : List Cell). slice_get cs n) (sym same) ∙ slice_get-get_or cells n c lt))

@@ -1,124 +1,163 @@
--- What is written for files that were read.
-use Rattle.std.proofs.Common.{◌≡◌, ◌≢◌, ◌≤◌, ◌⊎◌, inl, inr, ◌∷◌, [], ℕ, List, Bool, true, false, ◌&&◌, nat_lt, nat_le, length, Option, Some, None, refl, sym, ap, subst, arith, unwrap_or, option_map}
-use Rattle.std.specs.Prelude.{IfSome, MatchOption, if◌then◌else◌}
-use Rattle.std.specs.Io.KnownBytes.{Keeps}
+-- What is written for requests and their files.
+use Rattle.std.proofs.Common.{◌≡◌, inl, inr, ◌∷◌, [], ℕ, List, Bool, true, false, ◌&&◌, nat_le, length, Option, Some, None, refl, ap, subst, arith, unwrap_or, option_map}
+use Rattle.std.specs.Prelude.{IfSome, if◌then◌else◌}
 use Rattle.std.specs.Str.Parse.{digits_value}
 use Rattle.std.proofs.lemmas.Bool.Decides.{nat_tests}
 use Rattle.std.proofs.lemmas.Option.{none-some, same_Some}
-use Rattle.command_line.specs.Requests.{AsksFor, budget_in, file_names, is_numeral}
+use Rattle.command_line.specs.Requests.{Asks, AsksFor, IsUsage, budget_in, file_names, is_numeral}
+use Rattle.command_line.specs.Manual.{help_text, version_line}
+use Rattle.command_line.specs.declared.request.Asked.TheVariants.{Help, Version}
 use Rattle.command_line.specs.declared.request.Request.{Request}
 use Rattle.command_line.specs.declared.request.Request.TheVariants.{Check, Replay, Classes, Generate}
-use Rattle.verity_run.specs.Given.{ByFile, Given, by_file}
-use Rattle.verity_run.specs.Messages.{too_long_line, read_failed_line}
-use Rattle.verity_run.specs.Reads.{AreTold, StopsBy, first_too_long}
-use Rattle.verity_run.specs.Reports.{AnswersShort, IsReport, IsRefused}
-use Rattle.verity_run.specs.Runs.{Ends, FailsToRead, IsBudget, PutsAll, ReportsFiles, Serves, Wants, budget_of}
-use Rattle.verity_run.specs.declared.reads.Stop.{Stop}
-use Rattle.verity_run.specs.declared.reads.Stop.TheVariants.{Failed, TooLong}
+use Rattle.vrt_io.specs.Causes.{Rose}
+use Rattle.verity_run.specs.Given.{ByFile}
+use Rattle.verity_run.specs.Messages.{usage_line, words_unbuilt_line}
+use Rattle.verity_run.specs.Reads.{FilesTold}
+use Rattle.verity_run.specs.Refusals.{AreReady, FilesSay, IsBarred, Tells, TellsFiles}
+use Rattle.verity_run.specs.Reports.{BeginsReport, IsReportOf}
+use Rattle.verity_run.specs.Runs.{AnswersFiles, BeginsFiles, BeginsRequest, Begins, Ends, IsBudget, PutsLine, RefusalEnds, Serves, Wants, budget_of, names_by}
+use Rattle.verity_run.specs.declared.refusals.Refusal.{Refusal}
+use Rattle.verity_run.specs.declared.refusals.Refusal.TheVariants.{Unread, Told, NoMemory as OutOfMemory}
 use Rattle.verity_run.specs.declared.status.Status.{Status}
-use Rattle.verity_run.specs.declared.status.Status.TheVariants.{InputRefused, NoMemory, ReadFault}
+use Rattle.verity_run.specs.declared.status.Status.TheVariants.{AllEqual, InputRefused, NoMemory, ReadFault, Usage, WriteFault}
+use Rattle.verity_run.proofs.PutLaws.{ends_by, line_ends, nothing_ends}
+use Rattle.verity_run.proofs.ReportLaws.{report_ends}
+use Rattle.vrt_model.specs.declared.blif.Blif.{Blif}
+use Rattle.vrt_model.specs.declared.design.Design.{Design}
+use Rattle.vrt_model.specs.declared.rules.Rules.{Rules}
 
--- ---- files that are told
+-- ---- three files
 
-not_longer : (n : ℕ) → n ≤ 16777216 → nat_lt 16777216 n ≡ false
-not_longer n le = grind (arith, nat_tests)
+module _ (asked : Option ℕ) (told : FilesTold) (words : ByFile) (before now : ℕ) (status : Status) (old new : Option (List ℕ)) (faults_before faults_now : ℕ) where
+  abbrev pub EndsFiles : Type 0
+  EndsFiles = Ends (AnswersFiles asked told words before now) (BeginsFiles asked told words) status old new faults_before faults_now
 
-chosen : (a b c : Bool) (x y z : List ℕ) → a ≡ false → b ≡ false → c ≡ false
-    → (if a then Some x else (if b then Some y else (if c then Some z else None))) ≡ None
-chosen false false false x y z p q r = refl
-chosen true b c x y z p q r = cc
-chosen false true c x y z p q r = cc
-chosen false false true x y z p q r = cc
+  -- the report of what the files say
+  pub report_answers : (design : Design) (blif : Blif) (rules : Rules) (budget : ℕ) → FilesSay told words design blif rules → AreReady asked design blif rules budget
+      → Ends (IsReportOf design blif rules budget) (BeginsReport design blif rules budget) status old new faults_before faults_now → EndsFiles
+  report_answers design blif rules budget say ready ends =
+      ends_by (IsReportOf design blif rules budget) (AnswersFiles asked told words before now) (BeginsReport design blif rules budget) (BeginsFiles asked told words)
+      status old new faults_before faults_now
+      (λ s lines holds. inr (inr (record { design = design; blif = blif; rules = rules; budget = budget; say = say; ready = ready; holds = holds })))
+      (λ lines holds. record { design = design; blif = blif; rules = rules; budget = budget; say = say; ready = ready; holds = holds }) ends
 
-none_too_long : (g : Given) → length g.bytes.spice ≤ 16777216 → length g.bytes.blif ≤ 16777216 → length g.bytes.rules ≤ 16777216 → first_too_long g ≡ None
-none_too_long g p q r =
-    chosen (nat_lt 16777216 (length g.bytes.spice)) (nat_lt 16777216 (length g.bytes.blif)) (nat_lt 16777216 (length g.bytes.rules)) g.words.spice g.words.blif g.words.rules
-    (not_longer (length g.bytes.spice) p) (not_longer (length g.bytes.blif) q) (not_longer (length g.bytes.rules) r)
+  -- what is in the way of it
+  pub barred_answers : (design : Design) (blif : Blif) (rules : Rules) (r : Refusal) → FilesSay told words design blif rules → Tells (IsBarred asked words design blif rules) r
+      → RefusalEnds r status old new faults_before faults_now → EndsFiles
+  barred_answers design blif rules (Unread line) say is ends = absurd is
+  barred_answers design blif rules (Told line) say is ends =
+      line_ends (AnswersFiles asked told words before now) (BeginsFiles asked told words) InputRefused status line old new faults_before faults_now
+      (inr (inl (record { line = line; cause = inr (inr (record { design = design; blif = blif; rules = rules; say = say; barred = is })); answer = refl; told_is = refl }))) ends
+  barred_answers design blif rules OutOfMemory say is ends =
+      nothing_ends (AnswersFiles asked told words before now) (BeginsFiles asked told words) status old new faults_before faults_now ends.0 ends.1
 
-short_report : (budget : Option ℕ) (g : Given) (status : Status) (lines : List (List ℕ))
-    → length g.bytes.spice ≤ 16777216 → length g.bytes.blif ≤ 16777216 → length g.bytes.rules ≤ 16777216
-    → AnswersShort budget g status lines → IsReport budget g status lines
-short_report budget g status lines p q r answers =
-    let P : Option (List ℕ) → Type 0 = λ o. MatchOption o (AnswersShort budget g status lines) (λ word. IsRefused (too_long_line word) status lines) in
-    subst P (sym (none_too_long g p q r)) answers
-
-told_report : (budget : Option ℕ) (words : ByFile) (a b c : Option (List ℕ)) (x y z : List ℕ) (status : Status) (lines : List (List ℕ))
-    → IfSome a (λ bytes. (x ≡ bytes) × (length bytes ≤ 16777216))
-    → IfSome b (λ bytes. (y ≡ bytes) × (length bytes ≤ 16777216))
-    → IfSome c (λ bytes. (z ≡ bytes) × (length bytes ≤ 16777216))
-    → AnswersShort budget (record { words = words; bytes = by_file x y z }) status lines
-    → IfSome a (λ p. IfSome b (λ q. IfSome c (λ r. IsReport budget (record { words = words; bytes = by_file p q r }) status lines)))
-told_report budget words None b c x y z status lines p q r answers = tt
-told_report budget words (Some u) None c x y z status lines p q r answers = tt
-told_report budget words (Some u) (Some v) None x y z status lines p q r answers = tt
-told_report budget words (Some u) (Some v) (Some w) x y z status lines p q r answers =
-    let X : List ℕ → Type 0 = λ t. AnswersShort budget (record { words = words; bytes = by_file t y z }) status lines in
-    let Y : List ℕ → Type 0 = λ t. AnswersShort budget (record { words = words; bytes = by_file u t z }) status lines in
-    let Z : List ℕ → Type 0 = λ t. AnswersShort budget (record { words = words; bytes = by_file u v t }) status lines in
-    short_report budget (record { words = words; bytes = by_file u v w }) status lines p.1 q.1 r.1 (subst Z r.0 (subst Y q.0 (subst X p.0 answers)))
-
--- the report of files that were read is what is to be written
-pub report_is_wanted : (budget : Option ℕ) (spice blif rules : List ℕ) (told : List ℕ → Option (List ℕ)) (x y z : List ℕ) (status : Status) (lines : List (List ℕ))
-    → AreTold told spice blif rules x y z → AnswersShort budget (record { words = by_file spice blif rules; bytes = by_file x y z }) status lines
-    → ReportsFiles budget (spice ∷ blif ∷ rules ∷ []) told status lines
-report_is_wanted budget spice blif rules told x y z status lines are answers =
-    record { report = told_report budget (by_file spice blif rules) (told spice) (told blif) (told rules) x y z status lines are.spice are.blif are.rules answers }
-
--- a file that could not be read is what is to be written
-pub failed_is_wanted : (spice blif rules name line : List ℕ) (told : List ℕ → Option (List ℕ)) (before now : ℕ) (stop : Stop)
-    → stop ≡ Failed → line ≡ read_failed_line name → StopsBy stop name told spice blif rules before now
-    → FailsToRead (spice ∷ blif ∷ rules ∷ []) before now ReadFault (line ∷ [])
-failed_is_wanted spice blif rules name line told before now stop failed is stops =
-    let P : Stop → Type 0 = λ s. StopsBy s name told spice blif rules before now in
-    let cause = subst P failed stops in
-    record { rose = cause.0; answer = refl; told = (name, cause.1, ap (λ l. l ∷ []) is) }
-
-too_long_report : (budget : Option ℕ) (g : Given) (name line : List ℕ) → first_too_long g ≡ Some name → line ≡ too_long_line name
-    → IsReport budget g InputRefused (line ∷ [])
-too_long_report budget g name line first is =
-    let P : Option (List ℕ) → Type 0 = λ o. MatchOption o (AnswersShort budget g InputRefused (line ∷ [])) (λ word. IsRefused (too_long_line word) InputRefused (line ∷ [])) in
-    subst P (sym first) (record { refused = refl; told = ap (λ l. l ∷ []) is })
-
-told_long : (budget : Option ℕ) (words : ByFile) (name line : List ℕ) (a b c : Option (List ℕ)) → line ≡ too_long_line name
-    → IfSome a (λ x. IfSome b (λ y. IfSome c (λ z. first_too_long (record { words = words; bytes = by_file x y z }) ≡ Some name)))
-    → IfSome a (λ x. IfSome b (λ y. IfSome c (λ z. IsReport budget (record { words = words; bytes = by_file x y z }) InputRefused (line ∷ []))))
-told_long budget words name line None b c is stops = tt
-told_long budget words name line (Some x) None c is stops = tt
-told_long budget words name line (Some x) (Some y) None is stops = tt
-told_long budget words name line (Some x) (Some y) (Some z) is stops = too_long_report budget (record { words = words; bytes = by_file x y z }) name line stops is
-
--- a file that is too long is what is to be written
-pub long_is_wanted : (budget : Option ℕ) (spice blif rules name line : List ℕ) (told : List ℕ → Option (List ℕ)) (before now : ℕ) (stop : Stop)
-    → stop ≡ TooLong → line ≡ too_long_line name → StopsBy stop name told spice blif rules before now
-    → ReportsFiles budget (spice ∷ blif ∷ rules ∷ []) told InputRefused (line ∷ [])
-long_is_wanted budget spice blif rules name line told before now stop long is stops =
-    let P : Stop → Type 0 = λ s. StopsBy s name told spice blif rules before now in
-    record { report = told_long budget (by_file spice blif rules) name line (told spice) (told blif) (told rules) is (subst P long stops) }
+  -- files that are not read
+  pub refusal_answers : (r : Refusal) → TellsFiles told words before now r → RefusalEnds r status old new faults_before faults_now → EndsFiles
+  refusal_answers (Unread line) is ends =
+      line_ends (AnswersFiles asked told words before now) (BeginsFiles asked told words) ReadFault status line old new faults_before faults_now
+      (inl (record { answer = refl; told = (line, is, refl) })) ends
+  refusal_answers (Told line) (inl long) ends =
+      line_ends (AnswersFiles asked told words before now) (BeginsFiles asked told words) InputRefused status line old new faults_before faults_now
+      (inr (inl (record { line = line; cause = inl long; answer = refl; told_is = refl }))) ends
+  refusal_answers (Told line) (inr refused) ends =
+      line_ends (AnswersFiles asked told words before now) (BeginsFiles asked told words) InputRefused status line old new faults_before faults_now
+      (inr (inl (record { line = line; cause = inr (inl refused); answer = refl; told_is = refl }))) ends
+  refusal_answers OutOfMemory is ends =
+      nothing_ends (AnswersFiles asked told words before now) (BeginsFiles asked told words) status old new faults_before faults_now ends.0 ends.1
 
 -- ---- requests
 
-abbrev IsForFiles : List (List ℕ) → Option ℕ → (List ℕ → Option (List ℕ)) → ℕ → ℕ → Status → List (List ℕ) → Type 0
-IsForFiles names budget told before now status lines = FailsToRead names before now status lines ⊎ ReportsFiles budget names told status lines
-
-served : (request : Request) (names : List (List ℕ)) (budget : Option ℕ) (told : List ℕ → Option (List ℕ)) (before now : ℕ) (status : Status) (lines : List (List ℕ))
-    → file_names request ≡ names → budget ≡ budget_of request → IsForFiles names budget told before now status lines → Serves request told before now status lines
-served request names budget told before now status lines files is wanted =
-    elim wanted [
-      | inl failed ↦ inr (inl (subst (λ (ns : List (List ℕ)). FailsToRead ns before now status lines) (sym files) failed))
-      | inr reported ↦
-          inr (inr (subst (λ (ns : List (List ℕ)). ReportsFiles (budget_of request) ns told status lines) (sym files)
-          (subst (λ (b : Option ℕ). ReportsFiles b names told status lines) is reported)))
-    ]
-
 -- what is to be written for the files of a request is what serves it
-pub is_served : (request : Request) (names : List (List ℕ)) (budget : Option ℕ) (told : List ℕ → Option (List ℕ)) (before now : ℕ)
-    (status : Status) (old new : Option (List ℕ)) (faults_before faults_now : ℕ)
-    → file_names request ≡ names → budget ≡ budget_of request
-    → Ends (λ wanted lines. IsForFiles names budget told before now wanted lines) status old new faults_before faults_now
-    → Ends (λ wanted lines. Serves request told before now wanted lines) status old new faults_before faults_now
-is_served request names budget told before now status old new faults_before faults_now files is (inl none) = inl none
-is_served request names budget told before now status old new faults_before faults_now files is (inr put) =
-    inr (put.0, put.1, served request names budget told before now put.0 put.1 files is put.2, put.3)
+pub is_served : (request : Request) (words : ByFile) (budget : Option ℕ) (told : FilesTold) (before now : ℕ) (status : Status) (old new : Option (List ℕ)) (faults_before faults_now : ℕ)
+    → file_names request ≡ names_by words → budget ≡ budget_of request
+    → Ends (AnswersFiles budget told words before now) (BeginsFiles budget told words) status old new faults_before faults_now
+    → Ends (Serves request told before now) (BeginsRequest request told) status old new faults_before faults_now
+is_served request words budget told before now status old new faults_before faults_now files is ends =
+    ends_by (AnswersFiles budget told words before now) (Serves request told before now) (BeginsFiles budget told words) (BeginsRequest request told)
+    status old new faults_before faults_now
+    (λ s lines a. inr (words, files, subst (λ (b : Option ℕ). AnswersFiles b told words before now s lines) is a))
+    (λ lines b. (words, files, subst (λ (b : Option ℕ). BeginsFiles b told words lines) is b)) ends
+
+refused_is_read : (s : Status) → s ≡ InputRefused → s ≡ ReadFault → ⊥
+refused_is_read s p q = cc
+
+refused_is_usage : (s : Status) → s ≡ InputRefused → s ≡ Usage → ⊥
+refused_is_usage s p q = cc
+
+read_is_usage : (s : Status) → s ≡ ReadFault → s ≡ Usage → ⊥
+read_is_usage s p q = cc
+
+read_is_written : (s : Status) → s ≡ ReadFault → s ≡ WriteFault → ⊥
+read_is_written s p q = cc
+
+read_is_none : (s : Status) → s ≡ ReadFault → s ≡ NoMemory → ⊥
+read_is_none s p q = cc
+
+usage_is_written : (s : Status) → s ≡ Usage → s ≡ WriteFault → ⊥
+usage_is_written s p q = cc
+
+usage_is_none : (s : Status) → s ≡ Usage → s ≡ NoMemory → ⊥
+usage_is_none s p q = cc
+
+-- a read fault comes only where the count of faults rose, and words that are understood are no cause of Usage
+module _ (request : Request) (told : FilesTold) (before now : ℕ) (status : Status) (lines : List (List ℕ)) where
+  read_rose : Serves request told before now status lines → status ≡ ReadFault → Rose before now
+  read_rose (inl lacks) is = absurd (refused_is_read status lacks.answer is)
+  read_rose (inr (words, files, inl fails)) is = fails.told.1.rose
+  read_rose (inr (words, files, inr (inl refuses))) is = absurd (refused_is_read status refuses.answer is)
+  read_rose (inr (words, files, inr (inr reports))) is = absurd ((report_ends reports.design reports.blif reports.rules reports.budget (length reports.design.cells) status lines reports.holds).read is)
+
+  not_usage : Serves request told before now status lines → status ≡ Usage → ⊥
+  not_usage (inl lacks) is = refused_is_usage status lacks.answer is
+  not_usage (inr (words, files, inl fails)) is = read_is_usage status fails.answer is
+  not_usage (inr (words, files, inr (inl refuses))) is = refused_is_usage status refuses.answer is
+  not_usage (inr (words, files, inr (inr reports))) is = (report_ends reports.design reports.blif reports.rules reports.budget (length reports.design.cells) status lines reports.holds).understood is
+
+-- how a request that is served ends
+module _ (request : Request) (told : FilesTold) (before now : ℕ) (status : Status) (old new : Option (List ℕ)) (faults_before faults_now : ℕ)
+    (ends : Ends (Serves request told before now) (BeginsRequest request told) status old new faults_before faults_now) where
+  pub served_read : status ≡ ReadFault → Rose before now
+  served_read is =
+      let w = ends.whole (read_is_written status is) (read_is_none status is) in read_rose request told before now status w.0 w.1 is
+
+  pub served_understood : status ≡ Usage → ⊥
+  served_understood is =
+      let w = ends.whole (usage_is_written status is) (usage_is_none status is) in not_usage request told before now status w.0 w.1 is
+
+  -- it is what the words ask for
+  pub is_wanted : (words : List (List ℕ)) → AsksFor words request → Ends (Wants words told before now) (Begins words told) status old new faults_before faults_now
+  is_wanted words asks =
+      ends_by (Serves request told before now) (Wants words told before now) (BeginsRequest request told) (Begins words told) status old new faults_before faults_now
+      (λ s lines served. inr (inr (request, asks, served))) (λ lines begun. (request, asks, begun)) ends
+
+-- a request without files
+pub lacks_files : (request : Request) (told : FilesTold) (before now : ℕ) (status : Status) (line : List ℕ) (old new : Option (List ℕ)) (faults_before faults_now : ℕ)
+    → file_names request ≡ [] → line ≡ words_unbuilt_line → PutsLine InputRefused status line old new faults_before faults_now
+    → Ends (Serves request told before now) (BeginsRequest request told) status old new faults_before faults_now
+lacks_files request told before now status line old new faults_before faults_now none is put =
+    line_ends (Serves request told before now) (BeginsRequest request told) InputRefused status line old new faults_before faults_now
+    (inl (record { generated = none; answer = refl; told = ap (λ l. l ∷ []) is })) put
+
+-- ---- words
+
+module _ (words : List (List ℕ)) (told : FilesTold) (before now : ℕ) (status : Status) (line : List ℕ) (old new : Option (List ℕ)) (faults_before faults_now : ℕ) where
+  abbrev EndsWords : Type 0
+  EndsWords = Ends (Wants words told before now) (Begins words told) status old new faults_before faults_now
+
+  pub shows_help : Asks words Help → line ≡ help_text → PutsLine AllEqual status line old new faults_before faults_now → EndsWords
+  shows_help asks is put =
+      line_ends (Wants words told before now) (Begins words told) AllEqual status line old new faults_before faults_now
+      (inr (inl (record { answer = refl; told = inl (asks, ap (λ l. l ∷ []) is) }))) put
+
+  pub shows_version : Asks words Version → line ≡ version_line → PutsLine AllEqual status line old new faults_before faults_now → EndsWords
+  shows_version asks is put =
+      line_ends (Wants words told before now) (Begins words told) AllEqual status line old new faults_before faults_now
+      (inr (inl (record { answer = refl; told = inr (asks, ap (λ l. l ∷ []) is) }))) put
+
+  pub refuses_words : IsUsage words → line ≡ usage_line → PutsLine Usage status line old new faults_before faults_now → EndsWords
+  refuses_words bad is put =
+      line_ends (Wants words told before now) (Begins words told) Usage status line old new faults_before faults_now
+      (inl (record { bad = bad; answer = refl; told = ap (λ l. l ∷ []) is })) put
 
 -- ---- budgets
 
@@ -149,19 +188,3 @@ budget_fits words (Check (Some cell) budget files) asks = tt
 budget_fits words (Replay cell phase at files) asks = tt
 budget_fits words (Classes cell files) asks = tt
 budget_fits words (Generate size budget) asks = tt
-
--- ---- the run
-
--- what is answered, where memory sufficed
-pub wanted_of : (words : List (List ℕ)) (request : Request) (told : List ℕ → Option (List ℕ)) (before now : ℕ) (status : Status) (old new : Option (List ℕ)) (faults_before faults_now : ℕ)
-    → AsksFor words request → Ends (λ wanted lines. Serves request told before now wanted lines) status old new faults_before faults_now → status ≢ NoMemory
-    → (wanted : Status) × (lines : List (List ℕ)) × Wants words told before now wanted lines × PutsAll wanted status lines old new faults_before faults_now
-wanted_of words request told before now status old new faults_before faults_now asks (inl none) other = absurd (other none.0)
-wanted_of words request told before now status old new faults_before faults_now asks (inr put) other = (put.0, put.1, inr (inr (request, asks, put.2)), put.3)
-
--- what is answered for want of memory
-pub front_of : (words : List (List ℕ)) (request : Request) (told : List ℕ → Option (List ℕ)) (before now : ℕ) (status : Status) (old new : Option (List ℕ)) (faults_before faults_now : ℕ)
-    → AsksFor words request → Ends (λ wanted lines. Serves request told before now wanted lines) status old new faults_before faults_now
-    → Keeps old new ⊎ ((wanted : Status) × (lines : List (List ℕ)) × Wants words told before now wanted lines × PutsAll wanted status lines old new faults_before faults_now)
-front_of words request told before now status old new faults_before faults_now asks (inl none) = inl none.1
-front_of words request told before now status old new faults_before faults_now asks (inr put) = inr (put.0, put.1, inr (inr (request, asks, put.2)), put.3)

@@ -1,14 +1,12 @@
--- What is answered and written for three files that are told.
-use Rattle.std.specs.Prelude.{◌≡◌, ◌≢◌, ◌⊎◌, ◌++◌, ◌∷◌, [], ℕ, List, Bool, true, false, cond, map, length, Option, Some, None, MatchOption}
+-- The report of all cells, its status and its beginnings.
+use Rattle.std.specs.Prelude.{◌≡◌, ◌≢◌, ◌≤◌, ◌⊎◌, ◌++◌, ◌∷◌, [], ℕ, List, Bool, true, false, cond, map, length, take}
+use Rattle.std.specs.Io.KnownBytes.{Appends, Keeps}
 use Rattle.std.specs.List.{list_any}
-use Rattle.verity_run.specs.Given.{AreRead, ByFile, Given}
-use Rattle.verity_run.specs.Messages.{joined, missing_line, too_long_line, words_unbuilt_line}
-use Rattle.verity_run.specs.Reads.{first_too_long}
-use Rattle.verity_run.specs.Refusals.{IsRefusal}
-use Rattle.verity_run.specs.Unbuilt.{unbuilt_in, unbuilt_text}
+use Rattle.std.specs.declared.option.Option.{Option}
+use Rattle.vrt_io.specs.Causes.{Rose}
+use Rattle.verity_run.specs.Messages.{joined}
 use Rattle.verity_run.specs.declared.status.Status.{Status}
-use Rattle.verity_run.specs.declared.status.Status.TheVariants.{AllEqual, InputRefused, NoMemory, ReadFault, SomeFault, Undecided, Usage, WriteFault}
-use Rattle.vrt_model.specs.Hierarchy.{Missing, missing_name}
+use Rattle.verity_run.specs.declared.status.Status.TheVariants.{AllEqual, NoMemory, ReadFault, SomeFault, Undecided, Usage, WriteFault}
 use Rattle.vrt_model.specs.Lists.{At}
 use Rattle.vrt_model.specs.Verdicts.{Answer, IsVerdict, answer_line, report}
 use Rattle.vrt_model.specs.declared.blif.Blif.{Blif}
@@ -77,55 +75,38 @@ pub record ReportsCells (design : Design) (blif : Blif) (rules : Rules) (budget 
 abbrev pub IsReportOf : Design → Blif → Rules → ℕ → Status → List (List ℕ) → Type 0
 IsReportOf design blif rules budget status lines = ReportsCells design blif rules budget (length design.cells) status lines
 
--- ---- what comes before the cells
+-- the beginning of a report: the lines of the first cells in the order of the file, however many, each the line of the cell
+-- of its place with the verdict on it
+pub record BeginsReport (design : Design) (blif : Blif) (rules : Rules) (budget : ℕ) (lines : List (List ℕ)) : Type 0 where
+  pub count : ℕ
+  pub within : count ≤ length design.cells
+  pub status : Status
+  pub cells : ReportsCells design blif rules budget count status lines
 
--- a refusal and its line
-pub record IsRefused (line : List ℕ) (status : Status) (lines : List (List ℕ)) : Type 0 where
-  pub refused : status ≡ InputRefused
-  pub told : lines ≡ line ∷ []
+-- ---- cell by cell
 
--- a name in the rules that is not there, else the report
-abbrev pub AnswersNames : ByFile → Design → Blif → Rules → ℕ → Status → List (List ℕ) → Type 0
-AnswersNames words design blif rules budget status lines =
-    MatchOption (missing_name design rules)
-    (IsReportOf design blif rules budget status lines)
-    (λ (missing : Missing). IsRefused (missing_line words.rules missing) status lines)
+-- the line of a cell with this verdict, with its line feed
+abbrev pub cell_line : Design → Blif → Rules → ℕ → Verdict → List ℕ
+cell_line design blif rules cell verdict = answer_line design blif rules (record { cell = cell; verdict = verdict }) ++ 10 ∷ []
 
--- a form that is not built yet, else what the names give
-abbrev pub AnswersForms : ByFile → Design → Blif → Rules → ℕ → Status → List (List ℕ) → Type 0
-AnswersForms words design blif rules budget status lines =
-    MatchOption (unbuilt_in design blif rules)
-    (AnswersNames words design blif rules budget status lines)
-    (λ form. IsRefused (unbuilt_text words form) status lines)
+-- the lines of the first so many cells were put
+pub record PutsCells (design : Design) (blif : Blif) (rules : Rules) (budget count : ℕ) (status : Status) (old new : Option (List ℕ)) : Type 0 where
+  pub lines : List (List ℕ)
+  pub cells : ReportsCells design blif rules budget count status lines
+  pub put : Appends old new (joined lines)
 
--- with no budget what the words ask for is not built yet
-abbrev pub AnswersRead : Option ℕ → ByFile → Design → Blif → Rules → Status → List (List ℕ) → Type 0
-AnswersRead None words design blif rules status lines = IsRefused words_unbuilt_line status lines
-AnswersRead (Some budget) words design blif rules status lines = AnswersForms words design blif rules budget status lines
+-- the line of a cell was put, and the status counts its verdict
+pub record PutsCell (design : Design) (blif : Blif) (rules : Rules) (budget cell : ℕ) (status more : Status) (old new : Option (List ℕ)) : Type 0 where
+  pub verdict : Verdict
+  pub is : IsVerdict design blif rules budget cell verdict
+  pub counted : more ≡ with_verdict status verdict
+  pub put : Appends old new (cell_line design blif rules cell verdict)
 
--- files of which none is too long: the first refusal, else what follows from what is read
-pub record Refuses (g : Given) (status : Status) (lines : List (List ℕ)) : Type 0 where
-  pub line : List ℕ
-  pub first : IsRefusal g line
-  pub refused : IsRefused line status lines
-
-pub record Reads (budget : Option ℕ) (g : Given) (status : Status) (lines : List (List ℕ)) : Type 0 where
-  pub design : Design
-  pub blif : Blif
-  pub rules : Rules
-  pub read : AreRead g design blif rules
-  pub answered : AnswersRead budget g.words design blif rules status lines
-
-abbrev pub AnswersShort : Option ℕ → Given → Status → List (List ℕ) → Type 0
-AnswersShort budget g status lines = Refuses g status lines ⊎ Reads budget g status lines
-
--- three files: the first that is too long, else what is read; with the budget for the cells, none where what the words
--- ask for is not built
-abbrev pub IsReport : Option ℕ → Given → Status → List (List ℕ) → Type 0
-IsReport budget g status lines =
-    MatchOption (first_too_long g)
-    (AnswersShort budget g status lines)
-    (λ word. IsRefused (too_long_line word) status lines)
+-- the run ends at a cell: the output failed in its line, or memory was wanting and nothing of its line was put
+pub record StopsAtCell (design : Design) (blif : Blif) (rules : Rules) (budget cell : ℕ) (status : Status) (old new : Option (List ℕ)) (before now : ℕ) : Type 0 where
+  pub stopped : (status ≡ WriteFault) ⊎ (status ≡ NoMemory)
+  pub fault : status ≡ WriteFault → (verdict : Verdict) × IsVerdict design blif rules budget cell verdict × (Rose before now × ((n : ℕ) × Appends old new (take n (cell_line design blif rules cell verdict))))
+  pub memory : status ≡ NoMemory → Keeps old new
 
 -- a status that comes with files that were read
 pub record IsEnded (status : Status) : Type 0 where

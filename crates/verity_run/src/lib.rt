@@ -1,13 +1,14 @@
 //! The run of the checker, from its words and files to what it writes.
 #![tactic(auto)]
 
-mod cells;
+mod checks;
 mod lists;
 mod messages;
 mod names;
-mod outcome;
+mod puts;
 mod reads;
 mod refusals;
+mod report;
 mod status;
 mod top;
 mod unbuilt;

@@ -93,6 +93,26 @@ pub fn refusal(
     refusal_with(alloc, file, number.as_bytes(), cause, name)
 }
 
+/// The line for a refusal whose cause has no name.
+pub fn plain(alloc: Global, file: &[u8], line: u32, cause: &[u8]) -> Result<Text, NoMemory>
+    ensures { IfOk result (λ text. text ≡ refusal_line file.now line cause.now []) }
+{
+    refusal(alloc, file, line, cause, b"")
+}
+
+/// The line for a refusal whose cause ends with a name.
+pub fn named(
+    alloc: Global,
+    file: &[u8],
+    line: u32,
+    cause: &[u8],
+    name: &Text,
+) -> Result<Text, NoMemory>
+    ensures { IfOk result (λ text. text ≡ refusal_line file.now line cause.now name.now) }
+{
+    refusal(alloc, file, line, cause, name.as_bytes())
+}
+
 /// The line for a file that has too many bytes.
 pub fn too_long(alloc: Global, file: &[u8]) -> Result<Text, NoMemory>
     ensures { IfOk result (λ text. text ≡ too_long_line file.now) }

@@ -1,7 +1,8 @@
 //! The three loads.
 
-ghost use Rattle.std.specs.Prelude.{◌≡◌, ◌≤◌, length, vec_len, List, ℕ, IfOk, IfErr, IfSome};
-ghost use Rattle.verity_run.specs.Reads.{StopHasCause, StopsBy, AreTold, AreShort};
+ghost use Rattle.std.specs.Prelude.{◌≡◌, ◌≤◌, vec_len, List, ℕ, IfOk, IfErr};
+ghost use Rattle.verity_run.specs.Given.{bytes_in, names_in};
+ghost use Rattle.verity_run.specs.Reads.{AreShort, AreTold, IsShort, IsTold, StopHasCause, StopsBy};
 
 use command_line::FileWords;
 use std::alloc::Global;
@@ -54,7 +55,8 @@ fn read_file<'a, F: Files>(
     files: &mut F,
     name: &'a str,
 ) -> Result<Vec<u8>, Stopped<'a>>
-    ensures ok { IfOk result (λ v. IfSome (F.told files.old name.now) (λ bytes. (v.items ≡ bytes) × (length bytes ≤ 16777216))) }
+    ensures ok { IfOk result (λ v. IsTold (F.told files.old name.now) v.items) }
+    ensures few { IfOk result (λ _. IsShort (F.told files.old name.now)) }
     ensures err { IfErr result (λ s. (s.name.now ≡ name.now)
         × StopHasCause s.stop (F.told files.old name.now) (F.faults files.old) (F.faults files.new)) }
     ensures short { IfOk result (λ v. vec_len v ≤ 16777216) }
@@ -85,8 +87,8 @@ pub fn read_files<'a, F: Files>(
     files: &mut F,
     words: &FileWords<'a>,
 ) -> Result<Texts, Stopped<'a>>
-    ensures ok { IfOk result (λ t. AreTold (F.told files.old) words.now.spice.now words.now.blif.now words.now.rules.now t.spice.items t.blif.items t.rules.items) }
-    ensures err { IfErr result (λ s. StopsBy s.stop s.name.now (F.told files.old) words.now.spice.now words.now.blif.now words.now.rules.now (F.faults files.old) (F.faults files.new)) }
+    ensures ok { IfOk result (λ t. AreTold (F.told files.old) (names_in words.now) (bytes_in t)) }
+    ensures err { IfErr result (λ s. StopsBy s.stop s.name.now (F.told files.old) (names_in words.now) (F.faults files.old) (F.faults files.new)) }
     ensures short { IfOk result AreShort }
     ensures later { F.faults files.old ≤ F.faults files.new }
 {

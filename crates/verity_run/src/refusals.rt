@@ -1,4 +1,4 @@
-//! What the three files say, or why they are refused.
+//! What the three files say, or why no cell is compared.
 
 ghost use Rattle.std.specs.Prelude.{◌≡◌, ◌≤◌, ◌⊎◌, length, vec_len, IfOk, IfErr, MatchResult};
 ghost use Rattle.blif_checks.specs.Checked.{IsModelFault};
@@ -12,29 +12,42 @@ ghost use Rattle.spice_reader.specs.Cards.{cards_of as netlist_cards_of};
 ghost use Rattle.spice_reader.specs.Netlist.{design_of};
 ghost use Rattle.spice_reader.specs.Refused.{IsNetlist};
 ghost use Rattle.text_lines.specs.Faults.{IsClean};
-ghost use Rattle.verity_run.specs.Given.{AreFit, AreRead, given};
-ghost use Rattle.verity_run.specs.Refusals.{IsRefusal, OfModels, OfNetlist, OfRules, OfUnrolling, Tells};
+ghost use Rattle.verity_run.specs.Given.{AreFit, AreRead, given, names_in};
+ghost use Rattle.verity_run.specs.Refusals.{FilesSay, IsRefusal, OfModels, OfNetlist, OfRules, OfUnrolling, Tells, TellsFiles, TellsStop};
 ghost use Rattle.vrt_model.specs.Inputs.{AreRules, IsBlif, IsDesign};
 ghost use Rattle.vrt_model.specs.Models.{AreModels};
 ghost use Rattle.vrt_model.specs.declared.blif.Blif.{Blif as BlifValue};
 
 use crate::messages;
-use crate::reads::Texts;
+use crate::reads::{Stop, Stopped, Texts, read_files};
 use blif_flat::{ModelFault, check_models};
 use blif_reader::{BlifFault, read_blif};
 use command_line::FileWords;
 use rules_reader::{RulesFault, read_rules};
 use spice_reader::{SpiceFault, read_spice};
 use std::alloc::Global;
+use vrt_io::Files;
 use vrt_model::{Blif, Design, NoMemory, Rules, Text};
 
 /// Why no cell is compared.
 #[derive(Drop)]
 pub enum Refusal {
-    /// A file is refused, with this line.
+    /// A file could not be read: status 5, with this line.
+    Unread(Text),
+    /// A file is refused, or what is asked for is not built yet: status 3, with this line.
     Told(Text),
-    /// Memory was wanting.
+    /// Memory was wanting: status 7, and no line.
     NoMemory,
+}
+
+impl From<NoMemory> for Refusal {
+    ghost use Rattle.verity_run.specs.declared.refusals.Refusal.TheVariants.{NoMemory};
+
+    ghost from_gives = { λ _ r. r ≡ NoMemory };
+
+    fn from(_: NoMemory) -> Refusal {
+        Refusal::NoMemory
+    }
 }
 
 /// What the three files say.
@@ -121,7 +134,7 @@ fn unrolling_refusal(alloc: Global, word: &str, fault: &ModelFault) -> Refusal
 }
 
 /// Refuses models that cannot be unrolled.
-fn check(alloc: Global, word: &str, blif: &Blif) -> Result<(), Refusal>
+fn unroll(alloc: Global, word: &str, blif: &Blif) -> Result<(), Refusal>
     requires { IsBlif blif.now }
     ensures ok { IfOk result (λ _. AreModels blif.now) }
     ensures err { IfErr result (Tells (OfUnrolling word.now blif.now)) }
@@ -132,9 +145,9 @@ fn check(alloc: Global, word: &str, blif: &Blif) -> Result<(), Refusal>
     }
 }
 
-/// Reads the netlist, the models and the rules, and refuses models that cannot be unrolled: the first refusal in this
-/// order.
-pub fn read_inputs(alloc: Global, words: &FileWords<'_>, texts: &Texts) -> Result<Inputs, Refusal>
+/// Reads the netlist, the models and the rules out of their texts, and refuses models that cannot be unrolled: the first
+/// refusal in this order.
+fn read_texts(alloc: Global, words: &FileWords<'_>, texts: &Texts) -> Result<Inputs, Refusal>
     requires spice { vec_len texts.now.spice ≤ 16777216 }
     requires blif { vec_len texts.now.blif ≤ 16777216 }
     requires rules { vec_len texts.now.rules ≤ 16777216 }
@@ -145,10 +158,43 @@ pub fn read_inputs(alloc: Global, words: &FileWords<'_>, texts: &Texts) -> Resul
     let design = read_netlist(alloc, words.spice, texts.spice.as_slice())?;
     let blif = read_models(alloc, words.blif, texts.blif.as_slice())?;
     let rules = read_lines(alloc, words.rules, texts.rules.as_slice())?;
-    check(alloc, words.blif, &blif)?;
+    unroll(alloc, words.blif, &blif)?;
     Ok(Inputs {
         design,
         blif,
         rules,
     })
+}
+
+/// The refusal where a file was not read.
+fn unread(alloc: Global, stopped: &Stopped<'_>) -> Refusal
+    ensures { TellsStop stopped.now.stop stopped.now.name.now result }
+{
+    match stopped.stop {
+        Stop::Failed => match messages::read_failed(alloc, stopped.name.as_bytes()) {
+            Ok(line) => Refusal::Unread(line),
+            Err(_) => Refusal::NoMemory,
+        },
+        Stop::TooLong => match messages::too_long(alloc, stopped.name.as_bytes()) {
+            Ok(line) => Refusal::Told(line),
+            Err(_) => Refusal::NoMemory,
+        },
+        Stop::NoMemory => Refusal::NoMemory,
+    }
+}
+
+/// Reads the three files: what they say, or why no cell is compared.
+pub fn read_inputs<F: Files>(
+    alloc: Global,
+    words: &FileWords<'_>,
+    files: &mut F,
+) -> Result<Inputs, Refusal>
+    ensures ok { IfOk result (λ i. FilesSay (F.told files.old) (names_in words.now) i.design i.blif i.rules) }
+    ensures fit { IfOk result (λ i. AreFit i.design i.blif i.rules) }
+    ensures err { IfErr result (TellsFiles (F.told files.old) (names_in words.now) (F.faults files.old) (F.faults files.new)) }
+{
+    match read_files(alloc, files, words) {
+        Ok(texts) => read_texts(alloc, words, &texts),
+        Err(stopped) => Err(unread(alloc, &stopped)),
+    }
 }

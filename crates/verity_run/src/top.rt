@@ -1,63 +1,21 @@
 //! The top call.
 
-ghost use Rattle.std.specs.Prelude.{◌≡◌, ◌≢◌, ◌≤◌, ◌⊎◌, ◌∷◌, [], List, ℕ, IfSome};
-ghost use Rattle.std.specs.Io.KnownBytes.{Keeps};
+ghost use Rattle.std.specs.Prelude.{◌≡◌, ◌⊎◌, IfSome};
 ghost use Rattle.command_line.specs.Command.{texts};
-ghost use Rattle.command_line.specs.Requests.{IsUsage, names_of};
+ghost use Rattle.command_line.specs.Requests.{IsUsage};
 ghost use Rattle.vrt_io.specs.Causes.{Rose};
-ghost use Rattle.verity_run.specs.Runs.{Ends, FailsToRead, IsBudget, PutsAll, PutsLines, ReportsFiles, Serves, Wants, budget_of};
-ghost use Rattle.verity_run.specs.declared.status.Status.{Status};
+ghost use Rattle.verity_run.specs.Given.{names_in};
+ghost use Rattle.verity_run.specs.Runs.{AnswersFiles, Begins, BeginsFiles, BeginsRequest, Ends, IsBudget, RefusalEnds, Serves, Wants, budget_of};
 
+use crate::checks::check_inputs;
 use crate::messages;
-use crate::outcome::answer_for;
-use crate::reads::{Stop, Stopped, read_files};
+use crate::puts::tell;
+use crate::refusals::{Refusal, read_inputs};
+use crate::report::report_cells;
 use crate::status::Status;
 use command_line::{Asked, FileWords, Request, WordsFault, read_words};
 use std::alloc::Global;
-use vrt_io::{Files, Put, Sink};
-use vrt_model::{NoMemory, Text};
-
-/// Puts lines, each by one put, up to the first that fails.
-fn put_lines<O: Sink>(out: &mut O, lines: &[Text]) -> Put
-    ensures puts { PutsLines result lines.now (O.written out.old) (O.written out.new) (O.faults out.old) (O.faults out.new) }
-    ensures later { O.faults out.old ≤ O.faults out.new }
-{
-    for line in lines {
-        match out.put(line.as_bytes()) {
-            Put::Done => {}
-            stopped => return stopped,
-        }
-    }
-    Put::Done
-}
-
-/// Puts lines, and answers the status that goes with them.
-fn finish<O: Sink>(out: &mut O, lines: &[Text], wanted: Status) -> Status
-    requires fault { wanted ≢ Status.WriteFault }
-    requires memory { wanted ≢ Status.NoMemory }
-    ensures puts { PutsAll wanted result lines.now (O.written out.old) (O.written out.new) (O.faults out.old) (O.faults out.new) }
-    ensures later { O.faults out.old ≤ O.faults out.new }
-{
-    match put_lines(out, lines) {
-        Put::Done => wanted,
-        Put::Failed => Status::WriteFault,
-        Put::NoMemory => Status::NoMemory,
-    }
-}
-
-/// Puts one text, and answers the status that goes with it.
-fn tell<O: Sink>(out: &mut O, text: &[u8], wanted: Status) -> Status
-    requires fault { wanted ≢ Status.WriteFault }
-    requires memory { wanted ≢ Status.NoMemory }
-    ensures puts { PutsAll wanted result (text.now ∷ []) (O.written out.old) (O.written out.new) (O.faults out.old) (O.faults out.new) }
-    ensures later { O.faults out.old ≤ O.faults out.new }
-{
-    match out.put(text) {
-        Put::Done => wanted,
-        Put::Failed => Status::WriteFault,
-        Put::NoMemory => Status::NoMemory,
-    }
-}
+use vrt_io::{Files, Sink};
 
 /// The budget of nodes for each cell, where what the words ask for is built: each cell is checked.
 fn budget_for(request: &Request<'_>) -> Option<u32>
@@ -76,77 +34,67 @@ fn budget_for(request: &Request<'_>) -> Option<u32>
     }
 }
 
-/// Serves a request over three files, with a budget for the cells, none where what the words ask for is not built.
-fn serve<F: Files, O: Sink>(
+/// Puts the line of a refusal, where it has one.
+fn refuse<O: Sink>(out: &mut O, refusal: &Refusal) -> Status
+    ensures { RefusalEnds refusal.now result (O.written out.old) (O.written out.new) (O.faults out.old) (O.faults out.new) }
+{
+    match refusal {
+        Refusal::Unread(line) => tell(out, line.as_bytes(), Status::ReadFault),
+        Refusal::Told(line) => tell(out, line.as_bytes(), Status::InputRefused),
+        Refusal::NoMemory => Status::NoMemory,
+    }
+}
+
+/// Reads the three files, checks that nothing is in the way, and reports on each cell. What the words ask for has no budget
+/// where it is not built yet.
+fn serve_files<F: Files, O: Sink>(
     alloc: Global,
-    names: &FileWords<'_>,
+    words: &FileWords<'_>,
     budget: Option<u32>,
     files: &mut F,
     out: &mut O,
 ) -> Status
     requires { IfSome budget IsBudget }
-    ensures answers { Ends (λ wanted lines. FailsToRead (names_of names.now) (F.faults files.old) (F.faults files.new) wanted lines
-        ⊎ ReportsFiles budget (names_of names.now) (F.told files.old) wanted lines)
+    ensures { Ends (AnswersFiles budget (F.told files.old) (names_in words.now) (F.faults files.old) (F.faults files.new)) (BeginsFiles budget (F.told files.old) (names_in words.now))
         result (O.written out.old) (O.written out.new) (O.faults out.old) (O.faults out.new) }
-    ensures understood { result ≢ Status.Usage }
-    ensures read { result ≡ Status.ReadFault → Rose (F.faults files.old) (F.faults files.new) }
-    ensures write { result ≡ Status.WriteFault → Rose (O.faults out.old) (O.faults out.new) }
 {
-    match read_files(alloc, files, names) {
-        Ok(texts) => match answer_for(alloc, names, budget, &texts) {
-            Ok(answer) => finish(out, answer.lines.as_slice(), answer.status),
-            Err(_) => Status::NoMemory,
+    match read_inputs(alloc, words, files) {
+        Ok(inputs) => match check_inputs(alloc, words, budget, &inputs) {
+            Ok(budget) => report_cells(alloc, budget, &inputs, out),
+            Err(refusal) => refuse(out, &refusal),
         },
-        Err(stopped) => match stopped.stop {
-            Stop::Failed => match messages::read_failed(alloc, stopped.name.as_bytes()) {
-                Ok(text) => tell(out, text.as_bytes(), Status::ReadFault),
-                Err(_) => Status::NoMemory,
-            },
-            Stop::TooLong => match messages::too_long(alloc, stopped.name.as_bytes()) {
-                Ok(text) => tell(out, text.as_bytes(), Status::InputRefused),
-                Err(_) => Status::NoMemory,
-            },
-            Stop::NoMemory => Status::NoMemory,
-        },
+        Err(refusal) => refuse(out, &refusal),
     }
 }
 
 /// Serves a request.
-fn answer<F: Files, O: Sink>(
+fn serve<F: Files, O: Sink>(
     alloc: Global,
     request: &Request<'_>,
     files: &mut F,
     out: &mut O,
 ) -> Status
     requires { IfSome (budget_of request.now) IsBudget }
-    ensures answers { Ends (λ wanted lines. Serves request.now (F.told files.old) (F.faults files.old) (F.faults files.new) wanted lines)
+    ensures { Ends (Serves request.now (F.told files.old) (F.faults files.old) (F.faults files.new)) (BeginsRequest request.now (F.told files.old))
         result (O.written out.old) (O.written out.new) (O.faults out.old) (O.faults out.new) }
-    ensures understood { result ≢ Status.Usage }
-    ensures read { result ≡ Status.ReadFault → Rose (F.faults files.old) (F.faults files.new) }
-    ensures write { result ≡ Status.WriteFault → Rose (O.faults out.old) (O.faults out.new) }
 {
     match request.files() {
-        Some(names) => serve(alloc, &names, budget_for(request), files, out),
+        Some(words) => serve_files(alloc, &words, budget_for(request), files, out),
         None => match messages::words_unbuilt(alloc) {
-            Ok(text) => tell(out, text.as_bytes(), Status::InputRefused),
+            Ok(line) => tell(out, line.as_bytes(), Status::InputRefused),
             Err(_) => Status::NoMemory,
         },
     }
 }
 
 /// Does all that the program does. The first word is the program's name; the others are those of its command line. A line
-/// is written for each cell, its verdict, in the order of the file; or one line that says why no cell is compared; or
-/// help or the version, where they are asked for.
+/// is written for each cell, its verdict, in the order of the file, before the next cell is compared; or one line that says
+/// why no cell is compared; or help or the version, where they are asked for.
 pub fn run<F: Files, O: Sink>(alloc: Global, words: &[String], files: &mut F, out: &mut O) -> Status
-    // Each answer but want of memory has its cause, and its lines are written, or a front of them with a fault.
-    ensures answers { result ≢ Status.NoMemory → (wanted : Status) × (lines : List (List ℕ))
-        × Wants (texts words.now) (F.told files.old) (F.faults files.old) (F.faults files.new) wanted lines
-        × PutsAll wanted result lines (O.written out.old) (O.written out.new) (O.faults out.old) (O.faults out.new) }
-    // For want of memory nothing is written, or whole lines at the front of those that are wanted.
-    ensures memory { result ≡ Status.NoMemory → Keeps (O.written out.old) (O.written out.new)
-        ⊎ ((wanted : Status) × (lines : List (List ℕ))
-        × Wants (texts words.now) (F.told files.old) (F.faults files.old) (F.faults files.new) wanted lines
-        × PutsAll wanted result lines (O.written out.old) (O.written out.new) (O.faults out.old) (O.faults out.new)) }
+    // Each answer has its cause, and its lines are written. Where the output failed, a front of them is, or of the first lines of
+    // a report; for want of memory whole first lines of a report, or nothing.
+    ensures answers { Ends (Wants (texts words.now) (F.told files.old) (F.faults files.old) (F.faults files.new)) (Begins (texts words.now) (F.told files.old))
+        result (O.written out.old) (O.written out.new) (O.faults out.old) (O.faults out.new) }
     ensures usage { result ≡ Status.Usage → IsUsage (texts words.now) }
     ensures refused_words { IsUsage (texts words.now) → (result ≡ Status.Usage) ⊎ ((result ≡ Status.WriteFault) ⊎ (result ≡ Status.NoMemory)) }
     ensures read { result ≡ Status.ReadFault → Rose (F.faults files.old) (F.faults files.new) }
@@ -155,7 +103,7 @@ pub fn run<F: Files, O: Sink>(alloc: Global, words: &[String], files: &mut F, ou
     match read_words(alloc, words) {
         Ok(Asked::Help) => tell(out, command_line::help(), Status::AllEqual),
         Ok(Asked::Version) => tell(out, command_line::version(), Status::AllEqual),
-        Ok(Asked::Run(request)) => answer(alloc, &request, files, out),
+        Ok(Asked::Run(request)) => serve(alloc, &request, files, out),
         Err(WordsFault::Usage) => tell(out, messages::usage(), Status::Usage),
         Err(WordsFault::NoMemory) => Status::NoMemory,
     }

@@ -1,24 +1,11 @@
-use Rattle.std.proofs.Common.{ap, ◌∙◌, subst}
-use Rattle.std.proofs.lemmas.Result.{err_from_is_err_and}
-use Rattle.blif_reader.specs.Cards.{cards_of as models_cards_of}
-use Rattle.blif_reader.specs.Models.{blif_of}
-use Rattle.blif_reader.specs.Refused.{fault_of as models_fault_of}
-use Rattle.rules_reader.specs.Entries.{cards_of as rules_cards_of}
-use Rattle.rules_reader.specs.Refused.{fault_of as rules_fault_of}
-use Rattle.spice_reader.specs.Cards.{cards_of as netlist_cards_of}
-use Rattle.spice_reader.specs.Refused.{IsNetlist}
-use Rattle.text_lines.specs.Faults.{IsClean}
-use Rattle.verity_run.specs.Given.{given}
-use Rattle.verity_run.proofs.RefusalLaws.{last_told}
+use Rattle.verity_run.proofs.RefusalLaws.{stop_told, texts_refused, texts_say}
 use Rattle.verity_run.proofs.refusals.read_inputs.Goals as goal
 
-pub returns-in_err-check-clause-err : goal.returns-in_err-check-clause-err
-returns-in_err-check-clause-err c =
-    let p = err_from_is_err_and c.from_residual-in_err-check.result c.from_residual-in_err-check.ensures.1 in
-    rw (p.1, p.2)
-    (last_told (given c.args.words.now c.args.texts.now) c.in_ok-blif.blif _
-    (subst (λ b. IsNetlist (netlist_cards_of b)) c.as_slice.ensures.value c.in_ok-design.ensures.ok.0)
-    (subst (λ b. IsClean models_fault_of (models_cards_of b)) c.as_slice-2.ensures.value c.in_ok-blif.ensures.ok.0)
-    (subst (λ b. IsClean rules_fault_of (rules_cards_of b)) c.as_slice-3.ensures.value c.in_ok-rules.ensures.ok.0)
-    (c.in_ok-blif.ensures.ok.1 ∙ ap (λ b. blif_of (models_cards_of b)) c.as_slice-2.ensures.value)
-    c.in_err-check.ensures.err)
+pub returns-in-Ok-clause-ok : goal.returns-in-Ok-clause-ok
+returns-in-Ok-clause-ok g c = texts_say c.read_texts.result _ _ _ c.in-Ok.ensures.ok c.read_texts.ensures.ok
+
+pub returns-in-Ok-clause-err : goal.returns-in-Ok-clause-err
+returns-in-Ok-clause-err g c = texts_refused c.read_texts.result _ _ _ _ _ c.in-Ok.ensures.ok c.read_texts.ensures.err
+
+pub returns-in-Err-clause-err : goal.returns-in-Err-clause-err
+returns-in-Err-clause-err g c = stop_told _ _ _ _ c.in-Err.stopped.stop c.in-Err.stopped.name.now c.unread.result c.unread.ensures c.in-Err.ensures.err
