@@ -26,10 +26,6 @@ pub nothing_put : (a : Option (List ℕ)) → Appends a a []
 nothing_put None = tt
 nothing_put (Some x) = sym (append-nil x)
 
-pub unchanged : (a : Option (List ℕ)) → Keeps a a
-unchanged None = tt
-unchanged (Some x) = refl
-
 joined_behind : (xs ys : List (List ℕ)) → joined (xs ++ ys) ≡ joined xs ++ joined ys
 joined_behind [] ys = refl
 joined_behind (x ∷ xs) ys = ap (λ t. x ++ t) (joined_behind xs ys) ∙ sym (append_assoc x (joined xs) (joined ys))

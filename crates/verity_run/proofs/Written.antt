@@ -164,10 +164,6 @@ module _ (words : List (List ℕ)) (told : FilesTold) (before now : ℕ) (status
 within : (n : ℕ) → (nat_le 65536 n && nat_le n 64000000) ≡ true → IsBudget n
 within n e = grind (arith, nat_tests)
 
-both_true : (p q : Bool) → (p && q) ≡ true → q ≡ true
-both_true true q e = e
-both_true false q e = cc
-
 budget_within : (word : List ℕ) (n : ℕ) → budget_in word ≡ Some n → IsBudget n
 budget_within word n e =
     by_test (is_numeral 8 word) (nat_le 65536 (digits_value 10 word) && nat_le (digits_value 10 word) 64000000) (digits_value 10 word) refl e where
