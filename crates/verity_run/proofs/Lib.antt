@@ -1,7 +1,5 @@
 pub mod BuiltLaws
 pub mod EnterShown
-pub mod FightShown
-pub mod FloatShown
 pub mod KeptFightShown
 pub mod MissingLaws
 pub mod NextShown

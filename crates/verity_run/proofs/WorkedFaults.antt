@@ -1,5 +1,6 @@
 -- What is needed to show that a fault of a small cell stands at a valuation, where all gates of the cell are nets with
--- given values. The faults themselves are those of the files whose names end in `Shown`.
+-- given values. The faults themselves are those of the files whose names end in `Shown`: of kinds that no row of the programs
+-- can show yet. No contract cites them.
 use Rattle.std.proofs.Common.{◌≡◌, ℕ, ◌<◌, ◌≤◌, Bool, true, false, List, [], ◌∷◌, Option, Some, length, refl}
 use Rattle.vrt_model.proofs.Cells.{gnd, vdd}
 use Rattle.vrt_model.proofs.FirstFinding.{found}
