@@ -1,6 +1,6 @@
 //! A sink in memory that fails on demand.
 
-ghost use Rattle.std.specs.Prelude.{OnOk, OnErr, ◌≡◌, ◌≢◌, ◌≤◌, ◌+◌, ◌++◌, ℕ, List, [], Some, None, IfSome, length, take, min, find, option_map, ◌==◌};
+ghost use Rattle.std.specs.Prelude.{OnOk, OnErr, ◌≡◌, ◌≢◌, ◌≤◌, ◌+◌, ◌-◌, ◌^◌, ◌++◌, ℕ, List, [], Some, None, IfSome, length, take, min, find, option_map, ◌==◌};
 ghost use Rattle.vrt_io.specs.declared.mem_sink.Failure.{Failure};
 
 use crate::NoMemory;
@@ -98,6 +98,7 @@ impl Sink for MemSink {
         // It fails only where this call is to fail, and is done only where it is not.
         ensures planned { result ≡ Put.Failed → (kept : ℕ) × (next_failure (put_plan_of self.old) ≡ Some kept) × (sink_bytes self.new ≡ sink_bytes self.old ++ take (min kept (length piece.now)) piece.now) }
         ensures done { result ≡ Put.Done → next_failure (put_plan_of self.old) ≡ None }
+        ensures counted { result ≡ Put.Failed → sink_faults self.new ≡ min (sink_faults self.old + 1) (2 ^ 64 - 1) }
         ensures plan { put_plan_of self.new ≡ after_put (put_plan_of self.old) }
     {
         self.calls = self.calls.saturating_add(1);
