@@ -1,0 +1,10 @@
+pub mod CardLaws
+pub mod ChainLaws
+pub mod HeldLaws
+pub mod ListedLaws
+pub mod LookupLaws
+pub mod MissingLaws
+pub mod NameLaws
+pub mod NestedLaws
+pub mod OrderLaws
+pub mod SetLaws

@@ -1,0 +1,9 @@
+pub mod Cards
+pub mod Chains
+pub mod Held
+pub mod Listed
+pub mod Names
+pub mod Nested
+pub mod Order
+pub mod Sets
+pub mod Tables

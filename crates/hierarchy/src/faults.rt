@@ -1,0 +1,36 @@
+//! Why cells have no order.
+
+use std::fmt;
+use thiserror::Error;
+use vrt_model::{Seq, Text};
+
+/// The first fault of a netlist and its rules, in this order.
+#[derive(Drop, Error)]
+pub enum HierFault {
+    /// An instance of a cell that is not there: the line of its card in the SPICE file, and the name, in lower case.
+    #[error("line {line}: no such cell")]
+    UnknownCell { line: u32, name: Text },
+    /// An instance with more or fewer nets than its cell has ports: the line of its card, and both counts.
+    #[error("line {line}: {nets} nets for {ports} ports")]
+    PortCount { line: u32, nets: u32, ports: u32 },
+    /// The first cell that contains itself: the line of its card, and the numbers of cells, each in the one before it,
+    /// from that cell to that cell.
+    #[error("line {line}: cell contains itself")]
+    Recursion { line: u32, chain: Seq<u32> },
+    /// The first cell deeper than 32, where a cell without instances has depth 1: the line of its card, and its depth.
+    #[error("line {line}: deeper than 32")]
+    Depth { line: u32, depth: u32 },
+    /// The first line of the rules file that names what is not there, and the first such name on it, in lower case.
+    #[error("line {line}: no such name")]
+    NoSuchName { line: u32, name: Text },
+    /// Memory could not be had.
+    #[error("out of memory")]
+    NoMemory,
+}
+
+/// Shows what it says.
+impl fmt::Debug for HierFault {
+    fn fmt<W: fmt::Write>(&self, f: &mut fmt::Formatter<W>) -> fmt::Result {
+        fmt::Display::fmt(self, f)
+    }
+}
