@@ -1,13 +1,11 @@
 pub mod BuiltLaws
 pub mod EnterShown
 pub mod KeptFightShown
-pub mod MissingLaws
 pub mod NextShown
 pub mod PutLaws
 pub mod RefusalLaws
 pub mod ReportLaws
 pub mod Spaces
-pub mod TableLaws
 pub mod UnsettledShown
 pub mod WorkedFaults
 pub mod Written

@@ -1,6 +1,5 @@
 pub mod Given
 pub mod Messages
-pub mod Names
 pub mod Reads
 pub mod Refusals
 pub mod Reports

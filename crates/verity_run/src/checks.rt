@@ -9,10 +9,10 @@ ghost use Rattle.vrt_model.specs.Hierarchy.{missing_name};
 ghost use Rattle.vrt_model.specs.Inputs.{IsDesign};
 
 use crate::messages;
-use crate::names::missing_name;
 use crate::refusals::{Inputs, Refusal};
 use crate::unbuilt::{Unbuilt, first_unbuilt};
 use command_line::FileWords;
+use hierarchy::missing_name;
 use std::alloc::Global;
 use vrt_model::{NoMemory, Text};
 

@@ -4,7 +4,6 @@
 mod checks;
 mod lists;
 mod messages;
-mod names;
 mod puts;
 mod reads;
 mod refusals;

@@ -2,16 +2,16 @@
 
 ghost use Rattle.std.specs.Prelude.{◌≡◌, ◌∷◌, [], codes, map, IfOk};
 ghost use Rattle.std.specs.Fmt.{decimal};
+ghost use Rattle.hierarchy.specs.Names.{missing_of};
 ghost use Rattle.verity_run.specs.Messages.{joined, missing_line, read_failed_line, too_long_line, unbuilt_line, refusal_line, usage_line, words_unbuilt_line};
-ghost use Rattle.verity_run.specs.Names.{missing_of};
 
 mod blif;
 mod models;
 mod rules;
 mod spice;
 
-use crate::names::MissingName;
 pub use blif::blif_refusal;
+use hierarchy::MissingName;
 pub use models::models_refusal;
 pub use rules::rules_refusal;
 pub use spice::spice_refusal;

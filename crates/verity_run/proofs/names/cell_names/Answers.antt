@@ -1,7 +1,0 @@
-use Rattle.std.proofs.Common.{arith}
-use Rattle.vrt_model.specs.declared.design.Cell.{Cell}
-use Rattle.verity_run.proofs.TableLaws.{names_exit}
-use Rattle.verity_run.proofs.names.cell_names.Goals as goal
-
-pub returns : goal.returns
-returns c = names_exit (λ (x : Cell). x.name) c.loop-cell.cell-index c.args.cells.now c.loop-cell.names (omega arith) c.loop-cell.invariant

@@ -1,8 +1,0 @@
-use Rattle.std.proofs.Common.{◌≡◌, [], drop, map}
-use Rattle.text_lines.specs.Names.{with_names}
-use Rattle.vrt_model.specs.declared.design.DeviceCard.{DeviceCard}
-use Rattle.verity_run.proofs.names.device_names.Given as goal
-
--- the names so far, with those of the rest
-abbrev pub invariant-loop-device : goal.invariant-loop-device
-invariant-loop-device l = with_names l.names (map (λ (x : DeviceCard). x.name) (drop l.device-index l.devices)) ≡ with_names [] (map (λ (x : DeviceCard). x.name) l.devices)

@@ -1,8 +1,0 @@
-use Rattle.std.proofs.Common.{arith}
-use Rattle.vrt_model.specs.declared.rules.PairRule.{PairRule}
-use Rattle.verity_run.specs.Names.{missing_cell}
-use Rattle.verity_run.proofs.MissingLaws.{all_looked}
-use Rattle.verity_run.proofs.names.pair_names.Goals as goal
-
-pub returns : goal.returns
-returns c = all_looked (λ (r : PairRule). missing_cell c.args.tables.now.cells r.line r.cell) c.loop-rule.rule-index c.args.rules.now _ (omega arith) c.loop-rule.invariant
