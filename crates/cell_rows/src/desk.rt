@@ -5,8 +5,9 @@
 //! | `model N` | the model of the cell of this number |
 //! | `pair` | the pairing of the first cell with the first model |
 //! | `circuit ROLE ..`, `sizes`, `structure` | of the first cell (`circuits`) |
+//! | `order` | of all cells, under the rules (`orders`) |
 
-use crate::{circuits, pairings};
+use crate::{circuits, orders, pairings};
 use anyhow::Result;
 use row_script::{Script, number};
 use std::alloc::Global;
@@ -26,6 +27,7 @@ fn told(alloc: Global, script: &Script, asked: &str) -> Result<String> {
     match word {
         "model" => pairings::told(alloc, script, Some(number(rest)?)),
         "pair" => pairings::told(alloc, script, None),
+        "order" => orders::told(alloc, script),
         _ => circuits::told(alloc, script, word, rest),
     }
 }

@@ -1,14 +1,16 @@
-//! Cells that are worked out by hand, each with what the pairing and the flat circuits answer of it: one line a case, with
-//! its name. Standard input gives netlists, models and rules, and says what is asked of them (`row_script`, `desk`).
+//! Cells that are worked out by hand, each with what the order of cells, the pairing and the flat circuits answer of it: one
+//! line a case, with its name. Standard input gives netlists, models and rules, and says what is asked of them (`row_script`, `desk`).
 //!
 //! | module | of what |
 //! |---|---|
 //! | `pairings` | the model of a cell, and the signals of its ports |
 //! | `circuits` | the flat circuit of a cell, its sizes, and what stands in its way |
+//! | `orders` | the order of cells in cells, or the first fault of a netlist and its rules |
 #![tactic(auto)]
 
 mod circuits;
 mod desk;
+mod orders;
 mod pairings;
 
 use anyhow::Result;
