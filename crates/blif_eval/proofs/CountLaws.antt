@@ -18,8 +18,8 @@ use Rattle.blif_eval.specs.Operations.{literal_count, rows_operations}
 use Rattle.node_pool.specs.declared.region.Span.{Span}
 use Rattle.vrt_model.proofs.Members.{among_later}
 use Rattle.vrt_model.specs.Budget.{literals_in}
-use Rattle.vrt_model.specs.Covers.{is_empty, row_fits, some_row_fits}
-use Rattle.vrt_model.specs.Lists.{Among}
+use Rattle.vrt_model.specs.Covers.{row_fits, some_row_fits}
+use Rattle.vrt_model.specs.Lists.{Among, is_empty}
 use Rattle.vrt_model.specs.declared.flat_model.Cover.{Cover}
 
 -- ---- what is read

@@ -15,7 +15,8 @@ use Rattle.bdd_core.specs.Words.{IsFilled, word_at}
 use Rattle.blif_eval.specs.Gives.{Gives, bits_in}
 use Rattle.node_pool.specs.declared.region.Node.{Node}
 use Rattle.node_pool.specs.declared.region.Span.{Span}
-use Rattle.vrt_model.specs.Covers.{byte_fits, cover_bit, is_empty, row_fits, some_row_fits}
+use Rattle.vrt_model.specs.Covers.{byte_fits, cover_bit, row_fits, some_row_fits}
+use Rattle.vrt_model.specs.Lists.{is_empty}
 use Rattle.vrt_model.specs.declared.flat_model.Cover.{Cover}
 
 pub gives_made : (old new : Diagrams) (f g : Function) (r : Result H Spent) → IsSame f g → Makes old new f r → IsExact old new f r → Gives old new g r

@@ -8,8 +8,9 @@ ghost use Rattle.bdd_ops.specs.Counting.{Counts, IsSpanWithin};
 ghost use Rattle.blif_eval.specs.Gives.{Gives, bits_in};
 ghost use Rattle.blif_eval.specs.Operations.{literal_count, operations_of, rows_operations};
 ghost use Rattle.vrt_model.specs.Budget.{literals_in};
-ghost use Rattle.vrt_model.specs.Covers.{byte_fits, cover_bit, is_empty, row_fits, some_row_fits};
+ghost use Rattle.vrt_model.specs.Covers.{byte_fits, cover_bit, row_fits, some_row_fits};
 ghost use Rattle.vrt_model.specs.FlatModels.{IsCover};
+ghost use Rattle.vrt_model.specs.Lists.{is_empty};
 
 use bdd_core::{H, ONE, Spent, Store, ZERO};
 use bdd_ops::{not, or};

@@ -4,9 +4,9 @@
 ghost use Rattle.std.specs.Prelude.{All, ◌≡◌, ◌+◌, ◌<◌, ◌≤◌, ◌&&◌, ◌||◌, Bool, List, Option, Some, true, false, length, set, IfOk, OnOk, ◌++◌, ◌∷◌, []};
 ghost use Rattle.blif_eval.specs.KnownBits.{AreKnown, HasLearned, IsDone, IsLearned, IsSpread, all_entries, bit_in, is_entry, teaches, unknown};
 ghost use Rattle.blif_eval.specs.Plans.{entry_of};
-ghost use Rattle.vrt_model.specs.Covers.{byte_fits, cover_bit, is_empty, row_fits, some_row_fits};
+ghost use Rattle.vrt_model.specs.Covers.{byte_fits, cover_bit, row_fits, some_row_fits};
 ghost use Rattle.vrt_model.specs.FlatModels.{IsFlatModel, IsRow};
-ghost use Rattle.vrt_model.specs.Lists.{Among};
+ghost use Rattle.vrt_model.specs.Lists.{Among, is_empty};
 ghost use Rattle.vrt_model.specs.declared.flat_model.Cover.{Cover as CoverValue};
 
 use crate::cover::is_of_rows;

@@ -113,13 +113,13 @@ module _ (k : Comparison) (phase : ℕ) (plain : IsPlainComparison k phase) wher
       no_constraint at st = no_instance k phase plain at st.0 st.1
 
       pub no_next : (at : ℕ) → ¬ Stands k phase setting a g Next at
-      no_next at st = let h = st.2.4.stands in no_hold k phase plain st.2.0 h.0 h.1
+      no_next at st = let h = st.2.1.4.stands in no_hold k phase plain st.2.1.0 h.0 h.1
 
       pub no_apart : (at : ℕ) → ¬ Stands k phase setting a g Apart at
-      no_apart at st = let h = st.2.5.stands in no_hold k phase plain st.2.0 h.0 h.1
+      no_apart at st = let h = st.2.1.5.stands in no_hold k phase plain st.2.1.0 h.0 h.1
 
       pub no_enter : (at : ℕ) → ¬ Stands k phase setting a g Enter at
-      no_enter at st = no_hold k phase plain st.2.0 st.2.1 st.2.2
+      no_enter at st = no_hold k phase plain st.2.1.0 st.2.1.1 st.2.1.2
 
   -- ---- a clear circuit
 

@@ -13,7 +13,7 @@ use Rattle.vrt_model.specs.Circuits.{IsDevice, IsHold, IsWhole}
 use Rattle.vrt_model.specs.Comparison.{Comparison, is_observed, tied_inputs}
 use Rattle.vrt_model.specs.Constraints.{Meets}
 use Rattle.vrt_model.specs.Covers.{cover_bit}
-use Rattle.vrt_model.specs.Faults.{Assigns, Wants}
+use Rattle.vrt_model.specs.Faults.{Assigns, WantsValue}
 use Rattle.vrt_model.specs.FlatBlif.{all_models, flat_model_of, signals_of}
 use Rattle.vrt_model.specs.FlatCircuit.{flat_circuit_of}
 use Rattle.vrt_model.specs.Groups.{groups_of}
@@ -149,8 +149,8 @@ unfolding is_observed
 seen = refl
 
 -- at d = 0, e = 1, q = 0 the net l takes 0, and the match line wants the opposite of the new bit of q
-wanted : Wants cell 0 (solution cell in_range gates bits meets model assigns) model Next 4 4 (Some true)
-wanted = (
+wanted : WantsValue cell 0 (solution cell in_range gates bits meets model assigns) model Next 4 4 (Some true)
+wanted = (refl, (
   0,
   record { members = record { hold = 0; inverted = true } ∷ []; element = Some 0 },
   record { hold = 0; inverted = true },
@@ -158,8 +158,7 @@ wanted = (
   record { stands = (the_hold, refl, refl); grouped = (0, refl); joined = ((0, refl), refl) },
   refl,
   refl,
-  refl,
-)
+))
 
 pub stands : IsFinding cell (found 0 Next 4 bits)
 stands =

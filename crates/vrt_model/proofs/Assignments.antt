@@ -4,9 +4,9 @@ use Rattle.std.specs.Prelude.{find, option_map, unwrap_or}
 use Rattle.std.proofs.lemmas.Bool.{eq-eqb, eqb-true, false≢true}
 use Rattle.vrt_model.proofs.Members.{among_later, at_none, find_among, find_none}
 use Rattle.vrt_model.specs.Assignment.{Assignment, IsAssignment, Surroundings, Tied}
-use Rattle.vrt_model.specs.Covers.{byte_fits, cover_bit, is_empty, row_fits, some_row_fits}
+use Rattle.vrt_model.specs.Covers.{byte_fits, cover_bit, row_fits, some_row_fits}
 use Rattle.vrt_model.specs.Elements.{Numbered, element_names, numbered_from}
-use Rattle.vrt_model.specs.Lists.{At, Among}
+use Rattle.vrt_model.specs.Lists.{Among, At, is_empty}
 use Rattle.vrt_model.specs.declared.flat_model.Cover.{Cover}
 use Rattle.vrt_model.specs.declared.flat_model.FlatLatch.{FlatLatch}
 use Rattle.vrt_model.specs.declared.flat_model.FlatModel.{FlatModel}

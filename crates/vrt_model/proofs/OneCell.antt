@@ -151,13 +151,13 @@ module _ (k : Comparison) (phase : ℕ) (cell : IsOneCell k phase) (setting : Se
     no_hold place h e = at_none place h (subst (λ (hs : List Hold). At hs place h) cell.holds e)
 
     pub no_next : (at : ℕ) → ¬ Stands k phase setting a g Next at
-    no_next at st = let h = st.2.4.stands in no_hold st.2.0 h.0 h.1
+    no_next at st = let h = st.2.1.4.stands in no_hold st.2.1.0 h.0 h.1
 
     pub no_apart : (at : ℕ) → ¬ Stands k phase setting a g Apart at
-    no_apart at st = let h = st.2.5.stands in no_hold st.2.0 h.0 h.1
+    no_apart at st = let h = st.2.1.5.stands in no_hold st.2.1.0 h.0 h.1
 
     pub no_enter : (at : ℕ) → ¬ Stands k phase setting a g Enter at
-    no_enter at st = no_hold st.2.0 st.2.1 st.2.2
+    no_enter at st = no_hold st.2.1.0 st.2.1.1 st.2.1.2
 
     -- an output shows its signal's bit, or differs
     pub output_shows : (port : CellPort) (signal at : ℕ) → At (ports_of k) at port → output_signal port.role ≡ Some signal

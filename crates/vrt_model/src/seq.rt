@@ -75,3 +75,15 @@ impl<T> Seq<T> {
         self.items.as_slice()
     }
 }
+
+impl<T: Drop> Seq<T> {
+    /// Adds an item at the end. Where memory is wanting, the item is let go and the list is as it was.
+    pub fn append(&mut self, item: T) -> Result<(), NoMemory>
+        ensures { MatchResult result (λ _. self.new ≡ self.old ++ item ∷ []) (λ _. self.new ≡ self.old) }
+    {
+        match self.items.push(item) {
+            Ok(()) => Ok(()),
+            Err(_) => Err(NoMemory),
+        }
+    }
+}
