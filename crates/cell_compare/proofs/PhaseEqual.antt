@@ -12,7 +12,7 @@ use Rattle.cell_compare.specs.Phases.{HasOneModel, HasSignalBits, IsClearPhase, 
 use Rattle.channel_parts.specs.OneSolution.{HasOneSolution}
 use Rattle.channel_parts.specs.Orders.{IsSolvedOnce}
 use Rattle.vrt_model.proofs.GatesGiven.{base_reading, kept_response}
-use Rattle.vrt_model.proofs.OneCell.{output_observed}
+use Rattle.vrt_model.proofs.Observed.{output_observed}
 use Rattle.vrt_model.specs.Assignment.{Assignment}
 use Rattle.vrt_model.specs.Comparison.{CellPort, Comparison, cell_at, is_observed, phase_at}
 use Rattle.vrt_model.specs.Constraints.{Meets, given_bit, is_entered, meets_assumes, meets_enters, named_net}

@@ -1,15 +1,10 @@
--- Clear paths: their prefixes are clear, and they are the paths over which the strength of each net gives that of the next.
-use Rattle.std.proofs.Common.{◌≡◌, ℕ, min, Bool, List, [], ◌∷◌, ◌++◌, arith, sym, subst}
+-- Clear paths are those over which the strength of each net gives that of the next.
+use Rattle.std.proofs.Common.{◌≡◌, ℕ, min, Bool, List, [], ◌∷◌, arith, sym, subst}
 use Rattle.vrt_model.specs.Path.{Network, Root, Hop, end_of, level_of}
 use Rattle.vrt_model.specs.Response.{IsStrength, IsClear, Reaches}
 use Rattle.vrt_model.specs.declared.circuit.Device.{Device}
 use Rattle.vrt_model.proofs.Laws.{one_strength}
 use Rattle.vrt_model.proofs.PathKinds.{Keeps, Arrives}
-
--- what is left of a clear path, where its last hops are taken off, is clear
-pub clear_prefix : (w : Network) (root : Root) (last rest : List Hop) → IsClear w root (last ++ rest) → IsClear w root rest
-clear_prefix w root [] rest clear = clear
-clear_prefix w root (hop ∷ last) rest clear = clear_prefix w root last rest clear.0
 
 -- a root of value v that is as strong as its net
 abbrev pub RootFits : (ℕ → ℕ) → Bool → Root → Type 0

@@ -8,7 +8,7 @@ use Rattle.vrt_model.proofs.Filtered.{device_among}
 use Rattle.vrt_model.proofs.GivenNets.{HasLevels, IsSource}
 use Rattle.vrt_model.proofs.Members.{all_among, among_flat_map, among_map}
 use Rattle.vrt_model.proofs.ShortPaths.{HasBound}
-use Rattle.vrt_model.specs.Circuits.{IsCircuit, IsDevice, IsDrive, IsHold, IsNet, IsWhole}
+use Rattle.vrt_model.specs.Circuits.{IsDevice, IsDrive, IsHold, IsNet, IsWhole}
 use Rattle.vrt_model.specs.Lists.{At, Among}
 use Rattle.vrt_model.specs.Path.{IsOn, IsRoot, Root, level_of_drive}
 use Rattle.vrt_model.specs.Reading.{is_given}
@@ -30,9 +30,6 @@ pub record HasRanges (c : Circuit) : Type 0 where
   pub devices : All (IsDevice c) c.devices
   pub holds : All (IsHold c) c.holds
   pub wholes : All (IsWhole c) c.wholes
-
-pub circuit_ranges : (c : Circuit) → IsCircuit c → HasRanges c
-circuit_ranges c good = record { devices = good.devices; holds = good.holds; wholes = good.wholes }
 
 module _ (c : Circuit) (bare : Bool) (held : ℕ → Bool) (s : State) (good : HasRanges c) where
   device_is : (d : Device) → IsOn (network_of c bare held s) d → IsDevice c d

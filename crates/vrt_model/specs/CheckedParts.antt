@@ -1,7 +1,6 @@
 -- The devices, holds and instances of the checked circuit. Its nets are those of the flat circuit, with their numbers there:
 -- a net inside a whole instance stays in the list and meets nothing.
-use Rattle.std.specs.Prelude.{ℕ, not, List, map, filter, flat_map, option_map, drop}
-use Rattle.std.specs.List.{enumerate_from}
+use Rattle.std.specs.Prelude.{not, List, map, filter, flat_map, option_map, drop}
 use Rattle.vrt_model.specs.Comparison.{cell_at}
 use Rattle.vrt_model.specs.Cut.{Cut, NumberedPlace, is_inside_whole, moved_instance, shown}
 use Rattle.vrt_model.specs.FlatCircuit.{flat_device, flat_holds, flat_instance}

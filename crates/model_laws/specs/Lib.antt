@@ -1,0 +1,10 @@
+pub mod Cells
+pub mod FirstFinding
+pub mod Logic
+pub mod NoWhole
+pub mod OneCell
+pub mod Ranks
+pub mod SmallCircuits
+pub mod Supported
+pub mod Walks
+pub mod ZeroCell
