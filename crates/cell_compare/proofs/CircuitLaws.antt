@@ -25,11 +25,10 @@ use Rattle.node_pool.specs.declared.region.Span.{Span}
 use Rattle.path_fixpoint.proofs.SolveLaws.{is_finite}
 use Rattle.path_fixpoint.specs.Parts.{IsPlace, part_devices}
 use Rattle.path_fixpoint.specs.Solved.{HasRootSpans, network_at}
-use Rattle.plain_paths.specs.FlatCircuits.{IsFlat}
 use Rattle.vrt_model.proofs.Decidable.{reaches_or_not}
 use Rattle.vrt_model.proofs.GatesGiven.{IsGiven}
 use Rattle.vrt_model.proofs.Members.{all_among}
-use Rattle.vrt_model.specs.Circuits.{IsHold}
+use Rattle.vrt_model.specs.Circuits.{IsHold, IsFlat}
 use Rattle.vrt_model.specs.Known.{IsKnown}
 use Rattle.vrt_model.specs.Lists.{At, Among}
 use Rattle.vrt_model.specs.Path.{Network}

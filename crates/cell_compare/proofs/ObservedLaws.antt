@@ -7,7 +7,7 @@ use Rattle.std.proofs.lemmas.Bool.{and_parts, cases_lt, false≢true}
 use Rattle.std.proofs.lemmas.List.{get_or-replicate, get_or_past, length-replicate}
 use Rattle.cell_compare.specs.Phases.{AreSeenOutputs, IsPlainComparison, IsSeenOutput}
 use Rattle.cell_compare.specs.declared.outputs.Output.{Output}
-use Rattle.plain_paths.specs.Marks.{mark_at}
+use Rattle.vrt_model.specs.Lists.{mark_at}
 use Rattle.vrt_model.proofs.Members.{among_any, any_among}
 use Rattle.vrt_model.specs.CellRules.{is_constrained, is_observed_port}
 use Rattle.vrt_model.specs.Comparison.{CellPort, Comparison, cell_at, is_observed, output_signal, ports_of}

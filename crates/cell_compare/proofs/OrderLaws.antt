@@ -21,11 +21,10 @@ use Rattle.known_nets.proofs.NetKinds.{given_or_plain}
 use Rattle.node_pool.specs.declared.region.Span.{Span}
 use Rattle.path_fixpoint.proofs.Spreading.{among_filter_map, filter_map_among}
 use Rattle.path_fixpoint.specs.Parts.{IsGiven, IsPart, IsPlace, part_devices}
-use Rattle.plain_paths.specs.FlatCircuits.{IsFlat}
 use Rattle.vrt_model.proofs.Filtered.{device_among}
 use Rattle.vrt_model.proofs.Members.{all_among, among_map}
 use Rattle.vrt_model.proofs.Ranked.{together_plain}
-use Rattle.vrt_model.specs.Circuits.{IsDevice}
+use Rattle.vrt_model.specs.Circuits.{IsDevice, IsFlat}
 use Rattle.vrt_model.specs.Comparison.{Comparison}
 use Rattle.vrt_model.specs.Known.{HasGateArc, IsChannel, IsInPart, IsLeastOfPart, IsPlain, IsRanking, IsTogether, itself, onward}
 use Rattle.vrt_model.specs.Lists.{At, Among}

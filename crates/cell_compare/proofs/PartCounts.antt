@@ -14,7 +14,7 @@ use Rattle.cell_compare.specs.Operations.{circuit_operations, part_operations}
 use Rattle.channel_parts.specs.PartLists.{AreParts, device_numbers, least_of, net_numbers}
 use Rattle.channel_parts.specs.declared.part.Part.{Part}
 use Rattle.channel_parts.specs.declared.part.Parts.{Parts}
-use Rattle.plain_paths.specs.FlatCircuits.{IsFlat}
+use Rattle.vrt_model.specs.Circuits.{IsFlat}
 use Rattle.vrt_model.proofs.Ranked.{together_plain}
 use Rattle.vrt_model.specs.Budget.{work}
 use Rattle.vrt_model.specs.Known.{IsInPart, IsPlain, onward}

@@ -11,12 +11,11 @@ use Rattle.channel_parts.specs.declared.part.Part.{Part}
 use Rattle.known_nets.proofs.NetKinds.{given_or_plain}
 use Rattle.path_fixpoint.specs.Parts.{part_devices}
 use Rattle.path_fixpoint.specs.Solved.{net_of}
-use Rattle.plain_paths.specs.FlatCircuits.{IsFlat}
 use Rattle.vrt_model.proofs.Filtered.{device_among}
 use Rattle.vrt_model.proofs.GatesGiven.{IsGiven}
 use Rattle.vrt_model.proofs.GivenNets.{HasLevels}
 use Rattle.vrt_model.proofs.Members.{all_among, at_none}
-use Rattle.vrt_model.specs.Circuits.{IsDevice, IsHold}
+use Rattle.vrt_model.specs.Circuits.{IsDevice, IsHold, IsFlat}
 use Rattle.vrt_model.specs.Known.{IsChannel}
 use Rattle.vrt_model.specs.Lists.{At, Among}
 use Rattle.vrt_model.specs.Path.{IsOn, Joins, Network}

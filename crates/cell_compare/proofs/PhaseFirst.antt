@@ -20,7 +20,7 @@ use Rattle.cell_compare.specs.declared.net.CircuitFault.{CircuitFault}
 use Rattle.channel_parts.specs.Orders.{IsSolvedOnce}
 use Rattle.channel_parts.specs.PartLists.{AreParts, least_of}
 use Rattle.channel_parts.specs.declared.part.Parts.{Parts}
-use Rattle.plain_paths.specs.FlatCircuits.{IsFlat}
+use Rattle.vrt_model.specs.Circuits.{IsFlat}
 use Rattle.vrt_model.proofs.FirstFinding.{IsOpen, found, tri_places}
 use Rattle.vrt_model.specs.Assignment.{Assignment}
 use Rattle.vrt_model.specs.Comparison.{CellPort, Comparison, is_observed, output_signal, phase_at}

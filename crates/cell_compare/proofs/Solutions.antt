@@ -4,15 +4,13 @@ use Rattle.std.specs.Prelude.{option_map, slice_get, unwrap_or}
 use Rattle.std.proofs.lemmas.Bool.{cases_Bool, cond-false, cond-true, false≢true}
 use Rattle.std.proofs.lemmas.Option.{same_Some}
 use Rattle.channel_parts.specs.OneSolution.{AreObserved}
-use Rattle.plain_paths.proofs.Passing.{flat_ranges}
-use Rattle.plain_paths.specs.FlatCircuits.{IsFlat}
 use Rattle.vrt_model.proofs.Filtered.{device_among}
 use Rattle.vrt_model.proofs.GatesGiven.{IsGiven, plain_any}
 use Rattle.vrt_model.proofs.GivenNets.{HasLevels, IsSource, clear_from_source, source_strength}
 use Rattle.vrt_model.proofs.Locality.{known_in_solution}
 use Rattle.vrt_model.proofs.Members.{all_among, at_none}
-use Rattle.vrt_model.proofs.Networks.{given_source, network_levels}
-use Rattle.vrt_model.specs.Circuits.{IsDevice, IsHold}
+use Rattle.vrt_model.proofs.Networks.{given_source, network_levels, flat_ranges}
+use Rattle.vrt_model.specs.Circuits.{IsDevice, IsHold, IsFlat}
 use Rattle.vrt_model.specs.Known.{HasFixedBit, IsKnown}
 use Rattle.vrt_model.specs.Lists.{At, Among}
 use Rattle.vrt_model.specs.Path.{Hop, IsPath, IsRoot, Network, Root, end_of}

@@ -7,9 +7,8 @@ use Rattle.cell_compare.specs.declared.flattened.PhaseFound.{PhaseFound}
 use Rattle.cell_compare.specs.declared.flattened.PhaseFound.TheVariants.{Clear, Fault, Spent}
 use Rattle.cell_compare.specs.declared.flattened.PhasePlan.{PhasePlan}
 use Rattle.flatten.specs.Structures.{IsStructured}
-use Rattle.plain_paths.specs.FlatCircuits.{IsFlat}
 use Rattle.vrt_model.specs.Budget.{model_size, work}
-use Rattle.vrt_model.specs.Circuits.{IsCircuit}
+use Rattle.vrt_model.specs.Circuits.{IsCircuit, IsFlat}
 use Rattle.vrt_model.specs.Comparison.{Comparison, cell_at, phase_at}
 use Rattle.vrt_model.specs.Equal.{IsPhaseEqual}
 use Rattle.vrt_model.specs.FlatBlif.{flat_model_of}

@@ -9,7 +9,7 @@ use Rattle.bdd_ops.specs.Ops.{bits_of}
 use Rattle.blif_eval.specs.Plans.{entry_of}
 use Rattle.cell_compare.specs.Faults.{HasFault}
 use Rattle.cell_compare.specs.declared.outputs.Output.{Output}
-use Rattle.plain_paths.specs.FlatCircuits.{IsFlat}
+use Rattle.vrt_model.specs.Circuits.{IsFlat}
 use Rattle.vrt_model.specs.Assignment.{Assignment, Tied}
 use Rattle.vrt_model.specs.CellRules.{assumed, is_observed_port}
 use Rattle.vrt_model.specs.Comparison.{CellPort, Comparison, cell_at, default_clock_bit, is_observed, output_signal, phase_at, ports_of, tied_inputs}

@@ -4,8 +4,7 @@ ghost use Rattle.std.specs.Prelude.{◌≡◌, ℕ, ◌<◌, ◌≤◌, [], leng
 ghost use Rattle.cell_compare.specs.Compared.{comparison};
 ghost use Rattle.cell_compare.specs.Phases.{IsPlainComparison, input_count};
 ghost use Rattle.cell_compare.specs.Steps.{ArePlans, IsChecked, IsTold};
-ghost use Rattle.plain_paths.specs.FlatCircuits.{IsFlat};
-ghost use Rattle.vrt_model.specs.Circuits.{IsCircuit};
+ghost use Rattle.vrt_model.specs.Circuits.{IsCircuit, IsFlat};
 ghost use Rattle.vrt_model.specs.Comparison.{cell_at};
 ghost use Rattle.vrt_model.specs.FlatModels.{IsFlatModel};
 ghost use Rattle.vrt_model.specs.PairedPorts.{HasRoles};

@@ -13,8 +13,8 @@ ghost use Rattle.channel_parts.specs.OneSolution.{AreObserved};
 ghost use Rattle.channel_parts.specs.PartLists.{AreParts, IsPartList};
 ghost use Rattle.known_nets.specs.KnownTables.{known_at};
 ghost use Rattle.path_fixpoint.specs.Spending.{HasOneHold, Spends};
-ghost use Rattle.plain_paths.specs.FlatCircuits.{IsFlat};
-ghost use Rattle.plain_paths.specs.Marks.{mark_at};
+ghost use Rattle.vrt_model.specs.Circuits.{IsFlat};
+ghost use Rattle.vrt_model.specs.Lists.{mark_at};
 ghost use Rattle.vrt_model.specs.Known.{IsRanking};
 ghost use Rattle.vrt_model.specs.declared.rules.Phase.{Phase};
 

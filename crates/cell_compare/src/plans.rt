@@ -3,7 +3,7 @@
 ghost use Rattle.std.specs.Prelude.{◌≡◌, ◌+◌, ◌++◌, ◌∷◌, ◌<◌, ◌≤◌, [], None, length, replicate, Option, Bool, IfOk, OnOk};
 ghost use Rattle.cell_compare.specs.Compared.{nothing_known};
 ghost use Rattle.cell_compare.specs.Steps.{PlanTells, PlansTell};
-ghost use Rattle.plain_paths.specs.FlatCircuits.{IsFlat};
+ghost use Rattle.vrt_model.specs.Circuits.{IsFlat};
 ghost use Rattle.vrt_model.specs.FlatModels.{IsFlatModel};
 
 use crate::flattened::PhasePlan;

@@ -10,7 +10,7 @@ ghost use Rattle.path_fixpoint.specs.Parts.{IsPlace};
 ghost use Rattle.path_fixpoint.specs.Reaching.{slot_of};
 ghost use Rattle.path_fixpoint.specs.Spending.{Spends};
 ghost use Rattle.path_fixpoint.specs.Strengths.{word_of};
-ghost use Rattle.plain_paths.specs.Marks.{mark_at};
+ghost use Rattle.vrt_model.specs.Lists.{mark_at};
 
 use crate::net::{CircuitFault, net_fault};
 use bdd_core::{H, Spent, Store};

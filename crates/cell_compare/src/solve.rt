@@ -11,8 +11,8 @@ ghost use Rattle.cell_compare.specs.Scans.{PartGives};
 ghost use Rattle.path_fixpoint.specs.Parts.{IsPart};
 ghost use Rattle.path_fixpoint.specs.Solved.{HasRootSpans};
 ghost use Rattle.path_fixpoint.specs.Spending.{HasOneHold, Spends};
-ghost use Rattle.plain_paths.specs.FlatCircuits.{IsFlat};
-ghost use Rattle.plain_paths.specs.Marks.{mark_at};
+ghost use Rattle.vrt_model.specs.Circuits.{IsFlat};
+ghost use Rattle.vrt_model.specs.Lists.{mark_at};
 
 use crate::net::CircuitFault;
 use crate::scan::scan;

@@ -5,7 +5,7 @@ use Rattle.std.proofs.lemmas.Option.{slice_get_within}
 use Rattle.channel_parts.proofs.RankLaws.{arc_gate}
 use Rattle.graphs.proofs.Acyclic.{none_behind}
 use Rattle.graphs.proofs.Walks.{rises_acyclic}
-use Rattle.plain_paths.specs.FlatCircuits.{IsFlat}
+use Rattle.vrt_model.specs.Circuits.{IsFlat}
 use Rattle.vrt_model.specs.Known.{HasArc, HasGateArc, IsCycle, IsPlain, IsRanking}
 use Rattle.vrt_model.specs.declared.circuit.Circuit.{Circuit}
 use Rattle.vrt_model.specs.declared.rules.Phase.{Phase}

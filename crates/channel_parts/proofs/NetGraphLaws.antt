@@ -17,11 +17,10 @@ use Rattle.known_nets.proofs.PlaceLaws.{arc_row, below_or_at}
 use Rattle.known_nets.specs.Conduction.{is_plain_at}
 use Rattle.known_nets.specs.KnownTables.{IsKnownTable, known_at}
 use Rattle.known_nets.specs.Placed.{Adds, IsArc}
-use Rattle.plain_paths.specs.FlatCircuits.{IsFlat}
 use Rattle.vrt_model.proofs.Filtered.{device_among}
 use Rattle.vrt_model.proofs.Members.{all_among}
 use Rattle.vrt_model.proofs.Ranked.{together_first}
-use Rattle.vrt_model.specs.Circuits.{IsDevice}
+use Rattle.vrt_model.specs.Circuits.{IsDevice, IsFlat}
 use Rattle.vrt_model.specs.Known.{HasArc, IsCycle, IsFirstCycle, IsInPart, IsUnknown, IsWalk}
 use Rattle.vrt_model.specs.Lists.{At}
 use Rattle.vrt_model.specs.Reading.{is_in}

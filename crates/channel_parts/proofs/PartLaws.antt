@@ -26,7 +26,7 @@ use Rattle.known_nets.proofs.NetKinds.{is_plain_is, plain_is}
 use Rattle.known_nets.proofs.PlaceLaws.{at_last, there_at}
 use Rattle.known_nets.specs.Conduction.{conduction_of, is_plain_at}
 use Rattle.known_nets.specs.KnownTables.{IsKnownTable, known_at}
-use Rattle.plain_paths.specs.FlatCircuits.{IsFlat}
+use Rattle.vrt_model.specs.Circuits.{IsFlat}
 use Rattle.vrt_model.proofs.Filtered.{among_kept, device_among, filter_among}
 use Rattle.vrt_model.proofs.Ranked.{together_first, together_plain}
 use Rattle.vrt_model.specs.Known.{HasRankArc, IsInPart, IsPlain, IsRanking, IsTogether, itself, onward}

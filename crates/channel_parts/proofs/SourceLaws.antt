@@ -19,7 +19,7 @@ use Rattle.known_nets.proofs.PlaceLaws.{below_or_at}
 use Rattle.known_nets.specs.Conduction.{is_plain_at}
 use Rattle.known_nets.specs.KnownTables.{IsKnownTable, known_at}
 use Rattle.known_nets.specs.Placed.{IsPlaced}
-use Rattle.plain_paths.specs.FlatCircuits.{IsFlat}
+use Rattle.vrt_model.specs.Circuits.{IsFlat}
 use Rattle.vrt_model.proofs.Filtered.{device_among}
 use Rattle.vrt_model.proofs.Members.{among_either, among_left, among_right}
 use Rattle.vrt_model.proofs.Ranked.{together_first}

@@ -5,7 +5,7 @@ ghost use Rattle.channel_parts.specs.Groups.{AreMade, IsMade, is_head};
 ghost use Rattle.channel_parts.specs.Labels.{IsLeastTogether};
 ghost use Rattle.channel_parts.specs.PartLists.{AreParts, PartsGive, device_numbers, net_numbers};
 ghost use Rattle.known_nets.specs.KnownTables.{IsKnownTable, known_at};
-ghost use Rattle.plain_paths.specs.FlatCircuits.{IsFlat};
+ghost use Rattle.vrt_model.specs.Circuits.{IsFlat};
 ghost use Rattle.vrt_model.specs.Known.{IsPlain, IsTogether};
 ghost use Rattle.vrt_model.specs.Lists.{At};
 ghost use Rattle.vrt_model.specs.declared.rules.Phase.{Phase as PhaseValue};

@@ -4,7 +4,7 @@ ghost use Rattle.std.specs.Prelude.{◌≡◌, ℕ, List, filter, length, nat_lt
 ghost use Rattle.channel_parts.specs.Labels.{AreBelow};
 ghost use Rattle.channel_parts.specs.Ranks.{AreLeast};
 ghost use Rattle.known_nets.specs.KnownTables.{IsKnownTable, known_at};
-ghost use Rattle.plain_paths.specs.FlatCircuits.{IsFlat};
+ghost use Rattle.vrt_model.specs.Circuits.{IsFlat};
 ghost use Rattle.vrt_model.specs.Known.{HasArc, IsCycle, IsFirstCycle};
 ghost use Rattle.vrt_model.specs.declared.rules.Phase.{Phase as PhaseValue};
 

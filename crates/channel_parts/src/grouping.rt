@@ -2,7 +2,7 @@
 
 ghost use Rattle.std.specs.Prelude.{◌≡◌, ◌<◌, length, IfOk};
 ghost use Rattle.channel_parts.specs.Groups.{AreGroups, device_owner, device_owner_at, net_owner};
-ghost use Rattle.plain_paths.specs.FlatCircuits.{IsFlat};
+ghost use Rattle.vrt_model.specs.Circuits.{IsFlat};
 
 use crate::least::{is_in, may_conduct};
 use known_nets::{conduction, is_plain, no_groups, place, small};

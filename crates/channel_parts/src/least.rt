@@ -5,7 +5,7 @@ ghost use Rattle.std.specs.Prelude.{◌≡◌, ℕ, ◌<◌, true, length, slice
 ghost use Rattle.channel_parts.specs.Labels.{AreBelow, AreOfParts, IsLeastTogether, joins_plain_nets, may_conduct};
 ghost use Rattle.channel_parts.specs.Unions.{Respects};
 ghost use Rattle.known_nets.specs.KnownTables.{IsKnownTable, known_at};
-ghost use Rattle.plain_paths.specs.FlatCircuits.{IsFlat};
+ghost use Rattle.vrt_model.specs.Circuits.{IsFlat};
 ghost use Rattle.vrt_model.specs.Known.{IsPlain};
 ghost use Rattle.vrt_model.specs.Lists.{Among};
 ghost use Rattle.vrt_model.specs.Reading.{is_in};

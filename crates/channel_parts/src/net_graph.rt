@@ -4,7 +4,7 @@
 ghost use Rattle.std.specs.Prelude.{◌≡◌, ◌+◌, ◌<◌, length, IfOk, OnOk};
 ghost use Rattle.channel_parts.specs.NetGraphs.{IsDeviceArc, IsDeviceArcBelow, IsNetArcBelow, IsNetGraph, IsOneNetArc};
 ghost use Rattle.known_nets.specs.Placed.{Adds};
-ghost use Rattle.plain_paths.specs.FlatCircuits.{IsFlat};
+ghost use Rattle.vrt_model.specs.Circuits.{IsFlat};
 
 use crate::grouping::device_owner;
 use crate::ranking::has_unknown_gate;

@@ -4,7 +4,7 @@ ghost use Rattle.std.specs.Prelude.{◌≡◌, ◌<◌, length, IfOk, OnOk};
 ghost use Rattle.channel_parts.specs.Labels.{AreBelow};
 ghost use Rattle.graphs.specs.Graphs.{AreInside};
 ghost use Rattle.channel_parts.specs.Sources.{AreSources, HasJoined, device_source};
-ghost use Rattle.plain_paths.specs.FlatCircuits.{IsFlat};
+ghost use Rattle.vrt_model.specs.Circuits.{IsFlat};
 
 use crate::grouping::{device_owner, net_owner};
 use crate::ranking::has_unknown_gate;

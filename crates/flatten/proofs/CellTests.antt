@@ -20,8 +20,7 @@ use Rattle.flatten.specs.declared.firsts.FirstValues.{FirstValues}
 use Rattle.flatten.specs.declared.names.NetTable.{NetTable}
 use Rattle.flatten.specs.declared.rule_tables.ModelTable.{ModelTable}
 use Rattle.flatten.specs.declared.rule_tables.RuleTables.{RuleTables}
-use Rattle.plain_paths.specs.FlatCircuits.{IsFlat}
-use Rattle.vrt_model.specs.Circuits.{IsCircuit, IsDevice, IsHold, IsNet, IsWhole}
+use Rattle.vrt_model.specs.Circuits.{IsCircuit, IsDevice, IsHold, IsNet, IsWhole, IsFlat}
 use Rattle.vrt_model.specs.Comparison.{cell_at}
 use Rattle.vrt_model.specs.FlatCircuit.{flat_circuit_of, flat_devices, flat_instances, flat_nets, kind_of, level_of}
 use Rattle.vrt_model.specs.Inputs.{AreRules, IsCell, IsDesign, IsLevel}

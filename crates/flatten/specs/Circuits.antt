@@ -2,8 +2,7 @@
 use Rattle.std.specs.Prelude.{◌≡◌, ℕ, Result, Ok, Err}
 use Rattle.flatten.specs.Structures.{IsFault, IsStructured}
 use Rattle.flatten.specs.declared.faults.FlatFault.{FlatFault}
-use Rattle.plain_paths.specs.FlatCircuits.{IsFlat}
-use Rattle.vrt_model.specs.Circuits.{IsCircuit}
+use Rattle.vrt_model.specs.Circuits.{IsCircuit, IsFlat}
 use Rattle.vrt_model.specs.FlatCircuit.{flat_circuit}
 use Rattle.vrt_model.specs.Unsupported.{top_before}
 use Rattle.vrt_model.specs.declared.circuit.Circuit.{Circuit}

@@ -6,9 +6,8 @@ use Rattle.std.proofs.lemmas.Option.{same_Some}
 use Rattle.known_nets.proofs.PlaceLaws.{below_or_at}
 use Rattle.known_nets.specs.Incidence.{AreHeldMarks, HasEnds, HasGates}
 use Rattle.known_nets.specs.Placed.{Adds, IsArc}
-use Rattle.plain_paths.specs.Marks.{mark_at}
 use Rattle.vrt_model.specs.Known.{IsHeld}
-use Rattle.vrt_model.specs.Lists.{At}
+use Rattle.vrt_model.specs.Lists.{At, mark_at}
 use Rattle.vrt_model.specs.Path.{Joins}
 use Rattle.vrt_model.specs.declared.circuit.Circuit.{Circuit}
 use Rattle.vrt_model.specs.declared.circuit.Device.{Device}

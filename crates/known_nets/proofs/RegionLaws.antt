@@ -11,8 +11,6 @@ use Rattle.known_nets.specs.KnownTables.{HasFixedNets, HasGateBits, known_at}
 use Rattle.known_nets.specs.Regions.{IsRegion, IsShutAt, has_amount, known_network, reading_of}
 use Rattle.known_nets.specs.Spreads.{HasArrived, IsKnownOn, IsSpread, before, given, given_amount, is_bit, level_of_end, onward}
 use Rattle.known_nets.specs.declared.spread.Spread.TheVariants.{Strength, Value}
-use Rattle.plain_paths.proofs.Passing.{flat_ranges, network_over}
-use Rattle.plain_paths.specs.FlatCircuits.{IsFlat}
 use Rattle.vrt_model.proofs.Clear.{HopFits, RootFits, arrives-reaches, clear-keeps}
 use Rattle.vrt_model.proofs.Decidable.{strength_at, strength_at_is}
 use Rattle.vrt_model.proofs.Filtered.{among_devices, device_among}
@@ -20,12 +18,12 @@ use Rattle.vrt_model.proofs.GatesGiven.{IsGiven}
 use Rattle.vrt_model.proofs.GivenNets.{HasLevels, IsSource, clear_from_source, level_most, source_strength}
 use Rattle.vrt_model.proofs.Laws.{one_strength}
 use Rattle.vrt_model.proofs.Members.{all_among, at_none}
-use Rattle.vrt_model.proofs.Networks.{given_source, network_finite, network_levels}
+use Rattle.vrt_model.proofs.Networks.{given_source, network_finite, network_levels, flat_outputs, flat_ranges}
 use Rattle.vrt_model.proofs.PathKinds.{Arrives, arrives_on, arrives_root}
 use Rattle.vrt_model.proofs.Ranked.{plain_not_given}
 use Rattle.vrt_model.proofs.Strength.{AtLeast, HopHas, RootHas, at_least_on, level-keeps}
 use Rattle.vrt_model.proofs.Tables.{response_of}
-use Rattle.vrt_model.specs.Circuits.{IsDevice, IsHold}
+use Rattle.vrt_model.specs.Circuits.{IsDevice, IsHold, IsFlat}
 use Rattle.vrt_model.specs.Known.{IsFixed, IsShut}
 use Rattle.vrt_model.specs.Lists.{At, Among}
 use Rattle.vrt_model.specs.Path.{Hop, IsOn, IsPath, IsRoot, Joins, Network, Root, end_of, level_of}
@@ -140,7 +138,7 @@ module _ (c : Circuit) (phase : Phase) (known : List (Option Bool)) (flat : IsFl
 
   -- a flat circuit has no output pin
   no_output : (at : ℕ) (pin : WholePin) → At w.outputs at pin → ⊥
-  no_output at pin e = at_none at pin (subst (λ (os : List WholePin). At os at pin) (network_over c true (λ k. false) state flat.wholes).outputs e)
+  no_output at pin e = at_none at pin (subst (λ (os : List WholePin). At os at pin) (flat_outputs c true (λ k. false) state flat.wholes) e)
 
   -- no path begins at a net inside
   no_root : (root : Root) → IsRoot w root → inside root.net ≡ true → ⊥

@@ -14,11 +14,10 @@ use Rattle.known_nets.specs.Learned.{bit_shown, shown_of}
 use Rattle.known_nets.specs.Regions.{HasKept, HasMarkedEnds, IsOpenAt, IsRegion, IsSettled, IsShutAt, has_amount, known_network, reading_of}
 use Rattle.known_nets.specs.Spreads.{IsKnownOn, IsSpread}
 use Rattle.known_nets.specs.declared.spread.Spread.TheVariants.{Strength, Value}
-use Rattle.plain_paths.specs.FlatCircuits.{IsFlat}
-use Rattle.plain_paths.specs.Marks.{mark_at}
+use Rattle.vrt_model.specs.Circuits.{IsFlat}
 use Rattle.vrt_model.proofs.Filtered.{device_among}
 use Rattle.vrt_model.specs.Known.{IsKnown, IsPlain, IsShut, settled}
-use Rattle.vrt_model.specs.Lists.{Among, has_number}
+use Rattle.vrt_model.specs.Lists.{Among, has_number, mark_at}
 use Rattle.vrt_model.specs.Reading.{conducts_at}
 use Rattle.vrt_model.specs.Response.{IsResponse, Shows}
 use Rattle.vrt_model.proofs.Laws.{one_response}

@@ -11,11 +11,10 @@ use Rattle.known_nets.specs.Incidence.{AreHeldMarks, HasEnds}
 use Rattle.known_nets.specs.Regions.{GoTogether, IsInput, IsOpenAt, IsRegion, IsShutAt, KeepsOpen, KeepsShut, has_amount}
 use Rattle.known_nets.specs.Spreads.{HasArrived, IsClear, IsKnownOn, IsPassedOn, before, given, onward}
 use Rattle.known_nets.specs.declared.spread.Spread.TheVariants.{Joined}
-use Rattle.plain_paths.specs.Marks.{mark_at}
 use Rattle.vrt_model.proofs.Filtered.{among_devices}
 use Rattle.vrt_model.proofs.Members.{among_any, any_among}
 use Rattle.vrt_model.specs.Known.{HasFixedBit, IsFixed, IsPlain}
-use Rattle.vrt_model.specs.Lists.{At, Among, has_number}
+use Rattle.vrt_model.specs.Lists.{At, Among, has_number, mark_at}
 use Rattle.vrt_model.specs.Path.{Joins}
 use Rattle.vrt_model.specs.Reading.{conducts_at}
 use Rattle.vrt_model.specs.declared.circuit.Circuit.{Circuit}

@@ -8,9 +8,8 @@ use Rattle.std.proofs.lemmas.Option.{none-some, same_Some, slice_get-map, unwrap
 use Rattle.known_nets.proofs.KnownOnce.{closed_has_all}
 use Rattle.known_nets.specs.KnownTables.{AreKnown, HasFixedNets, IsClosedTable, IsKnownTable, fixed_bit_of, known_at}
 use Rattle.known_nets.specs.Learned.{bit_shown, unknown}
-use Rattle.plain_paths.specs.FlatCircuits.{IsFlat}
 use Rattle.vrt_model.proofs.Members.{all_among, among_filter}
-use Rattle.vrt_model.specs.Circuits.{IsDevice, IsHold}
+use Rattle.vrt_model.specs.Circuits.{IsDevice, IsHold, IsFlat}
 use Rattle.vrt_model.specs.Known.{HasFixedBit, IsKnown, fixed}
 use Rattle.vrt_model.specs.Lists.{At, Among}
 use Rattle.vrt_model.specs.Reading.{clock_bit, devices_of, is_in}

@@ -11,9 +11,8 @@ use Rattle.known_nets.specs.Regions.{AreClear, HasMarkedEnds, IsReady}
 use Rattle.known_nets.specs.Spreads.{IsClear}
 use Rattle.known_nets.specs.Waits.{HasWaited}
 use Rattle.known_nets.specs.declared.signals.Tables.{Tables}
-use Rattle.plain_paths.specs.Marks.{MarksGrow, mark_at}
 use Rattle.vrt_model.specs.Known.{IsPlain}
-use Rattle.vrt_model.specs.Lists.{At, Among}
+use Rattle.vrt_model.specs.Lists.{At, Among, MarksGrow, mark_at}
 use Rattle.vrt_model.specs.Path.{Joins}
 use Rattle.vrt_model.specs.declared.circuit.Circuit.{Circuit}
 use Rattle.vrt_model.specs.declared.circuit.Device.{Device}

@@ -2,9 +2,8 @@
 use Rattle.std.specs.Prelude.{◌≡◌, ℕ, ◌<◌, ◌↔◌, Bool, true, List, None, Option, Some, length}
 use Rattle.graphs.specs.Graphs.{ArcIn}
 use Rattle.known_nets.specs.declared.incidence.Incidence.{Incidence}
-use Rattle.plain_paths.specs.Marks.{mark_at}
 use Rattle.vrt_model.specs.Known.{IsHeld}
-use Rattle.vrt_model.specs.Lists.{At}
+use Rattle.vrt_model.specs.Lists.{At, mark_at}
 use Rattle.vrt_model.specs.Path.{Joins}
 use Rattle.vrt_model.specs.declared.circuit.Circuit.{Circuit}
 use Rattle.vrt_model.specs.declared.circuit.Device.{Device}

@@ -7,9 +7,8 @@ use Rattle.known_nets.specs.Spreads.{IsClear, IsKnownOn, IsSpread}
 use Rattle.known_nets.specs.declared.signals.Raised.{Raised}
 use Rattle.known_nets.specs.declared.signals.Tables.{Tables}
 use Rattle.known_nets.specs.declared.spread.Spread.TheVariants.{Strength, Value}
-use Rattle.plain_paths.specs.Marks.{mark_at}
 use Rattle.vrt_model.specs.Known.{IsHeld, IsPlain, IsShut}
-use Rattle.vrt_model.specs.Lists.{At, Among}
+use Rattle.vrt_model.specs.Lists.{At, Among, mark_at}
 use Rattle.vrt_model.specs.Path.{Joins, Network}
 use Rattle.vrt_model.specs.Reading.{IsReading, is_in}
 use Rattle.vrt_model.specs.Response.{IsResponse, Shows}

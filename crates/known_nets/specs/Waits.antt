@@ -1,8 +1,7 @@
 -- Nets that are to be looked at: a mark at each, and a list that has them.
 use Rattle.std.specs.Prelude.{◌≡◌, ℕ, ◌⊎◌, Bool, true, List, length}
 use Rattle.known_nets.specs.Conduction.{is_plain_at}
-use Rattle.plain_paths.specs.Marks.{MarksGrow, mark_at}
-use Rattle.vrt_model.specs.Lists.{Among}
+use Rattle.vrt_model.specs.Lists.{Among, MarksGrow, mark_at}
 use Rattle.vrt_model.specs.declared.circuit.Circuit.{Circuit}
 
 -- more plain nets are marked, and those are on the list, from which none is gone

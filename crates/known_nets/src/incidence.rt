@@ -2,10 +2,9 @@
 
 ghost use Rattle.std.specs.Prelude.{◌≡◌, ℕ, ◌<◌, ◌⊎◌, false, true, length, replicate, IfOk};
 ghost use Rattle.known_nets.specs.Incidence.{AreHeldMarks, HasEnds, HasGates, IsIncidence, IsOtherEnd};
-ghost use Rattle.plain_paths.specs.FlatCircuits.{IsFlat};
-ghost use Rattle.plain_paths.specs.Marks.{MarksGrow, mark_at};
+ghost use Rattle.vrt_model.specs.Circuits.{IsFlat};
 ghost use Rattle.vrt_model.specs.Known.{IsHeld};
-ghost use Rattle.vrt_model.specs.Lists.{At};
+ghost use Rattle.vrt_model.specs.Lists.{At, MarksGrow, mark_at};
 ghost use Rattle.vrt_model.specs.declared.circuit.Hold.{Hold as HoldValue};
 
 use crate::placing::{lead, no_groups};

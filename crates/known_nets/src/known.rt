@@ -9,9 +9,8 @@ ghost use Rattle.known_nets.specs.Learned.{unknown};
 ghost use Rattle.known_nets.specs.Regions.{AreClear, GoTogether, HasKept, IsReady, IsRegion, IsSettled, IsShutAt};
 ghost use Rattle.known_nets.specs.Spreads.{IsClear};
 ghost use Rattle.known_nets.specs.Waits.{HasWaited};
-ghost use Rattle.plain_paths.specs.FlatCircuits.{IsFlat};
-ghost use Rattle.plain_paths.specs.Marks.{mark_at};
-ghost use Rattle.vrt_model.specs.Lists.{Among, has_number};
+ghost use Rattle.vrt_model.specs.Circuits.{IsFlat};
+ghost use Rattle.vrt_model.specs.Lists.{Among, has_number, mark_at};
 ghost use Rattle.vrt_model.specs.declared.rules.Phase.{Phase as PhaseValue};
 
 use crate::conducting::is_plain;

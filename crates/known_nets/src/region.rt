@@ -6,8 +6,7 @@ ghost use Rattle.known_nets.specs.Conduction.{is_plain_at};
 ghost use Rattle.known_nets.specs.Incidence.{AreHeldMarks, HasEnds};
 ghost use Rattle.known_nets.specs.Regions.{GoTogether, IsOpenAt, IsRegion, IsShutAt, KeepsOpen, KeepsShut};
 ghost use Rattle.known_nets.specs.Spreads.{ArePlain, IsClear};
-ghost use Rattle.plain_paths.specs.Marks.{mark_at};
-ghost use Rattle.vrt_model.specs.Lists.{At, Among, has_number};
+ghost use Rattle.vrt_model.specs.Lists.{At, Among, has_number, mark_at};
 ghost use Rattle.vrt_model.specs.declared.circuit.Device.{Device as DeviceValue};
 ghost use Rattle.vrt_model.specs.declared.rules.Phase.{Phase as PhaseValue};
 

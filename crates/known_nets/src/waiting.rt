@@ -2,9 +2,8 @@
 
 ghost use Rattle.std.specs.Prelude.{◌≡◌, ℕ, ◌⊎◌, false, true, length, OnOk};
 ghost use Rattle.known_nets.specs.Waits.{HasWaited};
-ghost use Rattle.plain_paths.specs.Marks.{mark_at};
 ghost use Rattle.vrt_model.specs.Known.{IsPlain};
-ghost use Rattle.vrt_model.specs.Lists.{At, Among};
+ghost use Rattle.vrt_model.specs.Lists.{At, Among, mark_at};
 ghost use Rattle.vrt_model.specs.Path.{Joins};
 ghost use Rattle.vrt_model.specs.declared.circuit.Device.{Device as DeviceValue};
 

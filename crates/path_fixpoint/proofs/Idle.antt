@@ -8,7 +8,7 @@ use Rattle.bdd_core.specs.Diagram.{Valuation, meaning}
 use Rattle.bdd_core.specs.Store.{Diagrams}
 use Rattle.bdd_core.specs.Words.{word_at}
 use Rattle.bdd_core.proofs.Meaning.{meaning_one, meaning_zero}
-use Rattle.plain_paths.specs.FlatCircuits.{IsFlat}
+use Rattle.vrt_model.specs.Circuits.{IsFlat}
 use Rattle.vrt_model.specs.Lists.{Among}
 use Rattle.vrt_model.specs.Path.{IsOn, Network}
 use Rattle.vrt_model.specs.Reading.{conducts, conducts_at}

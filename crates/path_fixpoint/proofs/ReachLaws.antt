@@ -7,13 +7,12 @@ use Rattle.std.proofs.lemmas.Option.{same_Some}
 use Rattle.node_pool.specs.declared.region.Span.{Span}
 use Rattle.bdd_core.specs.Diagram.{Valuation, meaning}
 use Rattle.bdd_core.specs.Store.{Diagrams}
-use Rattle.plain_paths.specs.FlatCircuits.{IsFlat}
 use Rattle.vrt_model.proofs.Clear.{HopFits, RootFits, arrives-reaches, reaches-arrives}
 use Rattle.vrt_model.proofs.GivenNets.{HasLevels, level_most}
 use Rattle.vrt_model.proofs.Members.{all_among, at_none}
 use Rattle.vrt_model.proofs.PathKinds.{Arrives, arrives_on, arrives_root, closed_end}
 use Rattle.vrt_model.proofs.Strength.{at_least-strength, at_least_on, strength-at_least}
-use Rattle.vrt_model.specs.Circuits.{IsHold}
+use Rattle.vrt_model.specs.Circuits.{IsHold, IsFlat}
 use Rattle.vrt_model.specs.Lists.{At, Among, differ}
 use Rattle.vrt_model.specs.Path.{IsOn, Joins, Network, Root}
 use Rattle.vrt_model.specs.Reading.{conducts, conducts_at}

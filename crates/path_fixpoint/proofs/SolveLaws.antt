@@ -4,11 +4,10 @@ use Rattle.std.proofs.lemmas.Option.{slice_get_within}
 use Rattle.node_pool.specs.declared.region.Span.{Span}
 use Rattle.bdd_core.specs.Diagram.{Valuation}
 use Rattle.bdd_core.specs.Store.{Diagrams}
-use Rattle.plain_paths.specs.FlatCircuits.{IsFlat}
 use Rattle.vrt_model.proofs.Decidable.{IsFinite, strength_exists}
 use Rattle.vrt_model.proofs.Members.{all_among, at_none}
 use Rattle.vrt_model.proofs.Strength.{at_least-strength, strength-at_least}
-use Rattle.vrt_model.specs.Circuits.{IsHold}
+use Rattle.vrt_model.specs.Circuits.{IsHold, IsFlat}
 use Rattle.vrt_model.specs.Path.{Network}
 use Rattle.vrt_model.specs.Response.{IsStrength}
 use Rattle.vrt_model.specs.declared.circuit.Circuit.{Circuit}

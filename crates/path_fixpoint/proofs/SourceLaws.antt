@@ -8,12 +8,11 @@ use Rattle.bdd_core.specs.declared.handle.H.{H}
 use Rattle.bdd_core.specs.Diagram.{Valuation, meaning}
 use Rattle.bdd_core.specs.Store.{Diagrams, Makes}
 use Rattle.bdd_core.proofs.Meaning.{meaning_zero}
-use Rattle.plain_paths.specs.FlatCircuits.{IsFlat}
 use Rattle.vrt_model.proofs.Clear.{HopFits, RootFits}
 use Rattle.vrt_model.proofs.Members.{all_among, at_none}
 use Rattle.vrt_model.proofs.PathKinds.{Arrives, arrives_root}
 use Rattle.vrt_model.proofs.Strength.{AtLeast, HopHas, RootHas, at_least-strength, strength-at_least}
-use Rattle.vrt_model.specs.Circuits.{IsHold}
+use Rattle.vrt_model.specs.Circuits.{IsHold, IsFlat}
 use Rattle.vrt_model.specs.Lists.{At}
 use Rattle.vrt_model.specs.Path.{IsRoot, Network, Root}
 use Rattle.vrt_model.specs.declared.circuit.Circuit.{Circuit}

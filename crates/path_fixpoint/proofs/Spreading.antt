@@ -7,9 +7,8 @@ use Rattle.std.proofs.lemmas.Option.{same_Some, slice_get_within}
 use Rattle.node_pool.specs.declared.region.Span.{Span}
 use Rattle.bdd_core.specs.Diagram.{Valuation, meaning}
 use Rattle.bdd_core.specs.Store.{Diagrams}
-use Rattle.plain_paths.specs.FlatCircuits.{IsFlat}
 use Rattle.vrt_model.proofs.Members.{all_among, among_later, at_none}
-use Rattle.vrt_model.specs.Circuits.{IsDevice}
+use Rattle.vrt_model.specs.Circuits.{IsDevice, IsFlat}
 use Rattle.vrt_model.specs.Lists.{At, Among}
 use Rattle.vrt_model.specs.Path.{Joins, Network}
 use Rattle.vrt_model.specs.Reading.{conducts, conducts_at}

@@ -3,7 +3,7 @@
 ghost use Rattle.std.specs.Prelude.{IsTrue, ◌≡◌, ℕ, ◌*◌, ◌^◌, ◌<◌, ◌≤◌, length, IfOk};
 ghost use Rattle.bdd_core.specs.Diagram.{Valuation};
 ghost use Rattle.bdd_core.specs.Store.{IsSpan};
-ghost use Rattle.plain_paths.specs.FlatCircuits.{IsFlat};
+ghost use Rattle.vrt_model.specs.Circuits.{IsFlat};
 ghost use Rattle.vrt_model.specs.Path.{Network};
 ghost use Rattle.path_fixpoint.specs.Parts.{IsPart, Rises};
 ghost use Rattle.path_fixpoint.specs.Strengths.{HasLevel, HasSpans, HasWords, StandsAt, TellsStrengths};

@@ -3,7 +3,7 @@
 ghost use Rattle.std.specs.Prelude.{IsTrue, ◌≡◌, ◌≢◌, ℕ, ◌+◌, ◌*◌, ◌^◌, ◌<◌, ◌≤◌, ◌⊎◌, ◌↔◌, true, false, length, IfOk, IfSome};
 ghost use Rattle.bdd_core.specs.Diagram.{IsWithin, Valuation};
 ghost use Rattle.bdd_core.specs.Store.{IsLive, IsSpan, function_of};
-ghost use Rattle.plain_paths.specs.FlatCircuits.{IsFlat};
+ghost use Rattle.vrt_model.specs.Circuits.{IsFlat};
 ghost use Rattle.vrt_model.specs.Path.{Network};
 ghost use Rattle.path_fixpoint.specs.Openings.{IsGivenAt, IsHoldAt};
 ghost use Rattle.path_fixpoint.specs.Parts.{IsGiven, IsPart, IsPlace, Rises};

@@ -1,4 +1,3 @@
-pub mod Items
 pub mod Passing
 pub mod Rounds
 pub mod Spreads

@@ -1,21 +1,18 @@
 -- The channels that the rounds go over are those of the conducting devices of the circuit's network.
-use Rattle.std.proofs.Common.{◌≡◌, ℕ, Bool, true, false, List, [], length, map, arith, ap, refl, sym, subst, ◌∙◌}
+use Rattle.std.proofs.Common.{◌≡◌, ℕ, Bool, true, false, List, [], length, map, ap, refl, sym, subst, ◌∙◌}
 use Rattle.std.specs.Prelude.{All, ◌↔◌, filter, option_map, slice_index_or}
 use Rattle.std.proofs.lemmas.Bool.{and_from, and_parts}
 use Rattle.std.proofs.lemmas.Option.{slice_get-get_or, slice_get-map, unwrap_or-slice_get}
 use Rattle.vrt_model.proofs.Filtered.{among_devices, among_kept, device_among, filter_among}
 use Rattle.vrt_model.proofs.Members.{all_among, among_map}
-use Rattle.vrt_model.proofs.Networks.{HasRanges}
-use Rattle.vrt_model.specs.Circuits.{IsDevice, IsWhole}
-use Rattle.vrt_model.specs.Lists.{Among, bit_at}
+use Rattle.vrt_model.proofs.Networks.{flat_outputs}
+use Rattle.vrt_model.specs.Circuits.{IsDevice, IsFlat}
+use Rattle.vrt_model.specs.Lists.{Among, bit_at, mark_at}
 use Rattle.vrt_model.specs.Reading.{conducts, is_in}
-use Rattle.vrt_model.specs.State.{OutputPin, State, network_of, output_pins}
+use Rattle.vrt_model.specs.State.{State, network_of}
 use Rattle.vrt_model.specs.declared.circuit.Circuit.{Circuit}
 use Rattle.vrt_model.specs.declared.circuit.Device.{Device}
-use Rattle.vrt_model.specs.declared.whole.Whole.{Whole}
 use Rattle.plain_paths.specs.Channels.{HasChannels, IsOver, IsWithin, channel_of, channels_of, is_on}
-use Rattle.plain_paths.specs.FlatCircuits.{IsFlat}
-use Rattle.plain_paths.specs.Marks.{mark_at}
 use Rattle.plain_paths.specs.declared.channels.Channel.{Channel}
 
 among_image : {X Y : Type 0} (f : X → Y) (xs : List X) (x : X) → Among xs x → Among (map f xs) (f x)
@@ -49,23 +46,12 @@ network_channels c bare held s = record {
       (among_kept (is_on bare s.reading) c.devices d h.0 (and_from (is_in bare d) (conducts s.reading d) h.1 on.1));
 }
 
--- a flat circuit has its numbers in range
-pub flat_ranges : (c : Circuit) → IsFlat c → HasRanges c
-flat_ranges c flat = record {
-  devices = flat.devices;
-  holds = flat.holds;
-  wholes = subst (All (IsWhole c)) (sym flat.wholes) none;
-}
-  where
-    none : All (IsWhole c) []
-    none k d lt = absurd (omega (arith, lt))
-
 -- without whole instances the network has no output pins
 pub network_over : (c : Circuit) (bare : Bool) (held : ℕ → Bool) (s : State) → c.wholes ≡ [] → IsOver c (network_of c bare held s)
 network_over c bare held s flat = record {
   nets = refl;
   holds = refl;
-  outputs = ap (λ (ws : List Whole). map (λ (out : OutputPin). out.pin) (output_pins (record c { wholes = ws }))) flat;
+  outputs = flat_outputs c bare held s flat;
   source = refl;
 }
 

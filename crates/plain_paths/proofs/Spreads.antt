@@ -8,7 +8,7 @@ use Rattle.vrt_model.proofs.Marks.{HasMarksWithin, HasRootMarks, HasSpread, mark
 use Rattle.vrt_model.proofs.Members.{at_none}
 use Rattle.vrt_model.proofs.PathKinds.{Arrives, arrives_on, arrives_root}
 use Rattle.vrt_model.proofs.ShortPaths.{HasBound, path_short}
-use Rattle.vrt_model.specs.Lists.{At, Among}
+use Rattle.vrt_model.specs.Lists.{At, Among, mark_at}
 use Rattle.vrt_model.specs.Path.{Hop, IsOn, IsPath, Joins, Network, Root}
 use Rattle.vrt_model.specs.Reading.{is_given}
 use Rattle.vrt_model.specs.Response.{IsStrength, Reaches}
@@ -18,7 +18,7 @@ use Rattle.vrt_model.specs.declared.circuit.FlatNet.{FlatNet}
 use Rattle.vrt_model.specs.declared.circuit.Hold.{Hold}
 use Rattle.vrt_model.specs.declared.whole.WholePin.{WholePin}
 use Rattle.plain_paths.specs.Channels.{HasChannels, IsOver, channel_of}
-use Rattle.plain_paths.specs.Marks.{Marked, MarksPass, mark_at}
+use Rattle.plain_paths.specs.Marks.{Marked, MarksPass}
 use Rattle.plain_paths.specs.declared.channels.Channel.{Channel}
 
 -- a mark spread over one device, in one direction

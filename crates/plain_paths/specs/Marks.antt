@@ -1,17 +1,11 @@
 -- What marks say of the nets, by their numbers.
-use Rattle.std.specs.Prelude.{◌≡◌, ℕ, min, Bool, true, false, List, slice_index, slice_index_or}
+use Rattle.std.specs.Prelude.{◌≡◌, ℕ, min, Bool, true, List, slice_index}
 use Rattle.vrt_model.proofs.Clear.{HopFits, RootFits}
 use Rattle.vrt_model.proofs.Marks.{IsMarked}
+use Rattle.vrt_model.specs.Lists.{mark_at}
 use Rattle.vrt_model.specs.Path.{Network}
 use Rattle.plain_paths.specs.Channels.{Connects}
 use Rattle.plain_paths.specs.declared.channels.Channel.{Channel}
-
-abbrev pub mark_at : List Bool → ℕ → Bool
-mark_at marks n = slice_index_or marks n false
-
--- no mark goes
-abbrev pub MarksGrow : List Bool → List Bool → Type 0
-MarksGrow t u = (n : ℕ) → mark_at t n ≡ true → mark_at u n ≡ true
 
 -- over the channel the strength of the one net gives that of the other
 abbrev pub ChannelFits : List ℕ → ℕ → Channel → ℕ → Type 0

@@ -2,13 +2,13 @@
 
 ghost use Rattle.std.specs.Prelude.{◌≡◌, ℕ, ◌<◌, ◌⊎◌, ◌↔◌, Bool, false, true, length, slice_index, replicate, IfOk, All};
 ghost use Rattle.plain_paths.specs.Channels.{Connects, HasChannels, IsOver, IsWithin, channel_of};
-ghost use Rattle.plain_paths.specs.FlatCircuits.{IsFlat};
-ghost use Rattle.plain_paths.specs.Marks.{ChannelFits, Marked, MarksGrow, MarksPass, mark_at};
+ghost use Rattle.vrt_model.specs.Circuits.{IsFlat};
+ghost use Rattle.plain_paths.specs.Marks.{ChannelFits, Marked, MarksPass};
 ghost use Rattle.plain_paths.specs.declared.channels.Channel.{Channel as ChannelValue};
 ghost use Rattle.vrt_model.proofs.Clear.{HopFits, RootFits};
 ghost use Rattle.vrt_model.proofs.Marks.{HasRootMarks};
 ghost use Rattle.vrt_model.proofs.ShortPaths.{HasBound};
-ghost use Rattle.vrt_model.specs.Lists.{At, Among, bit_at};
+ghost use Rattle.vrt_model.specs.Lists.{At, Among, bit_at, MarksGrow, mark_at};
 ghost use Rattle.vrt_model.specs.Path.{IsOn, Network};
 ghost use Rattle.vrt_model.specs.Reading.{is_given};
 ghost use Rattle.vrt_model.specs.Response.{IsStrength, Reaches};

@@ -1,8 +1,7 @@
 //! Whether a circuit has no whole instance, and its numbers, levels and sizes in range.
 
 ghost use Rattle.std.specs.Prelude.{◌<◌, ◌↔◌, IsTrue, All, length};
-ghost use Rattle.plain_paths.specs.FlatCircuits.{IsFlat};
-ghost use Rattle.vrt_model.specs.Circuits.{IsDevice, IsEnd, IsHold};
+ghost use Rattle.vrt_model.specs.Circuits.{IsDevice, IsEnd, IsHold, IsFlat};
 
 use vrt_model::{Circuit, Device, Hold, HoldEnd, Net};
 

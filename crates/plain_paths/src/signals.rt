@@ -1,7 +1,7 @@
 //! The strength of each net, and which values reach it.
 
 ghost use Rattle.std.specs.Prelude.{◌≡◌, ℕ, ◌<◌, Bool, length, vec_len, IfOk};
-ghost use Rattle.plain_paths.specs.FlatCircuits.{IsFlat};
+ghost use Rattle.vrt_model.specs.Circuits.{IsFlat};
 ghost use Rattle.plain_paths.specs.Responses.{meaning_of};
 ghost use Rattle.vrt_model.specs.Lists.{bit_at};
 ghost use Rattle.vrt_model.specs.Signals.{AreSignals, response_by};

@@ -2,7 +2,7 @@
 
 ghost use Rattle.std.specs.Prelude.{◌≡◌, ℕ, ◌<◌, ◌≤◌, ◌⊎◌, min, false, cond, map, length, slice_index, IfOk, All};
 ghost use Rattle.plain_paths.specs.Channels.{Connects, HasChannels, IsOver, IsWithin, channel_of};
-ghost use Rattle.plain_paths.specs.FlatCircuits.{IsFlat};
+ghost use Rattle.vrt_model.specs.Circuits.{IsFlat};
 ghost use Rattle.plain_paths.specs.Tables.{HasGrown, HasHolds, HasPassed, HasRoots, IsAttained, level_of_net};
 ghost use Rattle.plain_paths.specs.declared.channels.Channel.{Channel as ChannelValue};
 ghost use Rattle.vrt_model.proofs.ShortPaths.{HasBound};

@@ -1,6 +1,6 @@
 -- The networks of a well-formed circuit: their nets are in range, given nets have the greatest level, and so each net
 -- has one strength and one response.
-use Rattle.std.proofs.Common.{◌≡◌, ℕ, ◌≤◌, ◌<◌, Bool, true, length, map, arith, subst, sym, refl, ◌∙◌, ap, inl, inr}
+use Rattle.std.proofs.Common.{◌≡◌, ℕ, ◌≤◌, ◌<◌, Bool, true, List, [], length, map, arith, subst, sym, refl, ◌∙◌, ap, inl, inr}
 use Rattle.std.specs.Prelude.{All}
 use Rattle.std.proofs.lemmas.Option.{slice_get_within}
 use Rattle.vrt_model.proofs.Decidable.{IsFinite}
@@ -8,7 +8,7 @@ use Rattle.vrt_model.proofs.Filtered.{device_among}
 use Rattle.vrt_model.proofs.GivenNets.{HasLevels, IsSource}
 use Rattle.vrt_model.proofs.Members.{all_among, among_flat_map, among_map}
 use Rattle.vrt_model.proofs.ShortPaths.{HasBound}
-use Rattle.vrt_model.specs.Circuits.{IsDevice, IsDrive, IsHold, IsNet, IsWhole}
+use Rattle.vrt_model.specs.Circuits.{IsDevice, IsDrive, IsFlat, IsHold, IsNet, IsWhole}
 use Rattle.vrt_model.specs.Lists.{At, Among}
 use Rattle.vrt_model.specs.Path.{IsOn, IsRoot, Root, level_of_drive}
 use Rattle.vrt_model.specs.Reading.{is_given}
@@ -21,15 +21,30 @@ use Rattle.vrt_model.specs.declared.whole.Drive.TheVariants.{Soft, Level}
 use Rattle.vrt_model.specs.declared.whole.Whole.{Whole}
 use Rattle.vrt_model.specs.declared.whole.WholePin.{WholePin}
 
-drive_most : (c : Circuit) (drive : Drive) → IsDrive c drive → level_of_drive 8 drive ≤ 8
-drive_most c Soft fits = omega arith
-drive_most c (Level level) fits = let le = fits.1 in omega (arith, le)
-
 -- what is asked of a circuit: the numbers of nets are in range, and levels and sizes are
 pub record HasRanges (c : Circuit) : Type 0 where
   pub devices : All (IsDevice c) c.devices
   pub holds : All (IsHold c) c.holds
   pub wholes : All (IsWhole c) c.wholes
+
+-- a circuit without whole instances has its numbers in range
+pub flat_ranges : (c : Circuit) → IsFlat c → HasRanges c
+flat_ranges c flat = record {
+  devices = flat.devices;
+  holds = flat.holds;
+  wholes = subst (All (IsWhole c)) (sym flat.wholes) none;
+}
+  where
+    none : All (IsWhole c) []
+    none k d lt = absurd (omega (arith, lt))
+
+-- and its network no output pins
+pub flat_outputs : (c : Circuit) (bare : Bool) (held : ℕ → Bool) (s : State) → c.wholes ≡ [] → (network_of c bare held s).outputs ≡ []
+flat_outputs c bare held s flat = ap (λ (ws : List Whole). map (λ (out : OutputPin). out.pin) (output_pins (record c { wholes = ws }))) flat
+
+drive_most : (c : Circuit) (drive : Drive) → IsDrive c drive → level_of_drive 8 drive ≤ 8
+drive_most c Soft fits = omega arith
+drive_most c (Level level) fits = let le = fits.1 in omega (arith, le)
 
 module _ (c : Circuit) (bare : Bool) (held : ℕ → Bool) (s : State) (good : HasRanges c) where
   device_is : (d : Device) → IsOn (network_of c bare held s) d → IsDevice c d

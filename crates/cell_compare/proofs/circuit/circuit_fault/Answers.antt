@@ -17,9 +17,8 @@ use Rattle.cell_compare.specs.declared.net.CircuitFault.{CircuitFault}
 use Rattle.channel_parts.specs.declared.part.Part.{Part}
 use Rattle.known_nets.specs.KnownTables.{known_at}
 use Rattle.path_fixpoint.proofs.SpendingLaws.{spends_behind, spends_more, spends_value}
-use Rattle.plain_paths.proofs.Items.{item_at}
-use Rattle.plain_paths.specs.Marks.{mark_at}
-use Rattle.vrt_model.specs.Lists.{At}
+use Rattle.vrt_model.proofs.Lists.{item_at}
+use Rattle.vrt_model.specs.Lists.{At, mark_at}
 use Rattle.cell_compare.proofs.circuit.circuit_fault.Goals as goal
 
 pub loop-part-init : goal.loop-part-init

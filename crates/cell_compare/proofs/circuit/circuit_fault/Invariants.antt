@@ -11,7 +11,7 @@ use Rattle.cell_compare.specs.Frames.{WritesTwo}
 use Rattle.cell_compare.specs.Operations.{part_operations}
 use Rattle.cell_compare.specs.Results.{root_at}
 use Rattle.path_fixpoint.specs.Spending.{HasOneHold}
-use Rattle.plain_paths.specs.Marks.{mark_at}
+use Rattle.vrt_model.specs.Lists.{mark_at}
 use Rattle.vrt_model.specs.declared.rules.Phase.{Phase}
 use Rattle.cell_compare.proofs.circuit.circuit_fault.Given as goal
 

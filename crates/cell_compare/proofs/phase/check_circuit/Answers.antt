@@ -15,7 +15,7 @@ use Rattle.cell_compare.specs.PhaseSteps.{IsTold, opened_operations}
 use Rattle.cell_compare.specs.Results.{CircuitGives, IsClearCircuit, IsFirstFault}
 use Rattle.cell_compare.specs.declared.net.CircuitFault.{CircuitFault}
 use Rattle.channel_parts.specs.OneSolution.{AreObserved}
-use Rattle.plain_paths.specs.Marks.{mark_at}
+use Rattle.vrt_model.specs.Lists.{mark_at}
 use Rattle.vrt_model.specs.Budget.{model_size}
 use Rattle.vrt_model.specs.Comparison.{is_observed, net_name, phase_at}
 use Rattle.vrt_model.specs.Held.{sources_of}

@@ -2,7 +2,7 @@ use Rattle.std.proofs.Common.{◌≡◌, ◌||◌, ℕ, length, take}
 use Rattle.std.specs.Prelude.{◌==◌}
 use Rattle.std.specs.List.{list_any}
 use Rattle.cell_compare.specs.declared.outputs.Output.{Output}
-use Rattle.plain_paths.specs.Marks.{mark_at}
+use Rattle.vrt_model.specs.Lists.{mark_at}
 use Rattle.cell_compare.proofs.ports.mark_outputs.Given as goal
 
 -- the nets of the outputs so far

@@ -4,7 +4,7 @@ use Rattle.std.specs.List.{list_any}
 use Rattle.cell_compare.proofs.ObservedLaws.{no_mark, observed_is}
 use Rattle.cell_compare.specs.Compared.{comparison}
 use Rattle.cell_compare.specs.declared.outputs.Output.{Output}
-use Rattle.plain_paths.specs.Marks.{mark_at}
+use Rattle.vrt_model.specs.Lists.{mark_at}
 use Rattle.vrt_model.specs.declared.circuit.Device.{Device}
 use Rattle.cell_compare.proofs.ports.observed_nets.Goals as goal
 

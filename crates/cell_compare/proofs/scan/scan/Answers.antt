@@ -10,8 +10,7 @@ use Rattle.cell_compare.specs.declared.net.CircuitFault.{CircuitFault}
 use Rattle.path_fixpoint.proofs.Frames.{filled_beside, writes_then}
 use Rattle.path_fixpoint.proofs.SpendingLaws.{span_beside, spends_behind, spends_more, spends_value}
 use Rattle.path_fixpoint.specs.Parts.{IsPlace}
-use Rattle.plain_paths.specs.Marks.{mark_at}
-use Rattle.vrt_model.specs.Lists.{At}
+use Rattle.vrt_model.specs.Lists.{At, mark_at}
 use Rattle.vrt_model.specs.declared.ids.Net.{Net}
 use Rattle.cell_compare.proofs.scan.scan.Goals as goal
 

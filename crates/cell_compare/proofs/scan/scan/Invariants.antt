@@ -4,7 +4,7 @@ use Rattle.bdd_core.specs.Store.{function_of}
 use Rattle.bdd_core.specs.Words.{Writes}
 use Rattle.bdd_ops.specs.Counting.{IsCounted, IsSpanWithin}
 use Rattle.cell_compare.specs.Scans.{IsScannedTo}
-use Rattle.plain_paths.specs.Marks.{mark_at}
+use Rattle.vrt_model.specs.Lists.{mark_at}
 use Rattle.cell_compare.proofs.scan.scan.Given as goal
 
 abbrev pub invariant-loop-i : goal.invariant-loop-i

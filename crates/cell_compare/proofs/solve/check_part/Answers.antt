@@ -6,7 +6,7 @@ use Rattle.bdd_ops.proofs.WithinLaws.{within_same}
 use Rattle.cell_compare.proofs.PartLaws.{part_gives}
 use Rattle.cell_compare.specs.Operations.{part_operations}
 use Rattle.path_fixpoint.proofs.SpendingLaws.{span_beside, spends_behind, spends_refused}
-use Rattle.plain_paths.specs.Marks.{mark_at}
+use Rattle.vrt_model.specs.Lists.{mark_at}
 use Rattle.cell_compare.proofs.solve.check_part.Goals as goal
 
 pub returns-clause-gives : goal.returns-clause-gives

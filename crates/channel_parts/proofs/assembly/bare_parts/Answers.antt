@@ -6,7 +6,7 @@ use Rattle.channel_parts.proofs.PartLaws.{ranks_even}
 use Rattle.channel_parts.proofs.RankLaws.{at_some, some_map}
 use Rattle.channel_parts.specs.Ranks.{AreLeast}
 use Rattle.known_nets.specs.KnownTables.{IsKnownTable, known_at}
-use Rattle.plain_paths.proofs.Passing.{flat_ranges}
+use Rattle.vrt_model.proofs.Networks.{flat_ranges}
 use Rattle.vrt_model.specs.Known.{HasArc, IsFirstCycle, IsRanking}
 use Rattle.channel_parts.proofs.assembly.bare_parts.Goals as goal
 

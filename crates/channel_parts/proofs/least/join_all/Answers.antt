@@ -2,7 +2,7 @@ use Rattle.std.proofs.Common.{◌≡◌, ℕ, length, true, arith, subst, sym, �
 use Rattle.std.proofs.lemmas.Option.{same_Some, slice_get_within}
 use Rattle.channel_parts.specs.Labels.{joins_plain_nets}
 use Rattle.channel_parts.specs.Unions.{Respects}
-use Rattle.plain_paths.proofs.Items.{item_at}
+use Rattle.vrt_model.proofs.Lists.{item_at}
 use Rattle.vrt_model.specs.Lists.{At}
 use Rattle.vrt_model.specs.declared.circuit.Device.{Device}
 use Rattle.channel_parts.proofs.least.join_all.Goals as goal

@@ -2,7 +2,7 @@ use Rattle.std.proofs.Common.{◌≡◌, ℕ, length, arith, subst}
 use Rattle.channel_parts.proofs.NetGraphLaws.{more_devices, none_adds}
 use Rattle.channel_parts.specs.NetGraphs.{IsDeviceArcBelow}
 use Rattle.known_nets.specs.Placed.{Adds}
-use Rattle.plain_paths.proofs.Items.{item_at}
+use Rattle.vrt_model.proofs.Lists.{item_at}
 use Rattle.vrt_model.specs.Lists.{At}
 use Rattle.channel_parts.proofs.net_graph.lead_devices.Goals as goal
 

@@ -1,8 +1,7 @@
 use Rattle.std.proofs.Common.{◌≡◌, ℕ, length, true, arith, inl, inr, subst, sym, ◌∙◌, below_more}
 use Rattle.std.proofs.lemmas.Option.{same_Some, slice_get_within}
-use Rattle.plain_paths.proofs.Items.{item_at}
-use Rattle.plain_paths.specs.Marks.{mark_at}
-use Rattle.vrt_model.specs.Lists.{At}
+use Rattle.vrt_model.proofs.Lists.{item_at}
+use Rattle.vrt_model.specs.Lists.{At, mark_at}
 use Rattle.vrt_model.specs.declared.circuit.Hold.{Hold}
 use Rattle.known_nets.proofs.incidence.mark_holds.Goals as goal
 

@@ -3,7 +3,7 @@ use Rattle.std.proofs.lemmas.Option.{slice_get_within}
 use Rattle.known_nets.proofs.NetKinds.{plain_is}
 use Rattle.known_nets.proofs.WaitLaws.{waited_then}
 use Rattle.known_nets.specs.Conduction.{is_plain_at}
-use Rattle.plain_paths.specs.Marks.{mark_at}
+use Rattle.vrt_model.specs.Lists.{mark_at}
 use Rattle.known_nets.proofs.known.all_wait.Goals as goal
 
 pub loop-net-preserved : goal.loop-net-preserved

@@ -1,7 +1,7 @@
 use Rattle.std.proofs.Common.{◌≡◌, ℕ, ◌<◌, true}
 use Rattle.known_nets.specs.Conduction.{is_plain_at}
 use Rattle.known_nets.specs.Waits.{HasWaited}
-use Rattle.plain_paths.specs.Marks.{mark_at}
+use Rattle.vrt_model.specs.Lists.{mark_at}
 use Rattle.known_nets.proofs.known.all_wait.Given as goal
 
 abbrev pub invariant-loop-net : goal.invariant-loop-net

@@ -1,8 +1,7 @@
 use Rattle.std.proofs.Common.{◌≡◌, ℕ, false, get_or, arith, inl, inr, subst, sym, ◌∙◌, below_more}
 use Rattle.std.proofs.lemmas.Bool.{cases_Bool, false≢true}
 use Rattle.std.proofs.lemmas.Option.{same_Some, slice_get-get_or, slice_get_within}
-use Rattle.plain_paths.specs.Marks.{mark_at}
-use Rattle.vrt_model.specs.Lists.{At}
+use Rattle.vrt_model.specs.Lists.{At, mark_at}
 use Rattle.known_nets.proofs.waiting.forget.Goals as goal
 
 pub loop-net-preserved : goal.loop-net-preserved

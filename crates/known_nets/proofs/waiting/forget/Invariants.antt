@@ -1,6 +1,5 @@
 use Rattle.std.proofs.Common.{◌≡◌, ℕ, ◌<◌, ◌⊎◌, true, false}
-use Rattle.plain_paths.specs.Marks.{mark_at}
-use Rattle.vrt_model.specs.Lists.{At, Among}
+use Rattle.vrt_model.specs.Lists.{At, Among, mark_at}
 use Rattle.known_nets.proofs.waiting.forget.Given as goal
 
 abbrev pub invariant-loop-net : goal.invariant-loop-net

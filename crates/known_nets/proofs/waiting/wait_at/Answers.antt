@@ -4,9 +4,8 @@ use Rattle.known_nets.proofs.PlaceLaws.{item_at}
 use Rattle.known_nets.proofs.WaitLaws.{waited_none, waited_then}
 use Rattle.known_nets.proofs.waiting.wait_at.Goals.{then-number-devices+in_ok-wait+in_ok-wait-2, else-number-devices}
 use Rattle.known_nets.specs.Waits.{HasWaited}
-use Rattle.plain_paths.specs.Marks.{mark_at}
 use Rattle.vrt_model.specs.Known.{IsPlain}
-use Rattle.vrt_model.specs.Lists.{At}
+use Rattle.vrt_model.specs.Lists.{At, mark_at}
 use Rattle.vrt_model.specs.Path.{Joins}
 use Rattle.vrt_model.specs.declared.circuit.Circuit.{Circuit}
 use Rattle.vrt_model.specs.declared.circuit.Device.{Device}

@@ -1,6 +1,6 @@
 use Rattle.std.proofs.Common.{◌≡◌, ℕ, ◌≤◌, List, length, arith, ap, sym, subst, ◌∙◌, below_more}
 use Rattle.std.proofs.lemmas.Option.{same_Some, slice_get_within}
-use Rattle.plain_paths.proofs.Items.{item_at}
+use Rattle.vrt_model.proofs.Lists.{item_at}
 use Rattle.vrt_model.specs.Lists.{At}
 use Rattle.vrt_model.specs.declared.circuit.Hold.{Hold}
 use Rattle.path_fixpoint.specs.Openings.{IsHoldAt, mark_of}

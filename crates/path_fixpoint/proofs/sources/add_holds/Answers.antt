@@ -1,7 +1,7 @@
 use Rattle.std.proofs.Common.{◌≡◌, ℕ, ◌+◌, ◌*◌, ◌<◌, Ok, Err, List, length, arith, ap, refl, sym, subst, ◌∙◌, inl, inr}
 use Rattle.std.proofs.lemmas.Bool.{cases_lt}
 use Rattle.std.proofs.lemmas.Option.{same_Some, slice_get_within}
-use Rattle.plain_paths.proofs.Items.{item_at}
+use Rattle.vrt_model.proofs.Lists.{item_at}
 use Rattle.vrt_model.proofs.Members.{all_among}
 use Rattle.vrt_model.specs.Circuits.{IsHold}
 use Rattle.vrt_model.specs.Lists.{At}

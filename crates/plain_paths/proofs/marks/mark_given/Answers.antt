@@ -1,9 +1,8 @@
 use Rattle.std.proofs.Common.{◌≡◌, ℕ, Bool, true, slice_index, ap, sym, ◌∙◌, below_more}
 use Rattle.std.proofs.lemmas.Option.{same_Some}
-use Rattle.plain_paths.proofs.Items.{item_at}
+use Rattle.vrt_model.proofs.Lists.{item_at}
 use Rattle.plain_paths.proofs.Spreads.{given_marked}
-use Rattle.plain_paths.specs.Marks.{mark_at}
-use Rattle.vrt_model.specs.Lists.{At, bit_at}
+use Rattle.vrt_model.specs.Lists.{At, bit_at, mark_at}
 use Rattle.vrt_model.specs.Reading.{is_given}
 use Rattle.vrt_model.specs.declared.circuit.FlatNet.{FlatNet}
 use Rattle.plain_paths.proofs.marks.mark_given.Goals as goal

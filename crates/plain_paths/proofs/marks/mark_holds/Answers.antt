@@ -1,9 +1,8 @@
 use Rattle.std.proofs.Common.{◌≡◌, ℕ, Bool, true, length, slice_index, arith, ap, refl, subst, sym, ◌∙◌, below_more}
 use Rattle.std.proofs.lemmas.Option.{same_Some, slice_get_within}
-use Rattle.plain_paths.proofs.Items.{item_at}
+use Rattle.vrt_model.proofs.Lists.{item_at}
 use Rattle.plain_paths.proofs.Spreads.{hold_marked}
-use Rattle.plain_paths.specs.Marks.{mark_at}
-use Rattle.vrt_model.specs.Lists.{At, bit_at}
+use Rattle.vrt_model.specs.Lists.{At, bit_at, mark_at}
 use Rattle.vrt_model.specs.declared.circuit.Hold.{Hold}
 use Rattle.plain_paths.proofs.marks.mark_holds.Goals as goal
 

@@ -1,7 +1,7 @@
 use Rattle.std.proofs.Common.{◌≡◌, ℕ, ◌<◌, true, slice_index}
 use Rattle.plain_paths.specs.Channels.{IsOver}
-use Rattle.plain_paths.specs.Marks.{Marked, MarksGrow, mark_at}
-use Rattle.vrt_model.specs.Lists.{At, bit_at}
+use Rattle.plain_paths.specs.Marks.{Marked}
+use Rattle.vrt_model.specs.Lists.{At, bit_at, MarksGrow, mark_at}
 use Rattle.vrt_model.specs.Path.{Network}
 use Rattle.vrt_model.specs.declared.circuit.Hold.{Hold}
 use Rattle.plain_paths.proofs.marks.mark_holds.Given as goal

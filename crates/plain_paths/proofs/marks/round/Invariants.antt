@@ -1,8 +1,8 @@
 use Rattle.std.proofs.Common.{◌≡◌, ℕ, ◌<◌, Bool, false}
 use Rattle.plain_paths.specs.Channels.{HasChannels}
-use Rattle.plain_paths.specs.Marks.{Marked, MarksGrow, MarksPass}
+use Rattle.plain_paths.specs.Marks.{Marked, MarksPass}
 use Rattle.plain_paths.specs.declared.channels.Channel.{Channel}
-use Rattle.vrt_model.specs.Lists.{At}
+use Rattle.vrt_model.specs.Lists.{At, MarksGrow}
 use Rattle.vrt_model.specs.Path.{Network}
 use Rattle.plain_paths.proofs.marks.round.Given as goal
 

@@ -1,11 +1,11 @@
 use Rattle.std.proofs.Common.{◌≡◌, ℕ, Bool, List, true, arith, slice_index, subst, sym}
 use Rattle.std.specs.Prelude.{◌↔◌}
 use Rattle.plain_paths.proofs.Spreads.{channels_spread, reach_closed, reach_within}
-use Rattle.plain_paths.specs.Marks.{MarksPass, mark_at}
+use Rattle.plain_paths.specs.Marks.{MarksPass}
 use Rattle.plain_paths.specs.declared.channels.Channel.{Channel}
 use Rattle.vrt_model.proofs.Clear.{HopFits, RootFits}
 use Rattle.vrt_model.proofs.Marks.{marks_more, marks_none}
-use Rattle.vrt_model.specs.Lists.{Among}
+use Rattle.vrt_model.specs.Lists.{Among, mark_at}
 use Rattle.vrt_model.specs.Response.{Reaches}
 use Rattle.plain_paths.proofs.marks.settle.Goals as goal
 

@@ -1,10 +1,11 @@
 use Rattle.std.proofs.Common.{slice_index}
 use Rattle.plain_paths.specs.Channels.{HasChannels}
-use Rattle.plain_paths.specs.Marks.{Marked, mark_at}
+use Rattle.plain_paths.specs.Marks.{Marked}
 use Rattle.vrt_model.proofs.Clear.{HopFits, RootFits}
 use Rattle.vrt_model.proofs.Marks.{HasMarksWithin, HasRootMarks}
 use Rattle.vrt_model.specs.Path.{Network}
 use Rattle.plain_paths.proofs.marks.settle.Given as goal
+use Rattle.vrt_model.specs.Lists.{mark_at}
 
 abbrev pub invariant-rounds : goal.invariant-rounds
 invariant-rounds l =

@@ -1,8 +1,8 @@
 use Rattle.std.proofs.Common.{ℕ, List, true, false, length, slice_index, refl, subst, sym, ◌∙◌}
 use Rattle.std.specs.Prelude.{All}
-use Rattle.plain_paths.proofs.Passing.{bits_mean, channels_within, flat_ranges, network_channels, network_over}
+use Rattle.plain_paths.proofs.Passing.{bits_mean, channels_within, network_channels, network_over}
 use Rattle.plain_paths.specs.Channels.{HasChannels, IsWithin}
-use Rattle.vrt_model.proofs.Networks.{network_bound}
+use Rattle.vrt_model.proofs.Networks.{network_bound, flat_ranges}
 use Rattle.vrt_model.specs.Lists.{bit_at}
 use Rattle.vrt_model.specs.Path.{Network}
 use Rattle.vrt_model.specs.Response.{IsStrength, Reaches}

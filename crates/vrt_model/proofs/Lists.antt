@@ -1,4 +1,4 @@
--- The items of a slice that a loop goes over.
+-- Laws of lists: items at their places, what is made of them, and what is changed at one.
 use Rattle.std.proofs.Common.{◌≡◌, ℕ, ◌<◌, List, length, Some, get_or, ap, sym, subst, ◌∙◌}
 use Rattle.std.proofs.lemmas.Option.{slice_get-get_or}
 use Rattle.vrt_model.specs.Lists.{At}
