@@ -58,7 +58,7 @@ IsOpen Apart = ⊥
 IsOpen Enter = ⊥
 
 -- of two places one comes before the other, or they are the same
-pub record IsSamePlace (kind other : FaultKind) (at there : ℕ) : Type 0 where
+pub record IsOnePlace (kind other : FaultKind) (at there : ℕ) : Type 0 where
   pub kinds : kind ≡ other
   pub places : at ≡ there
 
@@ -66,7 +66,7 @@ module _ (k : Comparison) (phase : ℕ) (rank least : ℕ → ℕ) where
   abbrev pub Tri : FaultKind → ℕ → FaultKind → ℕ → Type 0
   Tri kind at other there =
       (comes_before (standing k phase rank least kind at) (standing k phase rank least other there) ≡ true)
-      ⊎ (IsSamePlace kind other at there ⊎ (comes_before (standing k phase rank least other there) (standing k phase rank least kind at) ≡ true))
+      ⊎ (IsOnePlace kind other at there ⊎ (comes_before (standing k phase rank least other there) (standing k phase rank least kind at) ≡ true))
 
   fifth : List ℕ → ℕ
   fifth (a ∷ b ∷ c ∷ d ∷ e ∷ rest) = e

@@ -11,6 +11,7 @@ use Rattle.vrt_model.proofs.Laws.{one_response}
 use Rattle.vrt_model.proofs.Members.{all_among, at_none}
 use Rattle.vrt_model.proofs.Networks.{HasRanges, given_source, network_finite, network_levels}
 use Rattle.vrt_model.proofs.SameNetwork.{IsPartOf, response_same}
+use Rattle.vrt_model.proofs.Tests.{option_same}
 use Rattle.vrt_model.specs.Circuits.{IsHold}
 use Rattle.vrt_model.specs.Constraints.{given_bit, given_by_kind}
 use Rattle.vrt_model.specs.Lists.{At, Among}
@@ -64,12 +65,6 @@ pub base_reading : (c : Circuit) (phase : Phase) (inputs : ℕ → Bool) → IsR
 base_reading c phase inputs n net e =
     subst (λ (o : Option FlatNet). HasGivenBit phase inputs net.kind n (unwrap_or (option_map (λ (x : FlatNet). given_by_kind phase inputs n x.kind) o) false)) (sym e) (given_has phase inputs net.kind n)
 
--- two partial assignments with the same bits are the same
-pub option_same : (o p : Option Bool) → ((v : Bool) → o ≡ Some v → p ≡ Some v) → ((v : Bool) → p ≡ Some v → o ≡ Some v) → o ≡ p
-option_same None None f g = refl
-option_same None (Some y) f g = g y refl
-option_same (Some x) p f g = sym (f x refl)
-
 -- the value of a response, if it is one
 abbrev pub shown_by : Response → Option Bool
 shown_by Fight = None
@@ -108,12 +103,12 @@ module _ (c : Circuit) (phase : Phase) (good : HasGivenGates c) (setting : Setti
   pub state_from : (reading : ℕ → Bool) → IsReading c phase setting.inputs reading → IsState c phase setting.inputs (record { reading = reading; driven = λ at. false })
   state_from reading is = record { reading = is; driven = λ at out e. absurd (no_pin at out e) }
 
-  pub base : State
-  base = record { reading = given_bit c phase setting.inputs; driven = λ at. false }
+  pub given_state : State
+  given_state = record { reading = given_bit c phase setting.inputs; driven = λ at. false }
 
-  pub base_is : IsState c phase setting.inputs base
-  unfolding base
-  base_is = state_from (given_bit c phase setting.inputs) (base_reading c phase setting.inputs)
+  pub given_state_is : IsState c phase setting.inputs given_state
+  unfolding given_state
+  given_state_is = state_from (given_bit c phase setting.inputs) (base_reading c phase setting.inputs)
 
   -- two states have the same bit at a given net
   same_given : (s t : State) → IsState c phase setting.inputs s → IsState c phase setting.inputs t → (n : ℕ) → IsGiven c n → s.reading n ≡ t.reading n
@@ -178,7 +173,7 @@ module _ (c : Circuit) (phase : Phase) (good : HasGivenGates c) (setting : Setti
 
   -- a reading with the given bits, and those of a partial assignment at the other nets
   abbrev filled : (ℕ → Option Bool) → ℕ → Bool
-  filled a n = cond (is_given_at c n) (base.reading n) (unwrap_or (a n) false)
+  filled a n = cond (is_given_at c n) (given_state.reading n) (unwrap_or (a n) false)
 
   pub filled_state : (a : ℕ → Option Bool) → State
   filled_state a = record { reading = filled a; driven = λ at. false }
@@ -186,7 +181,7 @@ module _ (c : Circuit) (phase : Phase) (good : HasGivenGates c) (setting : Setti
   filled_reading : (a : ℕ → Option Bool) → IsReading c phase setting.inputs (filled a)
   filled_reading a n net e =
       elim (cases_Bool (is_given net.kind)) [
-        | inl g ↦ subst (HasGivenBit phase setting.inputs net.kind n) (sym (cond-true (is_given_at c n) (base.reading n) (unwrap_or (a n) false) (given_at_is c n net e ∙ g))) (base_is.reading n net e)
+        | inl g ↦ subst (HasGivenBit phase setting.inputs net.kind n) (sym (cond-true (is_given_at c n) (given_state.reading n) (unwrap_or (a n) false) (given_at_is c n net e ∙ g))) (given_state_is.reading n net e)
         | inr f ↦ plain_any phase setting.inputs net.kind n (filled a n) f
       ]
 
@@ -196,19 +191,19 @@ module _ (c : Circuit) (phase : Phase) (good : HasGivenGates c) (setting : Setti
 
   module _ (observed : ℕ → Bool) where
     -- a partial assignment that has the given bits at the observed given nets agrees with some state
-    filled_agrees : (a : ℕ → Option Bool) → ((n : ℕ) → observed n ≡ true → IsGiven c n → a n ≡ Some (base.reading n)) → Agrees observed a (filled_state a).reading
+    filled_agrees : (a : ℕ → Option Bool) → ((n : ℕ) → observed n ≡ true → IsGiven c n → a n ≡ Some (given_state.reading n)) → Agrees observed a (filled_state a).reading
     unfolding filled_state
     filled_agrees a gives n v seen e =
         elim (cases_Bool (is_given_at c n)) [
-          | inl g ↦ cond-true (is_given_at c n) (base.reading n) (unwrap_or (a n) false) g ∙ same_Some (base.reading n) v (sym (gives n seen (given_at_gives c n g)) ∙ e)
-          | inr f ↦ cond-false (is_given_at c n) (base.reading n) (unwrap_or (a n) false) f ∙ ap (λ (o : Option Bool). unwrap_or o false) e
+          | inl g ↦ cond-true (is_given_at c n) (given_state.reading n) (unwrap_or (a n) false) g ∙ same_Some (given_state.reading n) v (sym (gives n seen (given_at_gives c n g)) ∙ e)
+          | inr f ↦ cond-false (is_given_at c n) (given_state.reading n) (unwrap_or (a n) false) f ∙ ap (λ (o : Option Bool). unwrap_or o false) e
         ]
 
     -- a solution has the given bits at the observed given nets
-    solution_given : (a : ℕ → Option Bool) → IsSolution c phase observed setting a → (n : ℕ) → observed n ≡ true → IsGiven c n → a n ≡ Some (base.reading n)
+    solution_given : (a : ℕ → Option Bool) → IsSolution c phase observed setting a → (n : ℕ) → observed n ≡ true → IsGiven c n → a n ≡ Some (given_state.reading n)
     solution_given a solves n seen g =
-        (solves n (base.reading n) seen).1
-        (λ s is agrees. subst (λ (v : Bool). IsResponse (network_of c true setting.held s) n (Shows v)) (same_given s base is base_is n g) (given_shows true s n g))
+        (solves n (given_state.reading n) seen).1
+        (λ s is agrees. subst (λ (v : Bool). IsResponse (network_of c true setting.held s) n (Shows v)) (same_given s given_state is given_state_is n g) (given_shows true s n g))
 
     pub solution_agrees : (a : ℕ → Option Bool) → IsSolution c phase observed setting a → Agrees observed a (filled_state a).reading
     solution_agrees a solves = filled_agrees a (solution_given a solves)
@@ -232,31 +227,31 @@ module _ (c : Circuit) (phase : Phase) (good : HasGivenGates c) (setting : Setti
     pub one_solution : (a b : ℕ → Option Bool) → IsSolution c phase observed setting a → IsSolution c phase observed setting b → SameObserved observed a b
     one_solution a b sa sb n seen =
         option_same (a n) (b n)
-        (λ v e. (solution_shows b sb base base_is n v seen).1 ((solution_shows a sa base base_is n v seen).0 e))
-        (λ v e. (solution_shows a sa base base_is n v seen).1 ((solution_shows b sb base base_is n v seen).0 e))
+        (λ v e. (solution_shows b sb given_state given_state_is n v seen).1 ((solution_shows a sa given_state given_state_is n v seen).0 e))
+        (λ v e. (solution_shows a sa given_state given_state_is n v seen).1 ((solution_shows b sb given_state given_state_is n v seen).0 e))
 
-    -- the response of each net in the base state
-    pub response_at : (n : ℕ) → (r : Response) × IsResponse (network_of c true setting.held base) n r
-    response_at n = some_response (network_of c true setting.held base) (length c.nets) 8 (network_finite c true setting.held base good.ranges) n
+    -- the response of each net in that state
+    pub response_at : (n : ℕ) → (r : Response) × IsResponse (network_of c true setting.held given_state) n r
+    response_at n = some_response (network_of c true setting.held given_state) (length c.nets) 8 (network_finite c true setting.held given_state good.ranges) n
 
     pub shown : ℕ → Option Bool
     shown n = shown_by (response_at n).0
 
-    shown_shows : (n : ℕ) (v : Bool) → (shown n ≡ Some v) ↔ IsResponse (network_of c true setting.held base) n (Shows v)
+    shown_shows : (n : ℕ) (v : Bool) → (shown n ≡ Some v) ↔ IsResponse (network_of c true setting.held given_state) n (Shows v)
     unfolding shown
     shown_shows n v = (
-      λ e. subst (IsResponse (network_of c true setting.held base) n) (shown_is (response_at n).0 v e) (response_at n).1,
-      λ h. ap shown_by (one_response (network_of c true setting.held base) n (response_at n).0 (Shows v) (response_at n).1 h),
+      λ e. subst (IsResponse (network_of c true setting.held given_state) n) (shown_is (response_at n).0 v e) (response_at n).1,
+      λ h. ap shown_by (one_response (network_of c true setting.held given_state) n (response_at n).0 (Shows v) (response_at n).1 h),
     )
 
     -- and there is one: what the nets show
     pub shown_is_solution : IsSolution c phase observed setting shown
     shown_is_solution n v seen = (
-      λ e s is agrees. same_response true base s base_is is n (Shows v) ((shown_shows n v).0 e),
+      λ e s is agrees. same_response true given_state s given_state_is is n (Shows v) ((shown_shows n v).0 e),
       λ always. (shown_shows n v).1
-          (same_response true (filled_state shown) base (filled_is shown) base_is n (Shows v)
+          (same_response true (filled_state shown) given_state (filled_is shown) given_state_is n (Shows v)
           (always (filled_state shown) (filled_is shown)
-          (filled_agrees shown (λ m seen g. (shown_shows m (base.reading m)).1 (given_shows true base m g))))),
+          (filled_agrees shown (λ m seen g. (shown_shows m (given_state.reading m)).1 (given_shows true given_state m g))))),
     )
 
     -- a solution has a bit at an observed net exactly where the net neither fights nor floats
@@ -264,7 +259,7 @@ module _ (c : Circuit) (phase : Phase) (good : HasGivenGates c) (setting : Setti
         → ((v : Bool) × (a n ≡ Some v) × IsResponse (network_of c true setting.held s) n (Shows v))
         ⊎ ((a n ≡ None) × (IsResponse (network_of c true setting.held s) n Fight ⊎ IsResponse (network_of c true setting.held s) n Float))
     solution_defined a solves s is n seen =
-        by_response (response_at n).0 (same_response true base s base_is is n (response_at n).0 (response_at n).1)
+        by_response (response_at n).0 (same_response true given_state s given_state_is is n (response_at n).0 (response_at n).1)
       where
         none_from : (r : Response) → IsResponse (network_of c true setting.held s) n r → ((v : Bool) → r ≡ Shows v → ⊥) → a n ≡ None
         none_from r here apart =

@@ -6,12 +6,12 @@ use Rattle.std.proofs.lemmas.Bool.{and_parts, or_cases, eqb-true, eq-eqb, leb-tr
 use Rattle.std.proofs.lemmas.List.{get_or_past}
 use Rattle.std.proofs.lemmas.Option.{slice_get_past}
 use Rattle.vrt_model.proofs.Clear.{HopFits, RootFits, arrives-reaches, reaches-arrives}
-use Rattle.vrt_model.proofs.Decidable.{found, found_marked, same_bit, same_bit_is}
+use Rattle.vrt_model.proofs.Decidable.{ends_within, ends_marked, same_bit_is}
 use Rattle.vrt_model.proofs.Marks.{HasRootMarks, HasSpread, marks_closed}
 use Rattle.vrt_model.proofs.Members.{at_all}
 use Rattle.vrt_model.proofs.Roots.{root_among, roots_of}
 use Rattle.vrt_model.proofs.Strength.{AtLeast, HopHas, RootHas, level_le, strength_of}
-use Rattle.vrt_model.specs.Lists.{Among, bit_at}
+use Rattle.vrt_model.specs.Lists.{Among, bit_at, same_bit}
 use Rattle.vrt_model.specs.Path.{Hop, IsPath, Joins, Network, Root, end_of, level_of}
 use Rattle.vrt_model.specs.Reading.{conducts}
 use Rattle.vrt_model.specs.Response.{IsResponse, IsStrength, Reaches}
@@ -50,7 +50,7 @@ abbrev pub attains : Network → ℕ → List ℕ → ℕ → Bool
 attains w count t zero = true
 attains w count t (suc n) =
     attains w count t n
-    && (eqb (slice_index t n) 0 || found w (λ (root : Root). leb (slice_index t n) root.level) (λ m d k. leb (slice_index t n) d.level) count n)
+    && (eqb (slice_index t n) 0 || ends_within w (λ (root : Root). leb (slice_index t n) root.level) (λ m d k. leb (slice_index t n) d.level) count n)
 
 abbrev pub fits_root : List ℕ → Bool → Root → Bool
 fits_root t v root = eqb root.level (slice_index t root.net) && same_bit root.value v
@@ -75,7 +75,7 @@ covers w t v marks = list_all (marks_root t v marks) (roots_of w) && list_all (m
 abbrev pub finds : Network → ℕ → List ℕ → Bool → List Bool → ℕ → Bool
 finds w count t v marks zero = true
 finds w count t v marks (suc n) =
-    finds w count t v marks n && implies (bit_at marks n) (found w (fits_root t v) (fits_hop t) count n)
+    finds w count t v marks n && implies (bit_at marks n) (ends_within w (fits_root t v) (fits_hop t) count n)
 
 -- the tables are right, where paths of so many devices are tried
 abbrev pub is_right : Network → ℕ → List ℕ → List Bool → List Bool → Bool
@@ -107,9 +107,9 @@ module _ (w : Network) (count : ℕ) (t : List ℕ) (bounded : bounds w t ≡ tr
           subst (λ (x : ℕ). min (slice_index t x) d.level ≤ slice_index t n) j.1
           (subst (λ (x : ℕ). min (slice_index t d.right.0) d.level ≤ slice_index t x) j.0 (leb-true (min (slice_index t d.right.0) d.level) (slice_index t d.left.0) h.1))
 
-  at_least : (l n : ℕ) → found w (λ (root : Root). leb l root.level) (λ m d k. leb l d.level) count n ≡ true → AtLeast w l n
+  at_least : (l n : ℕ) → ends_within w (λ (root : Root). leb l root.level) (λ m d k. leb l d.level) count n ≡ true → AtLeast w l n
   at_least l n e =
-      found_marked w (RootHas l) (HopHas l) (λ (root : Root). leb l root.level) (λ m d k. leb l d.level)
+      ends_marked w (RootHas l) (HopHas l) (λ (root : Root). leb l root.level) (λ m d k. leb l d.level)
       (λ root. (λ e. leb-true l root.level e, λ h. le-leb l root.level h)) (λ m k d. (λ e. leb-true l d.level e, λ h. le-leb l d.level h)) count n e
 
   below : (k n : ℕ) → attains w count t k ≡ true → n < k → (slice_index t n ≡ 0) ⊎ AtLeast w (slice_index t n) n
@@ -120,7 +120,7 @@ module _ (w : Network) (count : ℕ) (t : List ℕ) (bounded : bounds w t ≡ tr
         | inr ge ↦
             let same : k ≡ n = omega arith in
             subst (λ (x : ℕ). (slice_index t x ≡ 0) ⊎ AtLeast w (slice_index t x) x) same
-            (elim (or_cases (eqb (slice_index t k) 0) (found w (λ (root : Root). leb (slice_index t k) root.level) (λ m d j. leb (slice_index t k) d.level) count k) (parts k e).1) [
+            (elim (or_cases (eqb (slice_index t k) 0) (ends_within w (λ (root : Root). leb (slice_index t k) root.level) (λ m d j. leb (slice_index t k) d.level) count k) (parts k e).1) [
               | inl none ↦ inl (eqb-true (slice_index t k) 0 none)
               | inr some ↦ inr (at_least (slice_index t k) k some)
             ])
@@ -128,8 +128,8 @@ module _ (w : Network) (count : ℕ) (t : List ℕ) (bounded : bounds w t ≡ tr
     where
       parts : (k : ℕ) → attains w count t (suc k) ≡ true
           → (attains w count t k ≡ true)
-          × ((eqb (slice_index t k) 0 || found w (λ (root : Root). leb (slice_index t k) root.level) (λ m d j. leb (slice_index t k) d.level) count k) ≡ true)
-      parts k e = and_parts (attains w count t k) (eqb (slice_index t k) 0 || found w (λ (root : Root). leb (slice_index t k) root.level) (λ m d j. leb (slice_index t k) d.level) count k) e
+          × ((eqb (slice_index t k) 0 || ends_within w (λ (root : Root). leb (slice_index t k) root.level) (λ m d j. leb (slice_index t k) d.level) count k) ≡ true)
+      parts k e = and_parts (attains w count t k) (eqb (slice_index t k) 0 || ends_within w (λ (root : Root). leb (slice_index t k) root.level) (λ m d j. leb (slice_index t k) d.level) count k) e
 
   strengths_right : (n : ℕ) → IsStrength w n (slice_index t n)
   strengths_right n =
@@ -188,13 +188,13 @@ module _ (w : Network) (count : ℕ) (t : List ℕ) (strong : (n : ℕ) → IsSt
             let there : bit_at marks k ≡ true = subst (λ (x : ℕ). bit_at marks x ≡ true) (sym same) marked in
             subst (λ (x : ℕ). Reaches w x v) same
             (arrives-reaches w (slice_index t) strong v k
-            (found_marked w (RootFits (slice_index t) v) (HopFits (slice_index t)) (fits_root t v) (fits_hop t) root_fits (λ m j d. hop_fits m j d) count k
-            (implied (bit_at marks k) (found w (fits_root t v) (fits_hop t) count k) (here k e).1 there)))
+            (ends_marked w (RootFits (slice_index t) v) (HopFits (slice_index t)) (fits_root t v) (fits_hop t) root_fits (λ m j d. hop_fits m j d) count k
+            (implied (bit_at marks k) (ends_within w (fits_root t v) (fits_hop t) count k) (here k e).1 there)))
       ]
     where
       here : (k : ℕ) → finds w count t v marks (suc k) ≡ true
-          → (finds w count t v marks k ≡ true) × (implies (bit_at marks k) (found w (fits_root t v) (fits_hop t) count k) ≡ true)
-      here k e = and_parts (finds w count t v marks k) (implies (bit_at marks k) (found w (fits_root t v) (fits_hop t) count k)) e
+          → (finds w count t v marks k ≡ true) × (implies (bit_at marks k) (ends_within w (fits_root t v) (fits_hop t) count k) ≡ true)
+      here k e = and_parts (finds w count t v marks k) (implies (bit_at marks k) (ends_within w (fits_root t v) (fits_hop t) count k)) e
 
   marks_right : (n : ℕ) → (bit_at marks n ≡ true) ↔ Reaches w n v
   marks_right n = (
