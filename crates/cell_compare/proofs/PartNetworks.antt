@@ -5,7 +5,7 @@ use Rattle.cell_compare.specs.Scans.{IsInside}
 use Rattle.cell_compare.proofs.Ordered.{IsWholePart}
 use Rattle.cell_compare.specs.Faults.{HasFault, HasFixedBits, IsSettingAt, ShowsFault}
 use Rattle.cell_compare.proofs.Solutions.{circuit_in, given_reading, known_bit, levels, no_output, some_state, some_state_agrees, some_state_is, source}
-use Rattle.channel_parts.proofs.Bounded.{Covers, response_inside}
+use Rattle.vrt_model.specs.Networks.{Covers, HasLevels}
 use Rattle.channel_parts.specs.OneSolution.{AreObserved}
 use Rattle.channel_parts.specs.declared.part.Part.{Part}
 use Rattle.known_nets.proofs.NetKinds.{given_or_plain}
@@ -13,7 +13,7 @@ use Rattle.path_fixpoint.specs.Parts.{part_devices}
 use Rattle.path_fixpoint.specs.Solved.{net_of}
 use Rattle.vrt_model.proofs.Filtered.{device_among}
 use Rattle.vrt_model.proofs.GatesGiven.{IsGiven}
-use Rattle.vrt_model.proofs.GivenNets.{HasLevels}
+use Rattle.vrt_model.proofs.Bounded.{response_inside}
 use Rattle.vrt_model.proofs.Members.{all_among, at_none}
 use Rattle.vrt_model.specs.Circuits.{IsDevice, IsHold, IsFlat}
 use Rattle.vrt_model.specs.Known.{IsChannel}

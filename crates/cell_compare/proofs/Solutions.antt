@@ -6,7 +6,7 @@ use Rattle.std.proofs.lemmas.Option.{same_Some}
 use Rattle.channel_parts.specs.OneSolution.{AreObserved}
 use Rattle.vrt_model.proofs.Filtered.{device_among}
 use Rattle.vrt_model.proofs.GatesGiven.{IsGiven, plain_any}
-use Rattle.vrt_model.proofs.GivenNets.{HasLevels, IsSource, clear_from_source, source_strength}
+use Rattle.vrt_model.proofs.GivenNets.{clear_from_source, source_strength}
 use Rattle.vrt_model.proofs.Locality.{known_in_solution}
 use Rattle.vrt_model.proofs.Members.{all_among, at_none}
 use Rattle.vrt_model.proofs.Networks.{given_source, network_levels, flat_ranges}
@@ -28,6 +28,7 @@ use Rattle.vrt_model.specs.declared.rules.Phase.{Phase}
 use Rattle.vrt_model.specs.declared.whole.Whole.{Whole}
 use Rattle.vrt_model.specs.declared.whole.WholePin.{WholePin}
 use Rattle.cell_compare.specs.Faults.{HasFixedBits, IsSettingAt}
+use Rattle.vrt_model.specs.Networks.{HasLevels, IsSource}
 
 -- ---- responses
 

@@ -1,6 +1,5 @@
 -- Parts, ranks, cycles, and the law of one solution.
 pub mod Acyclic
-pub mod Bounded
 pub mod Found
 pub mod GroupLaws
 pub mod Labels

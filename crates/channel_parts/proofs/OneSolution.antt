@@ -3,7 +3,7 @@ use Rattle.std.proofs.Common.{◌≡◌, ℕ, zero, suc, ◌<◌, ◌≤◌, ◌
 use Rattle.std.specs.Prelude.{◌↔◌, is_some, option_map, unwrap_or}
 use Rattle.std.proofs.lemmas.Bool.{or_cases, or_left, or_right, and_parts, and_from, not-true, not_from_false, false≢true, cases_Bool}
 use Rattle.std.proofs.lemmas.Option.{none-some, same_Some}
-use Rattle.channel_parts.proofs.Bounded.{Covers, reaches_inside}
+use Rattle.vrt_model.specs.Networks.{Covers, HasLevels, IsSource, HasRanges}
 use Rattle.channel_parts.proofs.Found.{solution, solution_fixed, solution_shows, shows_solution}
 use Rattle.channel_parts.proofs.Unique.{solution_unique}
 use Rattle.channel_parts.specs.OneSolution.{HasDrives, HasKnownBits, HasOneSolution, KnownStand, SameBelow}
@@ -12,10 +12,10 @@ use Rattle.known_nets.specs.KnownTables.{IsKnownTable}
 use Rattle.vrt_model.proofs.Decidable.{reaches_test, reaches_test_ok}
 use Rattle.vrt_model.proofs.Filtered.{device_among}
 use Rattle.vrt_model.proofs.GatesGiven.{IsGiven, base_reading, given_once, plain_any}
-use Rattle.vrt_model.proofs.GivenNets.{HasLevels, IsSource, clear_from_source, source_strength}
+use Rattle.vrt_model.proofs.GivenNets.{clear_from_source, source_strength}
 use Rattle.vrt_model.proofs.Locality.{known_in_solution, known_shows}
 use Rattle.vrt_model.proofs.Members.{all_among, among_filter, at_none}
-use Rattle.vrt_model.proofs.Networks.{HasRanges, given_source, network_finite, network_levels}
+use Rattle.vrt_model.proofs.Networks.{given_source, network_finite, network_levels}
 use Rattle.vrt_model.proofs.Ranked.{plain_not_given}
 use Rattle.vrt_model.proofs.SameNetwork.{IsPartOf, response_same}
 use Rattle.vrt_model.specs.Circuits.{IsDevice, IsHold}
@@ -36,6 +36,7 @@ use Rattle.vrt_model.specs.declared.circuit.NetKind.TheVariants.{Supply, Clock, 
 use Rattle.vrt_model.specs.declared.rules.Phase.{Phase}
 use Rattle.vrt_model.specs.declared.whole.Whole.{Whole}
 use Rattle.vrt_model.specs.declared.whole.WholePin.{WholePin}
+use Rattle.vrt_model.proofs.Bounded.{reaches_inside}
 
 -- ---- lists, bits and kinds
 

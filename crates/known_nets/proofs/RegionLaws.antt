@@ -15,7 +15,7 @@ use Rattle.vrt_model.proofs.Clear.{HopFits, RootFits, arrives-reaches, clear-kee
 use Rattle.vrt_model.proofs.Decidable.{strength_at, strength_at_is}
 use Rattle.vrt_model.proofs.Filtered.{among_devices, device_among}
 use Rattle.vrt_model.proofs.GatesGiven.{IsGiven}
-use Rattle.vrt_model.proofs.GivenNets.{HasLevels, IsSource, clear_from_source, level_most, source_strength}
+use Rattle.vrt_model.proofs.GivenNets.{clear_from_source, level_most, source_strength}
 use Rattle.vrt_model.proofs.Laws.{one_strength}
 use Rattle.vrt_model.proofs.Members.{all_among, at_none}
 use Rattle.vrt_model.proofs.Networks.{given_source, network_finite, network_levels, flat_outputs, flat_ranges}
@@ -36,6 +36,7 @@ use Rattle.vrt_model.specs.declared.circuit.Device.{Device}
 use Rattle.vrt_model.specs.declared.rules.Phase.{Phase}
 use Rattle.vrt_model.specs.declared.whole.Whole.{Whole}
 use Rattle.vrt_model.specs.declared.whole.WholePin.{WholePin}
+use Rattle.vrt_model.specs.Networks.{HasLevels, IsSource}
 
 -- ---- bits and amounts
 

@@ -1,9 +1,10 @@
 -- Where no instance is left whole, the checked circuit is the flat circuit.
 use Rattle.std.proofs.Common.{◌≡◌, ℕ, zero, suc, ◌+◌, Bool, true, false, not, ◌&&◌, ◌||◌, cond, List, [], ◌∷◌, ◌++◌, map, Option, Some, None, sym, subst, refl, ◌∙◌, ap}
-use Rattle.std.specs.Prelude.{drop, filter, flat_map, option_map, slice_get, unwrap_or}
+use Rattle.std.specs.Prelude.{drop, flat_map, option_map, slice_get, unwrap_or}
 use Rattle.std.specs.List.{list_any, enumerate_from, AllZip}
 use Rattle.std.proofs.lemmas.Bool.{false≢true}
 use Rattle.model_laws.specs.NoWhole.{none, whole_nowhere}
+use Rattle.vrt_model.proofs.Lists.{filter_all, filter_none}
 use Rattle.vrt_model.specs.Checked.{IsChecked, IsCircuitWith}
 use Rattle.vrt_model.specs.CheckedParts.{checked_devices, checked_holds, checked_instances, moved_end}
 use Rattle.vrt_model.specs.Comparison.{cell_at}
@@ -23,14 +24,6 @@ use Rattle.vrt_model.specs.declared.whole.CellFacts.{CellFacts}
 any_none : {X : Type 0} (f : X → Bool) (xs : List X) → ((x : X) → f x ≡ false) → list_any f xs ≡ false
 any_none f [] h = refl
 any_none f (x ∷ xs) h = ap (λ b. b || list_any f xs) (h x) ∙ any_none f xs h
-
-filter_none : {X : Type 0} (f : X → Bool) (xs : List X) → ((x : X) → f x ≡ false) → filter f xs ≡ []
-filter_none f [] h = refl
-filter_none f (x ∷ xs) h = ap (λ b. cond b (x ∷ filter f xs) (filter f xs)) (h x) ∙ filter_none f xs h
-
-filter_all : {X : Type 0} (f : X → Bool) (xs : List X) → ((x : X) → f x ≡ true) → filter f xs ≡ xs
-filter_all f [] h = refl
-filter_all f (x ∷ xs) h = ap (λ b. cond b (x ∷ filter f xs) (filter f xs)) (h x) ∙ ap (λ ys. x ∷ ys) (filter_all f xs h)
 
 map_same : {X : Type 0} (f : X → X) (xs : List X) → ((x : X) → f x ≡ x) → map f xs ≡ xs
 map_same f [] h = refl

@@ -10,7 +10,7 @@ use Rattle.vrt_model.proofs.GatesGiven.{IsGiven, always_responds, filled_is, fil
 use Rattle.vrt_model.proofs.Laws.{one_response}
 use Rattle.vrt_model.proofs.Members.{at_none}
 use Rattle.vrt_model.proofs.Networks.{network_bound}
-use Rattle.vrt_model.proofs.ShortPaths.{HasBound}
+use Rattle.vrt_model.specs.Networks.{HasBound}
 use Rattle.vrt_model.specs.Assignment.{Assignment}
 use Rattle.vrt_model.specs.CellRules.{is_observed_port}
 use Rattle.vrt_model.specs.Comparison.{CellPort, Comparison, cell_at, is_observed, output_signal, phase_at, ports_of}

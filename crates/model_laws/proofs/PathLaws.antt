@@ -1,8 +1,9 @@
 -- Paths: what is left of a clear one, and what one brings past a source.
 use Rattle.std.proofs.Common.{◌≡◌, ℕ, ◌≤◌, List, [], ◌∷◌, ◌++◌, arith, refl, sym, subst, ◌∙◌}
-use Rattle.vrt_model.proofs.GivenNets.{HasLevels, IsSource, level_most}
+use Rattle.vrt_model.proofs.GivenNets.{level_most}
 use Rattle.vrt_model.specs.Path.{Avoids, Hop, IsPath, IsRoot, Joins, Network, Root, end_of, level_of}
 use Rattle.vrt_model.specs.Response.{IsClear, IsStrength}
+use Rattle.vrt_model.specs.Networks.{HasLevels, IsSource}
 
 -- a clear path has the strength of the net at which it ends
 pub clear_level : (w : Network) (root : Root) (hops : List Hop) → IsClear w root hops → IsStrength w (end_of root hops) (level_of root hops)

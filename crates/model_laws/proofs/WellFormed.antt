@@ -1,7 +1,7 @@
 -- What laws ask of a circuit holds where it is well formed.
 use Rattle.std.proofs.Common.{ℕ, ◌≤◌, true}
 use Rattle.vrt_model.proofs.Members.{all_among, among_filter}
-use Rattle.vrt_model.proofs.Networks.{HasRanges}
+use Rattle.vrt_model.specs.Networks.{HasRanges}
 use Rattle.vrt_model.specs.Circuits.{IsCircuit, IsDevice, IsHold}
 use Rattle.vrt_model.specs.Lists.{At, Among}
 use Rattle.vrt_model.specs.Reading.{devices_of, is_in}

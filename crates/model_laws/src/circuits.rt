@@ -6,7 +6,7 @@ ghost use Rattle.model_laws.specs.NoWhole.{whole_nowhere};
 ghost use Rattle.model_laws.specs.OneCell.{IsOneCell};
 ghost use Rattle.model_laws.specs.Ranks.{rank_of};
 ghost use Rattle.vrt_model.proofs.GatesGiven.{HasGivenGates};
-ghost use Rattle.vrt_model.proofs.Networks.{HasRanges};
+ghost use Rattle.vrt_model.specs.Networks.{HasRanges};
 ghost use Rattle.vrt_model.specs.Assignment.{Assignment, IsAssignment, Surroundings};
 ghost use Rattle.vrt_model.specs.CellRules.{is_observed_port};
 ghost use Rattle.vrt_model.specs.Checked.{IsChecked, IsCircuitWith};

@@ -2,8 +2,7 @@
 
 ghost use Rattle.std.specs.Prelude.{◌≡◌, ℕ, ◌≤◌, ◌++◌, List};
 ghost use Rattle.model_laws.specs.Walks.{IsWalk, PathTo};
-ghost use Rattle.vrt_model.proofs.Decidable.{IsFinite};
-ghost use Rattle.vrt_model.proofs.GivenNets.{HasLevels, IsSource};
+ghost use Rattle.vrt_model.specs.Networks.{IsFinite, HasLevels, IsSource};
 ghost use Rattle.vrt_model.specs.Path.{Hop, IsPath, Network, Root, end_of, level_of};
 ghost use Rattle.vrt_model.specs.Response.{IsClear, IsResponse, IsStrength, Response};
 

@@ -8,7 +8,7 @@ use Rattle.node_pool.specs.declared.region.Span.{Span}
 use Rattle.bdd_core.specs.Diagram.{Valuation, meaning}
 use Rattle.bdd_core.specs.Store.{Diagrams}
 use Rattle.vrt_model.proofs.Clear.{HopFits, RootFits, arrives-reaches, reaches-arrives}
-use Rattle.vrt_model.proofs.GivenNets.{HasLevels, level_most}
+use Rattle.vrt_model.proofs.GivenNets.{level_most}
 use Rattle.vrt_model.proofs.Members.{all_among, at_none}
 use Rattle.vrt_model.proofs.PathKinds.{Arrives, arrives_on, arrives_root, closed_end}
 use Rattle.vrt_model.proofs.Strength.{at_least-strength, at_least_on, strength-at_least}
@@ -33,6 +33,7 @@ use Rattle.path_fixpoint.proofs.Passing.{EndIs, given_path}
 use Rattle.path_fixpoint.proofs.Places.{place_in, place_once}
 use Rattle.path_fixpoint.proofs.RoundLaws.{level_stays, stands_kept, words_kept}
 use Rattle.path_fixpoint.proofs.Spreading.{device_ranges}
+use Rattle.vrt_model.specs.Networks.{HasLevels}
 
 pub slot_low : (value : Bool) → 9 ≤ slot_of value
 slot_low true = omega arith

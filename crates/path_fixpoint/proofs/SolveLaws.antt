@@ -4,7 +4,7 @@ use Rattle.std.proofs.lemmas.Option.{slice_get_within}
 use Rattle.node_pool.specs.declared.region.Span.{Span}
 use Rattle.bdd_core.specs.Diagram.{Valuation}
 use Rattle.bdd_core.specs.Store.{Diagrams}
-use Rattle.vrt_model.proofs.Decidable.{IsFinite, strength_exists}
+use Rattle.vrt_model.proofs.Decidable.{strength_exists}
 use Rattle.vrt_model.proofs.Members.{all_among, at_none}
 use Rattle.vrt_model.proofs.Strength.{at_least-strength, strength-at_least}
 use Rattle.vrt_model.specs.Circuits.{IsHold, IsFlat}
@@ -23,6 +23,7 @@ use Rattle.path_fixpoint.proofs.Places.{levels_differ, place_word}
 use Rattle.path_fixpoint.proofs.ReachLaws.{levels_of, slot_high, slot_low, slot_place}
 use Rattle.path_fixpoint.proofs.RoundLaws.{words_from}
 use Rattle.path_fixpoint.proofs.Spreading.{device_ranges}
+use Rattle.vrt_model.specs.Networks.{IsFinite}
 
 module _ (c : Circuit) (part : Part) (is_part : IsPart c part) (flat : IsFlat c) (gates roots out : Span) where
   pub root_words_from : (old new : Diagrams) → HasRootSpans c part gates roots out old → Writes out old new → HasRootWords c part gates roots out new

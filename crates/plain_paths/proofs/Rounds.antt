@@ -6,7 +6,7 @@ use Rattle.std.proofs.lemmas.List.{get_or_past, length-map}
 use Rattle.std.proofs.lemmas.Option.{slice_get-map, get_or_from_slice_get, slice_get_cases}
 use Rattle.vrt_model.proofs.Members.{at_none}
 use Rattle.vrt_model.proofs.PathKinds.{arrives_root}
-use Rattle.vrt_model.proofs.ShortPaths.{HasBound, path_short}
+use Rattle.vrt_model.proofs.ShortPaths.{path_short}
 use Rattle.vrt_model.proofs.Strength.{AtLeast, HopHas, RootHas, at_least_on, level_le, strength_of}
 use Rattle.vrt_model.specs.Lists.{At, Among}
 use Rattle.vrt_model.specs.Path.{IsOn, Joins, Network, Root, end_of}
@@ -20,6 +20,7 @@ use Rattle.vrt_model.specs.declared.whole.WholePin.{WholePin}
 use Rattle.plain_paths.specs.Channels.{HasChannels, IsOver, channel_of}
 use Rattle.plain_paths.specs.Tables.{HasGrown, HasHolds, HasPassed, HasRoots, HasWithin, IsAttained, level_of_net}
 use Rattle.plain_paths.specs.declared.channels.Channel.{Channel}
+use Rattle.vrt_model.specs.Networks.{HasBound}
 
 -- a step over one device, in one direction, keeps what is attained
 pub pass_attained : (w : Network) (d : Device) (from to level : ℕ) (t u : List ℕ) → IsOn w d → Joins d from to → d.level ≡ level

@@ -7,7 +7,7 @@ use Rattle.vrt_model.proofs.Clear.{HopFits, RootFits, arrives-reaches, reaches-a
 use Rattle.vrt_model.proofs.Marks.{HasMarksWithin, HasRootMarks, HasSpread, marks_all, marks_closed}
 use Rattle.vrt_model.proofs.Members.{at_none}
 use Rattle.vrt_model.proofs.PathKinds.{Arrives, arrives_on, arrives_root}
-use Rattle.vrt_model.proofs.ShortPaths.{HasBound, path_short}
+use Rattle.vrt_model.proofs.ShortPaths.{path_short}
 use Rattle.vrt_model.specs.Lists.{At, Among, mark_at}
 use Rattle.vrt_model.specs.Path.{Hop, IsOn, IsPath, Joins, Network, Root}
 use Rattle.vrt_model.specs.Reading.{is_given}
@@ -20,6 +20,7 @@ use Rattle.vrt_model.specs.declared.whole.WholePin.{WholePin}
 use Rattle.plain_paths.specs.Channels.{HasChannels, IsOver, channel_of}
 use Rattle.plain_paths.specs.Marks.{Marked, MarksPass}
 use Rattle.plain_paths.specs.declared.channels.Channel.{Channel}
+use Rattle.vrt_model.specs.Networks.{HasBound}
 
 -- a mark spread over one device, in one direction
 pub spread_marked : (w : Network) (s : List ℕ) (v : Bool) (d : Device) (from to level : ℕ) (t u : List Bool) → IsOn w d → Joins d from to → d.level ≡ level

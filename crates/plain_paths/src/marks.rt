@@ -7,7 +7,7 @@ ghost use Rattle.plain_paths.specs.Marks.{ChannelFits, Marked, MarksPass};
 ghost use Rattle.plain_paths.specs.declared.channels.Channel.{Channel as ChannelValue};
 ghost use Rattle.vrt_model.proofs.Clear.{HopFits, RootFits};
 ghost use Rattle.vrt_model.proofs.Marks.{HasRootMarks};
-ghost use Rattle.vrt_model.proofs.ShortPaths.{HasBound};
+ghost use Rattle.vrt_model.specs.Networks.{HasBound};
 ghost use Rattle.vrt_model.specs.Lists.{At, Among, bit_at, MarksGrow, mark_at};
 ghost use Rattle.vrt_model.specs.Path.{IsOn, Network};
 ghost use Rattle.vrt_model.specs.Reading.{is_given};

@@ -5,7 +5,7 @@ ghost use Rattle.plain_paths.specs.Channels.{Connects, HasChannels, IsOver, IsWi
 ghost use Rattle.vrt_model.specs.Circuits.{IsFlat};
 ghost use Rattle.plain_paths.specs.Tables.{HasGrown, HasHolds, HasPassed, HasRoots, IsAttained, level_of_net};
 ghost use Rattle.plain_paths.specs.declared.channels.Channel.{Channel as ChannelValue};
-ghost use Rattle.vrt_model.proofs.ShortPaths.{HasBound};
+ghost use Rattle.vrt_model.specs.Networks.{HasBound};
 ghost use Rattle.vrt_model.specs.Lists.{Among};
 ghost use Rattle.vrt_model.specs.Path.{IsOn, Network};
 ghost use Rattle.vrt_model.specs.Reading.{is_given};

@@ -8,13 +8,14 @@ use Rattle.vrt_model.proofs.Marks.{HasMarksWithin, HasRootMarks, HasSpread, IsMa
 use Rattle.vrt_model.proofs.Members.{any_among, among_any}
 use Rattle.vrt_model.proofs.PathKinds.{Arrives, arrives_on, arrives_root}
 use Rattle.vrt_model.proofs.Roots.{among_root, root_among, roots_of}
-use Rattle.vrt_model.proofs.ShortPaths.{HasBound, path_short}
+use Rattle.vrt_model.proofs.ShortPaths.{path_short}
 use Rattle.vrt_model.proofs.Strength.{AtLeast, HopHas, RootHas, keeps-level, level-keeps}
 use Rattle.vrt_model.specs.Lists.{same_bit}
-use Rattle.vrt_model.specs.Path.{Hop, IsOn, IsPath, IsRoot, Network, Root, end_of, level_of}
+use Rattle.vrt_model.specs.Path.{Hop, IsOn, IsPath, Network, Root, end_of, level_of}
 use Rattle.vrt_model.specs.Reading.{conducts}
 use Rattle.vrt_model.specs.Response.{Fight, Float, IsResponse, IsStrength, Reaches, Response, Shows}
 use Rattle.vrt_model.specs.declared.circuit.Device.{Device}
+use Rattle.vrt_model.specs.Networks.{HasBound, IsFinite}
 
 -- a device leads from a marked net to n
 abbrev pub leads : (ℕ → Bool) → (ℕ → Device → ℕ → Bool) → (ℕ → Bool) → ℕ → Device → Bool
@@ -134,12 +135,6 @@ module _ (w : Network) (bound : ℕ) (bounded : HasBound w bound) where
     where
       cases_le : (a b : ℕ) → (a ≤ b) ⊎ (b < a)
       cases_le a b = elim (cases_Bool (leb a b)) [ inl t ↦ inl (leb-true a b t) | inr f ↦ inr (leb-false a b f) ]
-
--- ---- what is asked of a network so that each net has a strength: its nets are below a number, and its roots are at most of a level
-
-pub record IsFinite (w : Network) (bound top : ℕ) : Type 0 where
-  pub bounded : HasBound w bound
-  pub most : (root : Root) → IsRoot w root → root.level ≤ top
 
 module _ (w : Network) (bound top : ℕ) (finite : IsFinite w bound top) where
   below_top : (root : Root) (hops : List Hop) → IsPath w root hops → level_of root hops ≤ top

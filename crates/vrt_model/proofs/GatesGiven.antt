@@ -6,10 +6,10 @@ use Rattle.std.proofs.lemmas.Bool.{cases_Bool, cond-false, cond-true, false≢tr
 use Rattle.std.proofs.lemmas.Option.{none-some, same_Some}
 use Rattle.vrt_model.proofs.Decidable.{some_response}
 use Rattle.vrt_model.proofs.Filtered.{among_devices, device_among}
-use Rattle.vrt_model.proofs.GivenNets.{HasLevels, IsSource, clear_from_source, source_strength}
+use Rattle.vrt_model.proofs.GivenNets.{clear_from_source, source_strength}
 use Rattle.vrt_model.proofs.Laws.{one_response}
 use Rattle.vrt_model.proofs.Members.{all_among, at_none}
-use Rattle.vrt_model.proofs.Networks.{HasRanges, given_source, network_finite, network_levels}
+use Rattle.vrt_model.proofs.Networks.{given_source, network_finite, network_levels}
 use Rattle.vrt_model.proofs.SameNetwork.{IsPartOf, response_same}
 use Rattle.vrt_model.proofs.Tests.{option_same}
 use Rattle.vrt_model.specs.Circuits.{IsHold}
@@ -28,6 +28,7 @@ use Rattle.vrt_model.specs.declared.circuit.NetKind.TheVariants.{Supply, Clock, 
 use Rattle.vrt_model.specs.declared.rules.Phase.{Phase}
 use Rattle.vrt_model.specs.declared.whole.Whole.{Whole}
 use Rattle.vrt_model.specs.declared.whole.WholePin.{WholePin}
+use Rattle.vrt_model.specs.Networks.{HasLevels, IsSource, HasRanges}
 
 -- a net with a given value
 abbrev pub IsGiven : Circuit → ℕ → Type 0

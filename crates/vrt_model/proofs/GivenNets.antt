@@ -1,18 +1,9 @@
 -- Nets with given values are sources: each has the greatest strength, and a clear path that passes one begins there.
 use Rattle.std.proofs.Common.{◌≡◌, ℕ, ◌≤◌, ◌<◌, List, [], ◌∷◌, arith, refl, inr}
-use Rattle.vrt_model.specs.Path.{Network, Root, Hop, IsRoot, IsOn, IsPath, end_of, level_of}
+use Rattle.vrt_model.specs.Path.{Network, Root, Hop, IsPath, end_of, level_of}
 use Rattle.vrt_model.specs.Response.{IsStrength, IsClear}
-use Rattle.vrt_model.specs.declared.circuit.Device.{Device}
 use Rattle.vrt_model.proofs.Laws.{one_strength}
-
--- a net with a root of the source level, as each net with a given value is
-abbrev pub IsSource : Network → ℕ → Type 0
-IsSource w n = (root : Root) × IsRoot w root × (root.net ≡ n) × (root.level ≡ w.source)
-
--- no root is above the source level, and each device is below it
-pub record HasLevels (w : Network) : Type 0 where
-  pub roots : (root : Root) → IsRoot w root → root.level ≤ w.source
-  pub devices : (d : Device) → IsOn w d → d.level < w.source
+use Rattle.vrt_model.specs.Networks.{IsSource, HasLevels}
 
 module _ (w : Network) (levels : HasLevels w) where
   pub level_most : (root : Root) (hops : List Hop) → IsPath w root hops → level_of root hops ≤ w.source

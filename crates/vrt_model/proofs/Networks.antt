@@ -3,11 +3,9 @@
 use Rattle.std.proofs.Common.{◌≡◌, ℕ, ◌≤◌, ◌<◌, Bool, true, List, [], length, map, arith, subst, sym, refl, ◌∙◌, ap, inl, inr}
 use Rattle.std.specs.Prelude.{All}
 use Rattle.std.proofs.lemmas.Option.{slice_get_within}
-use Rattle.vrt_model.proofs.Decidable.{IsFinite}
+use Rattle.vrt_model.specs.Networks.{IsFinite, HasLevels, IsSource, HasBound, HasRanges}
 use Rattle.vrt_model.proofs.Filtered.{device_among}
-use Rattle.vrt_model.proofs.GivenNets.{HasLevels, IsSource}
 use Rattle.vrt_model.proofs.Members.{all_among, among_flat_map, among_map}
-use Rattle.vrt_model.proofs.ShortPaths.{HasBound}
 use Rattle.vrt_model.specs.Circuits.{IsDevice, IsDrive, IsFlat, IsHold, IsNet, IsWhole}
 use Rattle.vrt_model.specs.Lists.{At, Among}
 use Rattle.vrt_model.specs.Path.{IsOn, IsRoot, Root, level_of_drive}
@@ -20,12 +18,6 @@ use Rattle.vrt_model.specs.declared.whole.Drive.{Drive}
 use Rattle.vrt_model.specs.declared.whole.Drive.TheVariants.{Soft, Level}
 use Rattle.vrt_model.specs.declared.whole.Whole.{Whole}
 use Rattle.vrt_model.specs.declared.whole.WholePin.{WholePin}
-
--- what is asked of a circuit: the numbers of nets are in range, and levels and sizes are
-pub record HasRanges (c : Circuit) : Type 0 where
-  pub devices : All (IsDevice c) c.devices
-  pub holds : All (IsHold c) c.holds
-  pub wholes : All (IsWhole c) c.wholes
 
 -- a circuit without whole instances has its numbers in range
 pub flat_ranges : (c : Circuit) → IsFlat c → HasRanges c

@@ -4,13 +4,8 @@ use Rattle.std.proofs.lemmas.Bool.{ne_eqb, eqb-true, or_cases}
 use Rattle.std.proofs.lemmas.Map.Keys.{IsDistinct-cons}
 use Rattle.std.proofs.lemmas.Map.Steps.{length-le_from_distinct_below}
 use Rattle.std.specs.List.{IsDistinct, list_any, AllByRecursion}
-use Rattle.vrt_model.specs.Path.{Network, Root, Hop, IsRoot, IsOn, Joins, IsPath, Avoids, end_of}
-use Rattle.vrt_model.specs.declared.circuit.Device.{Device}
-
--- all roots, and all nets to which conducting devices lead, are below a number
-pub record HasBound (w : Network) (bound : ℕ) : Type 0 where
-  pub roots : (root : Root) → IsRoot w root → root.net < bound
-  pub hops : (m n : ℕ) (d : Device) → IsOn w d → Joins d m n → n < bound
+use Rattle.vrt_model.specs.Path.{Network, Root, Hop, IsPath, Avoids, end_of}
+use Rattle.vrt_model.specs.Networks.{HasBound}
 
 -- the nets of a path, the last first
 abbrev pub nets_of : Root → List Hop → List ℕ

@@ -2,7 +2,7 @@ use Rattle.std.proofs.Common.{◌≡◌, ℕ, Bool, false, length, arith, subst,
 use Rattle.std.proofs.lemmas.List.{length-replicate}
 use Rattle.plain_paths.proofs.Spreads.{none_marked, roots_marked}
 use Rattle.plain_paths.specs.Marks.{Marked}
-use Rattle.vrt_model.proofs.ShortPaths.{HasBound}
+use Rattle.vrt_model.specs.Networks.{HasBound}
 use Rattle.plain_paths.proofs.marks.fill.Goals as goal
 
 pub returns : goal.returns

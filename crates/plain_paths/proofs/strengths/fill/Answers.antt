@@ -3,7 +3,7 @@ use Rattle.std.specs.Prelude.{map}
 use Rattle.std.proofs.lemmas.List.{length-map}
 use Rattle.plain_paths.proofs.Rounds.{given_attained, roots_from}
 use Rattle.plain_paths.specs.Tables.{HasGrown, IsAttained, level_of_net}
-use Rattle.vrt_model.proofs.ShortPaths.{HasBound}
+use Rattle.vrt_model.specs.Networks.{HasBound}
 use Rattle.vrt_model.specs.declared.circuit.FlatNet.{FlatNet}
 use Rattle.plain_paths.proofs.strengths.fill.Goals as goal
 
