@@ -5,7 +5,7 @@ use Rattle.std.proofs.lemmas.Bool.{cases_lt}
 use Rattle.node_pool.specs.declared.region.Node.{Node}
 use Rattle.bdd_core.specs.Diagram.{Function, Valuation, IsWithin, TestsWithin, IsReduced, IsSubfunction, Grows, meaning, node_at, top, splice, with_bit}
 use Rattle.bdd_core.proofs.Canonical.{canonical, independent, hi_by_bit, lo_by_bit, with_bit_other, ends_same, proper_node}
-use Rattle.bdd_core.proofs.Growth.{grows_length}
+use Rattle.bdd_core.proofs.Growth.{grows_length, splice_late, splice_within}
 use Rattle.bdd_core.proofs.Pigeon.{pigeon}
 
 -- the first x bits as a number
@@ -13,10 +13,10 @@ abbrev pub bits : ℕ → Valuation → ℕ
 bits zero w = 0
 bits (suc x) w = bits x w + cond (w x) (2 ^ x) 0
 
-double : (x : ℕ) → 2 ^ (suc x) ≡ 2 ^ x + 2 ^ x
+pub double : (x : ℕ) → 2 ^ (suc x) ≡ 2 ^ x + 2 ^ x
 double x = omega arith
 
-bits_lt : (x : ℕ) (w : Valuation) → bits x w < 2 ^ x
+pub bits_lt : (x : ℕ) (w : Valuation) → bits x w < 2 ^ x
 bits_lt zero w = omega arith
 bits_lt (suc x) w =
     let go : (b : Bool) → bits x w + cond b (2 ^ x) 0 < 2 ^ (suc x) = λ b. elim b as (λ b. bits x w + cond b (2 ^ x) 0 < 2 ^ (suc x)) [
@@ -25,7 +25,7 @@ bits_lt (suc x) w =
     ] in
     go (w x)
 
-bits_apart : (x : ℕ) (w w' : Valuation) → bits x w ≡ bits x w' → (y : ℕ) → y < x → w y ≡ w' y
+pub bits_apart : (x : ℕ) (w w' : Valuation) → bits x w ≡ bits x w' → (y : ℕ) → y < x → w y ≡ w' y
 bits_apart zero w w' same y below = absurd (omega (arith, below))
 bits_apart (suc x) w w' same y below =
     let go : (b b' : Bool) → bits x w + cond b (2 ^ x) 0 ≡ bits x w' + cond b' (2 ^ x) 0 → (b ≡ b') × (bits x w ≡ bits x w') =
@@ -71,9 +71,6 @@ code_length x x' w w' same = elim (cases_lt x x') [
   ]
 ]
 
-splice_within : (k u : ℕ) (w a b : Valuation) → ((y : ℕ) → y < u → a y ≡ b y) → (y : ℕ) → y < u → splice k w a y ≡ splice k w b y
-splice_within k u w a b same y below = elim (cases_lt y k) [ inl low ↦ grind arith | inr high ↦ let e : a y ≡ b y = same y below in grind arith ]
-
 module _ (vars : ℕ) (ns : List Node) (r : IsReduced vars ns) (p : ℕ) (high : 2 ≤ p) (within : p < length ns) where
   -- a node depends on its variable
   depends : ((v : Valuation) → meaning ns p (with_bit v (top ns p) true) ≡ meaning ns p (with_bit v (top ns p) false)) → ⊥
@@ -117,14 +114,11 @@ padded_splice k x w v le y = elim (cases_lt y k) [
   | inr high ↦ elim (cases_lt y x) [ inl low' ↦ grind arith | inr high' ↦ grind arith ]
 ]
 
-splice_from : (x : ℕ) (w v : Valuation) (y : ℕ) → x ≤ y → splice x w v y ≡ v y
-splice_from x w v y late = grind arith
-
 module _ (vars : ℕ) (ns : List Node) (r : IsReduced vars ns) (f : Function) where
   -- a node of the diagram is the function with the first variables before its own fixed
   by_top : (p : ℕ) → 2 ≤ p → (within : p < length ns) (sub : IsSubfunction (meaning ns p) f) → (v : Valuation) → meaning ns p v ≡ f (splice (top ns p) (padded sub.first sub.fixed) v)
   by_top p high within sub v =
-      sym (independent vars ns r p within (splice (top ns p) (λ _. false) v) v (splice_from (top ns p) (λ _. false) v))
+      sym (independent vars ns r p within (splice (top ns p) (λ _. false) v) v (splice_late (top ns p) (λ _. false) v))
       ∙ sub.is (splice (top ns p) (λ _. false) v)
       ∙ ap f (fun_ext (padded_splice sub.first (top ns p) sub.fixed v (first_le vars ns r p high within f sub)))
 

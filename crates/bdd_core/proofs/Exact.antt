@@ -4,14 +4,8 @@ use Rattle.std.proofs.lemmas.Bool.{cases_lt, lt-ltb, le-ltb}
 use Rattle.node_pool.specs.declared.region.Node.{Node}
 use Rattle.bdd_core.specs.Diagram.{Function, Valuation, IsSame, IsReduced, IsSubfunction, Grows, Lacks, MissesMore, MissesMoreOf, meaning, node_at, top, splice}
 use Rattle.bdd_core.proofs.Canonical.{canonical, independent, proper_node, ends_same}
-use Rattle.bdd_core.proofs.Growth.{grows_keeps, grows_length}
+use Rattle.bdd_core.proofs.Growth.{grows_keeps, grows_length, splice_early, splice_late}
 use Rattle.bdd_core.proofs.Pigeon.{pigeon}
-
-splice_late : (k : ℕ) (u v : Valuation) (x : ℕ) → k ≤ x → splice k u v x ≡ v x
-splice_late k u v x late = grind arith
-
-splice_early : (k : ℕ) (u v : Valuation) (x : ℕ) → x < k → splice k u v x ≡ u x
-splice_early k u v x early = grind arith
 
 -- each subfunction of a place has a place
 there_below : (vars : ℕ) (ns : List Node) (r : IsReduced vars ns) (n i k : ℕ) (u : Valuation) → i < n → i < length ns →

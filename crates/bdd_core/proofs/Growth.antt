@@ -16,6 +16,16 @@ splice_splice j k u w v x = elim (cases_lt x j) [
   | inr high ↦ elim (cases_lt x k) [ inl low' ↦ grind arith | inr high' ↦ grind arith ]
 ]
 
+pub splice_early : (k : ℕ) (u v : Valuation) (x : ℕ) → x < k → splice k u v x ≡ u x
+splice_early k u v x early = grind arith
+
+pub splice_late : (k : ℕ) (u v : Valuation) (x : ℕ) → k ≤ x → splice k u v x ≡ v x
+splice_late k u v x late = grind arith
+
+-- where two valuations have the same first u bits, so they have behind the same fixed ones
+pub splice_within : (k u : ℕ) (w a b : Valuation) → ((y : ℕ) → y < u → a y ≡ b y) → (y : ℕ) → y < u → splice k w a y ≡ splice k w b y
+splice_within k u w a b same y below = elim (cases_lt y k) [ inl low ↦ grind arith | inr high ↦ let e : a y ≡ b y = same y below in grind arith ]
+
 pub sub_refl : (f : Function) → IsSubfunction f f
 sub_refl f = record { first = 0; fixed = λ _. false; is = λ v. ap f (sym (fun_ext (λ x. splice_none (λ _. false) v x))) }
 

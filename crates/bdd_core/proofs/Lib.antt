@@ -14,4 +14,5 @@ pub mod Opening
 pub mod Pigeon
 pub mod Exact
 pub mod Bound
+pub mod Frames
 pub mod MakesLaws

@@ -1,5 +1,5 @@
 -- A memo over diagrams that grow.
-use Rattle.std.proofs.Common.{◌≡◌, ℕ, ◌<◌, ◌≤◌, ◌⊎◌, Bool, true, false, List, length, replicate, set, get_or, get_or-set_same, get_or-set_other, sym, ap, subst, ◌∙◌, inl, inr, arith, refl}
+use Rattle.std.proofs.Common.{◌≡◌, ℕ, ◌<◌, ◌≤◌, Bool, true, false, List, length, replicate, set, get_or, get_or-set_same, get_or-set_other, sym, ap, subst, ◌∙◌, inl, inr, arith, refl}
 use Rattle.std.specs.List.{Contains}
 use Rattle.std.proofs.lemmas.List.{get_or_default, get_or-replicate, length-replicate}
 use Rattle.std.proofs.lemmas.Bool.{cases_eq}
@@ -47,17 +47,6 @@ remembers_empty nodes memo none k within = inl (none k within)
 -- an entry of a memo is right
 pub remembers_entry : (nodes : List Node) (memo : List Entry) (e : Entry) → Remembers nodes memo → Contains memo e → IsRight nodes e
 remembers_entry nodes memo e all there = subst (λ x. IsRight nodes x) (get_or_default memo there.0 no_entry e there.1 ∙ there.2) (all there.0 there.1)
-
--- one entry more, and others kept or gone
-pub remembers_keep : (nodes : List Node) (old new : List Entry) (e : Entry) → Remembers nodes old → IsRight nodes e →
-    ((k : ℕ) → k < length new → (entry_at new k ≡ e) ⊎ ((entry_at new k).f ≡ 0) ⊎ Contains old (entry_at new k)) → Remembers nodes new
-remembers_keep nodes old new e all right kept k within = elim (kept k within) [
-  | inl this ↦ rw this right
-  | inr other ↦ elim other [
-    | inl empty ↦ inl empty
-    | inr there ↦ remembers_entry nodes old (entry_at new k) all there
-  ]
-]
 
 mark_high : (b : Bool) → 4294967294 ≤ fixed_mark b
 mark_high true = omega arith

@@ -1,6 +1,5 @@
 -- A store as it opens: the two ends and an empty memo.
-use Rattle.std.proofs.Common.{◌≡◌, ℕ, List, [], ◌∷◌, get_or, refl, sym, ap, ◌∙◌, inl, inr, arith}
-use Rattle.std.specs.List.{Contains}
+use Rattle.std.proofs.Common.{◌≡◌, ℕ, List, [], ◌∷◌, refl, sym, ap, ◌∙◌, inl, inr, arith}
 use Rattle.std.proofs.lemmas.Bool.{cases_eq}
 use Rattle.node_pool.specs.declared.region.Node.{Node}
 use Rattle.bdd_core.specs.Diagram.{node_at, top, IsReduced}
@@ -29,11 +28,3 @@ two_ends_reduced vars = record {
     ]
   ];
 }
-
-pub none_yet : (n : Node) → Contains [] n → ⊥
-none_yet n there = omega (arith, there.1)
-
-pub not_the_first : (vars : ℕ) → Contains (end_node vars 0 ∷ []) (end_node vars 1) → ⊥
-not_the_first vars there =
-    let first : there.0 ≡ 0 = omega (arith, there.1) in
-    omega (arith, ap (λ n. n.lo) (sym (ap (λ k. get_or (end_node vars 0 ∷ []) k (end_node vars 1)) first) ∙ there.2))

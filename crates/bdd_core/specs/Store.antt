@@ -49,13 +49,24 @@ pub record IsSpent (d : Diagrams) (f : Function) (spent : Spent) : Type 0 where
   pub full : length d.nodes ≡ d.budget
   pub lacks : Lacks d.nodes f
 
+-- what each step over a store leaves as it was: from `old` to `new` nodes were only added, and nothing else changed but
+-- the words, which are these now; what was there keeps its function
+pub record Adds (old new : Diagrams) (words : List ℕ) : Type 0 where
+  pub rest : new ≡ record old { nodes = new.nodes; words = words }
+  pub sound : IsReduced new.vars new.nodes
+  pub within : length new.nodes ≤ new.budget
+  pub longer : length old.nodes ≤ length new.nodes
+  pub kept : (h : ℕ) → h < length old.nodes → IsSame (meaning new.nodes h) (meaning old.nodes h)
+
+-- nodes were only added, and no word changed
+abbrev pub AddsNodes : Diagrams → Diagrams → Type 0
+AddsNodes old new = Adds old new old.words
+
 -- a store went from `old` to `new` by adding nodes of the diagram of f alone: all that were missing, or as many as the
 -- budget had left
 pub record Makes (old new : Diagrams) (f : Function) (result : Result H Spent) : Type 0 where
-  pub rest : new ≡ record old { nodes = new.nodes }
-  pub sound : IsReduced new.vars new.nodes
+  pub adds : AddsNodes old new
   pub canonical : IsCanonical new
-  pub within : length new.nodes ≤ new.budget
   pub grows : Grows old.nodes new.nodes f
   pub ok : IfOk result (λ r. Means new r f)
   pub spent : IfErr result (IsSpent new f)
@@ -69,3 +80,9 @@ pub record IsExact (old new : Diagrams) (f : Function) (result : Result H Spent)
   pub kept : (h : H) → IsLive old h → IsLive new h × IsSame (function_of new h) (function_of old h)
   pub few : (u : ℕ) → IsWithin u f → length new.nodes ≤ length old.nodes + (2 ^ u - 1)
   pub early : (u : ℕ) → IsWithin u f → (i : ℕ) → length old.nodes ≤ i → i < length new.nodes → top new.nodes i < u
+
+-- after several operations: nodes were added, and nothing else; the answer has this function, or the budget is used up
+pub record Gives (old new : Diagrams) (f : Function) (result : Result H Spent) : Type 0 where
+  pub adds : AddsNodes old new
+  pub ok : IfOk result (λ r. Means new r f)
+  pub spent : IfErr result (λ s. (s.nodes ≡ new.budget) × (length new.nodes ≡ new.budget))

@@ -1,8 +1,8 @@
--- Handles in the words of spans: the functions that they stand for, and what a step leaves as it was.
+-- Handles in the words of spans: the functions that they stand for, and steps that write them.
 use Rattle.std.specs.Prelude.{◌≡◌, ℕ, ◌+◌, ◌<◌, ◌≤◌, ◌⊎◌, Bool, length, slice_index}
 use Rattle.node_pool.specs.declared.region.Span.{Span}
-use Rattle.bdd_core.specs.Diagram.{IsReduced, IsSame, Valuation, meaning}
-use Rattle.bdd_core.specs.Store.{Diagrams}
+use Rattle.bdd_core.specs.Diagram.{Valuation, meaning}
+use Rattle.bdd_core.specs.Store.{Adds, Diagrams}
 
 -- the word at a place of a span
 abbrev pub word_at : Diagrams → Span → ℕ → ℕ
@@ -20,14 +20,19 @@ IsFilled d span = (k : ℕ) → k < span.len → word_at d span k < length d.nod
 abbrev pub IsApart : Span → Span → Type 0
 IsApart a b = (a.start + a.len ≤ b.start) ⊎ (b.start + b.len ≤ a.start)
 
--- a store went from `old` to `new` by adding nodes and by writing live handles into one span alone; what was there keeps
--- its function
+-- the word is not one of the span
+abbrev pub IsBeside : Span → ℕ → Type 0
+IsBeside span j = (j < span.start) ⊎ (span.start + span.len ≤ j)
+
+-- a store went from `old` to `new` by adding nodes and by writing live handles into one span alone
 pub record Writes (out : Span) (old new : Diagrams) : Type 0 where
-  pub rest : new ≡ record old { nodes = new.nodes; words = new.words }
-  pub sound : IsReduced new.vars new.nodes
-  pub within : length new.nodes ≤ new.budget
-  pub longer : length old.nodes ≤ length new.nodes
-  pub kept : (h : ℕ) → h < length old.nodes → IsSame (meaning new.nodes h) (meaning old.nodes h)
+  pub adds : Adds old new new.words
   pub len : length new.words ≡ length old.words
-  pub others : (j : ℕ) → (j < out.start) ⊎ (out.start + out.len ≤ j) → slice_index new.words j ≡ slice_index old.words j
+  pub others : (j : ℕ) → IsBeside out j → slice_index new.words j ≡ slice_index old.words j
   pub live : IsFilled new out
+
+-- nodes were only added, and words of two spans alone changed
+pub record WritesTwo (a b : Span) (old new : Diagrams) : Type 0 where
+  pub adds : Adds old new new.words
+  pub len : length new.words ≡ length old.words
+  pub others : (j : ℕ) → IsBeside a j → IsBeside b j → slice_index new.words j ≡ slice_index old.words j

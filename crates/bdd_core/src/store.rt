@@ -108,7 +108,19 @@ impl Store {
         ensures canonical { IsCanonical self.now }
         ensures within { length self.now.nodes ≤ self.now.budget }
     {
+        self.sound();
         self.pool.node_count()
+    }
+
+    /// Does nothing. It says what is true of a store at any time, for the proofs of callers, who see its nodes alone: the
+    /// diagrams are reduced, two live handles are equal exactly where their functions are, and the nodes are within the
+    /// budget.
+    pub fn sound(&self)
+        ensures sound { IsReduced self.now.vars self.now.nodes }
+        ensures canonical { IsCanonical self.now }
+        ensures within { length self.now.nodes ≤ self.now.budget }
+    {
+        let _known = &self.pool;
     }
 
     /// How many variables there are.
@@ -216,7 +228,7 @@ impl Store {
         ensures makes { Makes self.old self.new (choice (bit_of var.0) (function_of self.old hi) (function_of self.old lo)) result }
         ensures exact { IsExact self.old self.new (choice (bit_of var.0) (function_of self.old hi) (function_of self.old lo)) result }
     {
-        let _ends = self.node_count();
+        self.sound();
         self.join(var.0, lo, hi)
     }
 
@@ -226,7 +238,7 @@ impl Store {
         ensures makes { Makes self.old self.new (bit_of var.0) result }
         ensures exact { IsExact self.old self.new (bit_of var.0) result }
     {
-        let _ends = self.node_count();
+        self.sound();
         self.join(var.0, ZERO, ONE)
     }
 
@@ -306,7 +318,7 @@ impl Store {
         ensures makes { Makes self.old self.new (choice (function_of self.old f) (function_of self.old g) (function_of self.old h)) result }
         ensures exact { IsExact self.old self.new (choice (function_of self.old f) (function_of self.old g) (function_of self.old h)) result }
     {
-        let _ends = self.node_count();
+        self.sound();
         self.choose(f, g, h)
     }
 
@@ -343,7 +355,7 @@ impl Store {
         requires { IsLive self.old f }
         ensures { Makes self.old self.new (fixed (function_of self.old f) var value) result }
     {
-        let _ends = self.node_count();
+        self.sound();
         let Some(n) = self.node(f) else {
             return Ok(f);
         };
@@ -382,7 +394,7 @@ impl Store {
         ensures makes { Makes self.old self.new (fixed (function_of self.old f) var.0 value) result }
         ensures exact { IsExact self.old self.new (fixed (function_of self.old f) var.0 value) result }
     {
-        let _ends = self.node_count();
+        self.sound();
         self.fix(f, var.0, value)
     }
 

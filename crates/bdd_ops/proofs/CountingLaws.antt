@@ -1,16 +1,17 @@
 -- Counts of operations, one after the other.
-use Rattle.std.proofs.Common.{◌≡◌, ℕ, ◌+◌, ◌-◌, ◌*◌, ◌^◌, ◌<◌, ◌≤◌, ◌++◌, ◌⊎◌, List, [], length, length-append, append_assoc, append-nil, Result, Ok, Err, arith, ap, refl, sym, ◌∙◌, inl, inr}
+use Rattle.std.proofs.Common.{◌≡◌, ℕ, ◌+◌, ◌-◌, ◌*◌, ◌^◌, ◌<◌, ◌≤◌, ◌++◌, ◌⊎◌, List, [], length, append_assoc, append-nil, Result, Ok, Err, arith, ap, refl, sym, ◌∙◌, inl, inr}
 use Rattle.std.proofs.Math.Nat.{add-mul, mul-le-mul_right}
 use Rattle.std.proofs.Math.Pow.{pow_mono}
-use Rattle.std.proofs.lemmas.Bool.{cases_lt, le-ltb, lt-ltb}
-use Rattle.std.proofs.lemmas.List.{get_or_append_left}
+use Rattle.std.proofs.lemmas.Bool.{cases_lt}
 use Rattle.node_pool.specs.declared.region.Node.{Node}
 use Rattle.bdd_core.specs.declared.handle.H.{H}
 use Rattle.bdd_core.specs.declared.handle.Spent.{Spent}
-use Rattle.bdd_core.specs.Diagram.{Function, IsReduced, IsSubfunction, IsWithin, TestsWithin, Valuation, splice, no_node, top}
+use Rattle.bdd_core.specs.Diagram.{Function, IsReduced, IsSubfunction, IsWithin, TestsWithin, splice, top}
 use Rattle.bdd_core.specs.Store.{Diagrams, IsSpent, Makes}
 use Rattle.bdd_core.proofs.Bound.{grows_at_most, grows_within}
+use Rattle.bdd_core.proofs.Growth.{splice_within}
 use Rattle.bdd_core.proofs.Results.{if_err_more}
+use Rattle.bdd_core.proofs.Steps.{top-append}
 use Rattle.bdd_ops.specs.Counting.{Counts, IsCounted, IsSpentBy}
 use Rattle.bdd_ops.specs.Ops.{MakesBoth}
 use Rattle.bdd_ops.proofs.FewFunctions.{fewer_than_functions}
@@ -19,15 +20,8 @@ power_positive : (u : ℕ) → 0 < 2 ^ u
 power_positive u = omega (arith, pow_mono {i = 0} {j = u} (omega arith))
 
 -- a node that is there tests what it tested
-top_append : (nodes more : List Node) (i : ℕ) → i < length nodes → top (nodes ++ more) i ≡ top nodes i
-unfolding top
-top_append nodes more i within = ap (λ (n : Node). n.var) (get_or_append_left nodes more no_node i within)
-
 top_kept : (u operations : ℕ) (old new : Diagrams) → IsCounted u operations old new → (i : ℕ) → i < length old.nodes → top new.nodes i ≡ top old.nodes i
-top_kept u operations old new s i within = ap (λ (ns : List Node). top ns i) s.is ∙ top_append old.nodes s.more i within
-
-pub counted_longer : (u operations : ℕ) (old new : Diagrams) → IsCounted u operations old new → length old.nodes ≤ length new.nodes
-counted_longer u operations old new s = omega (arith, ap (λ (ns : List Node). length ns) s.is, length-append old.nodes s.more)
+top_kept u operations old new s i within = ap (λ (ns : List Node). top ns i) s.is ∙ top-append old.nodes s.more i within
 
 -- where all nodes tested the first four variables, they do so still
 pub tests_kept : (u operations : ℕ) (old new : Diagrams) → u ≤ 4 → IsCounted u operations old new → TestsWithin 4 old.nodes → TestsWithin 4 new.nodes
@@ -127,15 +121,9 @@ module _ (u : ℕ) where
   pub counts_value : {A B : Type 0} (a : ℕ) (old new : Diagrams) (x : A) (y : B) → Counts u a old new (Ok x) → Counts u a old new (Ok y)
   counts_value a old new x y s = record { added = s.added; refused = tt }
 
-splice_same : (k u : ℕ) (w a b : Valuation) → ((y : ℕ) → y < u → a y ≡ b y) → (y : ℕ) → y < u → splice k w a y ≡ splice k w b y
-splice_same k u w a b same y below = elim (cases_lt y k) [
-  | inl low ↦ rw (lt-ltb y k low) refl
-  | inr high ↦ rw (le-ltb y k high) (same y below)
-]
-
 sub_within : (u : ℕ) (g f : Function) → IsWithin u f → IsSubfunction g f → IsWithin u g
 sub_within u g f reads sub v w same =
-    sub.is v ∙ reads (splice sub.first sub.fixed v) (splice sub.first sub.fixed w) (splice_same sub.first u sub.fixed v w same) ∙ sym (sub.is w)
+    sub.is v ∙ reads (splice sub.first sub.fixed v) (splice sub.first sub.fixed w) (splice_within sub.first u sub.fixed v w same) ∙ sym (sub.is w)
 
 tests_more : (u : ℕ) (nodes : List Node) (f : Function) → u ≤ 4 → IsWithin u f → IsWithin 4 f
 tests_more u nodes f le reads v w same = reads v w (λ y below. same y (omega (arith, below, le)))
@@ -156,11 +144,11 @@ spent_lacks u old new f s sound budget reads kept w few tests =
 module _ (u : ℕ) (old new : Diagrams) (two : 2 ≤ length old.nodes) where
   counted_made : (f : Function) (r : Result H Spent) → Makes old new f r → IsWithin u f → IsCounted u 1 old new
   counted_made f r m reads = record {
-    budget = ap (λ (d : Diagrams). d.budget) m.rest;
+    budget = ap (λ (d : Diagrams). d.budget) m.adds.rest;
     more = m.grows.more;
     is = m.grows.is;
-    few = omega (arith, grows_at_most new.vars u old.nodes new.nodes f m.sound two reads m.grows);
-    early = grows_within new.vars u old.nodes new.nodes f m.sound two reads m.grows;
+    few = omega (arith, grows_at_most new.vars u old.nodes new.nodes f m.adds.sound two reads m.grows);
+    early = grows_within new.vars u old.nodes new.nodes f m.adds.sound two reads m.grows;
   }
 
   positive : 0 < 2 ^ u
@@ -168,15 +156,15 @@ module _ (u : ℕ) (old new : Diagrams) (two : 2 ≤ length old.nodes) where
 
   pub counts_made : (f : Function) (r : Result H Spent) → Makes old new f r → IsWithin u f → Counts u 1 old new r
   counts_made f r m reads =
-      let budget : new.budget ≡ old.budget = ap (λ (d : Diagrams). d.budget) m.rest in
+      let budget : new.budget ≡ old.budget = ap (λ (d : Diagrams). d.budget) m.adds.rest in
       let added = counted_made f r m reads in
       record {
         added = added;
         refused = if_err_more (IsSpent new f) (IsSpentBy u 1 old new) r (λ s w. record {
           number = w.number ∙ budget;
           full = w.full ∙ budget;
-          passed = omega (arith, w.full, budget, grows_at_most new.vars u old.nodes new.nodes f m.sound two reads m.grows, positive);
-          few_variables = spent_lacks u old new f s m.sound budget reads (λ few tests. tests_kept u 1 old new few added tests) w;
+          passed = omega (arith, w.full, budget, grows_at_most new.vars u old.nodes new.nodes f m.adds.sound two reads m.grows, positive);
+          few_variables = spent_lacks u old new f s m.adds.sound budget reads (λ few tests. tests_kept u 1 old new few added tests) w;
         }) m.spent;
       }
 
@@ -184,7 +172,7 @@ module _ (u : ℕ) (old new : Diagrams) (two : 2 ≤ length old.nodes) where
   pub counts_both : (first f : Function) (r : Result H Spent) → MakesBoth old new first f r → IsWithin u first → IsWithin u f
       → length new.nodes ≤ length old.nodes + 2 * (2 ^ u - 1) → ((i : ℕ) → length old.nodes ≤ i → i < length new.nodes → top new.nodes i < u) → Counts u 2 old new r
   counts_both first f r m reads reads' few early =
-      let budget : new.budget ≡ old.budget = ap (λ (d : Diagrams). d.budget) m.rest in
+      let budget : new.budget ≡ old.budget = ap (λ (d : Diagrams). d.budget) m.adds.rest in
       let added : IsCounted u 2 old new = record { budget = budget; more = m.more; is = m.is; few = omega (arith, few); early = early } in
       record {
         added = added;
@@ -193,13 +181,13 @@ module _ (u : ℕ) (old new : Diagrams) (two : 2 ≤ length old.nodes) where
             number = x.number ∙ budget;
             full = x.full ∙ budget;
             passed = omega (arith, x.full, budget, few, positive);
-            few_variables = spent_lacks u old new first s m.sound budget reads (λ few' tests. tests_kept u 2 old new few' added tests) x;
+            few_variables = spent_lacks u old new first s m.adds.sound budget reads (λ few' tests. tests_kept u 2 old new few' added tests) x;
           }
           | inr x ↦ record {
             number = x.number ∙ budget;
             full = x.full ∙ budget;
             passed = omega (arith, x.full, budget, few, positive);
-            few_variables = spent_lacks u old new f s m.sound budget reads' (λ few' tests. tests_kept u 2 old new few' added tests) x;
+            few_variables = spent_lacks u old new f s m.adds.sound budget reads' (λ few' tests. tests_kept u 2 old new few' added tests) x;
           }
         ]) m.spent;
       }

@@ -3,41 +3,9 @@ use Rattle.std.proofs.Common.{◌≡◌, ℕ, zero, suc, ◌+◌, ◌-◌, ◌^�
 use Rattle.std.proofs.lemmas.Bool.{cases_eq, cases_lt, lt-ltb, le-ltb}
 use Rattle.node_pool.specs.declared.region.Node.{Node}
 use Rattle.bdd_core.specs.Diagram.{Function, IsReduced, IsSame, IsWithin, TestsWithin, Valuation, meaning, with_bit}
-use Rattle.bdd_core.proofs.Bound.{bits, within_place}
+use Rattle.bdd_core.proofs.Bound.{bits, bits_apart, bits_lt, within_place}
 use Rattle.bdd_core.proofs.Canonical.{canonical, with_bit_here, with_bit_other}
 use Rattle.bdd_core.proofs.Pigeon.{pigeon}
-
-double : (x : ℕ) → 2 ^ (suc x) ≡ 2 ^ x + 2 ^ x
-double x = omega arith
-
-bits_below : (x : ℕ) (w : Valuation) → bits x w < 2 ^ x
-bits_below zero w = omega arith
-bits_below (suc x) w =
-    let go : (b : Bool) → bits x w + cond b (2 ^ x) 0 < 2 ^ (suc x) = λ b. elim b as (λ b. bits x w + cond b (2 ^ x) 0 < 2 ^ (suc x)) [
-      | true ↦ omega (arith, bits_below x w, double x)
-      | false ↦ omega (arith, bits_below x w, double x)
-    ] in
-    go (w x)
-
-bits_same : (x : ℕ) (w w' : Valuation) → bits x w ≡ bits x w' → (y : ℕ) → y < x → w y ≡ w' y
-bits_same zero w w' same y below = absurd (omega (arith, below))
-bits_same (suc x) w w' same y below =
-    let go : (b b' : Bool) → bits x w + cond b (2 ^ x) 0 ≡ bits x w' + cond b' (2 ^ x) 0 → (b ≡ b') × (bits x w ≡ bits x w') =
-    λ b b'. elim b as (λ b. bits x w + cond b (2 ^ x) 0 ≡ bits x w' + cond b' (2 ^ x) 0 → (b ≡ b') × (bits x w ≡ bits x w')) [
-      | true ↦ elim b' as (λ b'. bits x w + 2 ^ x ≡ bits x w' + cond b' (2 ^ x) 0 → (true ≡ b') × (bits x w ≡ bits x w')) [
-        | true ↦ λ e. (refl, omega (arith, e))
-        | false ↦ λ e. absurd (omega (arith, e, bits_below x w'))
-      ]
-      | false ↦ elim b' as (λ b'. bits x w + 0 ≡ bits x w' + cond b' (2 ^ x) 0 → (false ≡ b') × (bits x w ≡ bits x w')) [
-        | true ↦ λ e. absurd (omega (arith, e, bits_below x w))
-        | false ↦ λ e. (refl, omega (arith, e))
-      ]
-    ] in
-    let both = go (w x) (w' x) same in
-    elim (cases_lt y x) [
-      | inl low ↦ bits_same x w w' both.1 y low
-      | inr high ↦ let at : y ≡ x = omega (arith, below, high) in rw at both.0
-    ]
 
 -- the first x bits of a number
 abbrev bits_from : ℕ → ℕ → Valuation
@@ -66,7 +34,7 @@ bits_from_bits (suc x) w y below =
           ])
       | false ↦ λ is.
           let same : bits x w + 0 ≡ bits x w = omega arith in
-          rw (same, lt-ltb (bits x w) (2 ^ x) (bits_below x w)) (elim (cases_eq y x) [
+          rw (same, lt-ltb (bits x w) (2 ^ x) (bits_lt x w)) (elim (cases_eq y x) [
             | inl here ↦ rw here (bits_from_high x (bits x w) x (omega arith) ∙ sym is)
             | inr other ↦ bits_from_bits x w y (omega (arith, below, other))
           ])
@@ -78,13 +46,13 @@ abbrev code : ℕ → Function → ℕ
 code u f = bits (2 ^ u) (λ n. f (bits_from u n))
 
 code_below : (u : ℕ) (f : Function) → code u f < 2 ^ (2 ^ u)
-code_below u f = bits_below (2 ^ u) (λ n. f (bits_from u n))
+code_below u f = bits_lt (2 ^ u) (λ n. f (bits_from u n))
 
 code_same : (u : ℕ) (f g : Function) → IsWithin u f → IsWithin u g → code u f ≡ code u g → IsSame f g
 code_same u f g reads reads' same v =
     let here = bits_from_bits u v in
     sym (reads (bits_from u (bits u v)) v here)
-    ∙ bits_same (2 ^ u) (λ n. f (bits_from u n)) (λ n. g (bits_from u n)) same (bits u v) (bits_below u v)
+    ∙ bits_apart (2 ^ u) (λ n. f (bits_from u n)) (λ n. g (bits_from u n)) same (bits u v) (bits_lt u v)
     ∙ reads' (bits_from u (bits u v)) v here
 
 -- where all nodes test the first u variables and a function of these has no place, there are fewer nodes than functions

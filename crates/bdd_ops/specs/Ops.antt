@@ -3,8 +3,8 @@ use Rattle.std.specs.Prelude.{◌≡◌, ℕ, ◌+◌, ◌-◌, ◌*◌, ◌^◌
 use Rattle.node_pool.specs.declared.region.Node.{Node}
 use Rattle.bdd_core.specs.declared.handle.H.{H}
 use Rattle.bdd_core.specs.declared.handle.Spent.{Spent}
-use Rattle.bdd_core.specs.Diagram.{Valuation, Function, IsSame, IsReduced, IsSubfunction, IsWithin, HasWhole, MissesMoreOf, meaning, top}
-use Rattle.bdd_core.specs.Store.{Diagrams, IsLive, function_of, Means, IsSpent, IsCanonical}
+use Rattle.bdd_core.specs.Diagram.{Valuation, Function, IsSame, IsSubfunction, IsWithin, HasWhole, MissesMoreOf, meaning, top}
+use Rattle.bdd_core.specs.Store.{AddsNodes, Diagrams, IsLive, function_of, Means, IsSpent, IsCanonical}
 
 abbrev pub and_of : Function → Function → Function
 and_of f g = λ v. f v && g v
@@ -24,10 +24,8 @@ xor_of f g = λ v. cond (f v) (not (g v)) (g v)
 -- a store went from `old` to `new` by adding nodes of two diagrams alone, of which f has the second: all that were
 -- missing, or as many as the budget had left
 pub record MakesBoth (old new : Diagrams) (first f : Function) (result : Result H Spent) : Type 0 where
-  pub rest : new ≡ record old { nodes = new.nodes }
-  pub sound : IsReduced new.vars new.nodes
+  pub adds : AddsNodes old new
   pub canonical : IsCanonical new
-  pub within : length new.nodes ≤ new.budget
   pub more : List Node
   pub is : new.nodes ≡ old.nodes ++ more
   pub added : (i : ℕ) → length old.nodes ≤ i → i < length new.nodes → IsSubfunction (meaning new.nodes i) first ⊎ IsSubfunction (meaning new.nodes i) f

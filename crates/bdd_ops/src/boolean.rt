@@ -14,7 +14,7 @@ pub fn and(store: &mut Store, f: H, g: H) -> Result<H, Spent>
     ensures makes { Makes store.old store.new (and_of (function_of store.old f) (function_of store.old g)) result }
     ensures exact { IsExact store.old store.new (and_of (function_of store.old f) (function_of store.old g)) result }
 {
-    let _ends = store.node_count();
+    store.sound();
     store.ite(f, g, ZERO)
 }
 
@@ -24,7 +24,7 @@ pub fn or(store: &mut Store, f: H, g: H) -> Result<H, Spent>
     ensures makes { Makes store.old store.new (or_of (function_of store.old f) (function_of store.old g)) result }
     ensures exact { IsExact store.old store.new (or_of (function_of store.old f) (function_of store.old g)) result }
 {
-    let _ends = store.node_count();
+    store.sound();
     store.ite(f, ONE, g)
 }
 
@@ -34,7 +34,7 @@ pub fn implies(store: &mut Store, f: H, g: H) -> Result<H, Spent>
     ensures makes { Makes store.old store.new (implies_of (function_of store.old f) (function_of store.old g)) result }
     ensures exact { IsExact store.old store.new (implies_of (function_of store.old f) (function_of store.old g)) result }
 {
-    let _ends = store.node_count();
+    store.sound();
     store.ite(f, g, ONE)
 }
 
@@ -44,7 +44,7 @@ pub fn not(store: &mut Store, f: H) -> Result<H, Spent>
     ensures makes { Makes store.old store.new (not_of (function_of store.old f)) result }
     ensures exact { IsExact store.old store.new (not_of (function_of store.old f)) result }
 {
-    let _ends = store.node_count();
+    store.sound();
     store.ite(f, ZERO, ONE)
 }
 
@@ -55,7 +55,7 @@ pub fn xor(store: &mut Store, f: H, g: H) -> Result<H, Spent>
     ensures makes { MakesBoth store.old store.new (not_of (function_of store.old g)) (xor_of (function_of store.old f) (function_of store.old g)) result }
     ensures exact { IsExactBoth store.old store.new (not_of (function_of store.old g)) (xor_of (function_of store.old f) (function_of store.old g)) result }
 {
-    let _ends = store.node_count();
+    store.sound();
     let other = match not(store, g) {
         Ok(other) => other,
         Err(spent) => return Err(spent),

@@ -16,7 +16,7 @@ pub fn value_at(store: &Store, f: H, at: &Valuation) -> bool
     requires bits { store.now.vars ≤ length at.now.bits }
     ensures { result ≡ function_of store.now f (bits_of at.now.bits) }
 {
-    let _ends = store.node_count();
+    store.sound();
     let bits = at.bits.as_slice();
     let mut place = f;
     while let Some(n) = store.node(place) {
@@ -37,7 +37,7 @@ fn turn(store: &Store, place: H, x: u32) -> (H, u32)
     requires within { x < store.now.vars }
     ensures { IsTurn store.now.nodes place.0 x result.0.0 result.1 }
 {
-    let _ends = store.node_count();
+    store.sound();
     let Some(n) = store.node(place) else {
         return (place, 0);
     };
@@ -65,7 +65,7 @@ pub fn least(store: &mut Store, f: H, into: Span) -> bool
     ensures len { length store.new.words ≡ length store.old.words }
     ensures others { (j : ℕ) → (j < into.start) ⊎ (into.start + into.len ≤ j) → slice_index store.new.words j ≡ slice_index store.old.words j }
 {
-    let _ends = store.node_count();
+    store.sound();
     if f.0 == 0 {
         return false;
     }

@@ -19,4 +19,4 @@ returns-clause-exact c =
     let whole : Function = choice (meaning ns c.args.f.0) (meaning ns c.args.g.0) (meaning ns 1) in
     let goal_of : Function = implies_of (meaning ns c.args.f.0) (meaning ns c.args.g.0) in
     let same : IsSame whole goal_of = λ v. rw (meaning_one ns v) (implies_choice (meaning ns c.args.f.0 v) (meaning ns c.args.g.0 v)) in
-    exact_of _ _ goal_of c.ite.result c.node_count-ends.ensures.sound.ends (makes_same _ _ whole goal_of c.ite.result same c.ite.ensures.makes)
+    exact_of _ _ goal_of c.ite.result c.sound.ensures.sound.ends (makes_same _ _ whole goal_of c.ite.result same c.ite.ensures.makes)

@@ -19,7 +19,7 @@ returns-in-Err-clause-exact c =
     let new : Diagrams = c.not.new.store in
     let first : Function = not_of (meaning old.nodes c.args.g.0) in
     let goal_of : Function = xor_of (meaning old.nodes c.args.f.0) (meaning old.nodes c.args.g.0) in
-    let two = c.node_count-ends.ensures.sound.ends in
+    let two = c.sound.ensures.sound.ends in
     exact_both old new first goal_of two (Err c.in-Err.spent) (few_first old new first goal_of c.in-Err.spent two c.in-Err.ensures.makes)
     (spent_first old new first goal_of c.in-Err.spent c.in-Err.ensures.makes)
 
@@ -52,6 +52,6 @@ returns-clause-exact c =
     let same : IsSame whole goal_of =
     λ v. rw (grows_keeps old.nodes mid.nodes first a.grows c.args.f.0 f_in v, grows_keeps old.nodes mid.nodes first a.grows c.args.g.0 g_in v, a.ok.same v) refl in
     let b : Makes mid new goal_of c.ite.result = makes_same mid new whole goal_of c.ite.result same c.ite.ensures.makes in
-    let two = c.node_count-ends.ensures.sound.ends in
+    let two = c.sound.ensures.sound.ends in
     exact_both old new first goal_of two c.ite.result (few_both old mid new first goal_of c.in-Ok.other c.ite.result two a b)
     (made_both old mid new first goal_of c.in-Ok.other c.ite.result a b)

@@ -10,7 +10,7 @@ returns-clause-least c _ =
     let ns = c.args.store.now.nodes in
     let vars : c.vars-vars.result ≡ c.args.store.now.vars = c.vars-vars.ensures in
     let all : c.loop-x.x ≡ c.args.store.now.vars = omega (arith, vars, c.loop-x-test.false, c.loop-x.auto.x-end) in
-    let low : c.loop-x.place.0 < 2 = late_is_end c.args.store.now.vars ns c.node_count-ends.ensures.sound c.loop-x.place.0 i.live (omega (arith, i.first, all)) in
+    let low : c.loop-x.place.0 < 2 = late_is_end c.args.store.now.vars ns c.sound.ensures.sound c.loop-x.place.0 i.live (omega (arith, i.first, all)) in
     let one : c.loop-x.place.0 ≡ 1 = omega (arith, low, i.some) in
     record {
       holds = λ v agree. sym (i.same v (λ y below. agree y (omega (arith, below, all)))) ∙ ap (λ p. meaning ns p v) one ∙ meaning_one ns v;

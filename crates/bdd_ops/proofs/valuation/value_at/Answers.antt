@@ -8,7 +8,7 @@ loop-n-preserved-then-bits-n c =
     let ns = c.args.store.now.nodes in
     let p : ℕ = c.loop-n.place.0 in
     let high : 2 ≤ p = grind (arith, c.in-Some.ensures.end) in
-    let r = c.node_count-ends.ensures.sound in
+    let r = c.sound.ensures.sound in
     record {
       live = omega (arith, ap (λ n. n.hi) c.in-Some.ensures.node, (r.proper p high c.loop-n.invariant.live).hi_below, c.loop-n.invariant.live);
       same = step_hi c.args.store.now.vars ns r p high c.loop-n.invariant.live c.in-Some.n (bits_of c.args.at.now.bits) c.in-Some.ensures.node (ap (λ xs. bits_of xs c.in-Some.n.var) (sym c.as_slice-bits.ensures) ∙ c.if-bits-n.true) ∙ c.loop-n.invariant.same;
@@ -19,7 +19,7 @@ loop-n-preserved c =
     let ns = c.args.store.now.nodes in
     let p : ℕ = c.loop-n.place.0 in
     let high : 2 ≤ p = grind (arith, c.in-Some.ensures.end) in
-    let r = c.node_count-ends.ensures.sound in
+    let r = c.sound.ensures.sound in
     record {
       live = omega (arith, ap (λ n. n.lo) c.in-Some.ensures.node, (r.proper p high c.loop-n.invariant.live).lo_below, c.loop-n.invariant.live);
       same = step_lo c.args.store.now.vars ns r p high c.loop-n.invariant.live c.in-Some.n (bits_of c.args.at.now.bits) c.in-Some.ensures.node (ap (λ xs. bits_of xs c.in-Some.n.var) (sym c.as_slice-bits.ensures) ∙ c.if-bits-n.false) ∙ c.loop-n.invariant.same;

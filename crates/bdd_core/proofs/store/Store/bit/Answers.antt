@@ -19,4 +19,4 @@ returns-clause-exact c =
     let x : ℕ = c.args.var.0 in
     let made : Function = choice (bit_of x) (meaning ns 1) (meaning ns 0) in
     let same : IsSame made (bit_of x) = λ v. rw (meaning_one ns v, meaning_zero ns v) (sym (cond_self (v x))) in
-    exact_of _ _ (bit_of x) c.join.result c.node_count-ends.ensures.sound.ends (makes_same _ _ made (bit_of x) c.join.result same c.join.ensures)
+    exact_of _ _ (bit_of x) c.join.result c.sound.ensures.sound.ends (makes_same _ _ made (bit_of x) c.join.result same c.join.ensures)

@@ -1,8 +1,10 @@
 use Rattle.std.proofs.Common.{◌≡◌, ℕ, Bool, true, false, cond, ◌≤◌, length, refl, ap, ◌∙◌, subst, arith, inl, inr, Ok, Err}
 use Rattle.std.proofs.lemmas.List.{get_or_default, length_push}
 use Rattle.node_pool.specs.declared.region.Node.{Node}
-use Rattle.bdd_core.specs.Diagram.{top, no_node, node_at, meaning, IsProper, IsReduced, choice, bit_of}
+use Rattle.bdd_core.specs.Diagram.{Function, Grows, top, no_node, node_at, meaning, IsProper, IsReduced, choice, bit_of}
+use Rattle.bdd_core.specs.Inside.{diagrams_of}
 use Rattle.bdd_core.specs.Store.{Diagrams, Makes}
+use Rattle.bdd_core.proofs.Frames.{adds_grown}
 use Rattle.bdd_core.proofs.Made.{IsStep, join, mk_sound, mk_grows, mk_means}
 use Rattle.bdd_core.proofs.MakesLaws.{canonical_of, makes_none}
 use Rattle.bdd_core.proofs.MemoLaws.{remembers_grow}
@@ -45,12 +47,12 @@ returns-in_default c =
     let room : c.add_node.new.self.word_room ≡ c.self.inside.pool.word_room = ap (λ d. d.word_room) none.2 in
     let sound : IsReduced vars ms = rw kept c.self.invariant.reduced in
     let after : Diagrams = record { nodes = ms; words = c.add_node.new.self.words; word_room = c.add_node.new.self.word_room; budget = c.self.inside.budget; vars = vars; own = 0 } in
+    let whole : Function = choice (bit_of c.args.var) (meaning ns c.args.hi.0) (meaning ns c.args.lo.0) in
+    let grows : Grows ns ms whole = rw kept (grows_none ns whole) in
     subst (λ z. Makes z after (choice (bit_of c.args.var) (meaning z.nodes c.args.hi.0) (meaning z.nodes c.args.lo.0)) (Err (record { nodes = c.self.inside.budget }))) c.self.view_is (record {
-      rest = rw (words, room) refl;
-      sound = sound;
+      adds = adds_grown (diagrams_of c.self.inside) after whole (rw (words, room) refl) sound (rw kept c.self.invariant.fits) grows;
       canonical = canonical_of after sound;
-      within = rw kept c.self.invariant.fits;
-      grows = rw kept (grows_none ns (choice (bit_of c.args.var) (meaning ns c.args.hi.0) (meaning ns c.args.lo.0)));
+      grows = grows;
       ok = tt;
       spent = record {
         number = refl;
@@ -119,12 +121,11 @@ returns c =
     let at : node_at ms c.in-Some.at ≡ n = get_or_default ms c.in-Some.at no_node n place.0 ∙ place.1 in
     let sound : IsReduced vars ms = mk_sound vars ns ms n c.self.invariant.reduced proper step in
     let after : Diagrams = record { nodes = ms; words = c.add_node.new.self.words; word_room = c.add_node.new.self.word_room; budget = c.self.inside.budget; vars = vars; own = 0 } in
+    let grows = mk_grows vars ns ms n c.self.invariant.reduced proper step in
     subst (λ z. Makes z after (choice (bit_of c.args.var) (meaning z.nodes c.args.hi.0) (meaning z.nodes c.args.lo.0)) (Ok (record { 0 = c.in-Some.at }))) c.self.view_is (record {
-      rest = rw (words, room) refl;
-      sound = sound;
+      adds = adds_grown (diagrams_of c.self.inside) after (join ns n) (rw (words, room) refl) sound within grows;
       canonical = canonical_of after sound;
-      within = within;
-      grows = mk_grows vars ns ms n c.self.invariant.reduced proper step;
+      grows = grows;
       ok = record { live = place.0; same = mk_means vars ns ms n c.self.invariant.reduced proper step c.in-Some.at place.0 at };
       spent = tt;
     })

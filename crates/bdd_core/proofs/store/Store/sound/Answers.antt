@@ -2,7 +2,7 @@ use Rattle.std.proofs.Common.{subst}
 use Rattle.bdd_core.specs.Diagram.{IsReduced}
 use Rattle.bdd_core.specs.Store.{Diagrams}
 use Rattle.bdd_core.proofs.MakesLaws.{canonical_of}
-use Rattle.bdd_core.proofs.store.Store.node_count.Goals as goal
+use Rattle.bdd_core.proofs.store.Store.sound.Goals as goal
 
 pub returns-clause-canonical : goal.returns-clause-canonical
 returns-clause-canonical c =
