@@ -5,15 +5,15 @@ use Rattle.std.proofs.lemmas.Bool.{true≢false}
 use Rattle.std.proofs.lemmas.List.{length-take-le}
 use Rattle.std.proofs.lemmas.List.Sums.{length-filter, sum_by-drop_more, sum_by-take-drop, sum_by-take-le, sum_by_more}
 use Rattle.bdd_core.specs.Diagram.{Function, IsWithin, meaning}
-use Rattle.bdd_core.specs.Store.{Diagrams, function_of}
+use Rattle.bdd_core.specs.Store.{Diagrams, function_of, Gives}
 use Rattle.bdd_core.specs.Words.{IsFilled, word_at}
 use Rattle.bdd_core.specs.declared.handle.H.{H}
 use Rattle.bdd_core.specs.declared.handle.Spent.{Spent}
 use Rattle.bdd_ops.proofs.WithinLaws.{within_same}
 use Rattle.bdd_ops.specs.Counting.{IsSpanWithin}
 use Rattle.blif_eval.proofs.CoverRows.{row_same}
-use Rattle.blif_eval.proofs.GivesLaws.{bits_kept}
-use Rattle.blif_eval.specs.Gives.{Gives, bits_in}
+use Rattle.blif_eval.proofs.RowLaws.{bits_kept}
+use Rattle.blif_eval.specs.Settled.{bits_in}
 use Rattle.blif_eval.specs.Operations.{literal_count, rows_operations}
 use Rattle.node_pool.specs.declared.region.Span.{Span}
 use Rattle.vrt_model.proofs.Members.{among_later}

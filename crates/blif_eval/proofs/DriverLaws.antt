@@ -222,13 +222,6 @@ own_count signals first latch Fe = refl
 
 -- ---- the elements of all latches
 
-pub made_none : (flat : FlatModel) (elements : List Driver) → elements ≡ [] → AreMade flat 0 elements
-made_none flat elements is = subst (AreMade flat 0) (sym is) (record {
-  count = refl;
-  each = λ k d e. absurd (none-some d e);
-  parts = λ i l part lt. absurd (omega (arith, lt));
-})
-
 -- one latch more
 module _ (flat : FlatModel) (at : ℕ) (latch : FlatLatch) (elements : List Driver) (there : At flat.latches at latch) (made : AreMade flat at elements) where
   own : List Driver

@@ -13,15 +13,14 @@ use Rattle.bdd_ops.specs.Counting.{IsSpanWithin}
 use Rattle.blif_eval.proofs.Drivers.{input_below, interface_below}
 use Rattle.blif_eval.proofs.FixedLaws.{IsLocal, fixed_next}
 use Rattle.blif_eval.proofs.FoundDrivers.{driver_there}
-use Rattle.blif_eval.proofs.Frames.{filled_beside, shows_beside, shows_kept, word_beside}
+use Rattle.bdd_core.proofs.Frames.{filled_beside, shows_beside, shows_kept, span_written, word_beside}
 use Rattle.blif_eval.proofs.LatchLaws.{last_below, part_ranges}
 use Rattle.blif_eval.proofs.LocalLaws.{value_local}
 use Rattle.blif_eval.proofs.OneAssignment.{assigned, one_assignment}
 use Rattle.blif_eval.specs.Drivers.{IsDriver, node_count}
 use Rattle.blif_eval.specs.Evaluated.{AreSteps, HasModelSpans, IsAssignedAt, IsEvaluated, IsPlannedFor, assignment_at}
-use Rattle.blif_eval.specs.Gives.{bits_in}
 use Rattle.blif_eval.specs.Plans.{entry_of}
-use Rattle.blif_eval.specs.Settled.{AreSettled, HasRange, HasStepSpans, TakesValue, control_value, control_word, driver_at, function_by, stored, value_at, value_by}
+use Rattle.blif_eval.specs.Settled.{AreSettled, HasRange, HasStepSpans, TakesValue, control_value, control_word, driver_at, function_by, stored, value_at, value_by, bits_in}
 use Rattle.blif_eval.specs.declared.driver_table.Driver.{Driver}
 use Rattle.blif_eval.specs.declared.driver_table.Driver.TheVariants.{Given, Covered, Stored, Element}
 use Rattle.blif_eval.specs.declared.driver_table.Storage.{Storage}
@@ -30,7 +29,7 @@ use Rattle.node_pool.specs.declared.region.Span.{Span}
 use Rattle.vrt_model.proofs.Assignments.{cover_same}
 use Rattle.vrt_model.specs.Covers.{cover_bit}
 use Rattle.vrt_model.specs.Elements.{element_names}
-use Rattle.vrt_model.specs.FlatModels.{IsControl, IsCover, IsFlatModel}
+use Rattle.vrt_model.specs.FlatModels.{IsControl, IsFlatModel}
 use Rattle.vrt_model.specs.Lists.{At, Among}
 use Rattle.vrt_model.specs.declared.flat_model.Cover.{Cover}
 use Rattle.vrt_model.specs.declared.flat_model.FlatModel.{FlatModel}
@@ -57,13 +56,6 @@ control_wider signals len (Some s) le range = omega (arith, le, range)
 all_wider : (m n : ℕ) (xs : List ℕ) → m ≤ n → All (λ s. s < m) xs → All (λ s. s < n) xs
 all_wider m n xs le all i lt = let low = all i lt in omega (arith, low, le)
 
-pub cover_wider : (signals len : ℕ) (cover : Cover) → signals ≤ len → IsCover signals cover → IsCover len cover
-cover_wider signals len cover le is = record {
-  inputs = all_wider signals len cover.inputs le is.inputs;
-  output = let low = is.output in omega (arith, low, le);
-  rows = is.rows;
-}
-
 -- ---- the same bits from outside, the same values
 
 pub inputs_value : (flat : FlatModel) → IsFlatModel flat → (n : ℕ) (d : Driver) → IsDriver flat n d → (bits : ℕ → Bool) (clock other : Bool) (held kept inputs given : ℕ → Bool)
@@ -81,13 +73,13 @@ inputs_value flat model n (Element s) is bits clock other held kept inputs given
 -- once the words in `out` are handles
 pub spans_from : (flat : FlatModel) (inputs held out : Span) (old new : Diagrams) → HasModelSpans flat inputs held out old → Writes out old new → HasStepSpans flat inputs held out new
 spans_from flat inputs held out old new spans w = record {
-  inputs_span = (subst (λ (d : Diagrams). d.own ≤ inputs.start) (sym w.rest) spans.inputs_span.0, omega (arith, spans.inputs_span.1, w.len));
+  inputs_span = span_written out inputs old new w spans.inputs_span;
   inputs_len = spans.inputs_len;
   inputs_live = filled_beside out inputs old new w spans.inputs_apart spans.inputs_live;
-  held_span = (subst (λ (d : Diagrams). d.own ≤ held.start) (sym w.rest) spans.held_span.0, omega (arith, spans.held_span.1, w.len));
+  held_span = span_written out held old new w spans.held_span;
   held_len = spans.held_len;
   held_live = filled_beside out held old new w spans.held_apart spans.held_live;
-  out_span = (subst (λ (d : Diagrams). d.own ≤ out.start) (sym w.rest) spans.out_span.0, omega (arith, spans.out_span.1, w.len));
+  out_span = span_written out out old new w spans.out_span;
   out_len = spans.out_len;
   out_live = w.live;
   inputs_apart = spans.inputs_apart;

@@ -1,5 +1,5 @@
 -- A table of known bits that grows cover by cover, until it has all.
-use Rattle.std.proofs.Common.{◌≡◌, ℕ, zero, suc, ◌+◌, ◌<◌, ◌≤◌, ◌++◌, ◌∷◌, [], ◌&&◌, Bool, true, false, List, Option, Some, None, length, get_or, set, arith, ap, subst, sym, refl, ◌∙◌, inl, inr}
+use Rattle.std.proofs.Common.{◌≡◌, ℕ, zero, suc, ◌+◌, ◌<◌, ◌≤◌, ◌++◌, ◌∷◌, [], Bool, true, false, List, Option, Some, None, length, get_or, set, arith, ap, subst, sym, refl, ◌∙◌, inl, inr}
 use Rattle.std.specs.Prelude.{is_none, is_some, unwrap_or}
 use Rattle.std.proofs.lemmas.Bool.{and_from, and_parts, cases_eq, cases_lt, true≢false}
 use Rattle.std.proofs.lemmas.List.{get_or-set_other, get_or-set_same}
@@ -166,14 +166,6 @@ module _ (flat : FlatModel) (model : IsFlatModel flat) (known bits : List (Optio
       (cover_known c f m (λ i a. known_complete i (f i) (reads i a) (input_below flat model c i m a)) ∙ ap Some (sym is_bit))
 
 -- ---- one look at a cover
-
--- nothing is to be learned from a cover whose output is known, or which reads what is not
-pub not_taught : (bits : List (Option Bool)) (cover : Cover) → teaches bits cover ≡ false → IsDone bits cover
-not_taught bits cover e all = by_entry (entry_of bits cover.output) e
-  where
-    by_entry : (o : Option Bool) → (is_none o && all_entries bits cover.inputs) ≡ false → is_some o ≡ true
-    by_entry None e = absurd (true≢false (sym all ∙ e))
-    by_entry (Some v) e = refl
 
 pub learned_of : (bits new : List (Option Bool)) (cover : Cover) (v : Bool) → teaches bits cover ≡ true → v ≡ cover_bit (bit_in bits) cover → new ≡ set bits cover.output (Some v)
     → IsLearned cover bits new

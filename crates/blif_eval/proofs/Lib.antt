@@ -10,7 +10,6 @@ pub mod OneAssignment
 pub mod GraphLaws
 pub mod EvalLaws
 pub mod OperationLaws
-pub mod GivesLaws
-pub mod Frames
+pub mod RowLaws
 pub mod CountLaws
 pub mod CoverRows

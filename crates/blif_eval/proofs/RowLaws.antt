@@ -1,65 +1,23 @@
--- Operations on a store, one after the other, and the values of rows and covers.
-use Rattle.std.proofs.Common.{◌≡◌, ℕ, zero, suc, ◌+◌, ◌<◌, ◌≤◌, ◌&&◌, ◌||◌, Bool, true, false, not, cond, List, [], ◌∷◌, drop, take, get_or, length, Result, Ok, Err, arith, ap, ap₂, subst, sym, refl, ◌∙◌}
+-- The diagrams of rows and covers, operation by operation.
+use Rattle.std.proofs.Common.{◌≡◌, ℕ, suc, ◌+◌, ◌<◌, ◌≤◌, ◌&&◌, ◌||◌, Bool, true, false, not, cond, List, [], ◌∷◌, drop, take, get_or, length, Result, Ok, arith, ap, ap₂, sym, refl, ◌∙◌}
 use Rattle.std.specs.Prelude.{All}
 use Rattle.std.proofs.Math.Seq.{drop-cons}
 use Rattle.std.proofs.lemmas.List.Folds.{list_any_more}
 use Rattle.bdd_ops.specs.Ops.{not_of, or_of}
+use Rattle.bdd_core.proofs.Frames.{gives_made, gives_next, gives_none, word_added}
 use Rattle.blif_eval.proofs.CoverRows.{row_same}
 use Rattle.vrt_model.proofs.Members.{all_among}
 use Rattle.bdd_core.proofs.Meaning.{meaning_one, meaning_zero}
-use Rattle.bdd_core.specs.Diagram.{Function, IsReduced, IsSame, Valuation, meaning}
-use Rattle.bdd_core.specs.Store.{Diagrams, IsExact, IsLive, IsSpan, Makes, function_of}
+use Rattle.bdd_core.specs.Diagram.{Function, IsReduced, Valuation, meaning}
+use Rattle.bdd_core.specs.Store.{Diagrams, Gives, IsLive, Makes, function_of}
 use Rattle.bdd_core.specs.declared.handle.H.{H}
 use Rattle.bdd_core.specs.declared.handle.Spent.{Spent}
 use Rattle.bdd_core.specs.Words.{IsFilled, word_at}
-use Rattle.blif_eval.specs.Gives.{Gives, bits_in}
-use Rattle.node_pool.specs.declared.region.Node.{Node}
+use Rattle.blif_eval.specs.Settled.{bits_in}
 use Rattle.node_pool.specs.declared.region.Span.{Span}
 use Rattle.vrt_model.specs.Covers.{byte_fits, cover_bit, row_fits, some_row_fits}
 use Rattle.vrt_model.specs.Lists.{is_empty}
 use Rattle.vrt_model.specs.declared.flat_model.Cover.{Cover}
-
-pub gives_made : (old new : Diagrams) (f g : Function) (r : Result H Spent) → IsSame f g → Makes old new f r → IsExact old new f r → Gives old new g r
-gives_made old new f g (Ok r) same m x = record {
-  rest = m.rest;
-  sound = m.sound;
-  within = m.within;
-  kept = x.kept;
-  ok = record { live = m.ok.live; same = λ v. m.ok.same v ∙ same v };
-  spent = tt;
-}
-gives_made old new f g (Err s) same m x = record { rest = m.rest; sound = m.sound; within = m.within; kept = x.kept; ok = tt; spent = (m.spent.number, m.spent.full) }
-
-pub gives_none : (d : Diagrams) (f : Function) (r : H) → IsReduced d.vars d.nodes → length d.nodes ≤ d.budget → IsLive d r → IsSame (function_of d r) f → Gives d d f (Ok r)
-gives_none d f r sound within live same = record {
-  rest = refl;
-  sound = sound;
-  within = within;
-  kept = λ h l. (l, λ v. refl);
-  ok = record { live = live; same = same };
-  spent = tt;
-}
-
-abbrev with_nodes : List Node → Diagrams → Diagrams
-with_nodes ns d = record d { nodes = ns }
-
-pub gives_next : (a b c : Diagrams) (f g h : Function) (p : H) (r : Result H Spent) → Gives a b f (Ok p) → Gives b c g r → IsSame g h → Gives a c h r
-gives_next a b c f g h p (Ok r) first second same = record {
-  rest = second.rest ∙ ap (with_nodes c.nodes) first.rest;
-  sound = second.sound;
-  within = second.within;
-  kept = λ x live. let one = first.kept x live in let two = second.kept x one.0 in (two.0, λ v. two.1 v ∙ one.1 v);
-  ok = record { live = second.ok.live; same = λ v. second.ok.same v ∙ same v };
-  spent = tt;
-}
-gives_next a b c f g h p (Err s) first second same = record {
-  rest = second.rest ∙ ap (with_nodes c.nodes) first.rest;
-  sound = second.sound;
-  within = second.within;
-  kept = λ x live. let one = first.kept x live in let two = second.kept x one.0 in (two.0, λ v. two.1 v ∙ one.1 v);
-  ok = tt;
-  spent = second.spent;
-}
 
 -- ---- one literal
 
@@ -71,24 +29,11 @@ pub one_literal : (a b : Bool) → cond a b false ≡ (byte_fits 49 a && b)
 one_literal true b = refl
 one_literal false b = refl
 
--- ---- spans are kept
-
-pub span_kept : (a b : Diagrams) (f : Function) (r : Result H Spent) (span : Span) → Gives a b f r → IsSpan a span → IsSpan b span
-span_kept a b f r span g is = subst (λ (d : Diagrams). IsSpan d span) (sym g.rest) is
-
-pub handle_kept : (a b : Diagrams) (f : Function) (r : Result H Spent) (span : Span) (s : ℕ) → Gives a b f r → word_at b span s ≡ word_at a span s
-handle_kept a b f r span s g = ap (λ (d : Diagrams). word_at d span s) g.rest
-
-pub live_kept : (a b : Diagrams) (f : Function) (r : Result H Spent) (span : Span) → Gives a b f r → IsFilled a span → IsFilled b span
-live_kept a b f r span g live s lt =
-    let same = handle_kept a b f r span s g in
-    let there = (g.kept (record { 0 = word_at a span s }) (live s lt)).0 in
-    omega (arith, same, there)
+-- ---- bits are kept
 
 pub bits_kept : (a b : Diagrams) (f : Function) (r : Result H Spent) (span : Span) (s : ℕ) (v : Valuation) → Gives a b f r → IsFilled a span → s < span.len
     → bits_in b span v s ≡ bits_in a span v s
-bits_kept a b f r span s v g live lt =
-    ap (λ (k : ℕ). meaning b.nodes k v) (handle_kept a b f r span s g) ∙ (g.kept (record { 0 = word_at a span s }) (live s lt)).1 v
+bits_kept a b f r span s v g live lt = ap (λ (k : ℕ). meaning b.nodes k v) (word_added span a b s g.adds) ∙ g.adds.kept (word_at a span s) (live s lt) v
 
 -- ---- a row, from its last input to its first
 
@@ -122,17 +67,6 @@ row_next a b c span inputs row before at value p r next live lt within low is fi
         ap₂ (λ (xs ys : List ℕ). row_fits (bits_in a span v) xs ys) (drop-cons inputs at 0 lt) (drop-cons row at 0 within) in
         ap₂ (λ (x y : Bool). byte_fits (get_or row at 0) x && y) bit rest ∙ sym whole
 
--- a refusal says nothing of the function
-pub gives_refused : (a b c : Diagrams) (f g h : Function) (p : H) (s : Spent) → Gives a b f (Ok p) → Gives b c g (Err s) → Gives a c h (Err s)
-gives_refused a b c f g h p s first second = record {
-  rest = second.rest ∙ ap (with_nodes c.nodes) first.rest;
-  sound = second.sound;
-  within = second.within;
-  kept = λ x live. let one = first.kept x live in let two = second.kept x one.0 in (two.0, λ v. two.1 v ∙ one.1 v);
-  ok = tt;
-  spent = second.spent;
-}
-
 -- ---- rows, one after the other
 
 abbrev pub rows_upto : Diagrams → Span → List ℕ → List (List ℕ) → ℕ → Function
@@ -155,7 +89,7 @@ pub added_row : (a b c : Diagrams) (span : Span) (inputs row : List ℕ) (sum on
     → Gives a c (λ v. function_of a sum v || row_fits (bits_in a span v) inputs row) r
 added_row a b c span inputs row sum one r there first second =
     gives_next a b c (λ v. row_fits (bits_in a span v) inputs row) (or_of (function_of b sum) (function_of b one)) (λ v. function_of a sum v || row_fits (bits_in a span v) inputs row) one r first second
-    (λ v. ap₂ (λ (x y : Bool). x || y) ((first.kept sum there).1 v) (first.ok.same v))
+    (λ v. ap₂ (λ (x y : Bool). x || y) (first.adds.kept sum.0 there v) (first.ok.same v))
 
 -- a row more
 pub rows_next : (a b c : Diagrams) (span : Span) (inputs : List ℕ) (rows : List (List ℕ)) (k : ℕ) (sum : H) (r : Result H Spent) → IsFilled a span
@@ -171,44 +105,16 @@ rows_next a b c span inputs rows k sum r live low lt first second =
 
 -- ---- the bit of a cover
 
-pub rows_all : (a b : Diagrams) (span : Span) (inputs : List ℕ) (rows : List (List ℕ)) (k : ℕ) (sum : H) → length rows ≤ k → Gives a b (rows_upto a span inputs rows k) (Ok sum)
-    → Gives a b (λ v. some_row_fits (bits_in a span v) inputs rows) (Ok sum)
-rows_all a b span inputs rows k sum le g = record {
-  rest = g.rest;
-  sound = g.sound;
-  within = g.within;
-  kept = g.kept;
-  ok = record { live = g.ok.live; same = λ v. g.ok.same v ∙ ap (λ (xs : List (List ℕ)). some_row_fits (bits_in a span v) inputs xs) (take_all rows k le) };
-  spent = tt;
-} where
-  take_all : {X : Type 0} (xs : List X) (k : ℕ) → length xs ≤ k → take k xs ≡ xs
-  take_all [] zero le = refl
-  take_all [] (suc k) le = refl
-  take_all (x ∷ xs) zero le = absurd (omega (arith, le))
-  take_all (x ∷ xs) (suc k) le = ap (λ ys. x ∷ ys) (take_all xs k (omega (arith, le)))
-
 pub cover_as_rows : (bits : ℕ → Bool) (cover : Cover) → (cover.on || is_empty cover.rows) ≡ true → some_row_fits bits cover.inputs cover.rows ≡ cover_bit bits cover
 cover_as_rows bits cover e = let some = some_row_fits bits cover.inputs cover.rows in sym (ap (λ (b : Bool). cond b some (not some)) e)
 
 pub cover_as_none : (bits : ℕ → Bool) (cover : Cover) → (cover.on || is_empty cover.rows) ≡ false → not (some_row_fits bits cover.inputs cover.rows) ≡ cover_bit bits cover
 cover_as_none bits cover e = let some = some_row_fits bits cover.inputs cover.rows in sym (ap (λ (b : Bool). cond b some (not some)) e)
 
-pub cover_rows : (a b : Diagrams) (span : Span) (cover : Cover) (r : Result H Spent) → (cover.on || is_empty cover.rows) ≡ true
-    → Gives a b (λ v. some_row_fits (bits_in a span v) cover.inputs cover.rows) r → Gives a b (λ v. cover_bit (bits_in a span v) cover) r
-cover_rows a b span cover (Ok p) e g = record {
-  rest = g.rest;
-  sound = g.sound;
-  within = g.within;
-  kept = g.kept;
-  ok = record { live = g.ok.live; same = λ v. g.ok.same v ∙ cover_as_rows (bits_in a span v) cover e };
-  spent = tt;
-}
-cover_rows a b span cover (Err s) e g = record { rest = g.rest; sound = g.sound; within = g.within; kept = g.kept; ok = tt; spent = g.spent }
-
 pub cover_none : (a b c : Diagrams) (span : Span) (cover : Cover) (sum : H) (r : Result H Spent) → (cover.on || is_empty cover.rows) ≡ false
-    → Gives a b (λ v. some_row_fits (bits_in a span v) cover.inputs cover.rows) (Ok sum) → Makes b c (not_of (function_of b sum)) r → IsExact b c (not_of (function_of b sum)) r
+    → Gives a b (λ v. some_row_fits (bits_in a span v) cover.inputs cover.rows) (Ok sum) → Makes b c (not_of (function_of b sum)) r
     → Gives a c (λ v. cover_bit (bits_in a span v) cover) r
-cover_none a b c span cover sum r e first m x =
+cover_none a b c span cover sum r e first m =
     gives_next a b c (λ v. some_row_fits (bits_in a span v) cover.inputs cover.rows) (not_of (function_of b sum)) (λ v. cover_bit (bits_in a span v) cover) sum r first
-    (gives_made b c (not_of (function_of b sum)) (not_of (function_of b sum)) r (λ v. refl) m x)
+    (gives_made b c (not_of (function_of b sum)) (not_of (function_of b sum)) r (λ v. refl) m)
     (λ v. ap not (first.ok.same v) ∙ cover_as_none (bits_in a span v) cover e)

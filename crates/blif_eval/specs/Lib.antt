@@ -1,6 +1,5 @@
 pub mod Drivers
 pub mod Evaluated
-pub mod Gives
 pub mod KnownBits
 pub mod OneAssignment
 pub mod Operations

@@ -4,7 +4,6 @@ use Rattle.bdd_core.specs.Diagram.{Function, Valuation}
 use Rattle.bdd_core.specs.Store.{Diagrams, IsSpan}
 use Rattle.bdd_core.specs.Words.{IsApart, IsFilled, shows, word_at}
 use Rattle.blif_eval.specs.Drivers.{node_count}
-use Rattle.blif_eval.specs.Gives.{bits_in}
 use Rattle.blif_eval.specs.declared.driver_table.Driver.{Driver}
 use Rattle.blif_eval.specs.declared.driver_table.Driver.TheVariants.{Given, Covered, Stored, Element}
 use Rattle.blif_eval.specs.declared.driver_table.Storage.{Storage}
@@ -15,6 +14,10 @@ use Rattle.vrt_model.specs.FlatModels.{IsControl}
 use Rattle.vrt_model.specs.Lists.{At}
 use Rattle.vrt_model.specs.declared.flat_model.Cover.{Cover}
 use Rattle.vrt_model.specs.declared.flat_model.FlatModel.{FlatModel}
+
+-- the bits of the signals at a valuation, by the handles in a span
+abbrev pub bits_in : Diagrams → Span → Valuation → ℕ → Bool
+bits_in d span v s = shows d span s v
 
 -- ---- bits that follow from bits before
 

@@ -2,10 +2,10 @@
 
 ghost use Rattle.std.specs.Prelude.{◌≡◌, ℕ, ◌+◌, ◌<◌, ◌&&◌, ◌||◌, All, length};
 ghost use Rattle.bdd_core.specs.Diagram.{IsWithin};
-ghost use Rattle.bdd_core.specs.Store.{IsLive, IsSpan, function_of};
+ghost use Rattle.bdd_core.specs.Store.{IsLive, IsSpan, function_of, Gives};
 ghost use Rattle.bdd_core.specs.Words.{IsFilled, word_at};
 ghost use Rattle.bdd_ops.specs.Counting.{Counts, IsSpanWithin};
-ghost use Rattle.blif_eval.specs.Gives.{Gives, bits_in};
+ghost use Rattle.blif_eval.specs.Settled.{bits_in};
 ghost use Rattle.blif_eval.specs.Operations.{literal_count, operations_of, rows_operations};
 ghost use Rattle.vrt_model.specs.Budget.{literals_in};
 ghost use Rattle.vrt_model.specs.Covers.{byte_fits, cover_bit, row_fits, some_row_fits};
@@ -23,7 +23,7 @@ fn literal(store: &mut Store, byte: u8, value: H, rest: H) -> Result<H, Spent>
     ensures gives { Gives store.old store.new (λ v. byte_fits byte (function_of store.old value v) && function_of store.old rest v) result }
     ensures counts { (u : ℕ) → IsWithin u (function_of store.old value) → IsWithin u (function_of store.old rest) → Counts u (literal_count byte) store.old store.new result }
 {
-    let _ends = store.node_count();
+    store.sound();
     match byte {
         48 => store.ite(value, ZERO, rest),
         49 => store.ite(value, rest, ZERO),
@@ -50,7 +50,7 @@ fn row_diagram(store: &mut Store, inputs: &[u32], row: &[u8], values: Span) -> R
     ensures gives { Gives store.old store.new (λ v. row_fits (bits_in store.old values v) inputs.now row.now) result }
     ensures counts { (u : ℕ) → IsSpanWithin u store.old values → Counts u (literals_in row.now) store.old store.new result }
 {
-    let _ends = store.node_count();
+    store.sound();
     let mut fits = ONE;
     let mut at = inputs.len();
     'back: while at > 0 {
@@ -74,7 +74,7 @@ fn add_row(store: &mut Store, inputs: &[u32], row: &[u8], values: Span, sum: H) 
     ensures gives { Gives store.old store.new (λ v. function_of store.old sum v || row_fits (bits_in store.old values v) inputs.now row.now) result }
     ensures counts { (u : ℕ) → IsSpanWithin u store.old values → IsWithin u (function_of store.old sum) → Counts u (literals_in row.now + 1) store.old store.new result }
 {
-    let _ends = store.node_count();
+    store.sound();
     let one = match row_diagram(store, inputs, row, values) {
         Ok(one) => one,
         Err(spent) => return Err(spent),
@@ -90,7 +90,7 @@ fn rows_diagram(store: &mut Store, cover: &Cover, values: Span) -> Result<H, Spe
     ensures gives { Gives store.old store.new (λ v. some_row_fits (bits_in store.old values v) cover.now.inputs cover.now.rows) result }
     ensures counts { (u : ℕ) → IsSpanWithin u store.old values → Counts u (rows_operations cover.now.rows) store.old store.new result }
 {
-    let _ends = store.node_count();
+    store.sound();
     let mut sum = ZERO;
     for row in cover.rows.as_slice() {
         sum = match add_row(store, cover.inputs.as_slice(), row.as_bytes(), values, sum) {
@@ -122,7 +122,7 @@ pub fn cover_diagram(store: &mut Store, cover: &Cover, values: Span) -> Result<H
     ensures gives { Gives store.old store.new (λ v. cover_bit (bits_in store.old values v) cover.now) result }
     ensures counts { (u : ℕ) → IsSpanWithin u store.old values → Counts u (operations_of cover.now) store.old store.new result }
 {
-    let _ends = store.node_count();
+    store.sound();
     let sum = match rows_diagram(store, cover, values) {
         Ok(sum) => sum,
         Err(spent) => return Err(spent),

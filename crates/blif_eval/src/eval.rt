@@ -2,14 +2,13 @@
 
 ghost use Rattle.std.specs.Prelude.{◌≡◌, ◌≢◌, ℕ, ◌+◌, ◌*◌, ◌<◌, ◌≤◌, [], Some, length, slice_get, sum_by, IfErr, IfOk};
 ghost use Rattle.bdd_core.specs.Diagram.{IsWithin, Valuation};
-ghost use Rattle.bdd_core.specs.Store.{IsLive, IsSpan, function_of};
+ghost use Rattle.bdd_core.specs.Store.{IsLive, IsSpan, function_of, Gives};
 ghost use Rattle.bdd_core.specs.Words.{IsFilled, Writes, shows, word_at};
 ghost use Rattle.blif_eval.specs.Drivers.{AreDrivers, IsDriver, node_count};
 ghost use Rattle.blif_eval.specs.Evaluated.{AreSteps, HasModelSpans, IsEvaluated, IsPlannedFor};
 ghost use Rattle.bdd_ops.specs.Counting.{Counts, IsSpanWithin};
-ghost use Rattle.blif_eval.specs.Gives.{Gives, bits_in};
 ghost use Rattle.blif_eval.specs.Operations.{driver_operations, number_operations, operations_of, weighed};
-ghost use Rattle.blif_eval.specs.Settled.{AreSettled, HasRange, HasStepSpans, TakesValue, control_word, cover_value, function_at, function_by, stored};
+ghost use Rattle.blif_eval.specs.Settled.{AreSettled, HasRange, HasStepSpans, TakesValue, control_word, cover_value, function_at, function_by, stored, bits_in};
 ghost use Rattle.blif_eval.specs.declared.driver_table.Driver.TheVariants.{Element};
 ghost use Rattle.vrt_model.specs.Budget.{model_size};
 ghost use Rattle.vrt_model.specs.FlatModels.{IsControl, IsFlatModel};
@@ -28,7 +27,7 @@ fn clear(store: &mut Store, out: Span)
     ensures rest { store.new ≡ record store.old { words = store.new.words } }
     ensures zeros { (k : ℕ) → k < out.len → word_at store.new out k ≡ 0 }
 {
-    let _ends = store.node_count();
+    store.sound();
     for at in 0..out.len {
         store.write(out, at, 0);
     }
@@ -43,7 +42,7 @@ fn covered(store: &mut Store, flat: &FlatModel, place: usize, out: Span) -> Resu
     ensures gives { Gives store.old store.new (λ v. cover_value flat.now.covers place (bits_in store.old out v)) result }
     ensures counts { (u : ℕ) → IsSpanWithin u store.old out → Counts u (weighed operations_of (slice_get flat.now.covers place)) store.old store.new result }
 {
-    let _ends = store.node_count();
+    store.sound();
     match flat.covers.get(place) {
         Some(cover) => cover_diagram(store, cover, out),
         None => Ok(ZERO),
@@ -70,7 +69,7 @@ fn choose(store: &mut Store, open_at: bool, control: H, source: H, held: H) -> R
     ensures gives { Gives store.old store.new (λ v. stored open_at (function_of store.old control v) (function_of store.old source v) (function_of store.old held v)) result }
     ensures counts { (u : ℕ) → IsWithin u (function_of store.old control) → IsWithin u (function_of store.old source) → IsWithin u (function_of store.old held) → Counts u 1 store.old store.new result }
 {
-    let _ends = store.node_count();
+    store.sound();
     if open_at {
         store.ite(control, source, held)
     } else {
@@ -93,7 +92,7 @@ fn element(
     ensures gives { Gives store.old store.new (function_by store.old flat.now inputs held out 0 (Element storage)) result }
     ensures counts { (u : ℕ) → IsSpanWithin u store.old inputs → IsSpanWithin u store.old held → IsSpanWithin u store.old out → Counts u 1 store.old store.new result }
 {
-    let _ends = store.node_count();
+    store.sound();
     let signals = flat.signals.len() as u32;
     let control = control_handle(store, storage.control, signals, inputs, out);
     let source = H(store.read(out, storage.source));
@@ -117,7 +116,7 @@ fn value_by(
     ensures gives { Gives store.old store.new (function_by store.old flat.now inputs held out number driver) result }
     ensures counts { (u : ℕ) → IsSpanWithin u store.old inputs → IsSpanWithin u store.old held → IsSpanWithin u store.old out → Counts u (driver_operations flat.now.covers driver) store.old store.new result }
 {
-    let _ends = store.node_count();
+    store.sound();
     match driver {
         Driver::Given => Ok(H(store.read(inputs, number))),
         Driver::Covered(place) => covered(store, flat, place, out),
@@ -154,7 +153,7 @@ fn settle(
     ensures spent { IfErr result (λ spent. (spent.nodes ≡ store.new.budget) × (length store.new.nodes ≡ store.new.budget)) }
     ensures counts { (u : ℕ) → IsSpanWithin u store.old inputs → IsSpanWithin u store.old held → IsSpanWithin u store.old out → Counts u (number_operations flat.now drivers.now number) store.old store.new result }
 {
-    let _ends = store.node_count();
+    store.sound();
     let driver = driver_at(drivers, number);
     let value = match value_by(store, flat, driver, inputs, held, out, number) {
         Ok(value) => value,
@@ -182,7 +181,7 @@ fn settle_all(
     ensures spent { IfErr result (λ spent. (spent.nodes ≡ store.new.budget) × (length store.new.nodes ≡ store.new.budget)) }
     ensures counts { (u : ℕ) → IsSpanWithin u store.old inputs → IsSpanWithin u store.old held → IsSpanWithin u store.old out → Counts u (sum_by (number_operations flat.now drivers.now) steps.now) store.old store.new result }
 {
-    let _ends = store.node_count();
+    store.sound();
     for number in steps {
         match settle(store, flat, drivers, inputs, held, out, *number) {
             Ok(()) => {}

@@ -5,8 +5,9 @@ use Rattle.bdd_ops.proofs.CountingLaws.{counts_made, counts_more, counts_then}
 use Rattle.bdd_ops.proofs.WithinLaws.{within_or, within_same}
 use Rattle.bdd_ops.specs.Ops.{or_of}
 use Rattle.blif_eval.proofs.CountLaws.{row_within}
-use Rattle.blif_eval.proofs.GivesLaws.{added_row, gives_made}
-use Rattle.blif_eval.specs.Gives.{bits_in}
+use Rattle.bdd_core.proofs.Frames.{gives_made}
+use Rattle.blif_eval.proofs.RowLaws.{added_row}
+use Rattle.blif_eval.specs.Settled.{bits_in}
 use Rattle.vrt_model.proofs.Members.{all_among}
 use Rattle.vrt_model.specs.Budget.{literals_in}
 use Rattle.vrt_model.specs.Covers.{row_fits}
@@ -21,7 +22,7 @@ pub returns-clause-gives : goal.returns-clause-gives
 returns-clause-gives c =
     let both : Function = or_of (function_of c.row_diagram.new.store c.args.sum) (function_of c.row_diagram.new.store c.in-Ok.one) in
     added_row c.args.store.now c.row_diagram.new.store c.or.new.store c.args.values c.args.inputs.now c.args.row.now c.args.sum c.in-Ok.one c.or.result c.requires.sum c.in-Ok.ensures.gives
-    (gives_made c.row_diagram.new.store c.or.new.store both both c.or.result (λ v. refl) c.or.ensures.makes c.or.ensures.exact)
+    (gives_made c.row_diagram.new.store c.or.new.store both both c.or.result (λ v. refl) c.or.ensures.makes)
 
 pub returns-clause-counts : goal.returns-clause-counts
 returns-clause-counts c u reads sum =
@@ -34,9 +35,9 @@ returns-clause-counts c u reads sum =
     let first = c.in-Ok.ensures.gives in
     let before : Function = function_of mid c.args.sum in
     let one : Function = function_of mid c.in-Ok.one in
-    let sum_within : IsWithin u before = within_same u (function_of old c.args.sum) before (first.kept c.args.sum c.requires.sum).1 sum in
+    let sum_within : IsWithin u before = within_same u (function_of old c.args.sum) before (first.adds.kept c.args.sum.0 c.requires.sum) sum in
     let one_within : IsWithin u one =
     within_same u (λ v. row_fits (bits_in old values v) inputs row) one first.ok.same
     (row_within u old values reads inputs (λ s m. all_among (λ (k : ℕ). k < values.len) inputs s c.requires.inputs m) row) in
     counts_then u (literals_in row) 1 old mid new c.or.result (c.in-Ok.ensures.counts u reads).added
-    (counts_made u mid new first.sound.ends (or_of before one) c.or.result c.or.ensures.makes (within_or u before one sum_within one_within))
+    (counts_made u mid new first.adds.sound.ends (or_of before one) c.or.result c.or.ensures.makes (within_or u before one sum_within one_within))

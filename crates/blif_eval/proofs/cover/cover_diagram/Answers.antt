@@ -5,8 +5,8 @@ use Rattle.bdd_ops.proofs.CountingLaws.{counts_made, counts_more, counts_then}
 use Rattle.bdd_ops.proofs.WithinLaws.{within_not, within_same}
 use Rattle.bdd_ops.specs.Ops.{not_of}
 use Rattle.blif_eval.proofs.CountLaws.{off_rows, rows_within}
-use Rattle.blif_eval.proofs.GivesLaws.{cover_none}
-use Rattle.blif_eval.specs.Gives.{bits_in}
+use Rattle.blif_eval.proofs.RowLaws.{cover_none}
+use Rattle.blif_eval.specs.Settled.{bits_in}
 use Rattle.blif_eval.specs.Operations.{operations_of, rows_operations}
 use Rattle.vrt_model.proofs.Members.{all_among}
 use Rattle.vrt_model.specs.Covers.{some_row_fits}
@@ -25,7 +25,7 @@ returns-then-is_of_rows-clause-counts c u reads =
 pub returns-else-is_of_rows-clause-gives : goal.returns-else-is_of_rows-clause-gives
 returns-else-is_of_rows-clause-gives c =
     cover_none c.args.store.now c.rows_diagram.new.store c.not.new.store c.args.values c.args.cover.now c.in-Ok.sum c.not.result (sym c.is_of_rows.ensures ∙ c.if-is_of_rows.false)
-    c.in-Ok.ensures.gives c.not.ensures.makes c.not.ensures.exact
+    c.in-Ok.ensures.gives c.not.ensures.makes
 
 pub returns-else-is_of_rows-clause-counts : goal.returns-else-is_of_rows-clause-counts
 returns-else-is_of_rows-clause-counts c u reads =
@@ -42,4 +42,4 @@ returns-else-is_of_rows-clause-counts c u reads =
     let some = off_rows cover (sym c.is_of_rows.ensures ∙ c.if-is_of_rows.false) in
     counts_more u (rows_operations cover.rows + 1) (operations_of cover) old new c.not.result (omega (arith, some))
     (counts_then u (rows_operations cover.rows) 1 old mid new c.not.result (c.in-Ok.ensures.counts u reads).added
-    (counts_made u mid new first.sound.ends (not_of sum) c.not.result c.not.ensures.makes (within_not u sum sum_within)))
+    (counts_made u mid new first.adds.sound.ends (not_of sum) c.not.result c.not.ensures.makes (within_not u sum sum_within)))

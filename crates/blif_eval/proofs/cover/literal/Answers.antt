@@ -4,7 +4,8 @@ use Rattle.bdd_core.specs.Diagram.{Function, IsSame, choice, meaning}
 use Rattle.bdd_ops.proofs.CountingLaws.{counts_made, counts_more, counts_none}
 use Rattle.bdd_ops.proofs.WithinLaws.{within_choice, within_zero}
 use Rattle.bdd_ops.specs.Counting.{Counts}
-use Rattle.blif_eval.proofs.GivesLaws.{gives_made, one_literal, zero_literal}
+use Rattle.bdd_core.proofs.Frames.{gives_made}
+use Rattle.blif_eval.proofs.RowLaws.{one_literal, zero_literal}
 use Rattle.blif_eval.specs.Operations.{literal_count}
 use Rattle.vrt_model.specs.Covers.{byte_fits}
 use Rattle.blif_eval.proofs.cover.literal.Goals as goal
@@ -17,7 +18,7 @@ returns-in-48-clause-gives c =
     let same : IsSame whole goal_of =
     λ v. rw (meaning_zero ns v) (zero_literal (meaning ns c.args.value.0 v) (meaning ns c.args.rest.0 v)
     ∙ ap (λ (b : ℕ). byte_fits b (meaning ns c.args.value.0 v) && meaning ns c.args.rest.0 v) (sym c.in-48.is)) in
-    gives_made c.args.store.now c.ite.new.self whole goal_of c.ite.result same c.ite.ensures.makes c.ite.ensures.exact
+    gives_made c.args.store.now c.ite.new.self whole goal_of c.ite.result same c.ite.ensures.makes
 
 pub returns-in-48-clause-counts : goal.returns-in-48-clause-counts
 returns-in-48-clause-counts c u value rest =
@@ -26,7 +27,7 @@ returns-in-48-clause-counts c u value rest =
     let zero = meaning old.nodes 0 in
     let g = meaning old.nodes c.args.rest.0 in
     subst (λ (b : ℕ). Counts u (literal_count b) old c.ite.new.self c.ite.result) (sym c.in-48.is)
-    (counts_made u old c.ite.new.self c.node_count-ends.ensures.sound.ends (choice f zero g) c.ite.result c.ite.ensures.makes (within_choice u f zero g value (within_zero u old) rest))
+    (counts_made u old c.ite.new.self c.sound.ensures.sound.ends (choice f zero g) c.ite.result c.ite.ensures.makes (within_choice u f zero g value (within_zero u old) rest))
 
 pub returns-in-49-clause-gives : goal.returns-in-49-clause-gives
 returns-in-49-clause-gives c =
@@ -36,7 +37,7 @@ returns-in-49-clause-gives c =
     let same : IsSame whole goal_of =
     λ v. rw (meaning_zero ns v) (one_literal (meaning ns c.args.value.0 v) (meaning ns c.args.rest.0 v)
     ∙ ap (λ (b : ℕ). byte_fits b (meaning ns c.args.value.0 v) && meaning ns c.args.rest.0 v) (sym c.in-49.is)) in
-    gives_made c.args.store.now c.ite-in-49.new.self whole goal_of c.ite-in-49.result same c.ite-in-49.ensures.makes c.ite-in-49.ensures.exact
+    gives_made c.args.store.now c.ite-in-49.new.self whole goal_of c.ite-in-49.result same c.ite-in-49.ensures.makes
 
 pub returns-in-49-clause-counts : goal.returns-in-49-clause-counts
 returns-in-49-clause-counts c u value rest =
@@ -45,7 +46,7 @@ returns-in-49-clause-counts c u value rest =
     let zero = meaning old.nodes 0 in
     let g = meaning old.nodes c.args.rest.0 in
     subst (λ (b : ℕ). Counts u (literal_count b) old c.ite-in-49.new.self c.ite-in-49.result) (sym c.in-49.is)
-    (counts_made u old c.ite-in-49.new.self c.node_count-ends.ensures.sound.ends (choice f g zero) c.ite-in-49.result c.ite-in-49.ensures.makes
+    (counts_made u old c.ite-in-49.new.self c.sound.ensures.sound.ends (choice f g zero) c.ite-in-49.result c.ite-in-49.ensures.makes
     (within_choice u f g zero value rest (within_zero u old)))
 
 pub returns-in_default-clause-counts : goal.returns-in_default-clause-counts

@@ -4,8 +4,9 @@ use Rattle.bdd_core.specs.Store.{function_of}
 use Rattle.bdd_ops.proofs.CountingLaws.{counted_more, counted_none, counted_then, counts_more, counts_ok, counts_then}
 use Rattle.bdd_ops.proofs.WithinLaws.{within_same}
 use Rattle.blif_eval.proofs.CountLaws.{literals_last, literals_next, literals_within, part_within, value_within}
-use Rattle.blif_eval.proofs.GivesLaws.{gives_refused, row_from, row_last, row_next}
-use Rattle.blif_eval.specs.Gives.{bits_in}
+use Rattle.bdd_core.proofs.Frames.{gives_refused}
+use Rattle.blif_eval.proofs.RowLaws.{row_from, row_last, row_next}
+use Rattle.blif_eval.specs.Settled.{bits_in}
 use Rattle.blif_eval.specs.Operations.{literal_count}
 use Rattle.vrt_model.proofs.Members.{all_among}
 use Rattle.vrt_model.specs.Budget.{literals_in}
@@ -19,7 +20,7 @@ back-init c =
     let row = c.args.row.now in
     record {
       most = omega arith;
-      gives = row_last old c.args.values inputs row (length inputs) refl c.node_count-ends.ensures.sound c.node_count-ends.ensures.within;
+      gives = row_last old c.args.values inputs row (length inputs) refl c.sound.ensures.sound c.sound.ensures.within;
       counted = λ u reads. counted_more u 0 (literals_in (drop (length inputs) row)) old old (omega arith) (counted_none u old);
     }
 

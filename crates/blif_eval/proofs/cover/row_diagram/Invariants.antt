@@ -1,7 +1,7 @@
 use Rattle.std.proofs.Common.{ℕ, ◌≤◌, Ok, drop, length}
 use Rattle.bdd_ops.specs.Counting.{IsCounted, IsSpanWithin}
-use Rattle.blif_eval.proofs.GivesLaws.{row_from}
-use Rattle.blif_eval.specs.Gives.{Gives}
+use Rattle.blif_eval.proofs.RowLaws.{row_from}
+use Rattle.bdd_core.specs.Store.{Gives}
 use Rattle.vrt_model.specs.Budget.{literals_in}
 use Rattle.blif_eval.proofs.cover.row_diagram.Given as goal
 

@@ -1,6 +1,6 @@
 use Rattle.std.proofs.Common.{arith, ◌≡◌, ◌+◌, ◌<◌, ◌||◌, ℕ, List, [], get_or, take, length, Err, Ok, ap, subst, sym, ◌∙◌}
 use Rattle.bdd_core.specs.Diagram.{Function, IsWithin}
-use Rattle.bdd_core.specs.Store.{function_of}
+use Rattle.bdd_core.specs.Store.{function_of, Gives}
 use Rattle.bdd_core.specs.declared.handle.H.{H}
 use Rattle.bdd_ops.proofs.CountingLaws.{counted_more, counted_none, counted_then, counts_more, counts_ok, counts_then}
 use Rattle.bdd_ops.proofs.WithinLaws.{within_same}
@@ -8,8 +8,9 @@ use Rattle.bdd_ops.specs.Counting.{Counts, IsSpanWithin}
 use Rattle.std.proofs.lemmas.Option.{get_or_from_slice_get}
 use Rattle.blif_eval.proofs.CountLaws.{rows_more, rows_take, rows_within, span_within}
 use Rattle.graphs.proofs.Lists.{item_at}
-use Rattle.blif_eval.proofs.GivesLaws.{gives_refused, live_kept, rows_next, rows_none, rows_upto}
-use Rattle.blif_eval.specs.Gives.{Gives, bits_in}
+use Rattle.bdd_core.proofs.Frames.{filled_added, gives_refused}
+use Rattle.blif_eval.proofs.RowLaws.{rows_next, rows_none, rows_upto}
+use Rattle.blif_eval.specs.Settled.{bits_in}
 use Rattle.blif_eval.specs.Operations.{rows_operations}
 use Rattle.vrt_model.proofs.Members.{all_among}
 use Rattle.vrt_model.specs.Budget.{literals_in}
@@ -18,14 +19,13 @@ use Rattle.blif_eval.proofs.cover.rows_diagram.Goals as goal
 
 pub loop-row-init : goal.loop-row-init
 loop-row-init c = record {
-  gives = rows_none c.args.store.now c.args.values c.args.cover.now.inputs c.args.cover.now.rows c.node_count-ends.ensures.sound c.node_count-ends.ensures.within;
+  gives = rows_none c.args.store.now c.args.values c.args.cover.now.inputs c.args.cover.now.rows c.sound.ensures.sound c.sound.ensures.within;
   counted = λ u reads. counted_none u c.args.store.now;
 }
 
 pub add_row-requires-clause-live : goal.add_row-requires-clause-live
 add_row-requires-clause-live c =
-    live_kept c.args.store.now c.loop-row.store (rows_upto c.args.store.now c.args.values c.args.cover.now.inputs c.args.cover.now.rows c.loop-row.row-index) (Ok c.loop-row.sum) c.args.values
-    c.loop-row.invariant.gives c.requires.live
+    filled_added c.args.values c.args.store.now c.loop-row.store c.loop-row.invariant.gives.adds c.requires.live
 
 pub returns-in-Err-clause-gives : goal.returns-in-Err-clause-gives
 returns-in-Err-clause-gives c =

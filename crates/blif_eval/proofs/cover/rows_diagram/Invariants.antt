@@ -1,7 +1,7 @@
 use Rattle.std.proofs.Common.{ℕ, Ok, take}
 use Rattle.bdd_ops.specs.Counting.{IsCounted, IsSpanWithin}
-use Rattle.blif_eval.proofs.GivesLaws.{rows_upto}
-use Rattle.blif_eval.specs.Gives.{Gives}
+use Rattle.blif_eval.proofs.RowLaws.{rows_upto}
+use Rattle.bdd_core.specs.Store.{Gives}
 use Rattle.blif_eval.specs.Operations.{rows_operations}
 use Rattle.blif_eval.proofs.cover.rows_diagram.Given as goal
 

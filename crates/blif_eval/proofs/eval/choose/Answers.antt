@@ -10,7 +10,7 @@ returns-then-open_at-clause-counts c u control source held =
     let f : Function = function_of old c.args.control in
     let g : Function = function_of old c.args.source in
     let h : Function = function_of old c.args.held in
-    counts_made u old c.ite.new.self c.node_count-ends.ensures.sound.ends (choice f g h) c.ite.result c.ite.ensures.makes (within_choice u f g h control source held)
+    counts_made u old c.ite.new.self c.sound.ensures.sound.ends (choice f g h) c.ite.result c.ite.ensures.makes (within_choice u f g h control source held)
 
 pub returns-else-open_at-clause-counts : goal.returns-else-open_at-clause-counts
 returns-else-open_at-clause-counts c u control source held =
@@ -18,5 +18,5 @@ returns-else-open_at-clause-counts c u control source held =
     let f : Function = function_of old c.args.control in
     let g : Function = function_of old c.args.source in
     let h : Function = function_of old c.args.held in
-    counts_made u old c.ite-else-open_at.new.self c.node_count-ends.ensures.sound.ends (choice f h g) c.ite-else-open_at.result c.ite-else-open_at.ensures.makes
+    counts_made u old c.ite-else-open_at.new.self c.sound.ensures.sound.ends (choice f h g) c.ite-else-open_at.result c.ite-else-open_at.ensures.makes
     (within_choice u f h g control held source)

@@ -1,7 +1,7 @@
 use Rattle.std.proofs.Common.{◌≡◌, ℕ, ◌+◌, ◌≤◌, length, length-set, arith, ap, sym, subst, ◌∙◌, inl, inr, below_more}
 use Rattle.bdd_core.specs.Store.{Diagrams}
 use Rattle.bdd_core.specs.Words.{word_at}
-use Rattle.blif_eval.proofs.Frames.{rest_then, word_apart, word_here, word_other, writes_zero}
+use Rattle.bdd_core.proofs.Frames.{rest_then, word_apart, word_here, word_other, writes_zero}
 use Rattle.blif_eval.proofs.eval.clear.Goals as goal
 
 pub write-requires-clause-live : goal.write-requires-clause-live
@@ -30,7 +30,7 @@ loop-at-preserved c =
 pub returns-clause-writes : goal.returns-clause-writes
 returns-clause-writes c =
     let i = c.loop-at.invariant in
-    writes_zero c.args.out c.args.store.now c.loop-at.store i.rest c.node_count-ends.ensures.sound c.node_count-ends.ensures.within i.len i.others
+    writes_zero c.args.out c.args.store.now c.loop-at.store i.rest c.sound.ensures.sound c.sound.ensures.within i.len i.others
     (λ k lt. i.zero k (omega (arith, lt, c.loop-at-test.false)))
 
 pub returns-clause-zeros : goal.returns-clause-zeros

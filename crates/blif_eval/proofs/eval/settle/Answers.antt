@@ -6,7 +6,7 @@ use Rattle.bdd_core.specs.declared.handle.H.{H}
 use Rattle.bdd_core.specs.Words.{Writes, word_at}
 use Rattle.bdd_ops.proofs.CountingLaws.{counted_same, counted_then, counted_more, counts_err, counts_ok}
 use Rattle.bdd_ops.specs.Counting.{Counts}
-use Rattle.blif_eval.proofs.Frames.{word_apart, word_here, writes_gives, writes_then, writes_word}
+use Rattle.bdd_core.proofs.Frames.{word_apart, word_here, writes_then, writes_word, writes_added}
 use Rattle.blif_eval.specs.Operations.{driver_operations, number_operations}
 use Rattle.blif_eval.specs.Settled.{driver_at, function_by}
 use Rattle.blif_eval.specs.declared.driver_table.Driver.{Driver}
@@ -22,10 +22,10 @@ value_by-requires-clause-driver c = c.requires.drivers.each c.args.number c.driv
 
 pub returns-in-Err-clause-writes : goal.returns-in-Err-clause-writes
 returns-in-Err-clause-writes c =
-    writes_gives c.args.out c.args.store.now c.value_by.new.store _ (Err c.in-Err.spent) c.node_count-ends.ensures.sound c.requires.spans.out_live c.in-Err.ensures.gives
+    writes_added c.args.out c.args.store.now c.value_by.new.store c.requires.spans.out_live c.in-Err.ensures.gives.adds
 
 pub returns-in-Err-clause-others : goal.returns-in-Err-clause-others
-returns-in-Err-clause-others c k ne = ap (λ (d : Diagrams). word_at d c.args.out k) c.in-Err.ensures.gives.rest
+returns-in-Err-clause-others c k ne = ap (λ (d : Diagrams). word_at d c.args.out k) c.in-Err.ensures.gives.adds.rest
 
 pub returns-in-Err-clause-counts : goal.returns-in-Err-clause-counts
 returns-in-Err-clause-counts c u reads reads' reads'' =
@@ -42,10 +42,10 @@ returns-clause-writes c =
     let mid = c.value_by.new.store in
     let new = c.write.new.self in
     let gives = c.in-Ok.ensures.gives in
-    let first : Writes out old mid = writes_gives out old mid _ (Ok c.in-Ok.value) c.node_count-ends.ensures.sound c.requires.spans.out_live gives in
+    let first : Writes out old mid = writes_added out old mid c.requires.spans.out_live gives.adds in
     writes_then out old mid new first
     (writes_word out mid new c.args.number c.in-Ok.value.0 c.write.ensures (omega (arith, c.requires.number, c.requires.spans.out_len)) (omega (arith, c.requires.spans.out_span.1, first.len))
-    gives.ok.live first.sound first.within first.live)
+    gives.ok.live first.adds.sound first.adds.within first.live)
 
 pub returns-clause-others : goal.returns-clause-others
 returns-clause-others c k ne =
@@ -54,9 +54,9 @@ returns-clause-others c k ne =
     let mid = c.value_by.new.store in
     let new = c.write.new.self in
     let gives = c.in-Ok.ensures.gives in
-    let first : Writes out old mid = writes_gives out old mid _ (Ok c.in-Ok.value) c.node_count-ends.ensures.sound c.requires.spans.out_live gives in
+    let first : Writes out old mid = writes_added out old mid c.requires.spans.out_live gives.adds in
     word_apart out mid new c.args.number c.in-Ok.value.0 c.write.ensures (omega (arith, c.requires.number, c.requires.spans.out_len)) (omega (arith, c.requires.spans.out_span.1, first.len)) k ne
-    ∙ ap (λ (d : Diagrams). word_at d out k) gives.rest
+    ∙ ap (λ (d : Diagrams). word_at d out k) gives.adds.rest
 
 pub returns-clause-value : goal.returns-clause-value
 returns-clause-value c v =
@@ -69,7 +69,7 @@ returns-clause-value c v =
     let mid = c.value_by.new.store in
     let new = c.write.new.self in
     let gives = c.in-Ok.ensures.gives in
-    let first : Writes out old mid = writes_gives out old mid _ (Ok c.in-Ok.value) c.node_count-ends.ensures.sound c.requires.spans.out_live gives in
+    let first : Writes out old mid = writes_added out old mid c.requires.spans.out_live gives.adds in
     let here : word_at new out c.args.number ≡ c.in-Ok.value.0 =
     word_here out mid new c.args.number c.in-Ok.value.0 c.write.ensures (omega (arith, c.requires.number, c.requires.spans.out_len)) (omega (arith, c.requires.spans.out_span.1, first.len)) in
     let nodes : new.nodes ≡ mid.nodes = ap (λ (d : Diagrams). d.nodes) c.write.ensures in

@@ -5,7 +5,7 @@ use Rattle.std.proofs.lemmas.Option.{slice_get-get_or}
 use Rattle.bdd_ops.proofs.CountingLaws.{counted_more, counted_none, counted_then, counts_more, counts_ok, counts_then}
 use Rattle.bdd_ops.specs.Counting.{IsCounted}
 use Rattle.blif_eval.proofs.EvalLaws.{settled_next, spans_kept, within_beside, within_next}
-use Rattle.blif_eval.proofs.Frames.{writes_none, writes_then}
+use Rattle.bdd_core.proofs.Frames.{writes_none, writes_then}
 use Rattle.blif_eval.specs.Operations.{number_operations}
 use Rattle.blif_eval.specs.Settled.{HasStepSpans}
 use Rattle.vrt_model.specs.Lists.{At}
@@ -13,7 +13,7 @@ use Rattle.blif_eval.proofs.eval.settle_all.Goals as goal
 
 pub loop-number-init : goal.loop-number-init
 loop-number-init c = record {
-  writes = writes_none c.args.out c.args.store.now c.node_count-ends.ensures.sound c.node_count-ends.ensures.within c.requires.spans.out_live;
+  writes = writes_none c.args.out c.args.store.now c.sound.ensures.sound c.sound.ensures.within c.requires.spans.out_live;
   settled = λ v j n lt here. absurd (omega (arith, lt));
   counted = λ u reads reads' reads''. (counted_none u c.args.store.now, reads'');
 }

@@ -2,9 +2,9 @@ use Rattle.std.proofs.Common.{ℕ, ◌<◌, Ok, length, arith, ap, subst, sym}
 use Rattle.bdd_core.specs.Diagram.{meaning}
 use Rattle.blif_eval.proofs.Drivers.{interface_below}
 use Rattle.blif_eval.proofs.EvalLaws.{storage_range, stored_below}
-use Rattle.blif_eval.proofs.GivesLaws.{gives_none}
+use Rattle.bdd_core.proofs.Frames.{gives_none}
 use Rattle.blif_eval.specs.Drivers.{IsDriver}
-use Rattle.blif_eval.specs.Gives.{Gives}
+use Rattle.bdd_core.specs.Store.{Gives}
 use Rattle.blif_eval.specs.Settled.{function_by}
 use Rattle.blif_eval.specs.declared.driver_table.Driver.{Driver}
 use Rattle.blif_eval.specs.declared.driver_table.Driver.TheVariants.{Given, Stored}
@@ -33,7 +33,7 @@ returns-in-Given-clause-gives c =
     let low : n < inputs.len =
     (let low = interface_below flat c.requires.model n (subst (IsDriver flat n) c.in-Given.is c.requires.driver) in let len = c.requires.spans.inputs_len in omega (arith, low, len)) in
     subst P (sym c.in-Given.is)
-    (gives_none d (function_by d flat inputs c.args.held c.args.out n Given) (record { 0 = c.read.result }) c.node_count-ends.ensures.sound c.node_count-ends.ensures.within
+    (gives_none d (function_by d flat inputs c.args.held c.args.out n Given) (record { 0 = c.read.result }) c.sound.ensures.sound c.sound.ensures.within
     (subst (λ (h : ℕ). h < length d.nodes) (sym c.read.ensures) (c.requires.spans.inputs_live n low))
     (λ v. ap (λ (h : ℕ). meaning d.nodes h v) c.read.ensures))
 
@@ -48,6 +48,6 @@ returns-in-Stored-clause-gives c =
     let low : last < out.len =
     (let low = stored_below flat n last (subst (IsDriver flat n) c.in-Stored.is c.requires.driver) in let len = c.requires.spans.out_len in omega (arith, low, len)) in
     subst P (sym c.in-Stored.is)
-    (gives_none d (function_by d flat c.args.inputs c.args.held out n (Stored last)) (record { 0 = c.read-in-Stored.result }) c.node_count-ends.ensures.sound c.node_count-ends.ensures.within
+    (gives_none d (function_by d flat c.args.inputs c.args.held out n (Stored last)) (record { 0 = c.read-in-Stored.result }) c.sound.ensures.sound c.sound.ensures.within
     (subst (λ (h : ℕ). h < length d.nodes) (sym c.read-in-Stored.ensures) (c.requires.spans.out_live last low))
     (λ v. ap (λ (h : ℕ). meaning d.nodes h v) c.read-in-Stored.ensures))
