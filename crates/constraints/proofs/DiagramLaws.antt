@@ -2,12 +2,11 @@
 use Rattle.std.proofs.Common.{◌≡◌, ℕ, List, Result, ap, subst}
 use Rattle.node_pool.specs.declared.region.Span.{Span}
 use Rattle.bdd_core.specs.Diagram.{Function}
-use Rattle.bdd_core.specs.Store.{Diagrams, IsSpan}
+use Rattle.bdd_core.specs.Store.{Diagrams, IsSpan, Gives}
 use Rattle.bdd_core.specs.Words.{IsFilled}
 use Rattle.bdd_core.specs.declared.handle.H.{H}
 use Rattle.bdd_core.specs.declared.handle.Spent.{Spent}
-use Rattle.blif_eval.proofs.GivesLaws.{live_kept, span_kept}
-use Rattle.blif_eval.specs.Gives.{Gives}
+use Rattle.bdd_core.proofs.Frames.{adds_words, filled_added, span_added}
 use Rattle.vrt_model.specs.declared.ids.Net.{Net}
 use Rattle.vrt_model.specs.declared.rules.Expr.{Expr}
 use Rattle.constraints.specs.Evaluated.{Evaluates}
@@ -17,13 +16,13 @@ use Rattle.constraints.specs.declared.ports.Way.{Way}
 
 module _ (old mid : Diagrams) (f : Function) (r : Result H Spent) (first : Gives old mid f r) (names : List (List ℕ)) (way : Way) (nets : List Net) (values : Span) where
   pub span_next : IsSpan old values → IsSpan mid values
-  span_next = span_kept old mid f r values first
+  span_next = span_added values old mid first.adds
 
   pub live_next : IsFilled old values → IsFilled mid values
-  live_next = live_kept old mid f r values first
+  live_next = filled_added values old mid first.adds
 
   words_next : mid.words ≡ old.words
-  words_next = ap (λ (d : Diagrams). d.words) first.rest
+  words_next = adds_words old mid old.words first.adds
 
   -- the handles stay where they are
   pub handles_next : handle_in mid.words names way nets values ≡ handle_in old.words names way nets values
@@ -44,7 +43,7 @@ module _ (old mid : Diagrams) (f : Function) (r : Result H Spent) (first : Gives
 pub handles_stay : (old mid : Diagrams) (handle : List ℕ → ℕ) (e : Expr) (r : Result H Spent) (names : List (List ℕ)) (way : Way) (nets : List Net) (values : Span)
     → HasHandles old names way nets values → Evaluates old mid handle e r → HasHandles mid names way nets values
 handles_stay old mid handle e r names way nets values has first = record {
-  span = span_kept old mid _ r values first.gives has.span;
-  live = live_kept old mid _ r values first.gives has.live;
+  span = span_added values old mid first.gives.adds has.span;
+  live = filled_added values old mid first.gives.adds has.live;
   places = has.places;
 }

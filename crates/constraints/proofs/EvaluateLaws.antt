@@ -1,30 +1,28 @@
 -- The function of an expression from those of its parts.
-use Rattle.std.proofs.Common.{◌≡◌, ℕ, ◌+◌, ◌*◌, ◌≤◌, not, cond, Bool, true, false, List, length, Result, Ok, Err, arith, ap, ap₂, refl, sym, ◌∙◌, inl, inr}
+use Rattle.std.proofs.Common.{◌≡◌, ℕ, ◌+◌, ◌*◌, ◌≤◌, not, cond, Bool, true, false, List, Result, Ok, Err, arith, ap, ap₂, refl, sym, ◌∙◌, inl, inr}
 use mathlib.Core.Path.{fun_ext}
-use Rattle.bdd_core.specs.Diagram.{Function, IsReduced, IsSame, IsWithin, Valuation, meaning}
-use Rattle.bdd_core.specs.Store.{Diagrams, function_of}
+use Rattle.bdd_core.specs.Diagram.{Function, IsSame, IsWithin, Valuation, meaning}
+use Rattle.bdd_core.specs.Store.{Diagrams, function_of, Gives}
 use Rattle.bdd_core.specs.declared.handle.H.{H}
 use Rattle.bdd_core.specs.declared.handle.Spent.{Spent}
-use Rattle.bdd_ops.proofs.CountingLaws.{counted_then, counts_more, counts_none, counts_then}
+use Rattle.bdd_ops.proofs.CountingLaws.{counted_then, counts_more, counts_then}
 use Rattle.bdd_ops.proofs.WithinLaws.{within_same}
 use Rattle.bdd_ops.specs.Counting.{Counts}
-use Rattle.bdd_ops.specs.Ops.{IsExactBoth, MakesBoth}
-use Rattle.blif_eval.proofs.GivesLaws.{gives_next, gives_none, gives_refused}
-use Rattle.blif_eval.specs.Gives.{Gives}
+use Rattle.bdd_ops.specs.Ops.{MakesBoth}
+use Rattle.bdd_core.proofs.Frames.{gives_next, gives_refused, gives_error}
 use Rattle.vrt_model.specs.Expressions.{operators_in, value_of}
 use Rattle.vrt_model.specs.Lists.{differ}
 use Rattle.vrt_model.specs.declared.rules.Expr.{Expr}
-use Rattle.vrt_model.specs.declared.rules.Expr.TheVariants.{Port}
 use Rattle.constraints.specs.Evaluated.{AreLive, AreWithin, Evaluates, value_in}
 
 -- ---- handles after an operation
 
 module _ (a b : Diagrams) (f : Function) (r : Result H Spent) (g : Gives a b f r) (handle : List ℕ → ℕ) (live : AreLive a handle) where
   kept : (name : List ℕ) → IsSame (meaning b.nodes (handle name)) (meaning a.nodes (handle name))
-  kept name = (g.kept (record { 0 = handle name }) (live name)).1
+  kept name = g.adds.kept (handle name) (live name)
 
   pub live_after : AreLive b handle
-  live_after name = (g.kept (record { 0 = handle name }) (live name)).0
+  live_after name = let there = live name in omega (arith, there, g.adds.longer)
 
   pub value_after : (e : Expr) → IsSame (value_in b handle e) (value_in a handle e)
   value_after e v = ap (λ (bits : List ℕ → Bool). value_of bits e) (fun_ext (λ name. kept name v))
@@ -38,13 +36,10 @@ value_within u d handle e reads v w same = ap (λ (bits : List ℕ → Bool). va
 -- ---- one operation on two functions
 
 -- both diagrams of an exclusive or
-pub gives_both : (old new : Diagrams) (first f : Function) (r : Result H Spent) → MakesBoth old new first f r → IsExactBoth old new first f r → Gives old new f r
-gives_both old new first f (Ok r) m x = record { rest = m.rest; sound = m.sound; within = m.within; kept = x.kept; ok = m.ok; spent = tt }
-gives_both old new first f (Err s) m x = record {
-  rest = m.rest;
-  sound = m.sound;
-  within = m.within;
-  kept = x.kept;
+pub gives_both : (old new : Diagrams) (first f : Function) (r : Result H Spent) → MakesBoth old new first f r → Gives old new f r
+gives_both old new first f (Ok r) m = record { adds = m.adds; ok = m.ok; spent = tt }
+gives_both old new first f (Err s) m = record {
+  adds = m.adds;
   ok = tt;
   spent = elim m.spent [ inl one ↦ (one.number, one.full) | inr other ↦ (other.number, other.full) ];
 }
@@ -55,19 +50,11 @@ differ_is false b = refl
 
 -- ---- expressions
 
--- a port
-pub evaluates_port : (d : Diagrams) (handle : List ℕ → ℕ) (name : List ℕ) (r : H) → IsReduced d.vars d.nodes → length d.nodes ≤ d.budget → AreLive d handle → r.0 ≡ handle name
-    → Evaluates d d handle (Port name) (Ok r)
-evaluates_port d handle name r sound within live is = record {
-  gives = gives_none d (value_in d handle (Port name)) r sound within (let there = live name in omega (arith, is, there)) (λ v. ap (λ (k : ℕ). meaning d.nodes k v) is);
-  counts = λ u reads. counts_none u d r;
-}
-
 -- a part that was refused
 pub evaluates_refused : (a b : Diagrams) (handle : List ℕ → ℕ) (part whole : Expr) (s : Spent) → operators_in part ≤ operators_in whole → Evaluates a b handle part (Err s)
     → Evaluates a b handle whole (Err s)
 evaluates_refused a b handle part whole s le first = record {
-  gives = record { rest = first.gives.rest; sound = first.gives.sound; within = first.gives.within; kept = first.gives.kept; ok = tt; spent = first.gives.spent };
+  gives = gives_error a b (value_in a handle part) (value_in a handle whole) s first.gives;
   counts = λ u reads. counts_more u (2 * operators_in part) (2 * operators_in whole) a b (Err s) (omega (arith, le)) (first.counts u reads);
 }
 
@@ -98,7 +85,7 @@ module _ (a b c : Diagrams) (handle : List ℕ → ℕ) (live : AreLive a handle
 
   module _ (d : Diagrams) (right : Expr) (q : H) (second : Evaluates b c handle right (Ok q)) where
     left_is : (v : Valuation) → function_of c p v ≡ value_in a handle left v
-    left_is v = (second.gives.kept p first.gives.ok.live).1 v ∙ first.gives.ok.same v
+    left_is v = second.gives.adds.kept p.0 first.gives.ok.live v ∙ first.gives.ok.same v
 
     second_is : IsSame (value_in b handle right) (value_in a handle right)
     second_is = value_after a b (value_in a handle left) (Ok p) first.gives handle live right

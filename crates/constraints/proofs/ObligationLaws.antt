@@ -1,16 +1,16 @@
 -- The lines of an instance's cell, all together.
-use Rattle.std.proofs.Common.{◌≡◌, ℕ, ◌+◌, ◌*◌, ◌&&◌, Bool, List, Result, Ok, Err, ap, subst, ◌∙◌}
+use Rattle.std.proofs.Common.{◌≡◌, ℕ, ◌+◌, ◌*◌, ◌&&◌, Bool, List, Result, Ok, Err, ap, subst}
 use Rattle.std.specs.Prelude.{sum_by}
 use Rattle.node_pool.specs.declared.region.Span.{Span}
+use Rattle.bdd_core.proofs.Frames.{gives_same}
 use Rattle.bdd_core.proofs.Meaning.{meaning_one}
-use Rattle.bdd_core.specs.Diagram.{Function, IsSame, meaning}
-use Rattle.bdd_core.specs.Store.{Diagrams, function_of}
+use Rattle.bdd_core.specs.Diagram.{Function, meaning}
+use Rattle.bdd_core.specs.Store.{Diagrams, function_of, Gives}
 use Rattle.bdd_core.specs.declared.handle.H.{H}
 use Rattle.bdd_core.specs.declared.handle.Spent.{Spent}
 use Rattle.bdd_ops.proofs.CountingLaws.{counts_more}
 use Rattle.bdd_ops.proofs.WithinLaws.{within_one}
 use Rattle.bdd_ops.specs.Counting.{Counts, IsSpanWithin}
-use Rattle.blif_eval.specs.Gives.{Gives}
 use Rattle.vrt_model.specs.Comparison.{cell_at}
 use Rattle.vrt_model.specs.declared.circuit.FlatInstance.{FlatInstance}
 use Rattle.vrt_model.specs.declared.design.Design.{Design}
@@ -26,18 +26,6 @@ use Rattle.constraints.specs.Evaluated.{AreLive, AreWithin}
 use Rattle.constraints.specs.Handles.{HasHandles, handle_in}
 use Rattle.constraints.specs.Obliged.{AddsTest, all_hold, assume_holds, assume_operations, clock_holds, clock_operations, obligation_size, obliged_at, phase_bits}
 use Rattle.constraints.specs.declared.ports.Way.TheVariants.{Tied}
-
--- the same function in other words
-gives_as : (a b : Diagrams) (f g : Function) (r : Result H Spent) → IsSame f g → Gives a b f r → Gives a b g r
-gives_as a b f g (Ok p) same x = record {
-  rest = x.rest;
-  sound = x.sound;
-  within = x.within;
-  kept = x.kept;
-  ok = record { live = x.ok.live; same = λ v. x.ok.same v ∙ same v };
-  spent = tt;
-}
-gives_as a b f g (Err s) same x = record { rest = x.rest; sound = x.sound; within = x.within; kept = x.kept; ok = tt; spent = x.spent }
 
 -- the step of the assumptions, and that of the clocks behind it, by the lists that they went over
 abbrev pub Assumed : Diagrams → Diagrams → Span → ℕ → Result H Spent → List (List ℕ) → List Net → List ℕ → List AssumeRule → Type 0
@@ -95,7 +83,7 @@ module _ (design : Design) (rules : Rules) (i : FlatInstance) (phase : ℕ) (val
 
     pub whole_gives : Gives old new (obliged_at old design rules i phase values) r
     whole_gives =
-        gives_as old new (λ v. meaning old.nodes 1 v && (assumes v && clocks v)) (obliged_at old design rules i phase values) r
+        gives_same old new (λ v. meaning old.nodes 1 v && (assumes v && clocks v)) (obliged_at old design rules i phase values) r
         (λ v. ap (λ (x : Bool). x && (assumes v && clocks v)) (meaning_one old.nodes v)) whole.gives
 
     pub whole_counts : (u : ℕ) → IsSpanWithin u old values → Counts u (20 * (obligation_size design rules i phase + 1)) old new r

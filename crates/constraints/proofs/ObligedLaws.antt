@@ -5,10 +5,9 @@ use Rattle.std.specs.List.{list_all}
 use Rattle.std.proofs.lemmas.List.Sums.{sum_by-cons}
 use mathlib.Core.Path.{fun_ext}
 use Rattle.bdd_core.specs.Diagram.{Function, IsSame, IsWithin}
-use Rattle.bdd_core.specs.Store.{Diagrams}
+use Rattle.bdd_core.specs.Store.{Diagrams, Gives}
 use Rattle.bdd_core.specs.declared.handle.H.{H}
 use Rattle.bdd_core.specs.declared.handle.Spent.{Spent}
-use Rattle.blif_eval.specs.Gives.{Gives}
 use Rattle.vrt_model.specs.CellRules.{is_for}
 use Rattle.vrt_model.specs.Expressions.{names_in, operators_in}
 use Rattle.vrt_model.specs.Lists.{differ}
@@ -29,7 +28,7 @@ module _ (a b : Diagrams) (f : Function) (r : Result H Spent) (g : Gives a b f r
 
   pub clock_after : (bits : List Bool) (rule : ClockportRule) → IsSame (clock_holds b handle cell bits rule) (clock_holds a handle cell bits rule)
   clock_after bits rule v =
-      ap (λ (x : Bool). cond (bytes_eq rule.cell cell) (not (differ (clock_in bits rule.clock) x)) true) ((g.kept (record { 0 = handle rule.port }) (live rule.port)).1 v)
+      ap (λ (x : Bool). cond (bytes_eq rule.cell cell) (not (differ (clock_in bits rule.clock) x)) true) (g.adds.kept (handle rule.port) (live rule.port) v)
 
   pub clocks_after : (bits : List Bool) (rules : List ClockportRule) → IsSame (all_hold (clock_holds b handle cell bits) rules) (all_hold (clock_holds a handle cell bits) rules)
   clocks_after bits rules v = ap (λ (test : ClockportRule → Bool). list_all test rules) (fun_ext (λ rule. clock_after bits rule v))

@@ -3,13 +3,13 @@ use Rattle.std.proofs.Common.{◌≡◌, ℕ, ◌+◌, ◌*◌, ◌≤◌, ◌&&
 use Rattle.std.specs.Prelude.{bytes_eq}
 use Rattle.bdd_core.proofs.Meaning.{meaning_zero}
 use Rattle.bdd_core.specs.Diagram.{Function, IsWithin, Valuation, choice, meaning}
-use Rattle.bdd_core.specs.Store.{Diagrams, IsExact, IsLive, Makes, function_of}
+use Rattle.bdd_core.specs.Store.{Diagrams, IsLive, Makes, function_of}
 use Rattle.bdd_core.specs.declared.handle.H.{H}
 use Rattle.bdd_core.specs.declared.handle.Spent.{Spent}
 use Rattle.bdd_ops.proofs.CountingLaws.{counts_made, counts_more, counts_then}
 use Rattle.bdd_ops.proofs.WithinLaws.{within_and, within_choice, within_same, within_zero}
 use Rattle.bdd_ops.specs.Ops.{and_of}
-use Rattle.blif_eval.proofs.GivesLaws.{gives_made, gives_next}
+use Rattle.bdd_core.proofs.Frames.{gives_made, gives_next, gives_error}
 use Rattle.vrt_model.specs.Expressions.{operators_in}
 use Rattle.vrt_model.specs.Lists.{differ}
 use Rattle.vrt_model.specs.declared.rules.AssumeRule.{AssumeRule}
@@ -27,25 +27,25 @@ module _ (old mid : Diagrams) (handle : List ℕ → ℕ) (cell : List ℕ) (pha
   pub assumed_refused : (s : Spent) → Evaluates old mid handle rule.expression (Err s)
       → AddsTest handle (assume_operations cell phase rule) (function_of old all) (assume_holds old handle cell phase rule) old mid (Err s)
   assumed_refused s first = record {
-    gives = record { rest = first.gives.rest; sound = first.gives.sound; within = first.gives.within; kept = first.gives.kept; ok = tt; spent = first.gives.spent };
+    gives = gives_error old mid (value_in old handle rule.expression) (λ v. function_of old all v && assume_holds old handle cell phase rule v) s first.gives;
     counts = λ u reads starts. counts_more u (2 * operators_in rule.expression) (assume_operations cell phase rule) old mid (Err s) (omega (arith, operations_are)) (first.counts u reads);
   }
 
   pub assumed_more : (new : Diagrams) (one : H) (r : Result H Spent) → IsLive old all → Evaluates old mid handle rule.expression (Ok one)
-      → Makes mid new (and_of (function_of mid all) (function_of mid one)) r → IsExact mid new (and_of (function_of mid all) (function_of mid one)) r
+      → Makes mid new (and_of (function_of mid all) (function_of mid one)) r
       → AddsTest handle (assume_operations cell phase rule) (function_of old all) (assume_holds old handle cell phase rule) old new r
-  assumed_more new one r live first makes exact =
+  assumed_more new one r live first makes =
       let both : Function = and_of (function_of mid all) (function_of mid one) in
       record {
         gives = gives_next old mid new (value_in old handle rule.expression) both (λ v. function_of old all v && assume_holds old handle cell phase rule v) one r first.gives
-            (gives_made mid new both both r (λ v. refl) makes exact)
-            (λ v. ap₂ (λ (x y : Bool). x && y) ((first.gives.kept all live).1 v)
+            (gives_made mid new both both r (λ v. refl) makes)
+            (λ v. ap₂ (λ (x y : Bool). x && y) (first.gives.adds.kept all.0 live v)
             (first.gives.ok.same v ∙ sym (ap (λ (b : Bool). cond b (value_in old handle rule.expression v) true) asked)));
         counts = λ u reads starts.
             counts_more u (2 * operators_in rule.expression + 1) (assume_operations cell phase rule) old new r (omega (arith, operations_are))
             (counts_then u (2 * operators_in rule.expression) 1 old mid new r (first.counts u reads).added
-            (counts_made u mid new first.gives.sound.ends both r makes
-            (within_and u (function_of mid all) (function_of mid one) (within_same u (function_of old all) (function_of mid all) (first.gives.kept all live).1 starts)
+            (counts_made u mid new first.gives.adds.sound.ends both r makes
+            (within_and u (function_of mid all) (function_of mid one) (within_same u (function_of old all) (function_of mid all) (first.gives.adds.kept all.0 live) starts)
             (within_same u (value_in old handle rule.expression) (function_of mid one) first.gives.ok.same (value_within u old handle rule.expression reads)))));
       }
 
@@ -81,26 +81,26 @@ module _ (old new : Diagrams) (handle : List ℕ → ℕ) (cell : List ℕ) (bit
   port_reads u reads = subst (λ (k : ℕ). IsWithin u (meaning old.nodes k)) (sym is) (reads rule.port)
 
   pub clock_one : clock_in bits rule.clock ≡ true → Makes old new (choice (function_of old port) (function_of old all) (meaning old.nodes 0)) r
-      → IsExact old new (choice (function_of old port) (function_of old all) (meaning old.nodes 0)) r → AddsTest handle (clock_operations cell rule) (function_of old all) (clock_holds old handle cell bits rule) old new r
-  clock_one e makes exact =
+      → AddsTest handle (clock_operations cell rule) (function_of old all) (clock_holds old handle cell bits rule) old new r
+  clock_one e makes =
       let whole : Function = choice (function_of old port) (function_of old all) (meaning old.nodes 0) in
       record {
         gives = gives_made old new whole target r
             (λ v. ap (λ (z : Bool). cond (function_of old port v) (function_of old all v) z) (meaning_zero old.nodes v) ∙ clock_at_one (function_of old port v) (function_of old all v) ∙ known_clock true e v)
-            makes exact;
+            makes;
         counts = λ u reads starts.
             counts_more u 1 (clock_operations cell rule) old new r (omega (arith, clock_cost))
             (counts_made u old new two whole r makes (within_choice u (function_of old port) (function_of old all) (meaning old.nodes 0) (port_reads u reads) starts (within_zero u old)));
       }
 
   pub clock_zero : clock_in bits rule.clock ≡ false → Makes old new (choice (function_of old port) (meaning old.nodes 0) (function_of old all)) r
-      → IsExact old new (choice (function_of old port) (meaning old.nodes 0) (function_of old all)) r → AddsTest handle (clock_operations cell rule) (function_of old all) (clock_holds old handle cell bits rule) old new r
-  clock_zero e makes exact =
+      → AddsTest handle (clock_operations cell rule) (function_of old all) (clock_holds old handle cell bits rule) old new r
+  clock_zero e makes =
       let whole : Function = choice (function_of old port) (meaning old.nodes 0) (function_of old all) in
       record {
         gives = gives_made old new whole target r
             (λ v. ap (λ (z : Bool). cond (function_of old port v) z (function_of old all v)) (meaning_zero old.nodes v) ∙ clock_at_zero (function_of old port v) (function_of old all v) ∙ known_clock false e v)
-            makes exact;
+            makes;
         counts = λ u reads starts.
             counts_more u 1 (clock_operations cell rule) old new r (omega (arith, clock_cost))
             (counts_made u old new two whole r makes (within_choice u (function_of old port) (meaning old.nodes 0) (function_of old all) (port_reads u reads) (within_zero u old) starts));

@@ -9,7 +9,7 @@ use Rattle.bdd_core.specs.declared.handle.H.{H}
 use Rattle.bdd_core.specs.declared.handle.Spent.{Spent}
 use Rattle.bdd_ops.proofs.CountingLaws.{counted_more, counted_none, counted_then, counts_more, counts_ok, counts_then}
 use Rattle.bdd_ops.proofs.WithinLaws.{within_and, within_same}
-use Rattle.blif_eval.proofs.GivesLaws.{gives_next, gives_none, gives_refused}
+use Rattle.bdd_core.proofs.Frames.{gives_next, gives_none, gives_refused}
 use Rattle.constraints.proofs.EvaluateLaws.{within_after}
 use Rattle.constraints.specs.Evaluated.{AreLive, AreWithin}
 use Rattle.constraints.specs.Obliged.{AddsTest, IsSoFar, all_hold}
@@ -67,10 +67,7 @@ module _ {X : Type 0} (test : X → Function) (operations : X → ℕ) (handle :
       → AddsTest handle (sum_by operations xs) start (all_hold test xs) first now (Ok all)
   all_so_far now rest all none far = record {
     gives = record {
-      rest = far.gives.rest;
-      sound = far.gives.sound;
-      within = far.gives.within;
-      kept = far.gives.kept;
+      adds = far.gives.adds;
       ok = record {
         live = far.gives.ok.live;
         same = λ v. far.gives.ok.same v ∙ sym (and-true (far.so_far v)) ∙ ap (λ (ys : List X). far.so_far v && all_hold test ys v) (sym none) ∙ far.same v;
@@ -92,12 +89,6 @@ tests_then handle a b c m n start f g g' p r live same reads_f first second = re
       counts_then u m n a b c r (first.counts u reads starts).added
       (second.counts u (within_after a b (λ v. start v && f v) (Ok p) first.gives handle live u reads)
       (within_same u (λ v. start v && f v) (function_of b p) first.gives.ok.same (within_and u start f starts (reads_f u reads))));
-}
-
-pub tests_refused : (handle : List ℕ → ℕ) (a b : Diagrams) (m n : ℕ) (start f g : Function) (s : Spent) → m ≤ n → AddsTest handle m start f a b (Err s) → AddsTest handle n start g a b (Err s)
-tests_refused handle a b m n start f g s le first = record {
-  gives = record { rest = first.gives.rest; sound = first.gives.sound; within = first.gives.within; kept = first.gives.kept; ok = tt; spent = first.gives.spent };
-  counts = λ u reads starts. counts_more u m n a b (Err s) le (first.counts u reads starts);
 }
 
 -- a list without length is empty

@@ -2,11 +2,10 @@
 use Rattle.std.specs.Prelude.{ℕ, ◌+◌, ◌*◌, ◌<◌, List, length, Result}
 use Rattle.node_pool.specs.declared.region.Span.{Span}
 use Rattle.bdd_core.specs.Diagram.{Function, IsWithin, meaning}
-use Rattle.bdd_core.specs.Store.{Diagrams}
+use Rattle.bdd_core.specs.Store.{Diagrams, Gives}
 use Rattle.bdd_core.specs.declared.handle.H.{H}
 use Rattle.bdd_core.specs.declared.handle.Spent.{Spent}
 use Rattle.bdd_ops.specs.Counting.{Counts}
-use Rattle.blif_eval.specs.Gives.{Gives}
 use Rattle.vrt_model.specs.Expressions.{names_in, operators_in, value_of}
 use Rattle.vrt_model.specs.Lists.{place_of}
 use Rattle.vrt_model.specs.declared.rules.Expr.{Expr}

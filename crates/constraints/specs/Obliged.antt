@@ -3,12 +3,11 @@ use Rattle.std.specs.Prelude.{◌≡◌, ℕ, ◌+◌, ◌*◌, Bool, true, cond
 use Rattle.std.specs.List.{list_all}
 use Rattle.node_pool.specs.declared.region.Span.{Span}
 use Rattle.bdd_core.specs.Diagram.{Function, IsWithin, Valuation, meaning}
-use Rattle.bdd_core.specs.Store.{Diagrams}
+use Rattle.bdd_core.specs.Store.{Diagrams, Gives}
 use Rattle.bdd_core.specs.Words.{shows}
 use Rattle.bdd_core.specs.declared.handle.H.{H}
 use Rattle.bdd_core.specs.declared.handle.Spent.{Spent}
 use Rattle.bdd_ops.specs.Counting.{Counts, IsCounted}
-use Rattle.blif_eval.specs.Gives.{Gives}
 use Rattle.vrt_model.specs.Budget.{clockport_count}
 use Rattle.vrt_model.specs.CellRules.{assumed, is_for}
 use Rattle.vrt_model.specs.Comparison.{cell_at, phase_at}

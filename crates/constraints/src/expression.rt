@@ -1,10 +1,9 @@
 //! The function of an expression, by the handles of the ports that it names.
 
 ghost use Rattle.std.specs.Prelude.{◌≡◌, ℕ, ◌+◌, ◌*◌, length};
-ghost use Rattle.bdd_core.specs.Store.{IsSpan};
+ghost use Rattle.bdd_core.specs.Store.{IsSpan, Gives};
 ghost use Rattle.bdd_core.specs.Words.{IsFilled};
 ghost use Rattle.bdd_ops.specs.Counting.{Counts, IsSpanWithin};
-ghost use Rattle.blif_eval.specs.Gives.{Gives};
 ghost use Rattle.constraints.specs.Evaluated.{Evaluates, expression_size, value_listed};
 ghost use Rattle.constraints.specs.Handles.{HasHandles, handle_in};
 
@@ -20,7 +19,7 @@ pub(crate) fn diagram(store: &mut Store, e: &Expr, ports: Ports<'_>) -> Result<H
     requires { HasHandles store.old ports.names.now ports.way ports.nets.now ports.values }
     ensures { Evaluates store.old store.new (handle_in store.old.words ports.entry.names.now ports.entry.way ports.entry.nets.now ports.entry.values) e.now result }
 {
-    let _ends = store.node_count();
+    store.sound();
     match e {
         Expr::Port(name) => Ok(handle_of(store, ports, name.as_bytes())),
         Expr::Not(inner) => {
@@ -81,7 +80,7 @@ pub fn expr(store: &mut Store, e: &Expr, names: &Seq<Text>, values: Span) -> Res
     ensures gives { Gives store.old store.new (value_listed store.old names.now values e.now) result }
     ensures counts { (u : ℕ) → IsSpanWithin u store.old values → Counts u (20 * (expression_size e.now + 1)) store.old store.new result }
 {
-    let _ends = store.node_count();
+    store.sound();
     let ports = Ports {
         names: names.as_slice(),
         way: Way::Listed,

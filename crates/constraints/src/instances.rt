@@ -2,10 +2,9 @@
 
 ghost use Rattle.std.specs.Prelude.{◌≡◌, ℕ, ◌+◌, ◌*◌, ◌<◌, ◌&&◌, ◌↔◌, All, Bool, Option, false, length, bytes_eq, sum_by};
 ghost use Rattle.bdd_core.specs.Diagram.{Valuation};
-ghost use Rattle.bdd_core.specs.Store.{IsLive, IsSpan, function_of};
+ghost use Rattle.bdd_core.specs.Store.{IsLive, IsSpan, function_of, Gives};
 ghost use Rattle.bdd_core.specs.Words.{IsFilled};
 ghost use Rattle.bdd_ops.specs.Counting.{Counts, IsSpanWithin};
-ghost use Rattle.blif_eval.specs.Gives.{Gives};
 ghost use Rattle.constraints.specs.Handles.{HasHandles, handle_in};
 ghost use Rattle.constraints.specs.Obliged.{AddsTest, AreNamed, HasPortBits, all_hold, assume_holds, assume_operations, clock_holds, clock_in, clock_operations, is_asked, obligation_size, obliged_at, phase_bits};
 ghost use Rattle.vrt_model.specs.Comparison.{cell_at};
@@ -44,7 +43,7 @@ fn add_assumed(
     requires all { IsLive store.old all }
     ensures { AddsTest (handle_in store.old.words ports.entry.names.now ports.entry.way ports.entry.nets.now ports.entry.values) (assume_operations cell.now phase rule.now) (function_of store.old all) (assume_holds store.old (handle_in store.old.words ports.entry.names.now ports.entry.way ports.entry.nets.now ports.entry.values) cell.now phase rule.now) store.old store.new result }
 {
-    let _ends = store.node_count();
+    store.sound();
     if !is_asked(rule, cell, phase) {
         return Ok(all);
     }
@@ -68,7 +67,7 @@ fn add_assumptions(
     requires start { IsLive store.old start }
     ensures { AddsTest (handle_in store.old.words ports.entry.names.now ports.entry.way ports.entry.nets.now ports.entry.values) (sum_by (assume_operations cell.now phase) rules.now) (function_of store.old start) (all_hold (assume_holds store.old (handle_in store.old.words ports.entry.names.now ports.entry.way ports.entry.nets.now ports.entry.values) cell.now phase) rules.now) store.old store.new result }
 {
-    let _ends = store.node_count();
+    store.sound();
     let mut all = start;
     let mut rest = rules;
     'rules: while let Some((rule, behind)) = rest.split_first() {
@@ -112,7 +111,7 @@ fn add_clock(
     requires all { IsLive store.old all }
     ensures { AddsTest (handle_in store.old.words ports.entry.names.now ports.entry.way ports.entry.nets.now ports.entry.values) (clock_operations cell.now rule.now) (function_of store.old all) (clock_holds store.old (handle_in store.old.words ports.entry.names.now ports.entry.way ports.entry.nets.now ports.entry.values) cell.now bits.now rule.now) store.old store.new result }
 {
-    let _ends = store.node_count();
+    store.sound();
     if !is_of(rule, cell) {
         return Ok(all);
     }
@@ -137,7 +136,7 @@ fn add_clocks(
     requires start { IsLive store.old start }
     ensures { AddsTest (handle_in store.old.words ports.entry.names.now ports.entry.way ports.entry.nets.now ports.entry.values) (sum_by (clock_operations cell.now) rules.now) (function_of store.old start) (all_hold (clock_holds store.old (handle_in store.old.words ports.entry.names.now ports.entry.way ports.entry.nets.now ports.entry.values) cell.now bits.now) rules.now) store.old store.new result }
 {
-    let _ends = store.node_count();
+    store.sound();
     let mut all = start;
     let mut rest = rules;
     'rules: while let Some((rule, behind)) = rest.split_first() {
@@ -208,7 +207,7 @@ pub fn obligation(
     ensures exact { (v : Valuation) (a : ℕ → Option Bool) → HasPortBits store.old values instance.now.ports v a → (obliged_at store.old design.now rules.now instance.now phase values v ≡ false) ↔ BreaksConstraint design.now rules.now phase a instance.now }
     ensures counts { (u : ℕ) → IsSpanWithin u store.old values → Counts u (20 * (obligation_size design.now rules.now instance.now phase + 1)) store.old store.new result }
 {
-    let _ends = store.node_count();
+    store.sound();
     let ports = Ports {
         names: cell_ports(design, instance.cell),
         way: Way::Tied,

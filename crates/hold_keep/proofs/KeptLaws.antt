@@ -1,13 +1,12 @@
 -- The faults of a net in the kept circuit, operation by operation.
 use Rattle.std.proofs.Common.{◌≡◌, ℕ, ◌&&◌, ◌||◌, Bool, true, false, cond, not, Result, Ok, Err, ap, ap₂, refl, ◌∙◌}
 use Rattle.bdd_core.specs.Diagram.{Function, IsSame, IsWithin, Valuation, choice}
-use Rattle.bdd_core.specs.Store.{Diagrams, IsLive, function_of}
+use Rattle.bdd_core.specs.Store.{Diagrams, IsLive, function_of, Gives}
 use Rattle.bdd_core.specs.declared.handle.H.{H}
 use Rattle.bdd_core.specs.declared.handle.Spent.{Spent}
 use Rattle.bdd_ops.proofs.WithinLaws.{within_choice, within_implies, within_same}
 use Rattle.bdd_ops.specs.Ops.{and_of, implies_of}
-use Rattle.blif_eval.proofs.GivesLaws.{gives_next, gives_refused}
-use Rattle.blif_eval.specs.Gives.{Gives}
+use Rattle.bdd_core.proofs.Frames.{gives_next, gives_refused, handle_stays}
 use Rattle.hold_keep.specs.Kept.{KeptGive, fails_of, fight_of, is_bit, is_fight, response_by, unsettled_of}
 
 -- ---- bits
@@ -28,17 +27,11 @@ fails_bit false true false = refl
 fails_bit false false true = refl
 fails_bit false false false = refl
 
--- ---- refusals
-
--- a refusal says nothing of the function
-pub gives_error : (a b : Diagrams) (f g : Function) (s : Spent) → Gives a b f (Err s) → Gives a b g (Err s)
-gives_error a b f g s first = record { rest = first.rest; sound = first.sound; within = first.within; kept = first.kept; ok = tt; spent = first.spent }
-
 -- ---- handles after an operation
 
 module _ (a b : Diagrams) (f : Function) (r : Result H Spent) (first : Gives a b f r) (u : ℕ) (h : H) (live : IsLive a h) where
   pub reads_after : IsWithin u (function_of a h) → IsWithin u (function_of b h)
-  reads_after reads = within_same u (function_of a h) (function_of b h) (first.kept h live).1 reads
+  reads_after reads = within_same u (function_of a h) (function_of b h) (first.adds.kept h.0 live) reads
 
 -- ---- fights
 
@@ -48,7 +41,7 @@ module _ (a b c : Diagrams) (care zero one both : H) (r : Result H Spent) (care_
   fight_last last =
       gives_next a b c (and_of (function_of a zero) (function_of a one)) (and_of (function_of b care) (function_of b both))
       (fight_of (function_of a care) (function_of a zero) (function_of a one)) both r first last
-      (λ v. ap₂ (λ (x y : Bool). x && y) ((first.kept care care_live).1 v) (first.ok.same v ∙ fights (function_of a zero v) (function_of a one v)))
+      (λ v. ap₂ (λ (x y : Bool). x && y) (first.adds.kept care.0 care_live v) (first.ok.same v ∙ fights (function_of a zero v) (function_of a one v)))
 
 -- ---- what is not settled
 
@@ -56,13 +49,13 @@ module _ (a b c d : Diagrams) (wanted zero one right other : H) (r : Result H Sp
     (first : Gives a b (choice (function_of a wanted) (function_of a one) (function_of a zero)) (Ok right))
     (second : Gives b c (choice (function_of b wanted) (function_of b zero) (function_of b one)) (Ok other)) where
   right_is : (v : Valuation) → function_of c right v ≡ cond (function_of a wanted v) (function_of a one v) (function_of a zero v)
-  right_is v = (second.kept right first.ok.live).1 v ∙ first.ok.same v
+  right_is v = second.adds.kept right.0 first.ok.live v ∙ first.ok.same v
 
   other_first : (v : Valuation)
       → cond (function_of b wanted v) (function_of b zero v) (function_of b one v) ≡ cond (function_of a wanted v) (function_of a zero v) (function_of a one v)
   other_first v =
-      ap (λ (x : Bool). cond x (function_of b zero v) (function_of b one v)) ((first.kept wanted wanted_live).1 v)
-      ∙ ap₂ (λ (x y : Bool). cond (function_of a wanted v) x y) ((first.kept zero zero_live).1 v) ((first.kept one one_live).1 v)
+      ap (λ (x : Bool). cond x (function_of b zero v) (function_of b one v)) (first.adds.kept wanted.0 wanted_live v)
+      ∙ ap₂ (λ (x y : Bool). cond (function_of a wanted v) x y) (first.adds.kept zero.0 zero_live v) (first.adds.kept one.0 one_live v)
 
   other_is : (v : Valuation) → function_of c other v ≡ cond (function_of a wanted v) (function_of a zero v) (function_of a one v)
   other_is v = second.ok.same v ∙ other_first v
@@ -95,13 +88,13 @@ pub unsettled_last : (a b c : Diagrams) (care wanted zero one fails : H) (r : Re
 unsettled_last a b c care wanted zero one fails r live first last =
     gives_next a b c (fails_of (function_of a wanted) (function_of a zero) (function_of a one)) (and_of (function_of b care) (function_of b fails))
     (unsettled_of (function_of a care) (function_of a wanted) (function_of a zero) (function_of a one)) fails r first last
-    (λ v. ap₂ (λ (x y : Bool). x && y) ((first.kept care live).1 v) (first.ok.same v ∙ fails_bit (function_of a wanted v) (function_of a zero v) (function_of a one v)))
+    (λ v. ap₂ (λ (x y : Bool). x && y) (first.adds.kept care.0 live v) (first.ok.same v ∙ fails_bit (function_of a wanted v) (function_of a zero v) (function_of a one v)))
 
 -- ---- both
 
 -- a first refusal
 pub kept_refused : (a b : Diagrams) (f fight unsettled : Function) (s : Spent) → Gives a b f (Err s) → KeptGive a b fight unsettled (Err s)
-kept_refused a b f fight unsettled s first = record { rest = first.rest; sound = first.sound; within = first.within; kept = first.kept; ok = tt; spent = first.spent }
+kept_refused a b f fight unsettled s first = record { adds = first.adds; ok = tt; spent = first.spent }
 
 -- the same function of handles that stay
 unsettled_same : (care care' wanted wanted' zero zero' one one' : Function) → IsSame care' care → IsSame wanted' wanted → IsSame zero' zero → IsSame one' one
@@ -115,7 +108,7 @@ module _ (a b c : Diagrams) (care wanted zero one fight : H) (f : Function) (car
   same : IsSame (unsettled_of (function_of b care) (function_of b wanted) (function_of b zero) (function_of b one))
       (unsettled_of (function_of a care) (function_of a wanted) (function_of a zero) (function_of a one))
   same = unsettled_same (function_of a care) (function_of b care) (function_of a wanted) (function_of b wanted) (function_of a zero) (function_of b zero) (function_of a one) (function_of b one)
-      (first.kept care care_live).1 (first.kept wanted wanted_live).1 (first.kept zero zero_live).1 (first.kept one one_live).1
+      (first.adds.kept care.0 care_live) (first.adds.kept wanted.0 wanted_live) (first.adds.kept zero.0 zero_live) (first.adds.kept one.0 one_live)
 
   pub second_refused : (s : Spent) → Gives b c (unsettled_of (function_of b care) (function_of b wanted) (function_of b zero) (function_of b one)) (Err s)
       → KeptGive a c f (unsettled_of (function_of a care) (function_of a wanted) (function_of a zero) (function_of a one)) (Err s)
@@ -128,12 +121,9 @@ module _ (a b c : Diagrams) (care wanted zero one fight : H) (f : Function) (car
   both_given unsettled second =
       let all = gives_next a b c f (unsettled_of (function_of b care) (function_of b wanted) (function_of b zero) (function_of b one))
       (unsettled_of (function_of a care) (function_of a wanted) (function_of a zero) (function_of a one)) fight (Ok unsettled) first second same in
-      let stays = second.kept fight first.ok.live in
+      let stays = handle_stays b c b.words second.adds fight first.ok.live in
       record {
-        rest = all.rest;
-        sound = all.sound;
-        within = all.within;
-        kept = all.kept;
+        adds = all.adds;
         ok = (record { live = stays.0; same = λ v. stays.1 v ∙ first.ok.same v }, all.ok);
         spent = tt;
       }

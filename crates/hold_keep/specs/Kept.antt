@@ -1,8 +1,7 @@
 -- The faults of a net in the kept circuit, by which values reach it.
-use Rattle.std.specs.Prelude.{◌≡◌, ◌≤◌, Bool, true, false, cond, not, ◌&&◌, ◌||◌, length, Result, IfOk, IfErr}
-use Rattle.bdd_core.specs.Diagram.{Function, IsReduced, IsSame}
-use Rattle.bdd_core.specs.Store.{Diagrams, IsLive, Means, function_of}
-use Rattle.bdd_core.specs.declared.handle.H.{H}
+use Rattle.std.specs.Prelude.{◌≡◌, Bool, true, false, cond, not, ◌&&◌, ◌||◌, length, Result, IfOk, IfErr}
+use Rattle.bdd_core.specs.Diagram.{Function}
+use Rattle.bdd_core.specs.Store.{AddsNodes, Diagrams, Means}
 use Rattle.bdd_core.specs.declared.handle.Spent.{Spent}
 use Rattle.vrt_model.specs.Lists.{differ}
 use Rattle.vrt_model.specs.Response.{Fight, Float, Response, Shows}
@@ -38,12 +37,8 @@ unsettled_of care wanted zero one = λ v. care v && not (is_bit (wanted v) (resp
 abbrev pub fails_of : Function → Function → Function → Function
 fails_of wanted zero one = λ v. not (cond (wanted v) (one v) (zero v)) || cond (wanted v) (zero v) (one v)
 
--- nodes were added, and nothing else; handles from before keep their functions; the answer has these two functions, or
--- the budget is used up
+-- nodes were added, and nothing else; the answer has these two functions, or the budget is used up
 pub record KeptGive (old new : Diagrams) (fight unsettled : Function) (result : Result KeptFaults Spent) : Type 0 where
-  pub rest : new ≡ record old { nodes = new.nodes }
-  pub sound : IsReduced new.vars new.nodes
-  pub within : length new.nodes ≤ new.budget
-  pub kept : (h : H) → IsLive old h → IsLive new h × IsSame (function_of new h) (function_of old h)
+  pub adds : AddsNodes old new
   pub ok : IfOk result (λ k. Means new k.fight fight × Means new k.unsettled unsettled)
   pub spent : IfErr result (λ s. (s.nodes ≡ new.budget) × (length new.nodes ≡ new.budget))

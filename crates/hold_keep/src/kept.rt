@@ -2,9 +2,8 @@
 
 ghost use Rattle.std.specs.Prelude.{◌≡◌, ℕ};
 ghost use Rattle.bdd_core.specs.Diagram.{IsWithin};
-ghost use Rattle.bdd_core.specs.Store.{IsLive, function_of};
+ghost use Rattle.bdd_core.specs.Store.{IsLive, function_of, Gives};
 ghost use Rattle.bdd_ops.specs.Counting.{Counts};
-ghost use Rattle.blif_eval.specs.Gives.{Gives};
 ghost use Rattle.hold_keep.specs.Kept.{KeptGive, fails_of, fight_of, unsettled_of};
 
 use bdd_core::{H, Spent, Store};
@@ -25,7 +24,7 @@ fn fight(store: &mut Store, care: H, zero: H, one: H) -> Result<H, Spent>
     ensures gives { Gives store.old store.new (fight_of (function_of store.old care) (function_of store.old zero) (function_of store.old one)) result }
     ensures counts { (u : ℕ) → IsWithin u (function_of store.old care) → IsWithin u (function_of store.old zero) → IsWithin u (function_of store.old one) → Counts u 2 store.old store.new result }
 {
-    let _ends = store.node_count();
+    store.sound();
     let both = match and(store, zero, one) {
         Ok(both) => both,
         Err(spent) => return Err(spent),
@@ -39,7 +38,7 @@ fn fails(store: &mut Store, wanted: H, zero: H, one: H) -> Result<H, Spent>
     ensures gives { Gives store.old store.new (fails_of (function_of store.old wanted) (function_of store.old zero) (function_of store.old one)) result }
     ensures counts { (u : ℕ) → IsWithin u (function_of store.old wanted) → IsWithin u (function_of store.old zero) → IsWithin u (function_of store.old one) → Counts u 3 store.old store.new result }
 {
-    let _ends = store.node_count();
+    store.sound();
     let right = match store.ite(wanted, one, zero) {
         Ok(right) => right,
         Err(spent) => return Err(spent),
@@ -57,7 +56,7 @@ fn unsettled(store: &mut Store, care: H, wanted: H, zero: H, one: H) -> Result<H
     ensures gives { Gives store.old store.new (unsettled_of (function_of store.old care) (function_of store.old wanted) (function_of store.old zero) (function_of store.old one)) result }
     ensures counts { (u : ℕ) → IsWithin u (function_of store.old care) → IsWithin u (function_of store.old wanted) → IsWithin u (function_of store.old zero) → IsWithin u (function_of store.old one) → Counts u 4 store.old store.new result }
 {
-    let _ends = store.node_count();
+    store.sound();
     let fails = match fails(store, wanted, zero, one) {
         Ok(fails) => fails,
         Err(spent) => return Err(spent),
@@ -84,7 +83,7 @@ pub fn kept_faults(
     ensures gives { KeptGive store.old store.new (fight_of (function_of store.old care) (function_of store.old zero) (function_of store.old one)) (unsettled_of (function_of store.old care) (function_of store.old wanted) (function_of store.old zero) (function_of store.old one)) result }
     ensures counts { (u : ℕ) → IsWithin u (function_of store.old care) → IsWithin u (function_of store.old wanted) → IsWithin u (function_of store.old zero) → IsWithin u (function_of store.old one) → Counts u 20 store.old store.new result }
 {
-    let _ends = store.node_count();
+    store.sound();
     let fight = match fight(store, care, zero, one) {
         Ok(fight) => fight,
         Err(spent) => return Err(spent),

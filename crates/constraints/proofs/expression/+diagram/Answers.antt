@@ -4,7 +4,7 @@ use Rattle.bdd_core.specs.Store.{function_of}
 use Rattle.bdd_ops.proofs.CountingLaws.{counts_both, counts_made, counts_more}
 use Rattle.bdd_ops.proofs.WithinLaws.{within_and, within_not, within_or, within_xor}
 use Rattle.bdd_ops.specs.Ops.{and_of, not_of, or_of, xor_of}
-use Rattle.blif_eval.proofs.GivesLaws.{gives_made}
+use Rattle.bdd_core.proofs.Frames.{gives_made}
 use Rattle.vrt_model.specs.Expressions.{operators_in}
 use Rattle.vrt_model.specs.declared.rules.Expr.{Expr}
 use Rattle.constraints.proofs.DiagramLaws.{evaluates_next, handles_stay}
@@ -26,7 +26,7 @@ returns-in-Ok t c =
     let old = c.args.store.now in
     let mid = c.diagram.new.store in
     let handle : List ℕ → ℕ = handle_in old.words c.args.ports.names.now c.args.ports.way c.args.ports.nets.now c.args.ports.values in
-    let live : AreLive old handle = handles_live old c.args.ports.values c.args.ports.names.now c.args.ports.way c.args.ports.nets.now c.requires.places c.node_count-ends.ensures.sound c.requires.live in
+    let live : AreLive old handle = handles_live old c.args.ports.values c.args.ports.names.now c.args.ports.way c.args.ports.nets.now c.requires.places c.sound.ensures.sound c.requires.live in
     let e : Expr = c.deref.result.now in
     let first : Evaluates old mid handle e (Ok c.in-Ok.inner) = c.in-Ok.ensures in
     let ops = ap operators_in c.in-Not.is in
@@ -34,8 +34,8 @@ returns-in-Ok t c =
     let f : Function = not_of (function_of mid c.in-Ok.inner) in
     evaluates_one old mid c.not.new.store handle live e c.in-Ok.inner first c.args.e.now not c.not.result (omega (arith, ops, inner))
     (λ v. ap (λ (x : Expr). value_in old handle x v) c.in-Not.is ∙ ap (λ (x : Expr). not (value_in old handle x v)) (sym c.deref.ensures))
-    (gives_made mid c.not.new.store f f c.not.result (λ v. refl) c.not.ensures.makes c.not.ensures.exact)
-    (λ u reads. counts_made u mid c.not.new.store first.gives.sound.ends f c.not.result c.not.ensures.makes (within_not u (function_of mid c.in-Ok.inner) reads))
+    (gives_made mid c.not.new.store f f c.not.result (λ v. refl) c.not.ensures.makes)
+    (λ u reads. counts_made u mid c.not.new.store first.gives.adds.sound.ends f c.not.result c.not.ensures.makes (within_not u (function_of mid c.in-Ok.inner) reads))
 
 -- ---- and
 
@@ -51,7 +51,7 @@ returns-in-Err-diagram-2 t c =
     let old = c.args.store.now in
     let mid = c.diagram-in-And.new.store in
     let handle : List ℕ → ℕ = handle_in old.words c.args.ports.names.now c.args.ports.way c.args.ports.nets.now c.args.ports.values in
-    let live : AreLive old handle = handles_live old c.args.ports.values c.args.ports.names.now c.args.ports.way c.args.ports.nets.now c.requires.places c.node_count-ends.ensures.sound c.requires.live in
+    let live : AreLive old handle = handles_live old c.args.ports.values c.args.ports.names.now c.args.ports.way c.args.ports.nets.now c.requires.places c.sound.ensures.sound c.requires.live in
     let left : Expr = c.deref-in-And.result.now in
     let right : Expr = c.deref-in-And-2.result.now in
     let p = c.in-Ok-diagram.left in
@@ -67,7 +67,7 @@ returns-in-Ok-diagram-2 t c =
     let old = c.args.store.now in
     let mid = c.diagram-in-And.new.store in
     let handle : List ℕ → ℕ = handle_in old.words c.args.ports.names.now c.args.ports.way c.args.ports.nets.now c.args.ports.values in
-    let live : AreLive old handle = handles_live old c.args.ports.values c.args.ports.names.now c.args.ports.way c.args.ports.nets.now c.requires.places c.node_count-ends.ensures.sound c.requires.live in
+    let live : AreLive old handle = handles_live old c.args.ports.values c.args.ports.names.now c.args.ports.way c.args.ports.nets.now c.requires.places c.sound.ensures.sound c.requires.live in
     let left : Expr = c.deref-in-And.result.now in
     let right : Expr = c.deref-in-And-2.result.now in
     let p = c.in-Ok-diagram.left in
@@ -83,9 +83,9 @@ returns-in-Ok-diagram-2 t c =
     let new = c.and.new.store in
     evaluates_two old mid next handle live left p first new right q second c.args.e.now ◌&&◌ c.and.result (omega (arith, ops, one, two))
     (λ v. ap (λ (x : Expr). value_in old handle x v) c.in-And.is ∙ ap₂ (λ (x y : Expr). value_in old handle x v && value_in old handle y v) (sym c.deref-in-And.ensures) (sym c.deref-in-And-2.ensures))
-    (gives_made next new (and_of f g) (and_of f g) c.and.result (λ v. refl) c.and.ensures.makes c.and.ensures.exact)
+    (gives_made next new (and_of f g) (and_of f g) c.and.result (λ v. refl) c.and.ensures.makes)
     (λ u reads others. counts_more u 1 2 next new c.and.result (omega arith)
-    (counts_made u next new second.gives.sound.ends (and_of f g) c.and.result c.and.ensures.makes (within_and u f g reads others)))
+    (counts_made u next new second.gives.adds.sound.ends (and_of f g) c.and.result c.and.ensures.makes (within_and u f g reads others)))
 
 -- ---- xor
 
@@ -101,7 +101,7 @@ returns-in-Err-diagram-4 t c =
     let old = c.args.store.now in
     let mid = c.diagram-in-Xor.new.store in
     let handle : List ℕ → ℕ = handle_in old.words c.args.ports.names.now c.args.ports.way c.args.ports.nets.now c.args.ports.values in
-    let live : AreLive old handle = handles_live old c.args.ports.values c.args.ports.names.now c.args.ports.way c.args.ports.nets.now c.requires.places c.node_count-ends.ensures.sound c.requires.live in
+    let live : AreLive old handle = handles_live old c.args.ports.values c.args.ports.names.now c.args.ports.way c.args.ports.nets.now c.requires.places c.sound.ensures.sound c.requires.live in
     let left : Expr = c.deref-in-Xor.result.now in
     let right : Expr = c.deref-in-Xor-2.result.now in
     let p = c.in-Ok-diagram-3.left in
@@ -117,7 +117,7 @@ returns-in-Ok-diagram-4 t c =
     let old = c.args.store.now in
     let mid = c.diagram-in-Xor.new.store in
     let handle : List ℕ → ℕ = handle_in old.words c.args.ports.names.now c.args.ports.way c.args.ports.nets.now c.args.ports.values in
-    let live : AreLive old handle = handles_live old c.args.ports.values c.args.ports.names.now c.args.ports.way c.args.ports.nets.now c.requires.places c.node_count-ends.ensures.sound c.requires.live in
+    let live : AreLive old handle = handles_live old c.args.ports.values c.args.ports.names.now c.args.ports.way c.args.ports.nets.now c.requires.places c.sound.ensures.sound c.requires.live in
     let left : Expr = c.deref-in-Xor.result.now in
     let right : Expr = c.deref-in-Xor-2.result.now in
     let p = c.in-Ok-diagram-3.left in
@@ -136,11 +136,11 @@ returns-in-Ok-diagram-4 t c =
     ap (λ (x : Expr). value_in old handle x v) c.in-Xor.is
     ∙ differ_is (value_in old handle c.in-Xor.left.value v) (value_in old handle c.in-Xor.right.value v)
     ∙ ap₂ (λ (x y : Expr). cond (value_in old handle x v) (not (value_in old handle y v)) (value_in old handle y v)) (sym c.deref-in-Xor.ensures) (sym c.deref-in-Xor-2.ensures))
-    (gives_both next new (not_of g) (xor_of f g) c.xor.result c.xor.ensures.makes c.xor.ensures.exact)
+    (gives_both next new (not_of g) (xor_of f g) c.xor.result c.xor.ensures.makes)
     (λ u reads others.
     let first_reads = within_not u g others in
     let both_reads = within_xor u f g reads others in
-    counts_both u next new second.gives.sound.ends (not_of g) (xor_of f g) c.xor.result c.xor.ensures.makes first_reads both_reads
+    counts_both u next new second.gives.adds.sound.ends (not_of g) (xor_of f g) c.xor.result c.xor.ensures.makes first_reads both_reads
     (c.xor.ensures.exact.few u first_reads both_reads) (c.xor.ensures.exact.early u first_reads both_reads))
 
 -- ---- or
@@ -157,7 +157,7 @@ returns-in-Err-diagram-6 t c =
     let old = c.args.store.now in
     let mid = c.diagram-in-Or.new.store in
     let handle : List ℕ → ℕ = handle_in old.words c.args.ports.names.now c.args.ports.way c.args.ports.nets.now c.args.ports.values in
-    let live : AreLive old handle = handles_live old c.args.ports.values c.args.ports.names.now c.args.ports.way c.args.ports.nets.now c.requires.places c.node_count-ends.ensures.sound c.requires.live in
+    let live : AreLive old handle = handles_live old c.args.ports.values c.args.ports.names.now c.args.ports.way c.args.ports.nets.now c.requires.places c.sound.ensures.sound c.requires.live in
     let left : Expr = c.deref-in-Or.result.now in
     let right : Expr = c.deref-in-Or-2.result.now in
     let p = c.in-Ok-diagram-5.left in
@@ -173,7 +173,7 @@ returns-in-Ok-diagram-6 t c =
     let old = c.args.store.now in
     let mid = c.diagram-in-Or.new.store in
     let handle : List ℕ → ℕ = handle_in old.words c.args.ports.names.now c.args.ports.way c.args.ports.nets.now c.args.ports.values in
-    let live : AreLive old handle = handles_live old c.args.ports.values c.args.ports.names.now c.args.ports.way c.args.ports.nets.now c.requires.places c.node_count-ends.ensures.sound c.requires.live in
+    let live : AreLive old handle = handles_live old c.args.ports.values c.args.ports.names.now c.args.ports.way c.args.ports.nets.now c.requires.places c.sound.ensures.sound c.requires.live in
     let left : Expr = c.deref-in-Or.result.now in
     let right : Expr = c.deref-in-Or-2.result.now in
     let p = c.in-Ok-diagram-5.left in
@@ -189,9 +189,9 @@ returns-in-Ok-diagram-6 t c =
     let new = c.or.new.store in
     evaluates_two old mid next handle live left p first new right q second c.args.e.now ◌||◌ c.or.result (omega (arith, ops, one, two))
     (λ v. ap (λ (x : Expr). value_in old handle x v) c.in-Or.is ∙ ap₂ (λ (x y : Expr). value_in old handle x v || value_in old handle y v) (sym c.deref-in-Or.ensures) (sym c.deref-in-Or-2.ensures))
-    (gives_made next new (or_of f g) (or_of f g) c.or.result (λ v. refl) c.or.ensures.makes c.or.ensures.exact)
+    (gives_made next new (or_of f g) (or_of f g) c.or.result (λ v. refl) c.or.ensures.makes)
     (λ u reads others. counts_more u 1 2 next new c.or.result (omega arith)
-    (counts_made u next new second.gives.sound.ends (or_of f g) c.or.result c.or.ensures.makes (within_or u f g reads others)))
+    (counts_made u next new second.gives.adds.sound.ends (or_of f g) c.or.result c.or.ensures.makes (within_or u f g reads others)))
 
 pub diagram-requires-in-And-2 : goal.diagram-requires-in-And-2
 diagram-requires-in-And-2 t c =

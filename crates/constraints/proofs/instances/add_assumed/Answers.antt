@@ -14,4 +14,4 @@ pub returns : goal.returns
 returns c =
     let asked : is_asked c.args.cell.now c.args.phase c.args.rule.now ≡ true = sym c.is_asked.ensures ∙ c.if-not-is_asked.false in
     assumed_more c.args.store.now c.diagram.new.store (handle_in c.args.store.now.words c.args.ports.names.now c.args.ports.way c.args.ports.nets.now c.args.ports.values)
-    c.args.cell.now c.args.phase c.args.rule.now c.args.all asked c.and.new.store c.in-Ok.one c.and.result c.requires.all c.in-Ok.ensures c.and.ensures.makes c.and.ensures.exact
+    c.args.cell.now c.args.phase c.args.rule.now c.args.all asked c.and.new.store c.in-Ok.one c.and.result c.requires.all c.in-Ok.ensures c.and.ensures.makes

@@ -15,7 +15,7 @@ rules-init c =
     let old = c.args.store.now in
     let handle : List ℕ → ℕ = handle_in old.words c.args.ports.names.now c.args.ports.way c.args.ports.nets.now c.args.ports.values in
     none_so_far (assume_holds old handle c.args.cell.now c.args.phase) (assume_operations c.args.cell.now c.args.phase) handle (function_of old c.args.start) c.args.rules.now old c.args.start refl
-    c.node_count-ends.ensures.sound c.node_count-ends.ensures.within c.requires.start
+    c.sound.ensures.sound c.sound.ensures.within c.requires.start
 
 pub add_assumed-requires-clause-handles : goal.add_assumed-requires-clause-handles
 add_assumed-requires-clause-handles c =
@@ -27,7 +27,7 @@ returns-in-Err c =
     let old = c.args.store.now in
     let mid = c.rules.store in
     let handle : List ℕ → ℕ = handle_in old.words c.args.ports.names.now c.args.ports.way c.args.ports.nets.now c.args.ports.values in
-    let live : AreLive old handle = handles_live old c.args.ports.values c.args.ports.names.now c.args.ports.way c.args.ports.nets.now c.requires.handles.places c.node_count-ends.ensures.sound c.requires.handles.live in
+    let live : AreLive old handle = handles_live old c.args.ports.values c.args.ports.names.now c.args.ports.way c.args.ports.nets.now c.requires.handles.places c.sound.ensures.sound c.requires.handles.live in
     let rule : AssumeRule = c.in-Some.rule.now in
     let far = c.rules.invariant in
     refused_so_far (assume_holds old handle c.args.cell.now c.args.phase) (assume_operations c.args.cell.now c.args.phase) handle (function_of old c.args.start) c.args.rules.now old mid c.add_assumed.new.store
@@ -40,7 +40,7 @@ rules-preserved c =
     let old = c.args.store.now in
     let mid = c.rules.store in
     let handle : List ℕ → ℕ = handle_in old.words c.args.ports.names.now c.args.ports.way c.args.ports.nets.now c.args.ports.values in
-    let live : AreLive old handle = handles_live old c.args.ports.values c.args.ports.names.now c.args.ports.way c.args.ports.nets.now c.requires.handles.places c.node_count-ends.ensures.sound c.requires.handles.live in
+    let live : AreLive old handle = handles_live old c.args.ports.values c.args.ports.names.now c.args.ports.way c.args.ports.nets.now c.requires.handles.places c.sound.ensures.sound c.requires.handles.live in
     let rule : AssumeRule = c.in-Some.rule.now in
     let far = c.rules.invariant in
     more_so_far (assume_holds old handle c.args.cell.now c.args.phase) (assume_operations c.args.cell.now c.args.phase) handle (function_of old c.args.start) c.args.rules.now old mid c.add_assumed.new.store

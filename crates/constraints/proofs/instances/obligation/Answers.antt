@@ -56,7 +56,7 @@ returns-clause-gives c =
     let p = c.in-Ok.assumed in
     let has : HasHandles old ports Tied i.ports values =
     record { span = c.requires.span; live = c.requires.live; places = tied_places ports i.ports values.len c.requires.nets } in
-    let live : AreLive old (handle_in old.words ports Tied i.ports values) = handles_live old values ports Tied i.ports has.places c.node_count-ends.ensures.sound c.requires.live in
+    let live : AreLive old (handle_in old.words ports Tied i.ports values) = handles_live old values ports Tied i.ports has.places c.sound.ensures.sound c.requires.live in
     let first : Assumed old mid values c.args.phase (Ok p) ports i.ports cell rules.assumes =
     moved (Assumed old mid values c.args.phase (Ok p)) c.cell_ports.result.now ports c.as_slice.result.now i.ports c.cell_name-cell.result.now cell c.as_slice-2.result.now rules.assumes
     c.cell_ports.ensures c.as_slice.ensures c.cell_name-cell.ensures c.as_slice-2.ensures c.in-Ok.ensures in
@@ -81,7 +81,7 @@ returns-clause-counts c =
     let p = c.in-Ok.assumed in
     let has : HasHandles old ports Tied i.ports values =
     record { span = c.requires.span; live = c.requires.live; places = tied_places ports i.ports values.len c.requires.nets } in
-    let live : AreLive old (handle_in old.words ports Tied i.ports values) = handles_live old values ports Tied i.ports has.places c.node_count-ends.ensures.sound c.requires.live in
+    let live : AreLive old (handle_in old.words ports Tied i.ports values) = handles_live old values ports Tied i.ports has.places c.sound.ensures.sound c.requires.live in
     let first : Assumed old mid values c.args.phase (Ok p) ports i.ports cell rules.assumes =
     moved (Assumed old mid values c.args.phase (Ok p)) c.cell_ports.result.now ports c.as_slice.result.now i.ports c.cell_name-cell.result.now cell c.as_slice-2.result.now rules.assumes
     c.cell_ports.ensures c.as_slice.ensures c.cell_name-cell.ensures c.as_slice-2.ensures c.in-Ok.ensures in

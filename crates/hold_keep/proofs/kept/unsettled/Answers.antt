@@ -4,8 +4,8 @@ use Rattle.bdd_core.specs.Store.{function_of}
 use Rattle.bdd_ops.proofs.CountingLaws.{counts_made, counts_more, counts_then}
 use Rattle.bdd_ops.proofs.WithinLaws.{within_and, within_same}
 use Rattle.bdd_ops.specs.Ops.{and_of}
-use Rattle.blif_eval.proofs.GivesLaws.{gives_made}
-use Rattle.hold_keep.proofs.KeptLaws.{fails_within, gives_error, reads_after, unsettled_last}
+use Rattle.bdd_core.proofs.Frames.{gives_made, gives_error}
+use Rattle.hold_keep.proofs.KeptLaws.{fails_within, reads_after, unsettled_last}
 use Rattle.hold_keep.specs.Kept.{fails_of, unsettled_of}
 use Rattle.hold_keep.proofs.kept.unsettled.Goals as goal
 
@@ -25,7 +25,7 @@ returns-clause-gives c =
     let mid = c.fails.new.store in
     let both : Function = and_of (function_of mid c.args.care) (function_of mid c.in-Ok.fails) in
     unsettled_last old mid c.and.new.store c.args.care c.args.wanted c.args.zero c.args.one c.in-Ok.fails c.and.result c.requires.0 c.in-Ok.ensures.gives
-    (gives_made mid c.and.new.store both both c.and.result (λ v. refl) c.and.ensures.makes c.and.ensures.exact)
+    (gives_made mid c.and.new.store both both c.and.result (λ v. refl) c.and.ensures.makes)
 
 pub returns-clause-counts : goal.returns-clause-counts
 returns-clause-counts c u care wanted zero one =
@@ -38,5 +38,5 @@ returns-clause-counts c u care wanted zero one =
     let care_in : IsWithin u (function_of mid c.args.care) = reads_after old mid (fails_of w f g) (Ok c.in-Ok.fails) first u c.args.care c.requires.0 care in
     let fails_in : IsWithin u (function_of mid c.in-Ok.fails) = within_same u (fails_of w f g) (function_of mid c.in-Ok.fails) first.ok.same (fails_within u w f g wanted zero one) in
     counts_then u 3 1 old mid c.and.new.store c.and.result (c.in-Ok.ensures.counts u wanted zero one).added
-    (counts_made u mid c.and.new.store first.sound.ends (and_of (function_of mid c.args.care) (function_of mid c.in-Ok.fails)) c.and.result c.and.ensures.makes
+    (counts_made u mid c.and.new.store first.adds.sound.ends (and_of (function_of mid c.args.care) (function_of mid c.in-Ok.fails)) c.and.result c.and.ensures.makes
     (within_and u (function_of mid c.args.care) (function_of mid c.in-Ok.fails) care_in fails_in))
