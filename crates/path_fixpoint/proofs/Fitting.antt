@@ -7,7 +7,7 @@ use Rattle.bdd_core.specs.Diagram.{Valuation}
 use Rattle.bdd_core.specs.Store.{Diagrams}
 use Rattle.path_fixpoint.specs.Strengths.{strong, strong_end, word_of}
 use Rattle.bdd_core.specs.Words.{IsFilled, Writes}
-use Rattle.path_fixpoint.proofs.Frames.{shows_kept}
+use Rattle.bdd_core.proofs.Frames.{shows_kept}
 
 -- a bit and an implication
 pub limit_bits : (x h o : Bool) → ((x && (not h || o)) ≡ true) ↔ ((x ≡ true) × (h ≡ true → o ≡ true))

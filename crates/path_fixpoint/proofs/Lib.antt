@@ -1,6 +1,5 @@
 pub mod Counts
 pub mod Fitting
-pub mod Frames
 pub mod HoldPlaces
 pub mod Idle
 pub mod Opened

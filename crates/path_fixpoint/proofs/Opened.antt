@@ -69,7 +69,7 @@ module _ (c : Circuit) (part : Part) (gates out : Span) (level : ℕ) (low : 1 �
         | inl lt ↦
             let is : mark_of new out level i ≡ mark_of old out (level + 1) i = same ∙ (taken i (place_in part i n p)).0 lt in
             let live : mark_of old out (level + 1) i < length old.nodes = words.out_live (word_of (level + 1) i) (omega (arith, words.out_len, place_in part i n p, lt)) in
-            let on : strong old out (level + 1) i v ≡ true = sym (whole.kept (mark_of old out (level + 1) i) live v) ∙ sym (ap (λ (h : ℕ). meaning new.nodes h v) is) ∙ e in
+            let on : strong old out (level + 1) i v ≡ true = sym (whole.adds.kept (mark_of old out (level + 1) i) live v) ∙ sym (ap (λ (h : ℕ). meaning new.nodes h v) is) ∙ e in
             at_least_weaker w (level + 1) level n (omega arith) ((upper lt i n p).0 on)
         | inr ge ↦
             let is : mark_of new out level i ≡ 0 = same ∙ (taken i (place_in part i n p)).1 (omega (arith, ge, high)) in

@@ -1,7 +1,7 @@
 -- One device: what it passes on in one direction, and in both.
 use Rattle.std.proofs.Common.{◌≡◌, ◌≢◌, ℕ, ◌+◌, ◌<◌, ◌≤◌, Bool, true, false, cond, not, ◌||◌, ◌&&◌, List, Option, Some, None, Ok, get_or, ap, ap₂, refl, sym, subst, ◌∙◌, inl, inr}
 use Rattle.std.specs.Prelude.{IfSome, IsNone}
-use Rattle.std.proofs.lemmas.Bool.{cases_eq, or_cases, and_parts, false≢true}
+use Rattle.std.proofs.lemmas.Bool.{cases_eq, or_cases, and_parts, false≢true, or_left, or_right}
 use Rattle.std.proofs.lemmas.Option.{same_Some}
 use Rattle.node_pool.specs.declared.region.Span.{Span}
 use Rattle.bdd_core.specs.declared.handle.H.{H}
@@ -21,15 +21,8 @@ use Rattle.path_fixpoint.specs.Parts.{IsGiven, IsPart, IsPlace}
 use Rattle.path_fixpoint.specs.Passed.{IsWider, gated}
 use Rattle.path_fixpoint.specs.Strengths.{HasPaths, HasWords, IsStrong, Passes, strong, strong_end, word_of}
 use Rattle.bdd_core.specs.Words.{IsFilled, Writes, word_at}
-use Rattle.path_fixpoint.proofs.Frames.{made_words, shows_kept, writes_made}
+use Rattle.bdd_core.proofs.Frames.{shows_kept, adds_words, writes_added}
 use Rattle.path_fixpoint.proofs.Places.{place_once, place_word, words_differ}
-
-pub or_left : (a b : Bool) → a ≡ true → (a || b) ≡ true
-or_left a b e = ap (λ (x : Bool). x || b) e
-
-pub or_right : (a b : Bool) → b ≡ true → (a || b) ≡ true
-or_right true b e = refl
-or_right false b e = e
 
 pub and_both : (a b : Bool) → a ≡ true → b ≡ true → (a && b) ≡ true
 and_both true b e f = f
@@ -50,11 +43,11 @@ module _ (out : Span) (level : ℕ) (kind : Kind) (gate : ℕ) (from : Option �
     (apart : (k : ℕ) → k ≢ word_of level i → word_at new out k ≡ word_at mid out k)
     (inside : word_of level i < out.len) where
   made_writes : Writes out old mid
-  made_writes = writes_made out old mid (gated kind (meaning old.nodes gate) (meaning old.nodes signal.0)) (Ok passed) live made
+  made_writes = writes_added out old mid live made.adds
 
   before : (j : ℕ) → word_of level j < out.len → (v : Valuation) → strong mid out level j v ≡ strong old out level j v
   before j lt v = shows_kept out out old mid (word_of level j) v made_writes
-      (ap (λ (ws : List ℕ). get_or ws (out.start + word_of level j) 0) (made_words old mid (gated kind (meaning old.nodes gate) (meaning old.nodes signal.0)) (Ok passed) made)) (live (word_of level j) lt)
+      (ap (λ (ws : List ℕ). get_or ws (out.start + word_of level j) 0) (adds_words old mid old.words made.adds)) (live (word_of level j) lt)
 
   here : (v : Valuation) → strong new out level i v ≡ (strong old out level i v || (conducts_at kind (meaning old.nodes gate v) && strong_end old out level from v))
   here v = wider.here v ∙ ap₂ (λ (a b : Bool). a || b) (before i inside v)
@@ -81,20 +74,11 @@ module _ (out : Span) (level : ℕ) (kind : Kind) (gate : ℕ) (from : Option �
           ]
       | inr ne ↦ inl (sym (other j lt ne v) ∙ e)
     ];
-    same = λ e. wider.same e ∙ made_words old mid (gated kind (meaning old.nodes gate) (meaning old.nodes signal.0)) (Ok passed) made;
+    same = λ e. wider.same e ∙ adds_words old mid old.words made.adds;
   }
 
 none-some : {X : Type 0} (x : X) → None ≡ Some x → ⊥
 none-some x e = cc e
-
--- nothing is passed on to a net outside the part
-pub passes_none : (out : Span) (level : ℕ) (kind : Kind) (gate : ℕ) (from : Option ℕ) (d : Diagrams) → Passes out level kind gate from None false d d
-passes_none out level kind gate from d = record {
-  grown = λ i lt v e. e;
-  passed = λ i e. absurd (none-some i e);
-  only = λ i lt v e. inl e;
-  same = λ e. refl;
-}
 
 -- where a net stands in a part
 pub record EndIs (part : Part) (place : Option ℕ) (n : ℕ) : Type 0 where

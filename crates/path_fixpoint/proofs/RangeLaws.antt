@@ -5,7 +5,6 @@ use Rattle.std.proofs.lemmas.Bool.{cases_lt}
 use Rattle.std.proofs.lemmas.Option.{get_or_from_slice_get, slice_get-get_or}
 use Rattle.vrt_model.proofs.Members.{all_among}
 use Rattle.vrt_model.specs.Circuits.{IsNet}
-use Rattle.vrt_model.specs.Lists.{At, Among}
 use Rattle.vrt_model.specs.declared.circuit.Circuit.{Circuit}
 use Rattle.vrt_model.specs.declared.ids.Dev.{Dev}
 use Rattle.vrt_model.specs.declared.ids.Net.{Net}
@@ -55,9 +54,6 @@ part_from c part rises nets devices = record {
 
 net_same : (a b : Net) → a.0 ≡ b.0 → a ≡ b
 net_same a b e = let build : ℕ → Net = λ n. record { 0 = n } in ap build e
-
-pub place_among : (part : Part) (i : ℕ) (net : Net) → IsPlace part i net.0 → Among part.nets net
-place_among part i net p = (i, subst (At part.nets i) (net_same p.0 net p.2) p.1)
 
 here : (part : Part) (i : ℕ) → i < length part.nets → IsPlace part i (net_at part.nets i)
 here part i lt = (get_or part.nets i (record { 0 = 0 }), slice_get-get_or part.nets i (record { 0 = 0 }) lt, refl)

@@ -28,7 +28,7 @@ use Rattle.path_fixpoint.specs.Reaching.{FitsAt, HasReach, HasReachPaths, HasRea
 use Rattle.path_fixpoint.specs.Strengths.{ChangesLevel, StandsAt, StrongGrows, strong, strong_end, word_of}
 use Rattle.bdd_core.specs.Words.{Writes, shows}
 use Rattle.path_fixpoint.proofs.Counts.{count, count_all, same_or_more}
-use Rattle.path_fixpoint.proofs.Frames.{filled_beside, shows_beside, shows_kept}
+use Rattle.bdd_core.proofs.Frames.{filled_beside, shows_beside, shows_kept, span_written}
 use Rattle.path_fixpoint.proofs.Passing.{EndIs, given_path}
 use Rattle.path_fixpoint.proofs.Places.{place_in, place_once}
 use Rattle.path_fixpoint.proofs.RoundLaws.{level_stays, stands_kept, words_kept}
@@ -59,7 +59,7 @@ module _ (c : Circuit) (part : Part) (is_part : IsPart c part) (flat : IsFlat c)
   pub root_words_kept : (old new : Diagrams) → HasRootWords c part gates roots out old → Writes out old new → HasRootWords c part gates roots out new
   root_words_kept old new words w = record {
     words = words_kept c part gates out old new words.words w;
-    roots_span = (subst (λ (d : Diagrams). d.own ≤ roots.start) (sym w.rest) words.roots_span.0, omega (arith, words.roots_span.1, w.len));
+    roots_span = span_written out roots old new w words.roots_span;
     roots_len = words.roots_len;
     roots_live = filled_beside out roots old new w words.roots_apart words.roots_live;
     roots_apart = words.roots_apart;

@@ -16,7 +16,7 @@ use Rattle.path_fixpoint.specs.Parts.{IsGiven, IsPart, IsPlace, part_devices}
 use Rattle.path_fixpoint.specs.Reaching.{HasReachPaths, HasRootWords, IsReached, PassesSignal, SolvedAt, SpreadsValue, reached_end, slot_of}
 use Rattle.path_fixpoint.specs.Strengths.{ChangesLevel, StrongGrows, strong, word_of}
 use Rattle.bdd_core.specs.Words.{Writes, word_at}
-use Rattle.path_fixpoint.proofs.Frames.{shows_kept}
+use Rattle.bdd_core.proofs.Frames.{shows_kept}
 use Rattle.path_fixpoint.proofs.Passing.{EndIs}
 use Rattle.path_fixpoint.proofs.ReachLaws.{over_value, over_value_paths, reached_grown, root_words_kept, slot_place, solved_kept}
 use Rattle.path_fixpoint.proofs.Spreading.{device_ranges, outside_given}
@@ -59,10 +59,10 @@ module _ (c : Circuit) (part : Part) (is_part : IsPart c part) (flat : IsFlat c)
       is_b = solved_kept c part is_part flat gates roots out value mid b v w s words_m wb (same_changes mid b sb) is_m
 
       gate_a : conducts_at d.kind (meaning a.nodes gate v) ≡ conducts w.reading d
-      gate_a = ap (λ (x : Bool). conducts_at d.kind x) (wa.kept gate gate_live v ∙ ap (λ (h : ℕ). meaning old.nodes h v) gate_is ∙ is.stands.reading d.gate.0 gate_in)
+      gate_a = ap (λ (x : Bool). conducts_at d.kind x) (wa.adds.kept gate gate_live v ∙ ap (λ (h : ℕ). meaning old.nodes h v) gate_is ∙ is.stands.reading d.gate.0 gate_in)
 
       gate_b : conducts_at d.kind (meaning b.nodes gate v) ≡ conducts w.reading d
-      gate_b = ap (λ (x : Bool). conducts_at d.kind x) (wb.kept gate (omega (arith, gate_live, wa.longer, wm.longer)) v ∙ wm.kept gate (omega (arith, gate_live, wa.longer)) v) ∙ gate_a
+      gate_b = ap (λ (x : Bool). conducts_at d.kind x) (wb.adds.kept gate (omega (arith, gate_live, wa.adds.longer, wm.adds.longer)) v ∙ wm.adds.kept gate (omega (arith, gate_live, wa.adds.longer)) v) ∙ gate_a
 
       member_w : Among w.devices d
       member_w = subst (λ (ds : List Device). Among ds d) (sym is.stands.devices) member

@@ -15,7 +15,7 @@ use Rattle.path_fixpoint.specs.Parts.{part_devices}
 use Rattle.path_fixpoint.specs.Strengths.{ChangesLevel, HasLevel, HasPassed, HasPaths, HasRoots, HasSpans, HasWords, IsStrong, StandsAt, StrongGrows, TellsStrengths, strong, word_of}
 use Rattle.bdd_core.specs.Words.{Writes}
 use Rattle.path_fixpoint.proofs.Counts.{count, count_all, same_or_more}
-use Rattle.path_fixpoint.proofs.Frames.{filled_beside, shows_beside, shows_kept}
+use Rattle.bdd_core.proofs.Frames.{filled_beside, shows_beside, shows_kept, span_written}
 use Rattle.path_fixpoint.proofs.Places.{levels_differ, place_in, place_word, word_in}
 
 -- the marks are at all nets where a path of at least this level ends
@@ -29,10 +29,10 @@ HasProgress part out level rounds d v w = HasAll part out level d v w ⊎ (round
 module _ (c : Circuit) (part : Part) (gates out : Span) where
   pub words_kept : (old new : Diagrams) → HasWords c part gates out old → Writes out old new → HasWords c part gates out new
   words_kept old new words w = record {
-    gates_span = (subst (λ (d : Diagrams). d.own ≤ gates.start) (sym w.rest) words.gates_span.0, omega (arith, words.gates_span.1, w.len));
+    gates_span = span_written out gates old new w words.gates_span;
     gates_len = words.gates_len;
     gates_live = filled_beside out gates old new w words.apart words.gates_live;
-    out_span = (subst (λ (d : Diagrams). d.own ≤ out.start) (sym w.rest) words.out_span.0, omega (arith, words.out_span.1, w.len));
+    out_span = span_written out out old new w words.out_span;
     out_len = words.out_len;
     out_live = w.live;
     apart = words.apart;
@@ -40,10 +40,10 @@ module _ (c : Circuit) (part : Part) (gates out : Span) where
 
   pub words_from : (old new : Diagrams) → HasSpans c part gates out old → Writes out old new → HasWords c part gates out new
   words_from old new spans w = record {
-    gates_span = (subst (λ (d : Diagrams). d.own ≤ gates.start) (sym w.rest) spans.gates_span.0, omega (arith, spans.gates_span.1, w.len));
+    gates_span = span_written out gates old new w spans.gates_span;
     gates_len = spans.gates_len;
     gates_live = filled_beside out gates old new w spans.apart spans.gates_live;
-    out_span = (subst (λ (d : Diagrams). d.own ≤ out.start) (sym w.rest) spans.out_span.0, omega (arith, spans.out_span.1, w.len));
+    out_span = span_written out out old new w spans.out_span;
     out_len = spans.out_len;
     out_live = w.live;
     apart = spans.apart;

@@ -1,7 +1,7 @@
 -- One word that shows a signal too, where the device conducts and the signal fits the strengths.
 use Rattle.std.proofs.Common.{◌≡◌, ◌≢◌, ℕ, ◌+◌, ◌*◌, ◌<◌, ◌≤◌, Bool, true, ◌||◌, List, Option, Some, Ok, get_or, ap, sym, subst, ◌∙◌, inl, inr}
 use Rattle.std.specs.Prelude.{◌↔◌, IfSome}
-use Rattle.std.proofs.lemmas.Bool.{cases_eq, or_cases, and_parts}
+use Rattle.std.proofs.lemmas.Bool.{cases_eq, or_cases, and_parts, or_left, or_right}
 use Rattle.std.proofs.lemmas.Option.{same_Some}
 use Rattle.node_pool.specs.declared.region.Span.{Span}
 use Rattle.bdd_core.specs.declared.handle.H.{H}
@@ -14,8 +14,8 @@ use Rattle.path_fixpoint.specs.Reaching.{FitsAt, PassesSignal, slot_of}
 use Rattle.path_fixpoint.specs.Strengths.{strong, word_of}
 use Rattle.bdd_core.specs.Words.{IsFilled, Writes, word_at}
 use Rattle.path_fixpoint.proofs.Fitting.{end_old, strong_old}
-use Rattle.path_fixpoint.proofs.Frames.{made_words, shows_kept, writes_made, writes_then}
-use Rattle.path_fixpoint.proofs.Passing.{and_both, or_left, or_right}
+use Rattle.bdd_core.proofs.Frames.{shows_kept, writes_then, adds_words, writes_added}
+use Rattle.path_fixpoint.proofs.Passing.{and_both}
 use Rattle.path_fixpoint.proofs.Places.{words_differ}
 
 module _ (out : Span) (value : Bool) (kind : Kind) (gate signal : ℕ) (from : Option ℕ) (i device : ℕ) (old mid late new : Diagrams) (passed fits : H) (changed : Bool)
@@ -27,10 +27,10 @@ module _ (out : Span) (value : Bool) (kind : Kind) (gate signal : ℕ) (from : O
     (apart : (k : ℕ) → k ≢ word_of (slot_of value) i → word_at new out k ≡ word_at late out k)
     (inside : word_of (slot_of value) i < out.len) (to_fits : 10 * i + 10 ≤ out.len) (from_fits : IfSome from (λ j. 10 * j + 10 ≤ out.len)) where
   first : Writes out old mid
-  first = writes_made out old mid (gated kind (meaning old.nodes gate) (meaning old.nodes signal)) (Ok passed) live made
+  first = writes_added out old mid live made.adds
 
   first_words : mid.words ≡ old.words
-  first_words = made_words old mid (gated kind (meaning old.nodes gate) (meaning old.nodes signal)) (Ok passed) made
+  first_words = adds_words old mid old.words made.adds
 
   before : Writes out old late
   before = writes_then out old mid late first fit_writes

@@ -1,5 +1,5 @@
 -- A part solved, step by step, at each valuation.
-use Rattle.std.proofs.Common.{◌≡◌, ℕ, ◌≤◌, Bool, true, false, length, Option, arith, ap, refl, sym, subst, ◌∙◌, inl, inr}
+use Rattle.std.proofs.Common.{◌≡◌, ℕ, ◌≤◌, Bool, true, false, length, Option, arith, ap, refl, sym, ◌∙◌, inl, inr}
 use Rattle.std.proofs.lemmas.Option.{slice_get_within}
 use Rattle.node_pool.specs.declared.region.Span.{Span}
 use Rattle.bdd_core.specs.Diagram.{Valuation}
@@ -18,7 +18,7 @@ use Rattle.path_fixpoint.specs.Reaching.{HasReach, HasRootWords, SolvedAt, slot_
 use Rattle.path_fixpoint.specs.Solved.{HasRootSpans, TellsReach, net_of, network_at}
 use Rattle.path_fixpoint.specs.Strengths.{ChangesLevel, HasLevel, StandsAt, TellsStrengths, strong, word_of}
 use Rattle.bdd_core.specs.Words.{Writes, shows}
-use Rattle.path_fixpoint.proofs.Frames.{filled_beside, shows_beside, shows_kept}
+use Rattle.bdd_core.proofs.Frames.{filled_beside, shows_beside, shows_kept, span_written}
 use Rattle.path_fixpoint.proofs.Places.{levels_differ, place_word}
 use Rattle.path_fixpoint.proofs.ReachLaws.{levels_of, slot_high, slot_low, slot_place}
 use Rattle.path_fixpoint.proofs.RoundLaws.{words_from}
@@ -29,7 +29,7 @@ module _ (c : Circuit) (part : Part) (is_part : IsPart c part) (flat : IsFlat c)
   pub root_words_from : (old new : Diagrams) → HasRootSpans c part gates roots out old → Writes out old new → HasRootWords c part gates roots out new
   root_words_from old new spans w = record {
     words = words_from c part gates out old new spans.spans w;
-    roots_span = (subst (λ (d : Diagrams). d.own ≤ roots.start) (sym w.rest) spans.roots_span.0, omega (arith, spans.roots_span.1, w.len));
+    roots_span = span_written out roots old new w spans.roots_span;
     roots_len = spans.roots_len;
     roots_live = filled_beside out roots old new w spans.roots_apart spans.roots_live;
     roots_apart = spans.roots_apart;

@@ -1,7 +1,7 @@
 -- The roots of a value, one after the other, and what they are at each valuation.
 use Rattle.std.proofs.Common.{◌≡◌, ◌≢◌, ℕ, ◌+◌, ◌*◌, ◌<◌, ◌≤◌, ◌⊎◌, Bool, true, false, cond, ◌||◌, List, length, Ok, get_or, arith, ap, refl, sym, subst, ◌∙◌, inl, inr}
 use Rattle.std.specs.Prelude.{◌↔◌}
-use Rattle.std.proofs.lemmas.Bool.{cases_eq, cases_lt, false≢true, or_cases}
+use Rattle.std.proofs.lemmas.Bool.{cases_eq, cases_lt, false≢true, or_cases, or_left, or_right}
 use Rattle.std.proofs.lemmas.Option.{slice_get_within}
 use Rattle.node_pool.specs.declared.region.Span.{Span}
 use Rattle.bdd_core.specs.declared.handle.H.{H}
@@ -26,8 +26,7 @@ use Rattle.path_fixpoint.specs.Reaching.{HasReachPaths, HasReachRoots, HasRootWo
 use Rattle.path_fixpoint.specs.Sources.{AddsRoots, IsGivenSource, IsHoldSource, IsOpen}
 use Rattle.path_fixpoint.specs.Strengths.{ChangesLevel, strong, word_of}
 use Rattle.bdd_core.specs.Words.{IsApart, IsFilled, Writes, shows, word_at}
-use Rattle.path_fixpoint.proofs.Frames.{made_words, shows_beside, shows_kept, writes_made, writes_then}
-use Rattle.path_fixpoint.proofs.Passing.{or_left, or_right}
+use Rattle.bdd_core.proofs.Frames.{shows_beside, shows_kept, writes_then, adds_words, writes_added}
 use Rattle.path_fixpoint.proofs.Places.{levels_differ, place_in, place_once, words_differ}
 use Rattle.path_fixpoint.proofs.ReachLaws.{differ_same, given_strength, slot_high, slot_low, slot_place, strength_most}
 
@@ -105,10 +104,10 @@ module _ (part : Part) (once : (i j n : ℕ) → IsPlace part i n → IsPlace pa
     (wider : IsWider out (word_of (slot_of value) i) (meaning b.nodes signal.0) changed b new) (wn : Writes out b new)
     (apart : (k : ℕ) → k ≢ word_of (slot_of value) i → word_at new out k ≡ word_at b out k) where
   wa : Writes out old a
-  wa = writes_made out old a (bit_is value (λ v. shows old roots net v)) (Ok bit) out_live made
+  wa = writes_added out old a out_live made.adds
 
   sa : a.words ≡ old.words
-  sa = made_words old a (bit_is value (λ v. shows old roots net v)) (Ok bit) made
+  sa = adds_words old a old.words made.adds
 
   before : Writes out old b
   before = writes_then out old a b wa wb
@@ -172,7 +171,7 @@ module _ (c : Circuit) (part : Part) (is_part : IsPart c part) (flat : IsFlat c)
   len = words.words.out_len
 
   roots_a : IsFilled a roots
-  roots_a k lt = omega (arith, wa.others (roots.start + k) (elim words.roots_apart [ inl l ↦ inl (omega (arith, l, lt)) | inr h ↦ inr (omega (arith, h)) ]), words.roots_live k lt, wa.longer)
+  roots_a k lt = omega (arith, wa.others (roots.start + k) (elim words.roots_apart [ inl l ↦ inl (omega (arith, l, lt)) | inr h ↦ inr (omega (arith, h)) ]), words.roots_live k lt, wa.adds.longer)
 
   -- open at the beginning is open at each step
   to_a : (n size i : ℕ) → n < roots.len → 1 ≤ size → IsPlace part i n → IsOpen roots out value n size old i v ↔ IsOpen roots out value n size a i v

@@ -21,7 +21,7 @@ use Rattle.path_fixpoint.specs.Passed.{gated}
 use Rattle.path_fixpoint.specs.Reaching.{bit_is, reached_end, slot_of}
 use Rattle.path_fixpoint.specs.Strengths.{word_of}
 use Rattle.path_fixpoint.specs.Spending.{Finds, Rewrites, Spends}
-use Rattle.path_fixpoint.proofs.Frames.{word_apart, word_beside, word_here}
+use Rattle.bdd_core.proofs.Frames.{word_apart, word_beside, word_here}
 use Rattle.path_fixpoint.proofs.ReachLaws.{slot_high, slot_low}
 
 module _ (u : ℕ) where
@@ -30,17 +30,17 @@ module _ (u : ℕ) where
 
   -- a handle from before
   pub handle_kept : (out : Span) (old new : Diagrams) (h : ℕ) → Writes out old new → h < length old.nodes → IsWithin u (meaning old.nodes h) → IsWithin u (meaning new.nodes h)
-  handle_kept out old new h wr live w = within_same u (meaning old.nodes h) (meaning new.nodes h) (wr.kept h live) w
+  handle_kept out old new h wr live w = within_same u (meaning old.nodes h) (meaning new.nodes h) (wr.adds.kept h live) w
 
   -- a span beside the one that is written
   pub span_beside : (out span : Span) (old new : Diagrams) → Writes out old new → IsApart span out → IsFilled old span → IsSpanWithin u old span → IsSpanWithin u new span
   span_beside out span old new wr apart live all =
-      span_kept u span old new (λ k lt. word_beside out span old new k wr apart lt) (λ k lt. wr.kept (word_at old span k) (live k lt)) all
+      span_kept u span old new (λ k lt. word_beside out span old new k wr apart lt) (λ k lt. wr.adds.kept (word_at old span k) (live k lt)) all
 
   -- the span itself, where no word changed
   pub span_still : (out span : Span) (old new : Diagrams) → Writes out old new → new.words ≡ old.words → IsFilled old span → IsSpanWithin u old span → IsSpanWithin u new span
   span_still out span old new wr words live all =
-      span_kept u span old new (λ k lt. ap (λ (ws : List ℕ). slice_index ws (span.start + k)) words) (λ k lt. wr.kept (word_at old span k) (live k lt)) all
+      span_kept u span old new (λ k lt. ap (λ (ws : List ℕ). slice_index ws (span.start + k)) words) (λ k lt. wr.adds.kept (word_at old span k) (live k lt)) all
 
   -- the constant 0 stands in each word
   pub rewrites_zero : (out : Span) (old new : Diagrams) → new ≡ record old { words = new.words } → ((k : ℕ) → k < out.len → word_at new out k ≡ 0) → Rewrites u out old new

@@ -18,7 +18,7 @@ use Rattle.vrt_model.specs.declared.ids.Dev.{Dev}
 use Rattle.vrt_model.specs.declared.ids.Net.{Net}
 use Rattle.channel_parts.specs.declared.part.Part.{Part}
 use Rattle.path_fixpoint.specs.Parts.{IsGiven, IsPart, part_devices}
-use Rattle.path_fixpoint.specs.Strengths.{ChangesLevel, HasWords, IsStrong, Passes, Spreads, StandsAt}
+use Rattle.path_fixpoint.specs.Strengths.{HasWords, IsStrong, Passes, Spreads, StandsAt}
 use Rattle.bdd_core.specs.Words.{Writes, word_at}
 use Rattle.path_fixpoint.proofs.RoundLaws.{stands_kept, words_kept}
 use Rattle.path_fixpoint.proofs.Passing.{EndIs, given_path, over, over_paths}
@@ -107,7 +107,7 @@ module _ (c : Circuit) (part : Part) (is_part : IsPart c part) (flat : IsFlat c)
     gate_live = omega (arith, gate_is, words.gates_live d.gate.0 (omega (arith, gate_in, words.gates_len)))
 
     gate_mid : (v : Valuation) (w : Network) → StandsAt c part gates old v w → meaning mid.nodes gate v ≡ w.reading d.gate.0
-    gate_mid v w st = first.kept gate gate_live v ∙ gate_old v w st
+    gate_mid v w st = first.adds.kept gate gate_live v ∙ gate_old v w st
 
     on_old : (v : Valuation) (w : Network) → StandsAt c part gates old v w → conducts w.reading d ≡ true → conducts_at d.kind (meaning old.nodes gate v) ≡ true
     on_old v w st on = ap (λ (b : Bool). conducts_at d.kind b) (gate_old v w st) ∙ on
@@ -167,6 +167,3 @@ module _ (c : Circuit) (part : Part) (gates out : Span) (level : ℕ) (low : 1 �
     paths = λ v w st paths. s.paths v w (stands_kept c part gates out x y v w words writes st) (f.paths v w st paths);
     same = λ e. let h = or_parts a b e in s.same h.1 ∙ f.same h.0;
   }
-
-pub changes_then : (out : Span) (level : ℕ) (a b c : Diagrams) → ChangesLevel out level a b → ChangesLevel out level b c → ChangesLevel out level a c
-changes_then out level a b c f s k away = s k away ∙ f k away

@@ -25,7 +25,7 @@ fn clear(store: &mut Store, out: Span)
     ensures writes { Writes out store.old store.new }
     ensures few { (u : ℕ) → Rewrites u out store.old store.new }
 {
-    let _ends = store.node_count();
+    store.sound();
     for at in 0..out.len {
         store.write(out, at, 0);
     }
@@ -48,7 +48,7 @@ fn levels(
     ensures levels { IfOk result (λ _. (v : Valuation) (w : Network) → StandsAt circuit.now part.now gates store.old v w → (level : ℕ) → 1 ≤ level → level ≤ 8 → HasLevel part.now out level store.new v w) }
     ensures few { (u : ℕ) → IsSpanWithin u store.old gates → IsSpanWithin u store.old out → Spends u (8 * (length part.now.nets * (length part.now.devices * 4))) out store.old store.new result }
 {
-    let _ends = store.node_count();
+    store.sound();
     for done in 0..8u32 {
         let level = 8 - done;
         open(store, circuit, part, rising, gates, out, level);

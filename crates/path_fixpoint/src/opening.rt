@@ -30,7 +30,7 @@ pub(crate) fn set(store: &mut Store, out: Span, at: u32, handle: H)
     ensures apart { (k : ℕ) → k ≢ at → word_at store.new out k ≡ word_at store.old out k }
     ensures few { (u : ℕ) → IsSpanWithin u store.old out → IsWithin u (function_of store.old handle) → Rewrites u out store.old store.new }
 {
-    let _ends = store.node_count();
+    store.sound();
     store.write(out, at, handle.0);
 }
 
@@ -44,7 +44,7 @@ fn above(store: &Store, out: Span, place: usize, level: u32) -> H
     ensures highest { level ≡ 8 → result.0 ≡ 0 }
     ensures few { (u : ℕ) → IsSpanWithin u store.now out → IsWithin u (function_of store.now result) }
 {
-    let _ends = store.node_count();
+    store.sound();
     if level < 8 {
         return H(store.read(out, word(place, level + 1)));
     }
@@ -61,7 +61,7 @@ fn take_above(store: &mut Store, part: &Part, out: Span, level: u32)
     ensures taken { (i : ℕ) → i < length part.now.nets → TakesAbove out level store.old store.new i }
     ensures few { (u : ℕ) → IsSpanWithin u store.old out → Rewrites u out store.old store.new }
 {
-    let _ends = store.node_count();
+    store.sound();
     for i in 0..part.nets.len() {
         let handle = above(store, out, i, level);
         set(store, out, word(i, level), handle);
@@ -81,7 +81,7 @@ fn mark(store: &mut Store, part: &Part, rising: bool, out: Span, net: Net, level
     ensures only { OnlyBy out level (λ i. (fits ≡ true) × IsPlace part.now i net.0) store.old store.new }
     ensures few { (u : ℕ) → IsSpanWithin u store.old out → Rewrites u out store.old store.new }
 {
-    let _ends = store.node_count();
+    store.sound();
     if !fits {
         return;
     }
@@ -124,7 +124,7 @@ fn mark_given(
     ensures only { OnlyBy out level (IsGivenAt circuit.now part.now) store.old store.new }
     ensures few { (u : ℕ) → IsSpanWithin u store.old out → Rewrites u out store.old store.new }
 {
-    let _ends = store.node_count();
+    store.sound();
     for net in part.nets.as_slice() {
         let fits = is_given(circuit, *net);
         mark(store, part, rising, out, *net, level, fits);
@@ -158,7 +158,7 @@ fn mark_holds(
     ensures only { OnlyBy out level (IsHoldAt circuit.now part.now level) store.old store.new }
     ensures few { (u : ℕ) → IsSpanWithin u store.old out → Rewrites u out store.old store.new }
 {
-    let _ends = store.node_count();
+    store.sound();
     for hold in circuit.holds.as_slice() {
         let fits = has_level(hold.size, level);
         mark(store, part, rising, out, hold.net, level, fits);

@@ -43,7 +43,7 @@ fn pass(
     ensures passes { IfOk result (λ changed. PassesSignal out value device.now.kind gate.0 signal.0 from to device.now.level changed store.old store.new) }
     ensures few { (u : ℕ) → IsSpanWithin u store.old out → IsWithin u (function_of store.old gate) → IsWithin u (function_of store.old signal) → Spends u 18 out store.old store.new result }
 {
-    let _ends = store.node_count();
+    store.sound();
     let Some(to) = to else {
         return Ok(false);
     };
@@ -87,7 +87,7 @@ fn visit(
     ensures spreads { IfOk result (λ changed. SpreadsValue circuit.now part.now gates roots out value (λ d. d ≡ device.now) changed store.old store.new) }
     ensures few { (u : ℕ) → IsSpanWithin u store.old gates → IsSpanWithin u store.old roots → IsSpanWithin u store.old out → Spends u 38 out store.old store.new result }
 {
-    let _ends = store.node_count();
+    store.sound();
     let gate = H(store.read(gates, device.gate.0));
     if blocks(device.kind, gate) {
         return Ok(false);
@@ -133,7 +133,7 @@ fn round(
     ensures spreads { IfOk result (λ changed. SpreadsValue circuit.now part.now gates roots out value (Among (part_devices circuit.now part.now)) changed store.old store.new) }
     ensures few { (u : ℕ) → IsSpanWithin u store.old gates → IsSpanWithin u store.old roots → IsSpanWithin u store.old out → Spends u (length part.now.devices * 38) out store.old store.new result }
 {
-    let _ends = store.node_count();
+    store.sound();
     let mut changed = false;
     for dev in part.devices.as_slice() {
         let Some(device) = circuit.devices.get(dev.0 as usize) else {
@@ -170,7 +170,7 @@ pub(crate) fn settle(
     ensures reach { IfOk result (λ _. (v : Valuation) (w : Network) (s : ℕ → ℕ) → SolvedAt circuit.now part.now gates roots out store.old v w s → HasReachRoots circuit.now part.now out value store.old v w s → HasReachPaths part.now out value store.old v w s → HasReach part.now out value store.new v w) }
     ensures few { (u : ℕ) → IsSpanWithin u store.old gates → IsSpanWithin u store.old roots → IsSpanWithin u store.old out → Spends u (length part.now.nets * (length part.now.devices * 38)) out store.old store.new result }
 {
-    let _ends = store.node_count();
+    store.sound();
     'rounds: for _count in 0..part.nets.len() {
         let changed = match round(store, circuit, part, rising, gates, roots, out, value) {
             Ok(changed) => changed,

@@ -40,7 +40,7 @@ fn pass(
     ensures passes { IfOk result (λ changed. Passes out level kind gate.0 from to changed store.old store.new) }
     ensures few { (u : ℕ) → IsSpanWithin u store.old out → IsWithin u (function_of store.old gate) → Spends u 2 out store.old store.new result }
 {
-    let _ends = store.node_count();
+    store.sound();
     let Some(to) = to else {
         return Ok(false);
     };
@@ -78,7 +78,7 @@ fn visit(
     ensures spreads { IfOk result (λ changed. Spreads circuit.now part.now gates out level (λ d. d ≡ device.now) changed store.old store.new) }
     ensures few { (u : ℕ) → IsSpanWithin u store.old gates → IsSpanWithin u store.old out → Spends u 4 out store.old store.new result }
 {
-    let _ends = store.node_count();
+    store.sound();
     if (device.level as u32) < level {
         return Ok(false);
     }
@@ -119,7 +119,7 @@ fn round(
     ensures spreads { IfOk result (λ changed. Spreads circuit.now part.now gates out level (Among (part_devices circuit.now part.now)) changed store.old store.new) }
     ensures few { (u : ℕ) → IsSpanWithin u store.old gates → IsSpanWithin u store.old out → Spends u (length part.now.devices * 4) out store.old store.new result }
 {
-    let _ends = store.node_count();
+    store.sound();
     let mut changed = false;
     for dev in part.devices.as_slice() {
         let Some(device) = circuit.devices.get(dev.0 as usize) else {
@@ -154,7 +154,7 @@ pub(crate) fn settle(
     ensures level { IfOk result (λ _. (v : Valuation) (w : Network) → StandsAt circuit.now part.now gates store.old v w → HasRoots part.now out level store.old v w → HasPaths part.now out level store.old v w → HasLevel part.now out level store.new v w) }
     ensures few { (u : ℕ) → IsSpanWithin u store.old gates → IsSpanWithin u store.old out → Spends u (length part.now.nets * (length part.now.devices * 4)) out store.old store.new result }
 {
-    let _ends = store.node_count();
+    store.sound();
     'rounds: for _count in 0..part.nets.len() {
         let changed = match round(store, circuit, part, rising, gates, out, level) {
             Ok(changed) => changed,

@@ -29,7 +29,7 @@ pub(crate) fn root_bit(store: &mut Store, roots: Span, net: Net, value: bool) ->
     requires net { net.0 < roots.len }
     ensures { Makes store.old store.new (bit_is value (λ v. shows store.old roots net.0 v)) result }
 {
-    let _ends = store.node_count();
+    store.sound();
     let bit = H(store.read(roots, net.0));
     if value {
         return Ok(bit);
@@ -53,7 +53,7 @@ pub(crate) fn reached(
     requires len { out.len < 2 ^ 32 }
     ensures { Makes store.old store.new (λ v. reached_end store.old roots out value place net.0 v) result }
 {
-    let _ends = store.node_count();
+    store.sound();
     let Some(place) = place else {
         return root_bit(store, roots, net, value);
     };
@@ -70,7 +70,7 @@ fn prefix(store: &Store, out: Span, from: Option<usize>, device: u8, level: u32)
     ensures is { (v : Valuation) → (function_of store.now result v ≡ true) ↔ ((level ≤ device) × (strong_end store.now out level from v ≡ true)) }
     ensures few { (u : ℕ) → IsSpanWithin u store.now out → IsWithin u (function_of store.now result) }
 {
-    let _ends = store.node_count();
+    store.sound();
     if level <= device as u32 {
         return strength(store, out, from, level);
     }
@@ -86,7 +86,7 @@ fn limit(store: &mut Store, signal: H, other: H, here: H) -> Result<H, Spent>
     ensures is { IfOk result (λ r. (v : Valuation) → (function_of store.new r v ≡ true) ↔ ((function_of store.old signal v ≡ true) × (function_of store.old here v ≡ true → function_of store.old other v ≡ true))) }
     ensures few { (u : ℕ) → IsWithin u (function_of store.old signal) → IsWithin u (function_of store.old other) → IsWithin u (function_of store.old here) → Finds u 2 store.old store.new result }
 {
-    let _ends = store.node_count();
+    store.sound();
     let allowed = match implies(store, here, other) {
         Ok(allowed) => allowed,
         Err(spent) => return Err(spent),
@@ -115,7 +115,7 @@ pub(crate) fn fitting(
     ensures is { IfOk result (λ r. (v : Valuation) → (function_of store.new r v ≡ true) ↔ ((function_of store.old signal v ≡ true) × FitsAt store.old out from to device v)) }
     ensures few { (u : ℕ) → IsSpanWithin u store.old out → IsWithin u (function_of store.old signal) → Finds u 16 store.old store.new result }
 {
-    let _ends = store.node_count();
+    store.sound();
     let mut signal = signal;
     for below in 0..8u32 {
         let here = strength(store, out, Some(to), below + 1);

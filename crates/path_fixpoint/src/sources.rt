@@ -31,7 +31,7 @@ fn clear(store: &mut Store, part: &Part, out: Span, value: bool)
     ensures zero { (i : ℕ) → i < length part.now.nets → word_at store.new out (word_of (slot_of value) i) ≡ 0 }
     ensures few { (u : ℕ) → IsSpanWithin u store.old out → Rewrites u out store.old store.new }
 {
-    let _ends = store.node_count();
+    store.sound();
     for i in 0..part.nets.len() {
         set(store, out, word(i, slot(value)), ZERO);
     }
@@ -49,7 +49,7 @@ fn unblocked(store: &mut Store, out: Span, place: usize, size: u32, bit: H) -> R
     ensures is { IfOk result (λ r. (v : Valuation) → (function_of store.new r v ≡ true) ↔ ((function_of store.old bit v ≡ true) × (size < 8 → strong store.old out (size + 1) place v ≡ false))) }
     ensures few { (u : ℕ) → IsSpanWithin u store.old out → IsWithin u (function_of store.old bit) → Finds u 1 store.old store.new result }
 {
-    let _ends = store.node_count();
+    store.sound();
     if size == 8 {
         return Ok(bit);
     }
@@ -80,7 +80,7 @@ fn add_root(
     ensures adds { IfOk result (λ _. AddsRoots part.now roots out value (λ n k. (n ≡ net.0) × (k ≡ size)) store.old store.new) }
     ensures few { (u : ℕ) → IsSpanWithin u store.old roots → IsSpanWithin u store.old out → Spends u 0 out store.old store.new result ⊎ ((i : ℕ) × IsPlace part.now i net.0 × Spends u 3 out store.old store.new result) }
 {
-    let _ends = store.node_count();
+    store.sound();
     let Some(i) = place(part, rising, net) else {
         return Ok(());
     };
@@ -120,7 +120,7 @@ fn add_net(
     ensures adds { IfOk result (λ _. AddsRoots part.now roots out value (λ n k. IsGiven circuit.now n × (n ≡ net.0) × (k ≡ 8)) store.old store.new) }
     ensures few { (u : ℕ) → IsSpanWithin u store.old roots → IsSpanWithin u store.old out → Spends u 3 out store.old store.new result }
 {
-    let _ends = store.node_count();
+    store.sound();
     if !is_given(circuit, net) {
         return Ok(());
     }
@@ -147,7 +147,7 @@ fn add_given(
     ensures adds { IfOk result (λ _. AddsRoots part.now roots out value (IsGivenSource circuit.now part.now) store.old store.new) }
     ensures few { (u : ℕ) → IsSpanWithin u store.old roots → IsSpanWithin u store.old out → Spends u (length part.now.nets * 3) out store.old store.new result }
 {
-    let _ends = store.node_count();
+    store.sound();
     let _gates = gates;
     for net in part.nets.as_slice() {
         match add_net(store, circuit, part, rising, roots, out, *net, value) {
@@ -178,7 +178,7 @@ fn add_holds(
     ensures adds { IfOk result (λ _. AddsRoots part.now roots out value (IsHoldSource circuit.now) store.old store.new) }
     ensures few { HasOneHold circuit.now → (u : ℕ) → IsSpanWithin u store.old roots → IsSpanWithin u store.old out → Spends u (length part.now.nets * 3) out store.old store.new result }
 {
-    let _ends = store.node_count();
+    store.sound();
     let _gates = gates;
     for hold in circuit.holds.as_slice() {
         match add_root(

@@ -73,7 +73,7 @@ pub(crate) fn strength(store: &Store, out: Span, place: Option<usize>, level: u3
     ensures is { (v : Valuation) → function_of store.now result v ≡ strong_end store.now out level place v }
     ensures few { (u : ℕ) → IsSpanWithin u store.now out → IsWithin u (function_of store.now result) }
 {
-    let _ends = store.node_count();
+    store.sound();
     match place {
         Some(place) => H(store.read(out, word(place, level))),
         None => ONE,
@@ -104,7 +104,7 @@ pub(crate) fn through(store: &mut Store, kind: Kind, gate: H, signal: H) -> Resu
     requires { IsLive store.old gate × IsLive store.old signal }
     ensures { Makes store.old store.new (gated kind (function_of store.old gate) (function_of store.old signal)) result }
 {
-    let _ends = store.node_count();
+    store.sound();
     match kind {
         Kind::N => and(store, gate, signal),
         Kind::P => store.ite(gate, ZERO, signal),
@@ -121,7 +121,7 @@ pub(crate) fn widen(store: &mut Store, out: Span, at: u32, signal: H) -> Result<
     ensures apart { (k : ℕ) → k ≢ at → word_at store.new out k ≡ word_at store.old out k }
     ensures few { (u : ℕ) → IsSpanWithin u store.old out → IsWithin u (function_of store.old signal) → Spends u 1 out store.old store.new result }
 {
-    let _ends = store.node_count();
+    store.sound();
     let before = H(store.read(out, at));
     let after = match or(store, before, signal) {
         Ok(after) => after,

@@ -1,7 +1,7 @@
 use Rattle.std.proofs.Common.{◌≡◌, ℕ, ◌+◌, ◌≤◌, length, length-set, arith, ap, sym, subst, ◌∙◌, inl, inr, below_more}
 use Rattle.bdd_core.specs.Store.{Diagrams}
 use Rattle.bdd_core.specs.Words.{word_at}
-use Rattle.path_fixpoint.proofs.Frames.{rest_then, word_apart, word_here, word_other, writes_zero}
+use Rattle.bdd_core.proofs.Frames.{rest_then, word_apart, word_here, word_other, writes_zero}
 use Rattle.path_fixpoint.proofs.SpendingLaws.{rewrites_zero}
 use Rattle.path_fixpoint.proofs.levels.clear.Goals as goal
 
@@ -32,7 +32,7 @@ pub returns : goal.returns
 returns c =
     let i = c.loop-at.invariant in
     record {
-      writes = writes_zero c.args.out c.args.store.now c.loop-at.store i.rest c.node_count-ends.ensures.sound c.node_count-ends.ensures.within i.len i.others
+      writes = writes_zero c.args.out c.args.store.now c.loop-at.store i.rest c.sound.ensures.sound c.sound.ensures.within i.len i.others
           (λ k lt. i.zero k (omega (arith, lt, c.loop-at-test.false)));
       few = λ u. rewrites_zero u c.args.out c.args.store.now c.loop-at.store i.rest (λ k lt. i.zero k (omega (arith, lt, c.loop-at-test.false)));
     }

@@ -4,7 +4,7 @@ use Rattle.bdd_ops.proofs.CountingLaws.{counted_more, counted_then, counts_more,
 use Rattle.path_fixpoint.proofs.SpendingLaws.{one_more, span_beside, spends_behind, spends_more, times_most}
 use Rattle.std.proofs.lemmas.Bool.{cases_eq}
 use Rattle.path_fixpoint.specs.Strengths.{HasLevel, HasWords, StandsAt}
-use Rattle.path_fixpoint.proofs.Frames.{writes_then}
+use Rattle.bdd_core.proofs.Frames.{writes_then}
 use Rattle.path_fixpoint.proofs.RoundLaws.{level_stays, stands_kept, words_kept}
 use Rattle.path_fixpoint.proofs.levels.levels.Goals as goal
 

@@ -1,7 +1,7 @@
 use Rattle.std.proofs.Common.{◌+◌, ◌*◌, length, arith}
 use Rattle.bdd_core.proofs.Results.{if_ok_more}
 use Rattle.path_fixpoint.proofs.SpendingLaws.{span_beside, spends_behind, spends_more}
-use Rattle.path_fixpoint.proofs.Frames.{writes_then}
+use Rattle.bdd_core.proofs.Frames.{writes_then}
 use Rattle.path_fixpoint.proofs.RoundLaws.{stands_from, tells_from, words_from}
 use Rattle.path_fixpoint.proofs.levels.strengths.Goals as goal
 

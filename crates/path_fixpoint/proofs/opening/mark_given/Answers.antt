@@ -4,7 +4,7 @@ use Rattle.vrt_model.specs.Lists.{At}
 use Rattle.vrt_model.specs.declared.ids.Net.{Net}
 use Rattle.path_fixpoint.specs.Openings.{IsGivenAt, mark_of}
 use Rattle.path_fixpoint.specs.Parts.{IsGiven}
-use Rattle.path_fixpoint.proofs.Frames.{writes_then}
+use Rattle.bdd_core.proofs.Frames.{writes_then}
 use Rattle.path_fixpoint.proofs.Opened.{one_stays, only_then}
 use Rattle.path_fixpoint.proofs.SpendingLaws.{rewrites_then}
 use Rattle.path_fixpoint.proofs.opening.mark_given.Goals as goal

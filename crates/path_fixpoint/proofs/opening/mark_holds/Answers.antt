@@ -5,7 +5,7 @@ use Rattle.vrt_model.specs.Lists.{At}
 use Rattle.vrt_model.specs.declared.circuit.Hold.{Hold}
 use Rattle.path_fixpoint.specs.Openings.{IsHoldAt, mark_of}
 use Rattle.path_fixpoint.specs.Parts.{IsPlace}
-use Rattle.path_fixpoint.proofs.Frames.{writes_then}
+use Rattle.bdd_core.proofs.Frames.{writes_then}
 use Rattle.path_fixpoint.proofs.Opened.{one_stays, only_then}
 use Rattle.path_fixpoint.proofs.SpendingLaws.{rewrites_then}
 use Rattle.path_fixpoint.proofs.opening.mark_holds.Goals as goal

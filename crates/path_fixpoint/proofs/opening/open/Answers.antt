@@ -1,5 +1,5 @@
 use Rattle.bdd_core.specs.Words.{Writes}
-use Rattle.path_fixpoint.proofs.Frames.{writes_then}
+use Rattle.bdd_core.proofs.Frames.{writes_then}
 use Rattle.path_fixpoint.proofs.Opened.{open_paths, open_roots}
 use Rattle.path_fixpoint.proofs.SpendingLaws.{rewrites_then}
 use Rattle.path_fixpoint.proofs.opening.open.Goals as goal

@@ -2,7 +2,7 @@ use Rattle.std.proofs.Common.{◌≡◌, ℕ, ◌+◌, arith, ap, sym, ◌∙◌
 use Rattle.path_fixpoint.specs.Openings.{TakesAbove, mark_of}
 use Rattle.path_fixpoint.specs.Strengths.{word_of}
 use Rattle.bdd_core.specs.Words.{word_at}
-use Rattle.path_fixpoint.proofs.Frames.{writes_then}
+use Rattle.bdd_core.proofs.Frames.{writes_then}
 use Rattle.path_fixpoint.proofs.Places.{levels_differ, words_differ}
 use Rattle.path_fixpoint.proofs.SpendingLaws.{rewrites_then}
 use Rattle.path_fixpoint.proofs.opening.take_above.Goals as goal

@@ -7,7 +7,7 @@ use Rattle.bdd_ops.proofs.CountingLaws.{counted_then, counts_made, counts_more}
 use Rattle.path_fixpoint.specs.Passed.{IsWider, gated}
 use Rattle.path_fixpoint.specs.Reaching.{PassesSignal, slot_of}
 use Rattle.path_fixpoint.specs.Strengths.{word_of}
-use Rattle.path_fixpoint.proofs.Frames.{made_words, writes_made, writes_then}
+use Rattle.bdd_core.proofs.Frames.{writes_then, adds_words, writes_added}
 use Rattle.path_fixpoint.proofs.Idle.{signal_full, signal_none}
 use Rattle.path_fixpoint.proofs.ReachLaws.{slot_high, slot_low}
 use Rattle.path_fixpoint.proofs.SignalLaws.{passes_signal}
@@ -15,24 +15,24 @@ use Rattle.path_fixpoint.proofs.SpendingLaws.{finds_made, finds_then, span_still
 use Rattle.path_fixpoint.proofs.reach.pass.Goals as goal
 
 pub returns-in-Err-clause-writes : goal.returns-in-Err-clause-writes
-returns-in-Err-clause-writes c = writes_made c.args.out c.args.store.now c.through.new.store _ (Err c.in-Err.spent) c.requires.out.1 c.in-Err.ensures
+returns-in-Err-clause-writes c = writes_added c.args.out c.args.store.now c.through.new.store c.requires.out.1 c.in-Err.ensures.adds
 
 pub returns-in-Err-fitting-clause-writes : goal.returns-in-Err-fitting-clause-writes
 returns-in-Err-fitting-clause-writes c =
     writes_then c.args.out c.args.store.now c.through.new.store c.fitting.new.store
-    (writes_made c.args.out c.args.store.now c.through.new.store _ (Ok c.in-Ok.passed) c.requires.out.1 c.in-Ok.ensures) c.in-Err-fitting.ensures.writes
+    (writes_added c.args.out c.args.store.now c.through.new.store c.requires.out.1 c.in-Ok.ensures.adds) c.in-Err-fitting.ensures.writes
 
 pub returns-clause-writes : goal.returns-clause-writes
 returns-clause-writes c =
     writes_then c.args.out c.args.store.now c.fitting.new.store c.widen.new.store
     (writes_then c.args.out c.args.store.now c.through.new.store c.fitting.new.store
-    (writes_made c.args.out c.args.store.now c.through.new.store _ (Ok c.in-Ok.passed) c.requires.out.1 c.in-Ok.ensures) c.in-Ok-fitting.ensures.writes) c.widen.ensures.writes
+    (writes_added c.args.out c.args.store.now c.through.new.store c.requires.out.1 c.in-Ok.ensures.adds) c.in-Ok-fitting.ensures.writes) c.widen.ensures.writes
 
 pub returns-clause-apart : goal.returns-clause-apart
 returns-clause-apart c k away =
     let at : c.word-at.result ≡ word_of (slot_of c.args.value) c.in-Some.to = c.word-at.ensures ∙ ap (λ (l : ℕ). word_of l c.in-Some.to) c.slot.ensures in
     c.widen.ensures.apart k (λ e. away c.in-Some.to (e ∙ at))
-    ∙ ap (λ (ws : List ℕ). slice_index ws (c.args.out.start + k)) (c.in-Ok-fitting.ensures.words ∙ made_words c.args.store.now c.through.new.store _ (Ok c.in-Ok.passed) c.in-Ok.ensures)
+    ∙ ap (λ (ws : List ℕ). slice_index ws (c.args.out.start + k)) (c.in-Ok-fitting.ensures.words ∙ adds_words c.args.store.now c.through.new.store c.args.store.now.words c.in-Ok.ensures.adds)
 
 pub returns-clause-passes : goal.returns-clause-passes
 returns-clause-passes c =
@@ -66,7 +66,7 @@ returns-in-Err-clause-few c u all gate signal =
     let f : Function = gated c.args.device.now.kind (meaning old.nodes c.args.gate.0) (meaning old.nodes c.args.signal.0) in
     spends_refused u c.args.out 18 old c.through.new.store c.in-Err.spent
     (counts_more u 1 18 old c.through.new.store (Err c.in-Err.spent) (omega arith)
-    (counts_made u old c.through.new.store c.node_count-ends.ensures.sound.ends f (Err c.in-Err.spent) c.in-Err.ensures
+    (counts_made u old c.through.new.store c.sound.ensures.sound.ends f (Err c.in-Err.spent) c.in-Err.ensures
     (within_gated u c.args.device.now.kind (meaning old.nodes c.args.gate.0) (meaning old.nodes c.args.signal.0) gate signal)))
 
 pub returns-in-Err-fitting-clause-few : goal.returns-in-Err-fitting-clause-few
@@ -75,9 +75,9 @@ returns-in-Err-fitting-clause-few c u all gate signal =
     let old = c.args.store.now in
     let mid = c.through.new.store in
     let f : Function = gated c.args.device.now.kind (meaning old.nodes c.args.gate.0) (meaning old.nodes c.args.signal.0) in
-    let made = finds_made u old mid f (Ok c.in-Ok.passed) c.node_count-ends.ensures.sound.ends c.in-Ok.ensures
+    let made = finds_made u old mid f (Ok c.in-Ok.passed) c.sound.ensures.sound.ends c.in-Ok.ensures
     (within_gated u c.args.device.now.kind (meaning old.nodes c.args.gate.0) (meaning old.nodes c.args.signal.0) gate signal) in
-    let held = span_still u out out old mid (writes_made out old mid f (Ok c.in-Ok.passed) c.requires.out.1 c.in-Ok.ensures) (made_words old mid f (Ok c.in-Ok.passed) c.in-Ok.ensures) c.requires.out.1 all in
+    let held = span_still u out out old mid (writes_added out old mid c.requires.out.1 c.in-Ok.ensures.adds) (adds_words old mid old.words c.in-Ok.ensures.adds) c.requires.out.1 all in
     spends_refused u out 18 old c.fitting.new.store c.in-Err-fitting.spent
     (counts_more u 17 18 old c.fitting.new.store (Err c.in-Err-fitting.spent) (omega arith)
     (finds_then u 1 16 old mid c.fitting.new.store (Err c.in-Err-fitting.spent) made.counts.added (c.in-Err-fitting.ensures.few u held made.within)).counts)
@@ -89,10 +89,10 @@ returns-clause-few c u all gate signal =
     let mid = c.through.new.store in
     let late = c.fitting.new.store in
     let f : Function = gated c.args.device.now.kind (meaning old.nodes c.args.gate.0) (meaning old.nodes c.args.signal.0) in
-    let made = finds_made u old mid f (Ok c.in-Ok.passed) c.node_count-ends.ensures.sound.ends c.in-Ok.ensures
+    let made = finds_made u old mid f (Ok c.in-Ok.passed) c.sound.ensures.sound.ends c.in-Ok.ensures
     (within_gated u c.args.device.now.kind (meaning old.nodes c.args.gate.0) (meaning old.nodes c.args.signal.0) gate signal) in
-    let wrote = writes_made out old mid f (Ok c.in-Ok.passed) c.requires.out.1 c.in-Ok.ensures in
-    let held = span_still u out out old mid wrote (made_words old mid f (Ok c.in-Ok.passed) c.in-Ok.ensures) c.requires.out.1 all in
+    let wrote = writes_added out old mid c.requires.out.1 c.in-Ok.ensures.adds in
+    let held = span_still u out out old mid wrote (adds_words old mid old.words c.in-Ok.ensures.adds) c.requires.out.1 all in
     let found = c.in-Ok-fitting.ensures.few u held made.within in
     let held' = span_still u out out mid late c.in-Ok-fitting.ensures.writes c.in-Ok-fitting.ensures.words wrote.live held in
     spends_behind u out 17 1 old late c.widen.new.store c.widen.result (counted_then u 1 16 old mid late made.counts.added found.counts.added) (c.widen.ensures.few u held' found.within)

@@ -6,7 +6,7 @@ use Rattle.vrt_model.specs.Lists.{At, Among}
 use Rattle.vrt_model.specs.declared.circuit.Device.{Device}
 use Rattle.vrt_model.specs.declared.ids.Dev.{Dev}
 use Rattle.path_fixpoint.specs.Parts.{part_devices}
-use Rattle.path_fixpoint.proofs.Frames.{writes_then}
+use Rattle.bdd_core.proofs.Frames.{writes_then}
 use Rattle.path_fixpoint.proofs.ReachLaws.{root_words_kept}
 use Rattle.path_fixpoint.proofs.ReachSpreading.{spreads_value_less, spreads_value_then}
 use Rattle.path_fixpoint.proofs.Spreading.{Visited, all_visited, filter_map_among, visited_more}

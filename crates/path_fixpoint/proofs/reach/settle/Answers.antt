@@ -4,7 +4,7 @@ use Rattle.bdd_ops.proofs.CountingLaws.{counted_more, counted_same, counted_then
 use Rattle.path_fixpoint.proofs.SpendingLaws.{one_more, span_beside, spends_behind, spends_err, spends_more, spends_value, times_most}
 use Rattle.std.proofs.Common.{◌≤◌, length, arith, refl, sym, ◌∙◌, inr}
 use Rattle.path_fixpoint.specs.Reaching.{HasReachRoots, HasRootWords, SolvedAt}
-use Rattle.path_fixpoint.proofs.Frames.{writes_none, writes_then}
+use Rattle.bdd_core.proofs.Frames.{writes_none, writes_then}
 use Rattle.path_fixpoint.proofs.Places.{place_in}
 use Rattle.path_fixpoint.proofs.ReachLaws.{reach_all, reach_closed, reach_from, reach_from_marks, reach_progress, reached_grown, root_words_kept, solved_kept, value_same}
 use Rattle.path_fixpoint.proofs.reach.settle.Goals as goal
@@ -40,7 +40,7 @@ returns-then-not-changed-clause-reach c v w s st roots paths =
 
 pub rounds-init : goal.rounds-init
 rounds-init c = record {
-  writes = writes_none c.args.out c.args.store.now c.node_count-ends.ensures.sound c.node_count-ends.ensures.within c.requires.words.words.out_live;
+  writes = writes_none c.args.out c.args.store.now c.sound.ensures.sound c.sound.ensures.within c.requires.words.words.out_live;
   apart = λ k away. refl;
   roots = λ v w s st r. r;
   paths = λ v w s st p. p;

@@ -6,24 +6,24 @@ use Rattle.bdd_core.proofs.Results.{if_ok_more}
 use Rattle.bdd_ops.proofs.CountingLaws.{counts_made, counts_more}
 use Rattle.path_fixpoint.specs.Passed.{IsWider, gated}
 use Rattle.path_fixpoint.specs.Strengths.{Passes, word_of}
-use Rattle.path_fixpoint.proofs.Frames.{made_words, writes_made, writes_then}
+use Rattle.bdd_core.proofs.Frames.{writes_then, adds_words, writes_added}
 use Rattle.path_fixpoint.proofs.Passing.{passes_from}
 use Rattle.path_fixpoint.proofs.SpendingLaws.{finds_made, span_still, spends_behind, spends_refused, within_gated}
 use Rattle.path_fixpoint.proofs.Idle.{passes_full}
 use Rattle.path_fixpoint.proofs.rounds.pass.Goals as goal
 
 pub returns-in-Err-clause-writes : goal.returns-in-Err-clause-writes
-returns-in-Err-clause-writes c = writes_made c.args.out c.args.store.now c.through.new.store _ (Err c.in-Err.spent) c.requires.out.1 c.in-Err.ensures
+returns-in-Err-clause-writes c = writes_added c.args.out c.args.store.now c.through.new.store c.requires.out.1 c.in-Err.ensures.adds
 
 pub returns-clause-writes : goal.returns-clause-writes
 returns-clause-writes c =
     writes_then c.args.out c.args.store.now c.through.new.store c.widen.new.store
-    (writes_made c.args.out c.args.store.now c.through.new.store _ (Ok c.in-Ok.passed) c.requires.out.1 c.in-Ok.ensures) c.widen.ensures.writes
+    (writes_added c.args.out c.args.store.now c.through.new.store c.requires.out.1 c.in-Ok.ensures.adds) c.widen.ensures.writes
 
 pub returns-clause-apart : goal.returns-clause-apart
 returns-clause-apart c k away =
     c.widen.ensures.apart k (λ e. away c.in-Some.to (e ∙ c.word-at.ensures))
-    ∙ ap (λ (ws : List ℕ). slice_index ws (c.args.out.start + k)) (made_words c.args.store.now c.through.new.store _ (Ok c.in-Ok.passed) c.in-Ok.ensures)
+    ∙ ap (λ (ws : List ℕ). slice_index ws (c.args.out.start + k)) (adds_words c.args.store.now c.through.new.store c.args.store.now.words c.in-Ok.ensures.adds)
 
 pub returns-clause-passes : goal.returns-clause-passes
 returns-clause-passes c =
@@ -50,7 +50,7 @@ returns-in-Err-clause-few c u all gate =
     let f : Function = gated c.args.kind (meaning old.nodes c.args.gate.0) (meaning old.nodes c.strength-signal.result.0) in
     spends_refused u c.args.out 2 old c.through.new.store c.in-Err.spent
     (counts_more u 1 2 old c.through.new.store (Err c.in-Err.spent) (omega arith)
-    (counts_made u old c.through.new.store c.node_count-ends.ensures.sound.ends f (Err c.in-Err.spent) c.in-Err.ensures
+    (counts_made u old c.through.new.store c.sound.ensures.sound.ends f (Err c.in-Err.spent) c.in-Err.ensures
     (within_gated u c.args.kind (meaning old.nodes c.args.gate.0) (meaning old.nodes c.strength-signal.result.0) gate (c.strength-signal.ensures.few u all))))
 
 pub returns-clause-few : goal.returns-clause-few
@@ -59,11 +59,11 @@ returns-clause-few c u all gate =
     let old = c.args.store.now in
     let mid = c.through.new.store in
     let f : Function = gated c.args.kind (meaning old.nodes c.args.gate.0) (meaning old.nodes c.strength-signal.result.0) in
-    let made = finds_made u old mid f (Ok c.in-Ok.passed) c.node_count-ends.ensures.sound.ends c.in-Ok.ensures
+    let made = finds_made u old mid f (Ok c.in-Ok.passed) c.sound.ensures.sound.ends c.in-Ok.ensures
     (within_gated u c.args.kind (meaning old.nodes c.args.gate.0) (meaning old.nodes c.strength-signal.result.0) gate (c.strength-signal.ensures.few u all)) in
     spends_behind u out 1 1 old mid c.widen.new.store c.widen.result made.counts.added
     (c.widen.ensures.few u
-    (span_still u out out old mid (writes_made out old mid f (Ok c.in-Ok.passed) c.requires.out.1 c.in-Ok.ensures) (made_words old mid f (Ok c.in-Ok.passed) c.in-Ok.ensures) c.requires.out.1 all) made.within)
+    (span_still u out out old mid (writes_added out old mid c.requires.out.1 c.in-Ok.ensures.adds) (adds_words old mid old.words c.in-Ok.ensures.adds) c.requires.out.1 all) made.within)
 
 pub is_full-requires-clause-at : goal.is_full-requires-clause-at
 is_full-requires-clause-at c =

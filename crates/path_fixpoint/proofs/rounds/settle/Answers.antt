@@ -4,7 +4,7 @@ use Rattle.bdd_ops.proofs.CountingLaws.{counted_more, counted_then, counts_more,
 use Rattle.path_fixpoint.proofs.SpendingLaws.{one_more, span_beside, spends_behind, spends_err, spends_more, spends_value, times_most}
 use Rattle.std.proofs.Common.{◌≤◌, length, arith, sym, ◌∙◌}
 use Rattle.path_fixpoint.specs.Strengths.{HasRoots, HasWords, StandsAt}
-use Rattle.path_fixpoint.proofs.Frames.{writes_then}
+use Rattle.bdd_core.proofs.Frames.{writes_then}
 use Rattle.path_fixpoint.proofs.Places.{place_in}
 use Rattle.path_fixpoint.proofs.RoundLaws.{closed_all, level_from, progress_all, progress_more, roots_grown, stands_kept, strong_same, words_kept}
 use Rattle.path_fixpoint.proofs.rounds.settle.Goals as goal

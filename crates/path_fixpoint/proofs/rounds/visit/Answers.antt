@@ -24,7 +24,7 @@ pass-requires-clause-to c = place_fits c.args.part.now c.args.out c.place-right.
 pub pass-requires-2-clause-gate : goal.pass-requires-2-clause-gate
 pass-requires-2-clause-gate c =
     let lt = (device_ranges c.args.circuit.now c.args.part.now c.args.device.now c.requires.circuit c.requires.device).gate in
-    omega (arith, c.read.ensures, c.requires.words.gates_live c.args.device.now.gate.0 (omega (arith, lt, c.requires.words.gates_len)), c.in-Ok.ensures.writes.longer)
+    omega (arith, c.read.ensures, c.requires.words.gates_live c.args.device.now.gate.0 (omega (arith, lt, c.requires.words.gates_len)), c.in-Ok.ensures.writes.adds.longer)
 
 pub pass-requires-2-clause-from : goal.pass-requires-2-clause-from
 pass-requires-2-clause-from c = place_fits c.args.part.now c.args.out c.place-right.result c.args.device.now.right.0 c.requires.words.out_len c.place-right.ensures.some

@@ -3,7 +3,7 @@ use Rattle.bdd_ops.proofs.CountingLaws.{counted_more, counted_then, counts_more,
 use Rattle.path_fixpoint.proofs.SpendingLaws.{finds_more, finds_then, span_still}
 use Rattle.bdd_core.specs.Diagram.{meaning}
 use Rattle.path_fixpoint.proofs.Fitting.{fits_more}
-use Rattle.path_fixpoint.proofs.Frames.{writes_then}
+use Rattle.bdd_core.proofs.Frames.{writes_then}
 use Rattle.path_fixpoint.proofs.signals.fitting.Goals as goal
 
 pub loop-below-preserved : goal.loop-below-preserved

@@ -8,16 +8,16 @@ use Rattle.bdd_ops.specs.Ops.{and_of, implies_of}
 use Rattle.bdd_ops.proofs.WithinLaws.{within_and, within_implies, within_same}
 use Rattle.path_fixpoint.proofs.SpendingLaws.{finds_made, finds_more, finds_then}
 use Rattle.path_fixpoint.proofs.Fitting.{limit_bits}
-use Rattle.path_fixpoint.proofs.Frames.{writes_made, writes_then}
+use Rattle.bdd_core.proofs.Frames.{writes_then, writes_added}
 use Rattle.path_fixpoint.proofs.signals.limit.Goals as goal
 
 pub returns-in-Err-clause-writes : goal.returns-in-Err-clause-writes
-returns-in-Err-clause-writes c out live = writes_made out c.args.store.now c.implies.new.store _ (Err c.in-Err.spent) live c.in-Err.ensures.makes
+returns-in-Err-clause-writes c out live = writes_added out c.args.store.now c.implies.new.store live c.in-Err.ensures.makes.adds
 
 pub returns-clause-writes : goal.returns-clause-writes
 returns-clause-writes c out live =
-    let first = writes_made out c.args.store.now c.implies.new.store _ (Ok c.in-Ok.allowed) live c.in-Ok.ensures.makes in
-    writes_then out c.args.store.now c.implies.new.store c.and.new.store first (writes_made out c.implies.new.store c.and.new.store _ c.and.result first.live c.and.ensures.makes)
+    let first = writes_added out c.args.store.now c.implies.new.store live c.in-Ok.ensures.makes.adds in
+    writes_then out c.args.store.now c.implies.new.store c.and.new.store first (writes_added out c.implies.new.store c.and.new.store first.live c.and.ensures.makes.adds)
 
 pub returns-clause-is : goal.returns-clause-is
 returns-clause-is c =
@@ -40,7 +40,7 @@ pub returns-in-Err-clause-few : goal.returns-in-Err-clause-few
 returns-in-Err-clause-few c u signal other here =
     let old = c.args.store.now in
     finds_more u 1 2 old c.implies.new.store (Err c.in-Err.spent) (omega arith)
-    (finds_made u old c.implies.new.store (implies_of (meaning old.nodes c.args.here.0) (meaning old.nodes c.args.other.0)) (Err c.in-Err.spent) c.node_count-ends.ensures.sound.ends c.in-Err.ensures.makes
+    (finds_made u old c.implies.new.store (implies_of (meaning old.nodes c.args.here.0) (meaning old.nodes c.args.other.0)) (Err c.in-Err.spent) c.sound.ensures.sound.ends c.in-Err.ensures.makes
     (within_implies u (meaning old.nodes c.args.here.0) (meaning old.nodes c.args.other.0) here other))
 
 pub returns-clause-few : goal.returns-clause-few
@@ -50,8 +50,8 @@ returns-clause-few c u signal other here =
     let new = c.and.new.store in
     let f : Function = implies_of (meaning old.nodes c.args.here.0) (meaning old.nodes c.args.other.0) in
     let g : Function = and_of (meaning mid.nodes c.args.signal.0) (meaning mid.nodes c.in-Ok.allowed.0) in
-    let made = finds_made u old mid f (Ok c.in-Ok.allowed) c.node_count-ends.ensures.sound.ends c.in-Ok.ensures.makes (within_implies u (meaning old.nodes c.args.here.0) (meaning old.nodes c.args.other.0) here other) in
+    let made = finds_made u old mid f (Ok c.in-Ok.allowed) c.sound.ensures.sound.ends c.in-Ok.ensures.makes (within_implies u (meaning old.nodes c.args.here.0) (meaning old.nodes c.args.other.0) here other) in
     let later : IsWithin u (meaning mid.nodes c.args.signal.0) =
     within_same u (meaning old.nodes c.args.signal.0) (meaning mid.nodes c.args.signal.0) (grows_keeps old.nodes mid.nodes f c.in-Ok.ensures.makes.grows c.args.signal.0 c.requires.0) signal in
     finds_then u 1 1 old mid new c.and.result made.counts.added
-    (finds_made u mid new g c.and.result c.in-Ok.ensures.makes.sound.ends c.and.ensures.makes (within_and u (meaning mid.nodes c.args.signal.0) (meaning mid.nodes c.in-Ok.allowed.0) later made.within))
+    (finds_made u mid new g c.and.result c.in-Ok.ensures.makes.adds.sound.ends c.and.ensures.makes (within_and u (meaning mid.nodes c.args.signal.0) (meaning mid.nodes c.in-Ok.allowed.0) later made.within))

@@ -1,7 +1,7 @@
 use Rattle.std.proofs.Common.{◌+◌, ◌*◌, length, Err, arith}
 use Rattle.bdd_core.proofs.Results.{if_ok_more}
 use Rattle.path_fixpoint.proofs.SpendingLaws.{span_beside, spends_behind, spends_more}
-use Rattle.path_fixpoint.proofs.Frames.{writes_then}
+use Rattle.bdd_core.proofs.Frames.{writes_then}
 use Rattle.path_fixpoint.proofs.ReachLaws.{root_words_kept, solved_kept}
 use Rattle.path_fixpoint.proofs.solve.reaches.Goals as goal
 

@@ -4,7 +4,7 @@ use Rattle.vrt_model.specs.Path.{Network}
 use Rattle.path_fixpoint.specs.Reaching.{HasRootWords, SolvedAt}
 use Rattle.path_fixpoint.specs.Solved.{network_at}
 use Rattle.bdd_ops.proofs.CountingLaws.{counted_then}
-use Rattle.path_fixpoint.proofs.Frames.{filled_beside, writes_then}
+use Rattle.bdd_core.proofs.Frames.{filled_beside, writes_then}
 use Rattle.path_fixpoint.proofs.SpendingLaws.{part_most, part_most_levels, part_most_one, span_beside, spends_behind, spends_more}
 use Rattle.path_fixpoint.proofs.ReachLaws.{root_words_kept, solved_kept}
 use Rattle.path_fixpoint.proofs.SolveLaws.{both_reach, root_words_from, solved_from, stands_here, strength_here, tells_stay, zeros_stay}

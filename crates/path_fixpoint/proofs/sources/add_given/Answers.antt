@@ -5,7 +5,7 @@ use Rattle.vrt_model.specs.Lists.{At}
 use Rattle.vrt_model.specs.declared.ids.Net.{Net}
 use Rattle.path_fixpoint.specs.Parts.{IsGiven, IsPlace}
 use Rattle.path_fixpoint.specs.Sources.{IsGivenSource}
-use Rattle.path_fixpoint.proofs.Frames.{writes_then}
+use Rattle.bdd_core.proofs.Frames.{writes_then}
 use Rattle.path_fixpoint.proofs.Places.{place_in, place_once}
 use Rattle.path_fixpoint.proofs.SourceLaws.{adds_same, adds_then}
 use Rattle.bdd_ops.proofs.CountingLaws.{counted_more, counted_then, counts_more, counts_ok}

@@ -7,7 +7,7 @@ use Rattle.vrt_model.specs.Circuits.{IsHold}
 use Rattle.vrt_model.specs.Lists.{At}
 use Rattle.vrt_model.specs.declared.circuit.Hold.{Hold}
 use Rattle.path_fixpoint.specs.Sources.{IsHoldSource}
-use Rattle.path_fixpoint.proofs.Frames.{writes_none, writes_then}
+use Rattle.bdd_core.proofs.Frames.{writes_none, writes_then}
 use Rattle.path_fixpoint.proofs.SourceLaws.{adds_none, adds_same, adds_then}
 use Rattle.bdd_ops.proofs.CountingLaws.{counted_more, counted_same, counted_then, counts_more, counts_ok}
 use Rattle.path_fixpoint.proofs.HoldPlaces.{places_few, places_less, places_more, places_none}
@@ -16,7 +16,7 @@ use Rattle.path_fixpoint.proofs.sources.add_holds.Goals as goal
 
 pub loop-hold-init : goal.loop-hold-init
 loop-hold-init c = record {
-  writes = writes_none c.args.out c.args.store.now c.node_count-ends.ensures.sound c.node_count-ends.ensures.within c.requires.words.words.out_live;
+  writes = writes_none c.args.out c.args.store.now c.sound.ensures.sound c.sound.ensures.within c.requires.words.words.out_live;
   apart = λ k away. refl;
   adds = adds_none c.args.part.now c.args.roots c.args.out c.args.value
       (λ n size. (k : ℕ) × (k < 0) × (h : Hold) × At c.args.circuit.now.holds k h × (h.net.0 ≡ n) × (h.size ≡ size)) c.args.store.now (λ n k q i p. absurd (omega (arith, q.1)));

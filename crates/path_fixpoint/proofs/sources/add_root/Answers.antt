@@ -4,7 +4,7 @@ use Rattle.path_fixpoint.specs.Parts.{IsPlace}
 use Rattle.path_fixpoint.specs.Passed.{IsWider}
 use Rattle.path_fixpoint.specs.Reaching.{slot_of}
 use Rattle.path_fixpoint.specs.Strengths.{word_of}
-use Rattle.path_fixpoint.proofs.Frames.{made_words, writes_made, writes_then}
+use Rattle.bdd_core.proofs.Frames.{writes_then, adds_words, writes_added}
 use Rattle.path_fixpoint.proofs.Places.{place_in}
 use Rattle.path_fixpoint.proofs.ReachLaws.{slot_high, slot_low}
 use Rattle.path_fixpoint.proofs.SourceLaws.{adds_none, adds_one}
@@ -18,7 +18,7 @@ returns-in_default-clause-adds c =
     (λ n k q i p. c.in_default.ensures.none refl i (subst (IsPlace c.args.part.now i) q.0 p))
 
 pub returns-in-Err-clause-writes : goal.returns-in-Err-clause-writes
-returns-in-Err-clause-writes c = writes_made c.args.out c.args.store.now c.root_bit.new.store _ (Err c.in-Err.spent) c.requires.out.1 c.in-Err.ensures
+returns-in-Err-clause-writes c = writes_added c.args.out c.args.store.now c.root_bit.new.store c.requires.out.1 c.in-Err.ensures.adds
 
 pub unblocked-requires-clause-place : goal.unblocked-requires-clause-place
 unblocked-requires-clause-place c = (omega (arith, place_in c.args.part.now c.in-Some.i c.args.net.0 c.in-Some.ensures.some, c.requires.len.0), c.requires.len.1)
@@ -26,7 +26,7 @@ unblocked-requires-clause-place c = (omega (arith, place_in c.args.part.now c.in
 pub returns-in-Err-unblocked-clause-writes : goal.returns-in-Err-unblocked-clause-writes
 returns-in-Err-unblocked-clause-writes c =
     writes_then c.args.out c.args.store.now c.root_bit.new.store c.unblocked.new.store
-    (writes_made c.args.out c.args.store.now c.root_bit.new.store _ (Ok c.in-Ok.bit) c.requires.out.1 c.in-Ok.ensures) c.in-Err-unblocked.ensures.writes
+    (writes_added c.args.out c.args.store.now c.root_bit.new.store c.requires.out.1 c.in-Ok.ensures.adds) c.in-Err-unblocked.ensures.writes
 
 pub word-requires-clause-fits : goal.word-requires-clause-fits
 word-requires-clause-fits c =
@@ -40,25 +40,25 @@ pub returns-in-Ok-widen-clause-writes : goal.returns-in-Ok-widen-clause-writes
 returns-in-Ok-widen-clause-writes c =
     writes_then c.args.out c.args.store.now c.unblocked.new.store c.widen.new.store
     (writes_then c.args.out c.args.store.now c.root_bit.new.store c.unblocked.new.store
-    (writes_made c.args.out c.args.store.now c.root_bit.new.store _ (Ok c.in-Ok.bit) c.requires.out.1 c.in-Ok.ensures) c.in-Ok-unblocked.ensures.writes) c.in-Ok-widen.ensures.writes
+    (writes_added c.args.out c.args.store.now c.root_bit.new.store c.requires.out.1 c.in-Ok.ensures.adds) c.in-Ok-unblocked.ensures.writes) c.in-Ok-widen.ensures.writes
 
 pub returns-in-Err-widen-clause-writes : goal.returns-in-Err-widen-clause-writes
 returns-in-Err-widen-clause-writes c =
     writes_then c.args.out c.args.store.now c.unblocked.new.store c.widen.new.store
     (writes_then c.args.out c.args.store.now c.root_bit.new.store c.unblocked.new.store
-    (writes_made c.args.out c.args.store.now c.root_bit.new.store _ (Ok c.in-Ok.bit) c.requires.out.1 c.in-Ok.ensures) c.in-Ok-unblocked.ensures.writes) c.in-Err-widen.ensures.writes
+    (writes_added c.args.out c.args.store.now c.root_bit.new.store c.requires.out.1 c.in-Ok.ensures.adds) c.in-Ok-unblocked.ensures.writes) c.in-Err-widen.ensures.writes
 
 pub returns-in-Ok-widen-clause-apart : goal.returns-in-Ok-widen-clause-apart
 returns-in-Ok-widen-clause-apart c k away =
     let at : c.word.result ≡ word_of (slot_of c.args.value) c.in-Some.i = c.word.ensures ∙ ap (λ (l : ℕ). word_of l c.in-Some.i) c.slot.ensures in
     c.in-Ok-widen.ensures.apart k (λ e. away c.in-Some.i (e ∙ at))
-    ∙ ap (λ (ws : List ℕ). slice_index ws (c.args.out.start + k)) (c.in-Ok-unblocked.ensures.words ∙ made_words c.args.store.now c.root_bit.new.store _ (Ok c.in-Ok.bit) c.in-Ok.ensures)
+    ∙ ap (λ (ws : List ℕ). slice_index ws (c.args.out.start + k)) (c.in-Ok-unblocked.ensures.words ∙ adds_words c.args.store.now c.root_bit.new.store c.args.store.now.words c.in-Ok.ensures.adds)
 
 pub returns-in-Err-widen-clause-apart : goal.returns-in-Err-widen-clause-apart
 returns-in-Err-widen-clause-apart c k away =
     let at : c.word.result ≡ word_of (slot_of c.args.value) c.in-Some.i = c.word.ensures ∙ ap (λ (l : ℕ). word_of l c.in-Some.i) c.slot.ensures in
     c.in-Err-widen.ensures.apart k (λ e. away c.in-Some.i (e ∙ at))
-    ∙ ap (λ (ws : List ℕ). slice_index ws (c.args.out.start + k)) (c.in-Ok-unblocked.ensures.words ∙ made_words c.args.store.now c.root_bit.new.store _ (Ok c.in-Ok.bit) c.in-Ok.ensures)
+    ∙ ap (λ (ws : List ℕ). slice_index ws (c.args.out.start + k)) (c.in-Ok-unblocked.ensures.words ∙ adds_words c.args.store.now c.root_bit.new.store c.args.store.now.words c.in-Ok.ensures.adds)
 
 pub returns-in-Ok-widen-clause-adds : goal.returns-in-Ok-widen-clause-adds
 returns-in-Ok-widen-clause-adds c =
@@ -82,7 +82,7 @@ returns-in-Err-clause-few c u roots all =
       c.in-Some.ensures.some,
       spends_refused u c.args.out 3 old c.root_bit.new.store c.in-Err.spent
           (counts_more u 1 3 old c.root_bit.new.store (Err c.in-Err.spent) (omega arith)
-          (counts_made u old c.root_bit.new.store c.node_count-ends.ensures.sound.ends _ (Err c.in-Err.spent) c.in-Err.ensures (root_within u old c.args.roots c.args.net.0 c.args.value c.requires.net roots))),
+          (counts_made u old c.root_bit.new.store c.sound.ensures.sound.ends _ (Err c.in-Err.spent) c.in-Err.ensures (root_within u old c.args.roots c.args.net.0 c.args.value c.requires.net roots))),
     )
 
 pub returns-in-Err-unblocked-clause-few : goal.returns-in-Err-unblocked-clause-few
@@ -90,8 +90,8 @@ returns-in-Err-unblocked-clause-few c u roots all =
     let out = c.args.out in
     let old = c.args.store.now in
     let mid = c.root_bit.new.store in
-    let made = finds_made u old mid _ (Ok c.in-Ok.bit) c.node_count-ends.ensures.sound.ends c.in-Ok.ensures (root_within u old c.args.roots c.args.net.0 c.args.value c.requires.net roots) in
-    let held = span_still u out out old mid (writes_made out old mid _ (Ok c.in-Ok.bit) c.requires.out.1 c.in-Ok.ensures) (made_words old mid _ (Ok c.in-Ok.bit) c.in-Ok.ensures) c.requires.out.1 all in
+    let made = finds_made u old mid _ (Ok c.in-Ok.bit) c.sound.ensures.sound.ends c.in-Ok.ensures (root_within u old c.args.roots c.args.net.0 c.args.value c.requires.net roots) in
+    let held = span_still u out out old mid (writes_added out old mid c.requires.out.1 c.in-Ok.ensures.adds) (adds_words old mid old.words c.in-Ok.ensures.adds) c.requires.out.1 all in
     inr (
       c.in-Some.i,
       c.in-Some.ensures.some,
@@ -107,9 +107,9 @@ returns-in-Ok-widen-clause-few c u roots all =
     let mid = c.root_bit.new.store in
     let late = c.unblocked.new.store in
     let new = c.widen.new.store in
-    let made = finds_made u old mid _ (Ok c.in-Ok.bit) c.node_count-ends.ensures.sound.ends c.in-Ok.ensures (root_within u old c.args.roots c.args.net.0 c.args.value c.requires.net roots) in
-    let wrote = writes_made out old mid _ (Ok c.in-Ok.bit) c.requires.out.1 c.in-Ok.ensures in
-    let held = span_still u out out old mid wrote (made_words old mid _ (Ok c.in-Ok.bit) c.in-Ok.ensures) c.requires.out.1 all in
+    let made = finds_made u old mid _ (Ok c.in-Ok.bit) c.sound.ensures.sound.ends c.in-Ok.ensures (root_within u old c.args.roots c.args.net.0 c.args.value c.requires.net roots) in
+    let wrote = writes_added out old mid c.requires.out.1 c.in-Ok.ensures.adds in
+    let held = span_still u out out old mid wrote (adds_words old mid old.words c.in-Ok.ensures.adds) c.requires.out.1 all in
     let found = c.in-Ok-unblocked.ensures.few u held made.within in
     let held' = span_still u out out mid late c.in-Ok-unblocked.ensures.writes c.in-Ok-unblocked.ensures.words wrote.live held in
     inr (
@@ -126,9 +126,9 @@ returns-in-Err-widen-clause-few c u roots all =
     let mid = c.root_bit.new.store in
     let late = c.unblocked.new.store in
     let new = c.widen.new.store in
-    let made = finds_made u old mid _ (Ok c.in-Ok.bit) c.node_count-ends.ensures.sound.ends c.in-Ok.ensures (root_within u old c.args.roots c.args.net.0 c.args.value c.requires.net roots) in
-    let wrote = writes_made out old mid _ (Ok c.in-Ok.bit) c.requires.out.1 c.in-Ok.ensures in
-    let held = span_still u out out old mid wrote (made_words old mid _ (Ok c.in-Ok.bit) c.in-Ok.ensures) c.requires.out.1 all in
+    let made = finds_made u old mid _ (Ok c.in-Ok.bit) c.sound.ensures.sound.ends c.in-Ok.ensures (root_within u old c.args.roots c.args.net.0 c.args.value c.requires.net roots) in
+    let wrote = writes_added out old mid c.requires.out.1 c.in-Ok.ensures.adds in
+    let held = span_still u out out old mid wrote (adds_words old mid old.words c.in-Ok.ensures.adds) c.requires.out.1 all in
     let found = c.in-Ok-unblocked.ensures.few u held made.within in
     let held' = span_still u out out mid late c.in-Ok-unblocked.ensures.writes c.in-Ok-unblocked.ensures.words wrote.live held in
     inr (

@@ -2,7 +2,7 @@ use Rattle.std.proofs.Common.{◌≡◌, ℕ, arith, ap, sym, ◌∙◌, below_m
 use Rattle.path_fixpoint.specs.Reaching.{slot_of}
 use Rattle.path_fixpoint.specs.Strengths.{word_of}
 use Rattle.bdd_core.specs.Words.{word_at}
-use Rattle.path_fixpoint.proofs.Frames.{writes_then}
+use Rattle.bdd_core.proofs.Frames.{writes_then}
 use Rattle.path_fixpoint.proofs.Places.{words_differ}
 use Rattle.bdd_ops.proofs.WithinLaws.{within_zero}
 use Rattle.path_fixpoint.proofs.SpendingLaws.{rewrites_then}

@@ -1,7 +1,7 @@
 use Rattle.std.proofs.Common.{◌+◌, ◌*◌, length, Err, arith}
 use Rattle.bdd_core.proofs.Results.{if_ok_more}
 use Rattle.bdd_ops.proofs.CountingLaws.{counted_then}
-use Rattle.path_fixpoint.proofs.Frames.{filled_beside}
+use Rattle.bdd_core.proofs.Frames.{filled_beside}
 use Rattle.path_fixpoint.proofs.SpendingLaws.{span_beside, spends_behind, spends_more}
 use Rattle.path_fixpoint.proofs.SourceLaws.{source_paths, source_roots}
 use Rattle.path_fixpoint.proofs.sources.open.Goals as goal

@@ -5,14 +5,14 @@ use Rattle.bdd_core.specs.Store.{Means, function_of}
 use Rattle.bdd_core.proofs.Meaning.{meaning_zero}
 use Rattle.bdd_core.proofs.Results.{if_ok_more}
 use Rattle.path_fixpoint.specs.Strengths.{strong}
-use Rattle.path_fixpoint.proofs.Frames.{writes_made}
+use Rattle.bdd_core.proofs.Frames.{writes_added}
 use Rattle.path_fixpoint.proofs.SourceLaws.{block_bits}
 use Rattle.bdd_ops.proofs.WithinLaws.{within_choice, within_zero}
 use Rattle.path_fixpoint.proofs.SpendingLaws.{finds_made}
 use Rattle.path_fixpoint.proofs.sources.unblocked.Goals as goal
 
 pub returns-clause-writes : goal.returns-clause-writes
-returns-clause-writes c = writes_made c.args.out c.args.store.now c.ite.new.self _ c.ite.result c.requires.out.1 c.ite.ensures.makes
+returns-clause-writes c = writes_added c.args.out c.args.store.now c.ite.new.self c.requires.out.1 c.ite.ensures.makes.adds
 
 pub returns-clause-is : goal.returns-clause-is
 returns-clause-is c =
@@ -34,5 +34,5 @@ pub returns-clause-few : goal.returns-clause-few
 returns-clause-few c u all bit =
     let old = c.args.store.now in
     let f : Function = choice (meaning old.nodes c.strength-above.result.0) (meaning old.nodes 0) (meaning old.nodes c.args.bit.0) in
-    finds_made u old c.ite.new.self f c.ite.result c.node_count-ends.ensures.sound.ends c.ite.ensures.makes
+    finds_made u old c.ite.new.self f c.ite.result c.sound.ensures.sound.ends c.ite.ensures.makes
     (within_choice u (meaning old.nodes c.strength-above.result.0) (meaning old.nodes 0) (meaning old.nodes c.args.bit.0) (c.strength-above.ensures.few u all) (within_zero u old) bit)
