@@ -1,5 +1,6 @@
 -- What a channel-connected part is in its circuit.
-use Rattle.std.specs.Prelude.{◌≡◌, ℕ, ◌<◌, ◌⊎◌, true, List, length, slice_get, filter_map, All}
+use Rattle.std.specs.Prelude.{◌≡◌, ℕ, ◌<◌, ◌⊎◌, Bool, IsTrue, true, List, length, slice_get, filter_map, All}
+use Rattle.plain_paths.specs.FlatCircuits.{IsFlat}
 use Rattle.vrt_model.specs.Circuits.{IsNet}
 use Rattle.vrt_model.specs.Lists.{At, Among}
 use Rattle.vrt_model.specs.Reading.{is_given}
@@ -40,3 +41,7 @@ pub record IsPartDevice (c : Circuit) (part : Part) (dev : Dev) : Type 0 where
   pub inside : dev.0 < length c.devices
   pub left : (d : Device) → At c.devices dev.0 d → Among part.nets d.left ⊎ IsGiven c d.left.0
   pub right : (d : Device) → At c.devices dev.0 d → Among part.nets d.right ⊎ IsGiven c d.right.0
+
+-- a part of a flat circuit, whose nets rise where this says so
+abbrev pub IsPartOf : Circuit → Part → Bool → Type 0
+IsPartOf c part rising = IsFlat c × IsPart c part × (IsTrue rising → Rises part)

@@ -1,5 +1,5 @@
 -- What the words of a part say of the strengths of its nets.
-use Rattle.std.specs.Prelude.{◌≡◌, ◌≢◌, ℕ, ◌+◌, ◌-◌, ◌*◌, ◌<◌, ◌≤◌, ◌⊎◌, ◌↔◌, Bool, true, false, [], length, Option, Some, None}
+use Rattle.std.specs.Prelude.{◌≡◌, ◌≢◌, ℕ, ◌+◌, ◌-◌, ◌*◌, ◌^◌, ◌<◌, ◌≤◌, ◌⊎◌, ◌↔◌, Bool, true, false, [], length, Option, Some, None}
 use Rattle.node_pool.specs.declared.region.Span.{Span}
 use Rattle.bdd_core.specs.Diagram.{Valuation, meaning}
 use Rattle.bdd_core.specs.Store.{Diagrams, IsSpan}
@@ -26,6 +26,10 @@ strong d out level i v = shows d out (word_of level i) v
 abbrev pub strong_end : Diagrams → Span → ℕ → Option ℕ → Valuation → Bool
 strong_end d out level (Some i) v = strong d out level i v
 strong_end d out level None v = true
+
+-- a span of live handles, ten for each net of the part
+abbrev pub HasMarks : Part → Span → Diagrams → Type 0
+HasMarks part out d = IsSpan d out × IsFilled d out × (out.len ≡ 10 * length part.nets) × (out.len < 2 ^ 32)
 
 -- a span of live handles of the gates, one for each net of the circuit, and a span of ten words for each net of the part
 pub record HasSpans (c : Circuit) (part : Part) (gates out : Span) (d : Diagrams) : Type 0 where

@@ -1,11 +1,11 @@
 //! The strengths of the nets of a part, level by level.
 
-ghost use Rattle.std.specs.Prelude.{IsTrue, ◌≡◌, ℕ, ◌*◌, ◌^◌, ◌<◌, ◌≤◌, length, IfOk};
+ghost use Rattle.std.specs.Prelude.{◌≡◌, ℕ, ◌*◌, ◌^◌, ◌<◌, ◌≤◌, length, IfOk};
 ghost use Rattle.bdd_core.specs.Diagram.{Valuation};
 ghost use Rattle.bdd_core.specs.Store.{IsSpan};
 ghost use Rattle.vrt_model.specs.Circuits.{IsFlat};
 ghost use Rattle.vrt_model.specs.Path.{Network};
-ghost use Rattle.path_fixpoint.specs.Parts.{IsPart, Rises};
+ghost use Rattle.path_fixpoint.specs.Parts.{IsPart, IsPartOf};
 ghost use Rattle.path_fixpoint.specs.Strengths.{HasLevel, HasSpans, HasWords, StandsAt, TellsStrengths};
 ghost use Rattle.bdd_core.specs.Words.{IsFilled, Writes};
 ghost use Rattle.bdd_ops.specs.Counting.{IsSpanWithin};
@@ -40,9 +40,7 @@ fn levels(
     gates: Span,
     out: Span,
 ) -> Result<(), Spent>
-    requires rising { IsTrue rising → Rises part.now }
-    requires circuit { IsFlat circuit.now }
-    requires part { IsPart circuit.now part.now }
+    requires part { IsPartOf circuit.now part.now rising }
     requires words { HasWords circuit.now part.now gates out store.old }
     ensures writes { Writes out store.old store.new }
     ensures levels { IfOk result (λ _. (v : Valuation) (w : Network) → StandsAt circuit.now part.now gates store.old v w → (level : ℕ) → 1 ≤ level → level ≤ 8 → HasLevel part.now out level store.new v w) }

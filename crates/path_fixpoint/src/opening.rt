@@ -9,7 +9,7 @@ ghost use Rattle.vrt_model.specs.Path.{Network};
 ghost use Rattle.vrt_model.specs.declared.circuit.Hold.{Hold as HoldValue};
 ghost use Rattle.path_fixpoint.specs.Openings.{IsGivenAt, IsHoldAt, OnlyBy, TakesAbove, mark_of};
 ghost use Rattle.path_fixpoint.specs.Parts.{IsGiven, IsPart, IsPlace, Rises};
-ghost use Rattle.path_fixpoint.specs.Strengths.{ChangesLevel, HasLevel, HasPaths, HasRoots, HasWords, StandsAt, word_of};
+ghost use Rattle.path_fixpoint.specs.Strengths.{ChangesLevel, HasLevel, HasPaths, HasRoots, HasWords, StandsAt, word_of, HasMarks};
 ghost use Rattle.bdd_core.specs.Words.{IsFilled, Writes, word_at};
 ghost use Rattle.bdd_ops.specs.Counting.{IsSpanWithin};
 ghost use Rattle.path_fixpoint.specs.Spending.{Rewrites};
@@ -53,9 +53,8 @@ fn above(store: &Store, out: Span, place: usize, level: u32) -> H
 
 /// Takes the marks of the level above.
 fn take_above(store: &mut Store, part: &Part, out: Span, level: u32)
-    requires out { IsSpan store.old out × IsFilled store.old out }
+    requires out { HasMarks part.now out store.old }
     requires level { (1 ≤ level) × (level ≤ 8) }
-    requires len { (out.len ≡ 10 * length part.now.nets) × (out.len < 2 ^ 32) }
     ensures writes { Writes out store.old store.new }
     ensures apart { ChangesLevel out level store.old store.new }
     ensures taken { (i : ℕ) → i < length part.now.nets → TakesAbove out level store.old store.new i }
@@ -72,9 +71,8 @@ fn take_above(store: &mut Store, part: &Part, out: Span, level: u32)
 fn mark(store: &mut Store, part: &Part, rising: bool, out: Span, net: Net, level: u32, fits: bool)
     requires rising { IsTrue rising → Rises part.now }
     requires part { (i j n : ℕ) → IsPlace part.now i n → IsPlace part.now j n → i ≡ j }
-    requires out { IsSpan store.old out × IsFilled store.old out }
+    requires out { HasMarks part.now out store.old }
     requires level { (1 ≤ level) × (level ≤ 8) }
-    requires len { (out.len ≡ 10 * length part.now.nets) × (out.len < 2 ^ 32) }
     ensures writes { Writes out store.old store.new }
     ensures apart { ChangesLevel out level store.old store.new }
     ensures marked { fits ≡ true → (i : ℕ) → IsPlace part.now i net.0 → mark_of store.new out level i ≡ 1 }
@@ -115,9 +113,8 @@ fn mark_given(
 )
     requires rising { IsTrue rising → Rises part.now }
     requires part { (i j n : ℕ) → IsPlace part.now i n → IsPlace part.now j n → i ≡ j }
-    requires out { IsSpan store.old out × IsFilled store.old out }
+    requires out { HasMarks part.now out store.old }
     requires level { (1 ≤ level) × (level ≤ 8) }
-    requires len { (out.len ≡ 10 * length part.now.nets) × (out.len < 2 ^ 32) }
     ensures writes { Writes out store.old store.new }
     ensures apart { ChangesLevel out level store.old store.new }
     ensures marked { (i : ℕ) → IsGivenAt circuit.now part.now i → mark_of store.new out level i ≡ 1 }
@@ -149,9 +146,8 @@ fn mark_holds(
 )
     requires rising { IsTrue rising → Rises part.now }
     requires part { (i j n : ℕ) → IsPlace part.now i n → IsPlace part.now j n → i ≡ j }
-    requires out { IsSpan store.old out × IsFilled store.old out }
+    requires out { HasMarks part.now out store.old }
     requires level { (1 ≤ level) × (level ≤ 8) }
-    requires len { (out.len ≡ 10 * length part.now.nets) × (out.len < 2 ^ 32) }
     ensures writes { Writes out store.old store.new }
     ensures apart { ChangesLevel out level store.old store.new }
     ensures marked { (i : ℕ) → IsHoldAt circuit.now part.now level i → mark_of store.new out level i ≡ 1 }

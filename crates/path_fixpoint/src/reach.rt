@@ -1,13 +1,12 @@
 //! Rounds over the devices of a part, for the nets that a value reaches.
 
-ghost use Rattle.std.specs.Prelude.{IsTrue, ◌≡◌, ℕ, ◌+◌, ◌*◌, ◌^◌, ◌<◌, ◌≤◌, ◌⊎◌, true, false, length, IfOk, IfSome};
+ghost use Rattle.std.specs.Prelude.{◌≡◌, ℕ, ◌+◌, ◌*◌, ◌^◌, ◌<◌, ◌≤◌, ◌⊎◌, true, false, length, IfOk, IfSome};
 ghost use Rattle.bdd_core.specs.Diagram.{IsWithin, Valuation};
 ghost use Rattle.bdd_core.specs.Store.{IsLive, IsSpan, function_of};
-ghost use Rattle.vrt_model.specs.Circuits.{IsFlat};
 ghost use Rattle.vrt_model.specs.Lists.{Among};
 ghost use Rattle.vrt_model.specs.Path.{Network};
 ghost use Rattle.vrt_model.specs.declared.circuit.Device.{Device as DeviceValue};
-ghost use Rattle.path_fixpoint.specs.Parts.{IsPart, Rises, part_devices};
+ghost use Rattle.path_fixpoint.specs.Parts.{part_devices, IsPartOf};
 ghost use Rattle.path_fixpoint.specs.Reaching.{HasReach, HasReachPaths, HasReachRoots, HasRootWords, PassesSignal, SolvedAt, SpreadsValue, slot_of};
 ghost use Rattle.path_fixpoint.specs.Strengths.{ChangesLevel, word_of};
 ghost use Rattle.bdd_core.specs.Words.{IsFilled, Writes};
@@ -34,8 +33,7 @@ fn pass(
 ) -> Result<bool, Spent>
     requires gate { IsLive store.old gate }
     requires signal { IsLive store.old signal }
-    requires out { IsSpan store.old out × IsFilled store.old out }
-    requires len { out.len < 2 ^ 32 }
+    requires out { IsSpan store.old out × IsFilled store.old out × (out.len < 2 ^ 32) }
     requires from { IfSome from (λ i. 10 * i + 10 ≤ out.len) }
     requires to { IfSome to (λ i. 10 * i + 10 ≤ out.len) }
     ensures writes { Writes out store.old store.new }
@@ -77,9 +75,7 @@ fn visit(
     device: &Device,
     value: bool,
 ) -> Result<bool, Spent>
-    requires rising { IsTrue rising → Rises part.now }
-    requires circuit { IsFlat circuit.now }
-    requires part { IsPart circuit.now part.now }
+    requires part { IsPartOf circuit.now part.now rising }
     requires words { HasRootWords circuit.now part.now gates roots out store.old }
     requires device { Among (part_devices circuit.now part.now) device.now }
     ensures writes { Writes out store.old store.new }
@@ -124,9 +120,7 @@ fn round(
     out: Span,
     value: bool,
 ) -> Result<bool, Spent>
-    requires rising { IsTrue rising → Rises part.now }
-    requires circuit { IsFlat circuit.now }
-    requires part { IsPart circuit.now part.now }
+    requires part { IsPartOf circuit.now part.now rising }
     requires words { HasRootWords circuit.now part.now gates roots out store.old }
     ensures writes { Writes out store.old store.new }
     ensures apart { ChangesLevel out (slot_of value) store.old store.new }
@@ -161,9 +155,7 @@ pub(crate) fn settle(
     out: Span,
     value: bool,
 ) -> Result<(), Spent>
-    requires rising { IsTrue rising → Rises part.now }
-    requires circuit { IsFlat circuit.now }
-    requires part { IsPart circuit.now part.now }
+    requires part { IsPartOf circuit.now part.now rising }
     requires words { HasRootWords circuit.now part.now gates roots out store.old }
     ensures writes { Writes out store.old store.new }
     ensures apart { ChangesLevel out (slot_of value) store.old store.new }

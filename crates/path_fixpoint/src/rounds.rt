@@ -1,13 +1,12 @@
 //! Rounds over the devices of a part, at one level of strength.
 
-ghost use Rattle.std.specs.Prelude.{IsTrue, ◌≡◌, ℕ, ◌+◌, ◌*◌, ◌^◌, ◌<◌, ◌≤◌, ◌⊎◌, true, false, length, IfOk, IfSome};
+ghost use Rattle.std.specs.Prelude.{◌≡◌, ℕ, ◌+◌, ◌*◌, ◌^◌, ◌<◌, ◌≤◌, ◌⊎◌, true, false, length, IfOk, IfSome};
 ghost use Rattle.bdd_core.specs.Diagram.{IsWithin, Valuation};
 ghost use Rattle.bdd_core.specs.Store.{IsLive, IsSpan, function_of};
-ghost use Rattle.vrt_model.specs.Circuits.{IsFlat};
 ghost use Rattle.vrt_model.specs.Lists.{Among};
 ghost use Rattle.vrt_model.specs.Path.{Network};
 ghost use Rattle.vrt_model.specs.declared.circuit.Device.{Device as DeviceValue};
-ghost use Rattle.path_fixpoint.specs.Parts.{IsPart, Rises, part_devices};
+ghost use Rattle.path_fixpoint.specs.Parts.{part_devices, IsPartOf};
 ghost use Rattle.path_fixpoint.specs.Strengths.{ChangesLevel, HasLevel, HasPaths, HasRoots, HasWords, Passes, Spreads, StandsAt, word_of};
 ghost use Rattle.bdd_core.specs.Words.{IsFilled, Writes};
 ghost use Rattle.bdd_ops.specs.Counting.{IsSpanWithin};
@@ -30,9 +29,8 @@ fn pass(
     level: u32,
 ) -> Result<bool, Spent>
     requires gate { IsLive store.old gate }
-    requires out { IsSpan store.old out × IsFilled store.old out }
+    requires out { IsSpan store.old out × IsFilled store.old out × (out.len < 2 ^ 32) }
     requires level { (1 ≤ level) × (level ≤ 8) }
-    requires len { out.len < 2 ^ 32 }
     requires from { IfSome from (λ i. 10 * i + 10 ≤ out.len) }
     requires to { IfSome to (λ i. 10 * i + 10 ≤ out.len) }
     ensures writes { Writes out store.old store.new }
@@ -67,9 +65,7 @@ fn visit(
     device: &Device,
     level: u32,
 ) -> Result<bool, Spent>
-    requires rising { IsTrue rising → Rises part.now }
-    requires circuit { IsFlat circuit.now }
-    requires part { IsPart circuit.now part.now }
+    requires part { IsPartOf circuit.now part.now rising }
     requires words { HasWords circuit.now part.now gates out store.old }
     requires level { (1 ≤ level) × (level ≤ 8) }
     requires device { Among (part_devices circuit.now part.now) device.now }
@@ -109,9 +105,7 @@ fn round(
     out: Span,
     level: u32,
 ) -> Result<bool, Spent>
-    requires rising { IsTrue rising → Rises part.now }
-    requires circuit { IsFlat circuit.now }
-    requires part { IsPart circuit.now part.now }
+    requires part { IsPartOf circuit.now part.now rising }
     requires words { HasWords circuit.now part.now gates out store.old }
     requires level { (1 ≤ level) × (level ≤ 8) }
     ensures writes { Writes out store.old store.new }
@@ -144,9 +138,7 @@ pub(crate) fn settle(
     out: Span,
     level: u32,
 ) -> Result<(), Spent>
-    requires rising { IsTrue rising → Rises part.now }
-    requires circuit { IsFlat circuit.now }
-    requires part { IsPart circuit.now part.now }
+    requires part { IsPartOf circuit.now part.now rising }
     requires words { HasWords circuit.now part.now gates out store.old }
     requires level { (1 ≤ level) × (level ≤ 8) }
     ensures writes { Writes out store.old store.new }

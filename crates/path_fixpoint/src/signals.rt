@@ -104,10 +104,9 @@ pub(crate) fn fitting(
     device: u8,
     signal: H,
 ) -> Result<H, Spent>
-    requires out { IsSpan store.old out × IsFilled store.old out }
+    requires out { IsSpan store.old out × IsFilled store.old out × (out.len < 2 ^ 32) }
     requires from { IfSome from (λ i. 10 * i + 10 ≤ out.len) }
     requires to { 10 * to + 10 ≤ out.len }
-    requires len { out.len < 2 ^ 32 }
     requires signal { IsLive store.old signal }
     ensures writes { Writes out store.old store.new }
     ensures words { store.new.words ≡ store.old.words }

@@ -1,10 +1,10 @@
 //! A part solved: the strengths of its nets, and the values that reach them.
 
-ghost use Rattle.std.specs.Prelude.{IsTrue, ◌≡◌, ℕ, ◌+◌, ◌*◌, ◌<◌, ◌≤◌, length, IfOk};
+ghost use Rattle.std.specs.Prelude.{◌≡◌, ℕ, ◌+◌, ◌*◌, ◌<◌, ◌≤◌, length, IfOk};
 ghost use Rattle.bdd_core.specs.Diagram.{Valuation};
 ghost use Rattle.vrt_model.specs.Circuits.{IsFlat};
 ghost use Rattle.vrt_model.specs.Path.{Network};
-ghost use Rattle.path_fixpoint.specs.Parts.{IsPart, Rises};
+ghost use Rattle.path_fixpoint.specs.Parts.{IsPart, IsPartOf};
 ghost use Rattle.path_fixpoint.specs.Reaching.{HasReach, HasRootWords, SolvedAt, slot_of};
 ghost use Rattle.path_fixpoint.specs.Solved.{HasRootSpans, TellsReach, network_at};
 ghost use Rattle.path_fixpoint.specs.Strengths.{ChangesLevel, TellsStrengths};
@@ -32,9 +32,7 @@ fn reaches(
     out: Span,
     value: bool,
 ) -> Result<(), Spent>
-    requires rising { IsTrue rising → Rises part.now }
-    requires circuit { IsFlat circuit.now }
-    requires part { IsPart circuit.now part.now }
+    requires part { IsPartOf circuit.now part.now rising }
     requires words { HasRootWords circuit.now part.now gates roots out store.old }
     ensures writes { Writes out store.old store.new }
     ensures apart { ChangesLevel out (slot_of value) store.old store.new }

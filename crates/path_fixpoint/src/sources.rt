@@ -3,13 +3,12 @@
 ghost use Rattle.std.specs.Prelude.{IsTrue, ◌≡◌, ◌≢◌, ℕ, ◌+◌, ◌*◌, ◌^◌, ◌<◌, ◌≤◌, ◌⊎◌, ◌↔◌, true, false, length, IfOk, IfSome};
 ghost use Rattle.bdd_core.specs.Diagram.{IsWithin, Valuation};
 ghost use Rattle.bdd_core.specs.Store.{IsLive, IsSpan, function_of};
-ghost use Rattle.vrt_model.specs.Circuits.{IsFlat};
 ghost use Rattle.vrt_model.specs.Path.{Network};
 ghost use Rattle.path_fixpoint.specs.Openings.{IsGivenAt, IsHoldAt};
-ghost use Rattle.path_fixpoint.specs.Parts.{IsGiven, IsPart, IsPlace, Rises};
+ghost use Rattle.path_fixpoint.specs.Parts.{IsGiven, IsPlace, Rises, IsPartOf};
 ghost use Rattle.path_fixpoint.specs.Reaching.{HasReachPaths, HasReachRoots, HasRootWords, SolvedAt, slot_of};
 ghost use Rattle.path_fixpoint.specs.Sources.{AddsRoots, IsGivenSource, IsHoldSource};
-ghost use Rattle.path_fixpoint.specs.Strengths.{ChangesLevel, strong, word_of};
+ghost use Rattle.path_fixpoint.specs.Strengths.{ChangesLevel, strong, word_of, HasMarks};
 ghost use Rattle.bdd_core.specs.Words.{IsFilled, Writes, shows, word_at};
 ghost use Rattle.bdd_ops.specs.Counting.{IsSpanWithin};
 ghost use Rattle.path_fixpoint.specs.Spending.{Finds, HasOneHold, Rewrites, Spends};
@@ -24,8 +23,7 @@ use vrt_model::{Circuit, Net};
 
 /// Writes the constant 0 into the word of each net for a value.
 fn clear(store: &mut Store, part: &Part, out: Span, value: bool)
-    requires out { IsSpan store.old out × IsFilled store.old out }
-    requires len { (out.len ≡ 10 * length part.now.nets) × (out.len < 2 ^ 32) }
+    requires out { HasMarks part.now out store.old }
     ensures writes { Writes out store.old store.new }
     ensures apart { ChangesLevel out (slot_of value) store.old store.new }
     ensures zero { (i : ℕ) → i < length part.now.nets → word_at store.new out (word_of (slot_of value) i) ≡ 0 }
@@ -70,10 +68,8 @@ fn add_root(
 ) -> Result<(), Spent>
     requires rising { IsTrue rising → Rises part.now }
     requires part { (i j n : ℕ) → IsPlace part.now i n → IsPlace part.now j n → i ≡ j }
-    requires roots { IsSpan store.old roots × IsFilled store.old roots }
-    requires net { net.0 < roots.len }
-    requires out { IsSpan store.old out × IsFilled store.old out }
-    requires len { (out.len ≡ 10 * length part.now.nets) × (out.len < 2 ^ 32) }
+    requires roots { IsSpan store.old roots × IsFilled store.old roots × (net.0 < roots.len) }
+    requires out { HasMarks part.now out store.old }
     requires size { (1 ≤ size) × (size ≤ 8) }
     ensures writes { Writes out store.old store.new }
     ensures apart { ChangesLevel out (slot_of value) store.old store.new }
@@ -111,10 +107,8 @@ fn add_net(
 ) -> Result<(), Spent>
     requires rising { IsTrue rising → Rises part.now }
     requires part { (i j n : ℕ) → IsPlace part.now i n → IsPlace part.now j n → i ≡ j }
-    requires roots { IsSpan store.old roots × IsFilled store.old roots }
-    requires net { net.0 < roots.len }
-    requires out { IsSpan store.old out × IsFilled store.old out }
-    requires len { (out.len ≡ 10 * length part.now.nets) × (out.len < 2 ^ 32) }
+    requires roots { IsSpan store.old roots × IsFilled store.old roots × (net.0 < roots.len) }
+    requires out { HasMarks part.now out store.old }
     ensures writes { Writes out store.old store.new }
     ensures apart { ChangesLevel out (slot_of value) store.old store.new }
     ensures adds { IfOk result (λ _. AddsRoots part.now roots out value (λ n k. IsGiven circuit.now n × (n ≡ net.0) × (k ≡ 8)) store.old store.new) }
@@ -138,9 +132,7 @@ fn add_given(
     out: Span,
     value: bool,
 ) -> Result<(), Spent>
-    requires rising { IsTrue rising → Rises part.now }
-    requires part { IsPart circuit.now part.now }
-    requires circuit { IsFlat circuit.now }
+    requires part { IsPartOf circuit.now part.now rising }
     requires words { HasRootWords circuit.now part.now gates roots out store.old }
     ensures writes { Writes out store.old store.new }
     ensures apart { ChangesLevel out (slot_of value) store.old store.new }
@@ -169,9 +161,7 @@ fn add_holds(
     out: Span,
     value: bool,
 ) -> Result<(), Spent>
-    requires rising { IsTrue rising → Rises part.now }
-    requires part { IsPart circuit.now part.now }
-    requires circuit { IsFlat circuit.now }
+    requires part { IsPartOf circuit.now part.now rising }
     requires words { HasRootWords circuit.now part.now gates roots out store.old }
     ensures writes { Writes out store.old store.new }
     ensures apart { ChangesLevel out (slot_of value) store.old store.new }
@@ -209,9 +199,7 @@ pub(crate) fn open(
     out: Span,
     value: bool,
 ) -> Result<(), Spent>
-    requires rising { IsTrue rising → Rises part.now }
-    requires part { IsPart circuit.now part.now }
-    requires circuit { IsFlat circuit.now }
+    requires part { IsPartOf circuit.now part.now rising }
     requires words { HasRootWords circuit.now part.now gates roots out store.old }
     ensures writes { Writes out store.old store.new }
     ensures apart { ChangesLevel out (slot_of value) store.old store.new }

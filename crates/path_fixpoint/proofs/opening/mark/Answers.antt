@@ -11,12 +11,12 @@ returns-in_default-clause-marked c fits i p = absurd (c.in_default.ensures.none 
 pub word-requires-clause-fits : goal.word-requires-clause-fits
 word-requires-clause-fits c =
     let inside = place_in c.args.part.now c.in-Some.i c.args.net.0 c.in-Some.ensures.some in
-    omega (arith, inside, c.requires.len.0, c.requires.len.1, c.requires.level.1)
+    omega (arith, inside, c.requires.out.2, c.requires.out.3, c.requires.level.1)
 
 pub set-requires-clause-at : goal.set-requires-clause-at
 set-requires-clause-at c =
     let inside = place_in c.args.part.now c.in-Some.i c.args.net.0 c.in-Some.ensures.some in
-    omega (arith, inside, c.requires.len.0, c.requires.level.0, c.requires.level.1, c.word.ensures)
+    omega (arith, inside, c.requires.out.2, c.requires.level.0, c.requires.level.1, c.word.ensures)
 
 pub returns-clause-apart : goal.returns-clause-apart
 returns-clause-apart c k away = c.set.ensures.apart k (λ e. away c.in-Some.i (e ∙ c.word.ensures))

@@ -23,7 +23,7 @@ visit-requires-clause-device c =
 
 pub visit-requires-clause-words : goal.visit-requires-clause-words
 visit-requires-clause-words c =
-    root_words_kept c.args.circuit.now c.args.part.now c.requires.part c.requires.circuit c.args.gates c.args.roots c.args.out c.args.value c.args.store.now c.loop-dev.store c.requires.words c.loop-dev.invariant.writes
+    root_words_kept c.args.circuit.now c.args.part.now c.requires.part.1 c.requires.part.0 c.args.gates c.args.roots c.args.out c.args.value c.args.store.now c.loop-dev.store c.requires.words c.loop-dev.invariant.writes
 
 pub loop-dev-preserved : goal.loop-dev-preserved
 loop-dev-preserved c =
@@ -42,7 +42,7 @@ loop-dev-preserved c =
     record {
       writes = writes_then out first old new i.writes c.in-Ok.ensures.writes;
       apart = λ k away. c.in-Ok.ensures.apart k away ∙ i.apart k away;
-      spreads = spreads_value_then circuit part c.requires.part c.requires.circuit c.args.gates c.args.roots out c.args.value (Visited circuit part at) (λ d. d ≡ device) (Visited circuit part (at + 1))
+      spreads = spreads_value_then circuit part c.requires.part.1 c.requires.part.0 c.args.gates c.args.roots out c.args.value (Visited circuit part at) (λ d. d ≡ device) (Visited circuit part (at + 1))
           c.loop-dev.changed c.in-Ok.grew first old new c.requires.words i.writes i.apart (visited_more circuit part at dev device there (sym c.in-Some.ensures)) i.spreads c.in-Ok.ensures.spreads;
       few = λ u gates roots all.
           let q = i.few u gates roots all in
@@ -55,7 +55,7 @@ returns-clause-spreads c =
     let circuit = c.args.circuit.now in
     let part = c.args.part.now in
     let shown : length c.as_slice-dev-items.result.now ≡ length part.devices = ap (λ (xs : List Dev). length xs) c.as_slice-dev-items.ensures in
-    spreads_value_less circuit part c.requires.part c.requires.circuit c.args.gates c.args.roots c.args.out c.args.value (Visited circuit part c.loop-dev.dev-index) (Among (part_devices circuit part))
+    spreads_value_less circuit part c.requires.part.1 c.requires.part.0 c.args.gates c.args.roots c.args.out c.args.value (Visited circuit part c.loop-dev.dev-index) (Among (part_devices circuit part))
     c.loop-dev.changed c.args.store.now c.loop-dev.store (all_visited circuit part c.loop-dev.dev-index (omega (arith, shown, c.loop-dev-test.false))) c.loop-dev.invariant.spreads
 
 pub returns-in-Err-clause-few : goal.returns-in-Err-clause-few

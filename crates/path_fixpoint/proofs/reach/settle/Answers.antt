@@ -11,14 +11,14 @@ use Rattle.path_fixpoint.proofs.reach.settle.Goals as goal
 
 pub round-requires-clause-words : goal.round-requires-clause-words
 round-requires-clause-words c =
-    root_words_kept c.args.circuit.now c.args.part.now c.requires.part c.requires.circuit c.args.gates c.args.roots c.args.out c.args.value c.args.store.now c.rounds.store c.requires.words c.rounds.invariant.writes
+    root_words_kept c.args.circuit.now c.args.part.now c.requires.part.1 c.requires.part.0 c.args.gates c.args.roots c.args.out c.args.value c.args.store.now c.rounds.store c.requires.words c.rounds.invariant.writes
 
 pub returns-then-not-changed-clause-reach : goal.returns-then-not-changed-clause-reach
 returns-then-not-changed-clause-reach c v w s st roots paths =
     let circuit = c.args.circuit.now in
     let part = c.args.part.now in
-    let is_part = c.requires.part in
-    let flat = c.requires.circuit in
+    let is_part = c.requires.part.1 in
+    let flat = c.requires.part.0 in
     let gates = c.args.gates in
     let rs = c.args.roots in
     let out = c.args.out in
@@ -52,8 +52,8 @@ pub rounds-preserved : goal.rounds-preserved
 rounds-preserved c =
     let circuit = c.args.circuit.now in
     let part = c.args.part.now in
-    let is_part = c.requires.part in
-    let flat = c.requires.circuit in
+    let is_part = c.requires.part.1 in
+    let flat = c.requires.part.0 in
     let gates = c.args.gates in
     let rs = c.args.roots in
     let out = c.args.out in
@@ -84,8 +84,8 @@ returns-clause-reach c v w s st roots paths =
     let part = c.args.part.now in
     let i = c.rounds.invariant in
     let enough : length part.nets ≤ c.rounds._count = omega (arith, c.rounds-test.false, c.len-count-end.ensures) in
-    reach_from_marks circuit part c.requires.part c.requires.circuit c.args.gates c.args.roots c.args.out c.args.value c.rounds.store v w s st.strength (i.paths v w s st paths)
-    (reach_all circuit part c.requires.part c.requires.circuit c.args.gates c.args.roots c.args.out c.args.value c.rounds._count c.rounds.store v w s enough (i.progress v w s st roots))
+    reach_from_marks circuit part c.requires.part.1 c.requires.part.0 c.args.gates c.args.roots c.args.out c.args.value c.rounds.store v w s st.strength (i.paths v w s st paths)
+    (reach_all circuit part c.requires.part.1 c.requires.part.0 c.args.gates c.args.roots c.args.out c.args.value c.rounds._count c.rounds.store v w s enough (i.progress v w s st roots))
 
 pub returns-in-Err-clause-few : goal.returns-in-Err-clause-few
 returns-in-Err-clause-few c u gates roots all =

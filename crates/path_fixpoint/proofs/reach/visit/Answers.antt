@@ -14,10 +14,10 @@ use Rattle.path_fixpoint.proofs.Idle.{spreads_value_off}
 use Rattle.path_fixpoint.proofs.reach.visit.Goals as goal
 
 pub read-requires-clause-within : goal.read-requires-clause-within
-read-requires-clause-within c = omega (arith, (device_ranges c.args.circuit.now c.args.part.now c.args.device.now c.requires.circuit c.requires.device).gate, c.requires.words.words.gates_len)
+read-requires-clause-within c = omega (arith, (device_ranges c.args.circuit.now c.args.part.now c.args.device.now c.requires.part.0 c.requires.device).gate, c.requires.words.words.gates_len)
 
 pub reached-requires-clause-net : goal.reached-requires-clause-net
-reached-requires-clause-net c = omega (arith, (device_ranges c.args.circuit.now c.args.part.now c.args.device.now c.requires.circuit c.requires.device).left, c.requires.words.roots_len)
+reached-requires-clause-net c = omega (arith, (device_ranges c.args.circuit.now c.args.part.now c.args.device.now c.requires.part.0 c.requires.device).left, c.requires.words.roots_len)
 
 pub reached-requires-clause-place : goal.reached-requires-clause-place
 reached-requires-clause-place c = place_fits c.args.part.now c.args.out c.place-left.result c.args.device.now.left.0 c.requires.words.words.out_len c.place-left.ensures.some
@@ -27,7 +27,7 @@ returns-in-Err-clause-writes c = writes_added c.args.out c.args.store.now c.reac
 
 pub pass-requires-clause-gate : goal.pass-requires-clause-gate
 pass-requires-clause-gate c =
-    let lt = (device_ranges c.args.circuit.now c.args.part.now c.args.device.now c.requires.circuit c.requires.device).gate in
+    let lt = (device_ranges c.args.circuit.now c.args.part.now c.args.device.now c.requires.part.0 c.requires.device).gate in
     let first = writes_added c.args.out c.args.store.now c.reached.new.store c.requires.words.words.out_live c.in-Ok.ensures.adds in
     omega (arith, c.read.ensures, c.requires.words.words.gates_live c.args.device.now.gate.0 (omega (arith, lt, c.requires.words.words.gates_len)), first.adds.longer)
 
@@ -43,7 +43,7 @@ returns-in-Err-pass-clause-writes c =
     (writes_added c.args.out c.args.store.now c.reached.new.store c.requires.words.words.out_live c.in-Ok.ensures.adds) c.in-Err-pass.ensures.writes
 
 pub reached-requires-2-clause-net : goal.reached-requires-2-clause-net
-reached-requires-2-clause-net c = omega (arith, (device_ranges c.args.circuit.now c.args.part.now c.args.device.now c.requires.circuit c.requires.device).right, c.requires.words.roots_len)
+reached-requires-2-clause-net c = omega (arith, (device_ranges c.args.circuit.now c.args.part.now c.args.device.now c.requires.part.0 c.requires.device).right, c.requires.words.roots_len)
 
 pub reached-requires-2-clause-place : goal.reached-requires-2-clause-place
 reached-requires-2-clause-place c = place_fits c.args.part.now c.args.out c.place-right.result c.args.device.now.right.0 c.requires.words.words.out_len c.place-right.ensures.some
@@ -58,7 +58,7 @@ returns-in-Err-reached-clause-writes c =
 pub pass-requires-2-clause-gate : goal.pass-requires-2-clause-gate
 pass-requires-2-clause-gate c =
     let out = c.args.out in
-    let lt = (device_ranges c.args.circuit.now c.args.part.now c.args.device.now c.requires.circuit c.requires.device).gate in
+    let lt = (device_ranges c.args.circuit.now c.args.part.now c.args.device.now c.requires.part.0 c.requires.device).gate in
     let first = writes_added out c.args.store.now c.reached.new.store c.requires.words.words.out_live c.in-Ok.ensures.adds in
     let third = writes_added out c.pass.new.store c.reached-2.new.store c.in-Ok-pass.ensures.writes.live c.in-Ok-reached.ensures.adds in
     omega (arith, c.read.ensures, c.requires.words.words.gates_live c.args.device.now.gate.0 (omega (arith, lt, c.requires.words.words.gates_len)), first.adds.longer, c.in-Ok-pass.ensures.writes.adds.longer, third.adds.longer)
@@ -103,19 +103,19 @@ returns-clause-spreads c =
     let right = c.place-right.result in
     let left_is : EndIs part left d.left.0 = record { some = c.place-left.ensures.some; none = c.place-left.ensures.none } in
     let right_is : EndIs part right d.right.0 = record { some = c.place-right.ensures.some; none = c.place-right.ensures.none } in
-    let ranges = device_ranges circuit part d c.requires.circuit c.requires.device in
+    let ranges = device_ranges circuit part d c.requires.part.0 c.requires.device in
     let wa : Writes out old a = writes_added out old a c.requires.words.words.out_live c.in-Ok.ensures.adds in
     let sa : a.words ≡ old.words = adds_words old a old.words c.in-Ok.ensures.adds in
     let wm = c.in-Ok-pass.ensures.writes in
     let wb : Writes out mid b = writes_added out mid b wm.live c.in-Ok-reached.ensures.adds in
     let sb : b.words ≡ mid.words = adds_words mid b mid.words c.in-Ok-reached.ensures.adds in
-    let words_a : HasRootWords circuit part gates roots out a = root_words_kept circuit part c.requires.part c.requires.circuit gates roots out value old a c.requires.words wa in
-    let words_m : HasRootWords circuit part gates roots out mid = root_words_kept circuit part c.requires.part c.requires.circuit gates roots out value a mid words_a wm in
-    spreads_value_both circuit part c.requires.part c.requires.circuit gates roots out value d c.requires.device left right left_is right_is
+    let words_a : HasRootWords circuit part gates roots out a = root_words_kept circuit part c.requires.part.1 c.requires.part.0 gates roots out value old a c.requires.words wa in
+    let words_m : HasRootWords circuit part gates roots out mid = root_words_kept circuit part c.requires.part.1 c.requires.part.0 gates roots out value a mid words_a wm in
+    spreads_value_both circuit part c.requires.part.1 c.requires.part.0 gates roots out value d c.requires.device left right left_is right_is
     old a mid b new c.read.result c.in-Ok.there.0 c.in-Ok-reached.here.0 c.in-Ok-pass.forth c.in-Ok-pass-2.back c.requires.words c.read.ensures
     wa wm wb c.in-Ok-pass-2.ensures.writes sa c.in-Ok-pass.ensures.apart sb
-    (λ v. c.in-Ok.ensures.ok.same v ∙ sym (end_kept circuit part c.requires.part c.requires.circuit gates roots out value old a v left d.left.0 c.requires.words wa sa left_is ranges.left))
-    (λ v. c.in-Ok-reached.ensures.ok.same v ∙ sym (end_kept circuit part c.requires.part c.requires.circuit gates roots out value mid b v right d.right.0 words_m wb sb right_is ranges.right))
+    (λ v. c.in-Ok.ensures.ok.same v ∙ sym (end_kept circuit part c.requires.part.1 c.requires.part.0 gates roots out value old a v left d.left.0 c.requires.words wa sa left_is ranges.left))
+    (λ v. c.in-Ok-reached.ensures.ok.same v ∙ sym (end_kept circuit part c.requires.part.1 c.requires.part.0 gates roots out value mid b v right d.right.0 words_m wb sb right_is ranges.right))
     c.in-Ok-pass.ensures.passes c.in-Ok-pass-2.ensures.passes
 
 pub returns-in-Err-clause-few : goal.returns-in-Err-clause-few
@@ -125,7 +125,7 @@ returns-in-Err-clause-few c u gates roots all =
     let out = c.args.out in
     let d = c.args.device.now in
     let words = c.requires.words in
-    let ranges = device_ranges circuit part d c.requires.circuit c.requires.device in
+    let ranges = device_ranges circuit part d c.requires.part.0 c.requires.device in
     let left_fits = place_fits part out c.place-left.result d.left.0 words.words.out_len c.place-left.ensures.some in
     let right_fits = place_fits part out c.place-right.result d.right.0 words.words.out_len c.place-right.ensures.some in
     let old = c.args.store.now in
@@ -141,7 +141,7 @@ returns-in-Err-pass-clause-few c u gates roots all =
     let out = c.args.out in
     let d = c.args.device.now in
     let words = c.requires.words in
-    let ranges = device_ranges circuit part d c.requires.circuit c.requires.device in
+    let ranges = device_ranges circuit part d c.requires.part.0 c.requires.device in
     let left_fits = place_fits part out c.place-left.result d.left.0 words.words.out_len c.place-left.ensures.some in
     let right_fits = place_fits part out c.place-right.result d.right.0 words.words.out_len c.place-right.ensures.some in
     let old = c.args.store.now in
@@ -169,7 +169,7 @@ returns-in-Err-reached-clause-few c u gates roots all =
     let out = c.args.out in
     let d = c.args.device.now in
     let words = c.requires.words in
-    let ranges = device_ranges circuit part d c.requires.circuit c.requires.device in
+    let ranges = device_ranges circuit part d c.requires.part.0 c.requires.device in
     let left_fits = place_fits part out c.place-left.result d.left.0 words.words.out_len c.place-left.ensures.some in
     let right_fits = place_fits part out c.place-right.result d.right.0 words.words.out_len c.place-right.ensures.some in
     let old = c.args.store.now in
@@ -209,7 +209,7 @@ returns-in-Err-pass-2-clause-few c u gates roots all =
     let out = c.args.out in
     let d = c.args.device.now in
     let words = c.requires.words in
-    let ranges = device_ranges circuit part d c.requires.circuit c.requires.device in
+    let ranges = device_ranges circuit part d c.requires.part.0 c.requires.device in
     let left_fits = place_fits part out c.place-left.result d.left.0 words.words.out_len c.place-left.ensures.some in
     let right_fits = place_fits part out c.place-right.result d.right.0 words.words.out_len c.place-right.ensures.some in
     let old = c.args.store.now in
@@ -252,7 +252,7 @@ returns-clause-few c u gates roots all =
     let out = c.args.out in
     let d = c.args.device.now in
     let words = c.requires.words in
-    let ranges = device_ranges circuit part d c.requires.circuit c.requires.device in
+    let ranges = device_ranges circuit part d c.requires.part.0 c.requires.device in
     let left_fits = place_fits part out c.place-left.result d.left.0 words.words.out_len c.place-left.ensures.some in
     let right_fits = place_fits part out c.place-right.result d.right.0 words.words.out_len c.place-right.ensures.some in
     let old = c.args.store.now in
@@ -291,5 +291,5 @@ returns-clause-few c u gates roots all =
 
 pub returns-then-blocks-clause-spreads : goal.returns-then-blocks-clause-spreads
 returns-then-blocks-clause-spreads c =
-    spreads_value_off c.args.circuit.now c.args.part.now c.requires.circuit c.args.gates c.args.out c.args.device.now c.requires.device c.args.store.now
+    spreads_value_off c.args.circuit.now c.args.part.now c.requires.part.0 c.args.gates c.args.out c.args.device.now c.requires.device c.args.store.now
     (sym c.read.ensures ∙ c.blocks-2.ensures c.if-blocks.true) c.args.roots c.args.value

@@ -8,11 +8,11 @@ use Rattle.path_fixpoint.proofs.Idle.{spreads_off}
 use Rattle.path_fixpoint.proofs.rounds.visit.Goals as goal
 
 pub read-requires-clause-within : goal.read-requires-clause-within
-read-requires-clause-within c = omega (arith, (device_ranges c.args.circuit.now c.args.part.now c.args.device.now c.requires.circuit c.requires.device).gate, c.requires.words.gates_len)
+read-requires-clause-within c = omega (arith, (device_ranges c.args.circuit.now c.args.part.now c.args.device.now c.requires.part.0 c.requires.device).gate, c.requires.words.gates_len)
 
 pub pass-requires-clause-gate : goal.pass-requires-clause-gate
 pass-requires-clause-gate c =
-    let lt = (device_ranges c.args.circuit.now c.args.part.now c.args.device.now c.requires.circuit c.requires.device).gate in
+    let lt = (device_ranges c.args.circuit.now c.args.part.now c.args.device.now c.requires.part.0 c.requires.device).gate in
     omega (arith, c.read.ensures, c.requires.words.gates_live c.args.device.now.gate.0 (omega (arith, lt, c.requires.words.gates_len)))
 
 pub pass-requires-clause-from : goal.pass-requires-clause-from
@@ -23,7 +23,7 @@ pass-requires-clause-to c = place_fits c.args.part.now c.args.out c.place-right.
 
 pub pass-requires-2-clause-gate : goal.pass-requires-2-clause-gate
 pass-requires-2-clause-gate c =
-    let lt = (device_ranges c.args.circuit.now c.args.part.now c.args.device.now c.requires.circuit c.requires.device).gate in
+    let lt = (device_ranges c.args.circuit.now c.args.part.now c.args.device.now c.requires.part.0 c.requires.device).gate in
     omega (arith, c.read.ensures, c.requires.words.gates_live c.args.device.now.gate.0 (omega (arith, lt, c.requires.words.gates_len)), c.in-Ok.ensures.writes.adds.longer)
 
 pub pass-requires-2-clause-from : goal.pass-requires-2-clause-from
@@ -36,7 +36,7 @@ pub returns-clause-spreads : goal.returns-clause-spreads
 returns-clause-spreads c =
     let left_is : EndIs c.args.part.now c.place-left.result c.args.device.now.left.0 = record { some = c.place-left.ensures.some; none = c.place-left.ensures.none } in
     let right_is : EndIs c.args.part.now c.place-right.result c.args.device.now.right.0 = record { some = c.place-right.ensures.some; none = c.place-right.ensures.none } in
-    spreads_both c.args.circuit.now c.args.part.now c.requires.part c.requires.circuit c.args.gates c.args.out c.args.level c.requires.level.0 c.requires.level.1
+    spreads_both c.args.circuit.now c.args.part.now c.requires.part.1 c.requires.part.0 c.args.gates c.args.out c.args.level c.requires.level.0 c.requires.level.1
     c.args.device.now c.requires.device c.place-left.result c.place-right.result left_is right_is c.if-device-level.false
     c.args.store.now c.pass.new.store c.pass-2.new.store c.read.result c.in-Ok.forth c.in-Ok-pass.back c.requires.words c.read.ensures
     c.in-Ok.ensures.writes c.in-Ok-pass.ensures.writes c.in-Ok.ensures.passes c.in-Ok-pass.ensures.passes
@@ -44,7 +44,7 @@ returns-clause-spreads c =
 pub returns-in-Err-clause-few : goal.returns-in-Err-clause-few
 returns-in-Err-clause-few c u gates all =
     let old = c.args.store.now in
-    let lt = (device_ranges c.args.circuit.now c.args.part.now c.args.device.now c.requires.circuit c.requires.device).gate in
+    let lt = (device_ranges c.args.circuit.now c.args.part.now c.args.device.now c.requires.part.0 c.requires.device).gate in
     let gate : IsWithin u (meaning old.nodes c.read.result) =
     subst (λ (h : ℕ). IsWithin u (meaning old.nodes h)) (sym c.read.ensures) (gates c.args.device.now.gate.0 (omega (arith, lt, c.requires.words.gates_len))) in
     spends_more u c.args.out 2 4 old c.pass.new.store (Err c.in-Err.spent) (omega arith) (c.in-Err.ensures.few u all gate)
@@ -54,7 +54,7 @@ returns-in-Err-pass-clause-few c u gates all =
     let out = c.args.out in
     let old = c.args.store.now in
     let mid = c.pass.new.store in
-    let lt = (device_ranges c.args.circuit.now c.args.part.now c.args.device.now c.requires.circuit c.requires.device).gate in
+    let lt = (device_ranges c.args.circuit.now c.args.part.now c.args.device.now c.requires.part.0 c.requires.device).gate in
     let live : c.read.result < length old.nodes = omega (arith, c.read.ensures, c.requires.words.gates_live c.args.device.now.gate.0 (omega (arith, lt, c.requires.words.gates_len))) in
     let gate : IsWithin u (meaning old.nodes c.read.result) =
     subst (λ (h : ℕ). IsWithin u (meaning old.nodes h)) (sym c.read.ensures) (gates c.args.device.now.gate.0 (omega (arith, lt, c.requires.words.gates_len))) in
@@ -67,7 +67,7 @@ returns-clause-few c u gates all =
     let out = c.args.out in
     let old = c.args.store.now in
     let mid = c.pass.new.store in
-    let lt = (device_ranges c.args.circuit.now c.args.part.now c.args.device.now c.requires.circuit c.requires.device).gate in
+    let lt = (device_ranges c.args.circuit.now c.args.part.now c.args.device.now c.requires.part.0 c.requires.device).gate in
     let live : c.read.result < length old.nodes = omega (arith, c.read.ensures, c.requires.words.gates_live c.args.device.now.gate.0 (omega (arith, lt, c.requires.words.gates_len))) in
     let gate : IsWithin u (meaning old.nodes c.read.result) =
     subst (λ (h : ℕ). IsWithin u (meaning old.nodes h)) (sym c.read.ensures) (gates c.args.device.now.gate.0 (omega (arith, lt, c.requires.words.gates_len))) in
@@ -78,5 +78,5 @@ returns-clause-few c u gates all =
 
 pub returns-then-blocks-clause-spreads : goal.returns-then-blocks-clause-spreads
 returns-then-blocks-clause-spreads c =
-    spreads_off c.args.circuit.now c.args.part.now c.requires.circuit c.args.gates c.args.out c.args.device.now c.requires.device c.args.store.now
+    spreads_off c.args.circuit.now c.args.part.now c.requires.part.0 c.args.gates c.args.out c.args.device.now c.requires.device c.args.store.now
     (sym c.read.ensures ∙ c.blocks-2.ensures c.if-blocks.true) c.args.level

@@ -53,7 +53,7 @@ loop-hold-preserved c =
           (λ n size p. (p.0, omega (arith, p.1), p.2, p.3, p.4, p.5))
           (λ n size q. (at, omega arith, hold, there, sym q.0, sym q.1))
           (λ n size r.
-          let range = all_among (IsHold circuit) circuit.holds r.2 c.requires.circuit.holds (r.0, r.3) in
+          let range = all_among (IsHold circuit) circuit.holds r.2 c.requires.part.0.holds (r.0, r.3) in
           (omega (arith, range.net, r.4, words.roots_len), omega (arith, range.size.0, r.5)))
           i.adds c.in-Ok.ensures.adds;
       few = λ one u roots all.
