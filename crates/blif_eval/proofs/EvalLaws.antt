@@ -1,7 +1,7 @@
 -- The signals and elements of a model evaluated one after the other: what was settled stays so, and in the end the bits
 -- are those of the one assignment.
 use Rattle.std.proofs.Common.{◌≡◌, ◌≢◌, ℕ, ◌+◌, ◌<◌, ◌≤◌, Bool, true, false, cond, List, Option, Some, None, length, arith, ap, ap₂, refl, sym, subst, ◌∙◌, inl, inr}
-use Rattle.std.specs.Prelude.{All, option_map, slice_get, unwrap_or}
+use Rattle.std.specs.Prelude.{option_map, slice_get, unwrap_or}
 use Rattle.std.proofs.lemmas.Bool.{cases_eq}
 use Rattle.std.proofs.lemmas.Option.{slice_get_within}
 use Rattle.bdd_core.proofs.Meaning.{meaning_one, meaning_zero}
@@ -52,9 +52,6 @@ stored_below flat n number is = let last = last_below flat is.0 is.1 in let at =
 pub control_wider : (signals len : ℕ) (control : Option ℕ) → signals ≤ len → IsControl signals control → IsControl len control
 control_wider signals len None le range = tt
 control_wider signals len (Some s) le range = omega (arith, le, range)
-
-all_wider : (m n : ℕ) (xs : List ℕ) → m ≤ n → All (λ s. s < m) xs → All (λ s. s < n) xs
-all_wider m n xs le all i lt = let low = all i lt in omega (arith, low, le)
 
 -- ---- the same bits from outside, the same values
 

@@ -105,9 +105,6 @@ rows_next a b c span inputs rows k sum r live low lt first second =
 
 -- ---- the bit of a cover
 
-pub cover_as_rows : (bits : ℕ → Bool) (cover : Cover) → (cover.on || is_empty cover.rows) ≡ true → some_row_fits bits cover.inputs cover.rows ≡ cover_bit bits cover
-cover_as_rows bits cover e = let some = some_row_fits bits cover.inputs cover.rows in sym (ap (λ (b : Bool). cond b some (not some)) e)
-
 pub cover_as_none : (bits : ℕ → Bool) (cover : Cover) → (cover.on || is_empty cover.rows) ≡ false → not (some_row_fits bits cover.inputs cover.rows) ≡ cover_bit bits cover
 cover_as_none bits cover e = let some = some_row_fits bits cover.inputs cover.rows in sym (ap (λ (b : Bool). cond b some (not some)) e)
 
