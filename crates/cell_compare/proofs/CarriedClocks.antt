@@ -4,7 +4,8 @@ use Rattle.std.specs.Prelude.{filter, filter_map, option_and_then, option_map}
 use Rattle.std.proofs.lemmas.Bool.{false≢true}
 use Rattle.std.proofs.lemmas.Option.{none-some, same_Some}
 use Rattle.cell_compare.proofs.FreePorts.{AreFree, IsInputPort, clock_apart, no_output, one_port, paired_parts, paired_there, signal_there}
-use Rattle.cell_compare.proofs.GivenLists.{given_among, given_from, number_among}
+use Rattle.path_fixpoint.proofs.Spreading.{among_filter_map}
+use Rattle.cell_compare.proofs.GivenLists.{given_among, number_among}
 use Rattle.vrt_model.proofs.Filtered.{filter_among}
 use Rattle.vrt_model.proofs.Members.{among_either, among_left, among_map}
 use Rattle.vrt_model.specs.CellRules.{clock_of_port, supply_of}
@@ -64,10 +65,10 @@ module _ (flat : FlatModel) (rules : Rules) (cell : Cell) (free : AreFree flat r
   carries c m =
       elim (among_either (filter_map (clocked_port flat rules cell.name) cell.ports) (filter_map (clocked_by_name flat rules) unpaired) c m) [
         | inl here ↦
-            let h = given_from (clocked_port flat rules cell.name) cell.ports c here in
+            let h = among_filter_map (clocked_port flat rules cell.name) cell.ports c here in
             let p = clocked_parts h.0 c h.2 in by_port h.1.0 h.0 h.1.1 p.0 p.1
         | inr later ↦
-            let h = given_from (clocked_by_name flat rules) unpaired c later in
+            let h = among_filter_map (clocked_by_name flat rules) unpaired c later in
             let same : h.0 ≡ c.signal = named_signal h.0 c h.2 in
             let k = filter_among (λ (s : ℕ). not (has_number (paired_signals flat rules cell) s)) (flat.inputs ++ flat.clocks) h.0 h.1 in
             by_name (subst (Among (flat.inputs ++ flat.clocks)) same k.0) (denied (has_number (paired_signals flat rules cell) c.signal)
@@ -166,7 +167,7 @@ module _ (flat : FlatModel) (rules : Rules) (cell : Cell) (free : AreFree flat r
 
       by_tests : (b : Bool) → has_number (paired_signals flat rules cell) s ≡ b → (not b && not (has_number carriers s)) ≡ false → IsGiven s
       by_tests true e f =
-          let h = given_from (paired_signal flat rules cell.name) cell.ports s (number_among (paired_signals flat rules cell) s e) in
+          let h = among_filter_map (paired_signal flat rules cell.name) cell.ports s (number_among (paired_signals flat rules cell) s e) in
           port_given h.1.0 h.0 s h.1.1 h.2 (free.outputs s m)
       by_tests false e f =
           let h = among_map (λ (c : ClockedSignal). c.signal) (clocked_signals flat rules cell) s (number_among carriers s (held (has_number carriers s) f)) in

@@ -6,14 +6,13 @@ use Rattle.std.proofs.lemmas.Option.{none-some, same_Some, slice_get_within}
 use Rattle.bdd_core.proofs.Meaning.{meaning_one, meaning_zero}
 use Rattle.bdd_core.specs.Diagram.{Valuation, meaning}
 use Rattle.bdd_core.specs.Store.{Diagrams, IsLive, function_of}
-use Rattle.bdd_core.specs.Words.{IsApart, IsFilled, Writes, shows, word_at}
+use Rattle.bdd_core.specs.Words.{IsApart, IsFilled, Writes, shows, word_at, WritesTwo}
 use Rattle.bdd_core.specs.declared.handle.H.{H}
-use Rattle.cell_compare.proofs.FrameLaws.{IsWithinSpan, two_filled, two_span, two_word}
+use Rattle.bdd_core.proofs.Frames.{IsWithinSpan, two_filled, two_span, two_word}
 use Rattle.cell_compare.proofs.Ordered.{AreOrderedParts, IsBefore, IsFirstPlace, IsInEarlier, IsNetAt, IsWholePart, Place}
 use Rattle.cell_compare.proofs.PartNetworks.{bit_there, fault_alone, fault_there}
 use Rattle.cell_compare.proofs.Solutions.{given_bit, given_no_float, known_bit}
 use Rattle.cell_compare.specs.Faults.{HasFault, HasFixedBits, IsSettingAt, IsSolvedAt, ShowsFault}
-use Rattle.cell_compare.specs.Frames.{WritesTwo}
 use Rattle.cell_compare.specs.Results.{HasCircuitSpans, IsClearCircuit, first_word, root_at}
 use Rattle.cell_compare.specs.Scans.{IsInside, IsPartClear, IsPartFault}
 use Rattle.cell_compare.specs.declared.net.CircuitFault.{CircuitFault}
@@ -114,7 +113,7 @@ module _ (c : Circuit) (phase : Phase) (observed : ℕ → Bool) (known : List (
     opened_root : (n : ℕ) (v : Valuation) → n < length c.nets → known_at known n ≡ None → shows now gates n v ≡ root_at first roots v n
     opened_root n v lt e =
         ap (λ (k : ℕ). meaning now.nodes k v) (opened n (omega (arith, lt, gates_len)) ∙ ap (λ (o : Option Bool). first_word o (word_at first roots n)) e)
-        ∙ wr.kept (word_at first roots n) (live n (omega (arith, lt, roots_len))) v
+        ∙ wr.adds.kept (word_at first roots n) (live n (omega (arith, lt, roots_len))) v
 
     pub solved_none : Before 0 first now
     solved_none = record {
@@ -326,12 +325,12 @@ module _ (c : Circuit) (phase : Phase) (observed : ℕ → Bool) (known : List (
     (k : ℕ) (part : Part) (here : At parts k part) (now new : Diagrams) (before : WritesTwo gates out first now) (live : IsFilled now gates)
     (solved : IsSolvedBefore c phase observed parts care roots gates k first now) where
   care_kept : (v : Valuation) → function_of now care v ≡ function_of first care v
-  care_kept v = before.kept care.0 care_live v
+  care_kept v = before.adds.kept care.0 care_live v
 
   roots_kept : (n : ℕ) (v : Valuation) → n < length c.nets → shows now roots n v ≡ shows first roots n v
   roots_kept n v lt =
       let within : n < roots.len = omega (arith, lt, spans.roots_len) in
-      ap (λ (h : ℕ). meaning now.nodes h v) (two_word gates out roots first now before spans.roots_gates spans.roots_out n within) ∙ before.kept (word_at first roots n) (spans.roots_live n within) v
+      ap (λ (h : ℕ). meaning now.nodes h v) (two_word gates out roots first now before spans.roots_gates spans.roots_out n within) ∙ before.adds.kept (word_at first roots n) (spans.roots_live n within) v
 
   pub step_clear : IsPartClear c part observed care roots gates now new → ((h : ℕ) (v : Valuation) → h < length now.nodes → meaning new.nodes h v ≡ meaning now.nodes h v)
       → IsSolvedBefore c phase observed parts care roots gates (k + 1) first new

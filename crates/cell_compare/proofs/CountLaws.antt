@@ -8,17 +8,16 @@ use Rattle.node_pool.specs.declared.region.Span.{Span}
 use Rattle.bdd_core.proofs.Bound.{within_place}
 use Rattle.bdd_core.proofs.Results.{if_err_more}
 use Rattle.bdd_core.specs.Diagram.{Function, IsReduced, IsWithin, choice, meaning, top}
-use Rattle.bdd_core.specs.Store.{Diagrams, IsLive, Makes, function_of}
-use Rattle.bdd_core.specs.Words.{IsApart, IsFilled, word_at}
+use Rattle.bdd_core.specs.Store.{Diagrams, IsLive, Makes, function_of, AddsNodes}
+use Rattle.bdd_core.specs.Words.{IsApart, IsFilled, word_at, WritesTwo}
 use Rattle.bdd_core.specs.declared.handle.H.{H}
 use Rattle.bdd_core.specs.declared.handle.Spent.{Spent}
 use Rattle.bdd_ops.proofs.CountingLaws.{counts_made, counts_then}
 use Rattle.bdd_ops.proofs.WithinLaws.{span_kept, within_and, within_choice, within_one, within_same, within_zero}
 use Rattle.bdd_ops.specs.Counting.{Counts, IsSpanWithin, IsSpentBy}
 use Rattle.bdd_ops.specs.Ops.{and_of}
-use Rattle.cell_compare.proofs.FrameLaws.{adds_made, two_word}
+use Rattle.bdd_core.proofs.Frames.{two_word}
 use Rattle.cell_compare.proofs.ScanLaws.{slot_word}
-use Rattle.cell_compare.specs.Frames.{Adds, WritesTwo}
 use Rattle.cell_compare.specs.Operations.{IsUsedUp}
 use Rattle.cell_compare.specs.Results.{first_word}
 use Rattle.path_fixpoint.specs.Reaching.{slot_of}
@@ -42,20 +41,20 @@ sum_next f xs k x there =
 module _ (u : ℕ) where
   -- ---- a net
 
-  pub kept_within : (old new : Diagrams) (h : H) → Adds old new → IsLive old h → IsWithin u (function_of old h) → IsWithin u (function_of new h)
+  pub kept_within : (old new : Diagrams) (h : H) → AddsNodes old new → IsLive old h → IsWithin u (function_of old h) → IsWithin u (function_of new h)
   kept_within old new h adds live w = within_same u (function_of old h) (function_of new h) (adds.kept h.0 live) w
 
   -- two operations
   counts_two : (old mid new : Diagrams) (f g : Function) (h : H) (r : Result H Spent) → 2 ≤ length old.nodes → Makes old mid f (Ok h) → IsWithin u f → Makes mid new g r → IsWithin u g
       → Counts u 2 old new r
   counts_two old mid new f g h r two first reads second reads' =
-      let longer = (adds_made old mid f (Ok h) first).longer in
+      let longer = first.adds.longer in
       counts_then u 1 1 old mid new r (counts_made u old mid two f (Ok h) first reads).added (counts_made u mid new (omega (arith, two, longer)) g r second reads')
 
   module _ (old mid new : Diagrams) (care : H) (f : Function) (h : H) (r : Result H Spent) (two : 2 ≤ length old.nodes) (care_live : IsLive old care) (care_in : IsWithin u (function_of old care))
       (first : Makes old mid f (Ok h)) (reads : IsWithin u f) where
     care_mid : IsWithin u (function_of mid care)
-    care_mid = kept_within old mid care (adds_made old mid f (Ok h) first) care_live care_in
+    care_mid = kept_within old mid care first.adds care_live care_in
 
     made_mid : IsWithin u (function_of mid h)
     made_mid = within_same u f (function_of mid h) first.ok.same reads
@@ -89,4 +88,4 @@ module _ (u : ℕ) where
 
   pub roots_within : (a b span : Span) (old new : Diagrams) → WritesTwo a b old new → IsApart span a → IsApart span b → IsFilled old span → IsSpanWithin u old span → IsSpanWithin u new span
   roots_within a b span old new w apart_a apart_b live all =
-      span_kept u span old new (λ k lt. two_word a b span old new w apart_a apart_b k lt) (λ k lt. w.kept (word_at old span k) (live k lt)) all
+      span_kept u span old new (λ k lt. two_word a b span old new w apart_a apart_b k lt) (λ k lt. w.adds.kept (word_at old span k) (live k lt)) all

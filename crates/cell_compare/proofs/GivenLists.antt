@@ -34,20 +34,6 @@ given_among {X} {Y} f (z ∷ zs) x y (suc i, here) e = behind (f z) (given_among
     behind None m = m
     behind (Some w) m = among_later w (filter_map f zs) y m
 
--- what is given comes from an item
-pub given_from : {X Y : Type 0} (f : X → Option Y) (xs : List X) (y : Y) → Among (filter_map f xs) y → (x : X) × Among xs x × (f x ≡ Some y)
-given_from f [] y m = absurd (none-some y m.1)
-given_from {X} {Y} f (z ∷ zs) y m = pick (f z) refl (λ k. given_from f zs y k) m
-  where
-    later : (x : X) × Among zs x × (f x ≡ Some y) → (x : X) × Among (z ∷ zs) x × (f x ≡ Some y)
-    later h = (h.0, among_later z zs h.0 h.1, h.2)
-
-    pick : (o : Option Y) → f z ≡ o → (Among (filter_map f zs) y → (x : X) × Among zs x × (f x ≡ Some y))
-        → Among (cons_option o (filter_map f zs)) y → (x : X) × Among (z ∷ zs) x × (f x ≡ Some y)
-    pick None e below m = later (below m)
-    pick (Some w) e below (zero, here) = (z, (0, refl), e ∙ here)
-    pick (Some w) e below (suc i, here) = later (below (i, here))
-
 -- where no item gives anything, nothing is given
 pub given_nothing : {X Y : Type 0} (f : X → Option Y) (xs : List X) → ((x : X) → f x ≡ None) → filter_map f xs ≡ []
 given_nothing f [] h = refl

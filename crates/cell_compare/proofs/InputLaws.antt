@@ -9,11 +9,12 @@ use Rattle.bdd_core.specs.Diagram.{meaning}
 use Rattle.bdd_core.specs.Store.{Diagrams}
 use Rattle.bdd_core.specs.Words.{IsApart, Writes, word_at}
 use Rattle.cell_compare.proofs.CircuitLaws.{constant_shows}
-use Rattle.cell_compare.proofs.PortLaws.{at_map, map_at}
+use Rattle.blif_eval.proofs.Drivers.{at_map as map_at}
+use Rattle.cell_compare.proofs.PortLaws.{at_map}
 use Rattle.cell_compare.specs.Phases.{HasInputBits, HasPairedInputs, HasRootBits, root_bit, variable_at}
 use Rattle.cell_compare.specs.PortLists.{AreTiesWithin, HasOneNet, IsTie, unnamed}
 use Rattle.cell_compare.specs.declared.port_list.Port.{Port}
-use Rattle.path_fixpoint.proofs.Frames.{word_beside}
+use Rattle.bdd_core.proofs.Frames.{word_beside}
 use Rattle.path_fixpoint.proofs.Spreading.{among_filter_map, filter_map_among}
 use Rattle.vrt_model.specs.Assignment.{Tied}
 use Rattle.vrt_model.specs.Comparison.{CellPort, Comparison, input_signal, phase_at, ports_of, tied_inputs}

@@ -4,7 +4,6 @@ pub mod Causes
 pub mod CheckLaws
 pub mod CircuitLaws
 pub mod CountLaws
-pub mod FrameLaws
 pub mod FreePorts
 pub mod GivenLists
 pub mod InputLaws

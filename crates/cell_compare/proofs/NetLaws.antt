@@ -4,17 +4,16 @@ use Rattle.std.specs.Prelude.{◌↔◌}
 use Rattle.std.proofs.lemmas.Bool.{and_from, and_parts, false≢true}
 use Rattle.bdd_core.proofs.Meaning.{meaning_zero}
 use Rattle.bdd_core.specs.Diagram.{Function, IsSame, Valuation, choice, meaning}
-use Rattle.bdd_core.specs.Store.{Diagrams, IsLive, Means, function_of}
+use Rattle.bdd_core.specs.Store.{Diagrams, IsLive, Means, function_of, AddsNodes}
 use Rattle.bdd_core.specs.declared.handle.H.{H}
 use Rattle.bdd_ops.specs.Ops.{and_of, or_of}
-use Rattle.cell_compare.specs.Frames.{Adds}
 use Rattle.cell_compare.specs.Scans.{IsClearNet, IsFaultyNet, fight_of, float_of}
 use Rattle.vrt_model.specs.declared.verdict.FaultKind.{FaultKind}
 use Rattle.vrt_model.specs.declared.verdict.FaultKind.TheVariants.{Fight, FightKept, Float, Unsettled, Constraint, Differs, Next, Apart, Enter}
 
 -- ---- how the functions are made
 
-module _ (old mid new : Diagrams) (care zero one : H) (first : Adds old mid) (care_live : IsLive old care) where
+module _ (old mid new : Diagrams) (care zero one : H) (first : AddsNodes old mid) (care_live : IsLive old care) where
   pub fight_made : (both h : H) → Means mid both (and_of (function_of old zero) (function_of old one)) → Means new h (and_of (function_of mid care) (function_of mid both))
       → Means new h (fight_of (function_of old care) (function_of old zero) (function_of old one))
   fight_made both h b m = record {
@@ -84,7 +83,7 @@ float_says care zero one v = float_at (care v) (zero v) (one v)
 
 -- ---- a step between that adds nodes alone
 
-module _ (old mid : Diagrams) (care zero one : H) (first : Adds old mid) (care_live : IsLive old care) (zero_live : IsLive old zero) (one_live : IsLive old one) where
+module _ (old mid : Diagrams) (care zero one : H) (first : AddsNodes old mid) (care_live : IsLive old care) (zero_live : IsLive old zero) (one_live : IsLive old one) where
   float_first : IsSame (float_of (function_of mid care) (function_of mid zero) (function_of mid one)) (float_of (function_of old care) (function_of old zero) (function_of old one))
   float_first =
       float_same (function_of mid care) (function_of mid zero) (function_of mid one) (function_of old care) (function_of old zero) (function_of old one)

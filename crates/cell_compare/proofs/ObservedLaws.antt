@@ -1,13 +1,11 @@
 -- The observed nets of a plain comparison are the gates of its devices and the nets of its observed outputs.
-use Rattle.std.proofs.Common.{◌≡◌, ℕ, Bool, true, false, ◌||◌, ◌&&◌, List, Option, Some, None, replicate, arith, ap, ap₂, refl, sym, ◌∙◌, inl, inr}
+use Rattle.std.proofs.Common.{◌≡◌, ℕ, Bool, true, false, ◌||◌, ◌&&◌, List, Option, Some, None, ap, ap₂, refl, sym, ◌∙◌}
 use Rattle.std.specs.Prelude.{◌==◌, is_some}
 use Rattle.std.specs.List.{list_any}
 use Rattle.std.proofs.Math.Bool.{or-false}
-use Rattle.std.proofs.lemmas.Bool.{and_parts, cases_lt, false≢true}
-use Rattle.std.proofs.lemmas.List.{get_or-replicate, get_or_past, length-replicate}
+use Rattle.std.proofs.lemmas.Bool.{and_parts, false≢true}
 use Rattle.cell_compare.specs.Phases.{AreSeenOutputs, IsPlainComparison, IsSeenOutput}
 use Rattle.cell_compare.specs.declared.outputs.Output.{Output}
-use Rattle.vrt_model.specs.Lists.{mark_at}
 use Rattle.vrt_model.proofs.Members.{among_any, any_among}
 use Rattle.vrt_model.specs.CellRules.{is_constrained, is_observed_port}
 use Rattle.vrt_model.specs.Comparison.{CellPort, Comparison, cell_at, is_observed, output_signal, ports_of}
@@ -18,20 +16,14 @@ use Rattle.vrt_model.specs.declared.ids.Net.{Net}
 use Rattle.vrt_model.specs.declared.whole.Whole.{Whole}
 use Rattle.vrt_model.specs.declared.whole.WholePin.{WholePin}
 
--- to begin with nothing is marked
-pub no_mark : (count n : ℕ) → mark_at (replicate count false) n ≡ false
-no_mark count n = elim (cases_lt n count) [
-  | inl lt ↦ get_or-replicate count n false false lt
-  | inr ge ↦ get_or_past (replicate count false) n false (omega (arith, ge, length-replicate count false))
-]
-
 -- two tests that pass together
 same_test : (a b : Bool) → (a ≡ true → b ≡ true) → (b ≡ true → a ≡ true) → a ≡ b
 same_test true b f g = sym (f refl)
 same_test false true f g = absurd (false≢true (g refl))
 same_test false false f g = refl
 
-some_of : (o : Option ℕ) → is_some o ≡ true → (signal : ℕ) × (o ≡ Some signal)
+-- an option that is there
+pub some_of : (o : Option ℕ) → is_some o ≡ true → (signal : ℕ) × (o ≡ Some signal)
 some_of None e = absurd (false≢true e)
 some_of (Some signal) e = (signal, refl)
 

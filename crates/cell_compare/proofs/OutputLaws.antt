@@ -1,13 +1,12 @@
 -- The outputs, one after the other.
-use Rattle.std.proofs.Common.{◌≡◌, ◌≢◌, ℕ, ◌+◌, ◌<◌, ◌≤◌, ◌&&◌, ◌⊎◌, Bool, true, false, cond, not, List, Result, IfErr, length, length-append, slice_index, arith, ap, refl, sym, subst, ◌∙◌, inl, inr}
+use Rattle.std.proofs.Common.{◌≡◌, ◌≢◌, ℕ, ◌+◌, ◌<◌, ◌≤◌, ◌&&◌, ◌⊎◌, Bool, true, false, cond, not, List, Result, IfErr, length, slice_index, arith, ap, refl, sym, subst, ◌∙◌, inl, inr}
 use Rattle.std.specs.Prelude.{◌↔◌}
 use Rattle.std.proofs.lemmas.Bool.{cases_eq, false≢true}
 use Rattle.std.proofs.lemmas.Option.{same_Some}
-use Rattle.node_pool.specs.declared.region.Node.{Node}
 use Rattle.node_pool.specs.declared.region.Span.{Span}
 use Rattle.bdd_core.proofs.Results.{if_err_more}
-use Rattle.bdd_core.specs.Diagram.{Function, IsReduced, IsSame, IsWithin, Valuation, meaning}
-use Rattle.bdd_core.specs.Store.{Diagrams, IsLive, IsSpent, Makes, Means, function_of}
+use Rattle.bdd_core.specs.Diagram.{Function, IsSame, IsWithin, Valuation, meaning}
+use Rattle.bdd_core.specs.Store.{Diagrams, IsLive, IsSpent, Makes, Means, function_of, AddsNodes}
 use Rattle.bdd_core.specs.Words.{IsFilled, word_at}
 use Rattle.bdd_core.specs.declared.handle.H.{H}
 use Rattle.bdd_core.specs.declared.handle.Spent.{Spent}
@@ -15,9 +14,8 @@ use Rattle.bdd_ops.proofs.CountingLaws.{counts_made, counts_then}
 use Rattle.bdd_ops.proofs.WithinLaws.{span_kept, within_and, within_same}
 use Rattle.bdd_ops.specs.Counting.{Counts, IsCounted, IsSpanWithin}
 use Rattle.bdd_ops.specs.Ops.{MakesBoth, and_of, xor_of}
-use Rattle.cell_compare.proofs.FrameLaws.{adds_words}
+use Rattle.bdd_core.proofs.Frames.{adds_words}
 use Rattle.cell_compare.proofs.NetLaws.{nowhere}
-use Rattle.cell_compare.specs.Frames.{Adds}
 use Rattle.cell_compare.specs.Operations.{IsUsedUp}
 use Rattle.cell_compare.specs.Outputs.{Agrees, IsFirstDifference, difference_at, difference_of, net_bit, signal_bit}
 use Rattle.cell_compare.specs.declared.outputs.Output.{Output}
@@ -47,12 +45,12 @@ budget_added old new rest = ap (λ (d : Diagrams). d.budget) rest
 
 pub used_made : (old new : Diagrams) (f : Function) (r : Result H Spent) → Makes old new f r → IfErr r (IsUsedUp old new)
 used_made old new f r m =
-    let budget = budget_added old new m.rest in
+    let budget = budget_added old new m.adds.rest in
     if_err_more (IsSpent new f) (IsUsedUp old new) r (λ s w. (w.number ∙ budget, w.full ∙ budget)) m.spent
 
 pub used_both : (old new : Diagrams) (first f : Function) (r : Result H Spent) → MakesBoth old new first f r → IfErr r (IsUsedUp old new)
 used_both old new first f r m =
-    let budget = budget_added old new m.rest in
+    let budget = budget_added old new m.adds.rest in
     if_err_more (λ s. IsSpent new first s ⊎ IsSpent new f s) (IsUsedUp old new) r
     (λ s w. elim w [ inl x ↦ (x.number ∙ budget, x.full ∙ budget) | inr x ↦ (x.number ∙ budget, x.full ∙ budget) ]) m.spent
 
@@ -60,24 +58,9 @@ used_both old new first f r m =
 pub used_later : {A : Type 0} (old mid new : Diagrams) (r : Result A Spent) → mid.budget ≡ old.budget → IfErr r (IsUsedUp mid new) → IfErr r (IsUsedUp old new)
 used_later old mid new r budget used = if_err_more (IsUsedUp mid new) (IsUsedUp old new) r (λ s w. (w.0 ∙ budget, w.1 ∙ budget)) used
 
--- ---- steps that add nodes alone
-
-pub adds_none : (d : Diagrams) → IsReduced d.vars d.nodes → length d.nodes ≤ d.budget → Adds d d
-adds_none d sound within = record { rest = refl; sound = sound; within = within; longer = omega arith; kept = λ h lt v. refl }
-
-pub adds_both : (old new : Diagrams) (first f : Function) (r : Result H Spent) → MakesBoth old new first f r
-    → ((h : H) → IsLive old h → IsLive new h × IsSame (function_of new h) (function_of old h)) → Adds old new
-adds_both old new first f r m kept = record {
-  rest = m.rest;
-  sound = m.sound;
-  within = m.within;
-  longer = omega (arith, ap (λ (ns : List Node). length ns) m.is, length-append old.nodes m.more);
-  kept = λ h lt v. (kept (record { 0 = h }) lt).1 v;
-}
-
 -- ---- one output
 
-module _ (old mid new : Diagrams) (care net signal : H) (first : Adds old mid) (care_live : IsLive old care) where
+module _ (old mid new : Diagrams) (care net signal : H) (first : AddsNodes old mid) (care_live : IsLive old care) where
   pub difference_made : (apart h : H) → Means mid apart (xor_of (function_of old net) (function_of old signal)) → Means new h (and_of (function_of mid care) (function_of mid apart))
       → Means new h (difference_of (function_of old care) (function_of old net) (function_of old signal))
   difference_made apart h b m = record {
@@ -98,10 +81,10 @@ module _ (old mid new : Diagrams) (care net signal : H) (first : Adds old mid) (
 
 -- ---- the outputs so far
 
-module _ (outputs : List Output) (care : H) (gates values : Span) (first old : Diagrams) (adds : Adds first old) (care_live : IsLive first care) (gates_live : IsFilled first gates) (values_live : IsFilled first values) where
+module _ (outputs : List Output) (care : H) (gates values : Span) (first old : Diagrams) (adds : AddsNodes first old) (care_live : IsLive first care) (gates_live : IsFilled first gates) (values_live : IsFilled first values) where
   shows_first : (span : Span) (k : ℕ) (v : Valuation) → IsFilled first span → k < span.len → meaning old.nodes (word_at old span k) v ≡ meaning first.nodes (word_at first span k) v
   shows_first span k v live lt =
-      ap (λ (ws : List ℕ). meaning old.nodes (slice_index ws (span.start + k)) v) (adds_words first old adds) ∙ adds.kept (word_at first span k) (live k lt) v
+      ap (λ (ws : List ℕ). meaning old.nodes (slice_index ws (span.start + k)) v) (adds_words first old first.words adds) ∙ adds.kept (word_at first span k) (live k lt) v
 
   -- where an output differs in the store of its turn, it does in the first
   pub difference_first : (output : Output) → output.net.0 < gates.len → output.signal < values.len → IsSame (difference_at old care gates values output) (difference_at first care gates values output)
@@ -144,6 +127,6 @@ module _ (outputs : List Output) (care : H) (gates values : Span) (first old : D
   }
 
 -- the handles of a span in the store of a turn
-pub span_within : (u : ℕ) (span : Span) (first old : Diagrams) → Adds first old → IsFilled first span → IsSpanWithin u first span → IsSpanWithin u old span
+pub span_within : (u : ℕ) (span : Span) (first old : Diagrams) → AddsNodes first old → IsFilled first span → IsSpanWithin u first span → IsSpanWithin u old span
 span_within u span first old adds live all = span_kept u span first old
-    (λ k lt. ap (λ (ws : List ℕ). slice_index ws (span.start + k)) (adds_words first old adds)) (λ k lt. adds.kept (word_at first span k) (live k lt)) all
+    (λ k lt. ap (λ (ws : List ℕ). slice_index ws (span.start + k)) (adds_words first old first.words adds)) (λ k lt. adds.kept (word_at first span k) (live k lt)) all

@@ -4,7 +4,8 @@ use Rattle.std.specs.Prelude.{filter_map, flat_map, option_map, slice_get}
 use Rattle.std.proofs.lemmas.Option.{none-some, same_Some, slice_get_within}
 use Rattle.cell_compare.proofs.CarriedClocks.{Carries, carried_apart, carried_input, carried_once, carries, input_given}
 use Rattle.cell_compare.proofs.FreePorts.{AreFree, IsInputPort, all_roles, are_free, input_port, one_port, output_port}
-use Rattle.cell_compare.proofs.GivenLists.{given_among, given_at, given_from}
+use Rattle.path_fixpoint.proofs.Spreading.{among_filter_map}
+use Rattle.cell_compare.proofs.GivenLists.{given_among, given_at}
 use Rattle.cell_compare.proofs.PortLists.{number_there, port_flat, port_made, port_parts, port_placed, supply_placed}
 use Rattle.cell_compare.specs.Compared.{comparison}
 use Rattle.cell_compare.specs.Phases.{HasPairedInputs, IsClocked, IsTiedTo}
@@ -181,7 +182,7 @@ module _ (design : Design) (rules : Rules) (cell m : ℕ) (f : Flattened) (ports
   -- each tied signal is so
   tied_back : (t : Tied) → Among (tied_inputs (comparison design rules cell f)) t → IsTiedBy t
   tied_back t m =
-      let h = given_from tied_by (ports_of k) t m in by_role h.0 h.1 (input_signal h.0.role) refl h.2
+      let h = among_filter_map tied_by (ports_of k) t m in by_role h.0 h.1 (input_signal h.0.role) refl h.2
     where
       by_role : (p : CellPort) → Among (ports_of (comparison design rules cell f)) p → (o : Option ℕ) → input_signal p.role ≡ o
           → option_map (λ (signal : ℕ). let tied : Tied = record { net = p.net; signal = signal } in tied) o ≡ Some t → IsTiedBy t

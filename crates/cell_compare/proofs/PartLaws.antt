@@ -13,7 +13,7 @@ use Rattle.cell_compare.specs.Faults.{ShowsFault}
 use Rattle.cell_compare.specs.Scans.{IsClearNet, IsFaultyNet, IsFoundIn, IsPartClear, IsPartFault, IsScannedTo, PartGives, ScanGives, fight_of, float_of, reached}
 use Rattle.cell_compare.specs.declared.net.CircuitFault.{CircuitFault}
 use Rattle.channel_parts.specs.declared.part.Part.{Part}
-use Rattle.path_fixpoint.proofs.Frames.{word_beside}
+use Rattle.bdd_core.proofs.Frames.{word_beside}
 use Rattle.path_fixpoint.proofs.Places.{place_in}
 use Rattle.path_fixpoint.specs.Parts.{IsPlace}
 use Rattle.path_fixpoint.specs.Reaching.{slot_of}
@@ -117,7 +117,7 @@ module _ (c : Circuit) (part : Part) (observed : ℕ → Bool) (care : H) (roots
   net_alone v = network_at old c part gates roots v
 
   care_same : (v : Valuation) → function_of mid care v ≡ function_of old care v
-  care_same v = solved.kept care.0 care_live v
+  care_same v = solved.adds.kept care.0 care_live v
 
   pub part_clear : IsScannedTo part observed care gates out (length part.nets) mid new → IsPartClear c part observed care roots gates old new
   part_clear s = record {
@@ -129,7 +129,7 @@ module _ (c : Circuit) (part : Part) (observed : ℕ → Bool) (care : H) (roots
         let word : word_at new gates n ≡ word_at mid out (word_of (slot_of true) i) = s.bits i n (place_in part i n inside.1) inside.1 in
         let fits : 10 * i + 10 ≤ out.len = omega (arith, place_in part i n inside.1, spans.spans.out_len) in
         let same : shows new gates n v ≡ reached mid out true i v =
-        ap (λ (k : ℕ). meaning new.nodes k v) word ∙ scanned.kept (word_at mid out (word_of (slot_of true) i)) (solved.live (word_of (slot_of true) i) (slot_word true i out.len fits)) v in
+        ap (λ (k : ℕ). meaning new.nodes k v) word ∙ scanned.adds.kept (word_at mid out (word_of (slot_of true) i)) (solved.live (word_of (slot_of true) i) (slot_word true i out.len fits)) v in
         (λ e. (tells v i n true inside.1).0 (sym same ∙ e), λ r. same ∙ (tells v i n true inside.1).1 r);
     others = λ k lt away.
         s.others k (λ i below p. away (i, p)) ∙ word_beside out gates old mid k solved spans.spans.apart lt;

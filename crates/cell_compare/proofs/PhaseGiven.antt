@@ -1,11 +1,11 @@
 -- What the circuit and the model of a plain comparison are given at a valuation; and what was found of them in a store,
 -- at each valuation.
-use Rattle.std.proofs.Common.{◌≡◌, ℕ, ◌<◌, ◌&&◌, ◌||◌, Bool, true, false, List, ◌++◌, Option, Some, None, length, ap, refl, sym, subst, ◌∙◌, eqb, inl, inr}
+use Rattle.std.proofs.Common.{◌≡◌, ℕ, ◌<◌, ◌&&◌, ◌||◌, Bool, true, false, List, ◌++◌, Option, length, ap, refl, sym, subst, ◌∙◌, eqb, inl, inr}
 use Rattle.std.specs.Prelude.{is_some, unwrap_or}
 use Rattle.std.specs.List.{list_any}
 use Rattle.std.proofs.Math.Path.{fun_ext}
 use Rattle.std.proofs.lemmas.Option.{slice_get_within}
-use Rattle.std.proofs.lemmas.Bool.{and_parts, eq-eqb, eqb-true, false≢true, or_cases, or_left}
+use Rattle.std.proofs.lemmas.Bool.{and_parts, eq-eqb, eqb-true, or_cases, or_left}
 use Rattle.node_pool.specs.declared.region.Span.{Span}
 use Rattle.bdd_core.specs.Diagram.{Valuation}
 use Rattle.bdd_core.specs.Store.{Diagrams, function_of}
@@ -16,6 +16,7 @@ use Rattle.blif_eval.specs.Evaluated.{IsEvaluated}
 use Rattle.blif_eval.specs.OneAssignment.{HasOneAssignment, IsAssigned}
 use Rattle.blif_eval.specs.Plans.{HasKnownBits, IsPlan}
 use Rattle.blif_eval.specs.declared.plan.ModelPlan.{ModelPlan}
+use Rattle.cell_compare.proofs.ObservedLaws.{some_of}
 use Rattle.cell_compare.proofs.PhaseBits.{input_bit}
 use Rattle.cell_compare.specs.Faults.{HasFixedBits, IsSettingAt}
 use Rattle.cell_compare.specs.Phases.{HasInputBits, HasKnownClocks, HasOneModel, HasRootBits, HasSignalBits, IsClearPhase, IsPlainComparison, root_bit, variable_at}
@@ -45,10 +46,6 @@ use Rattle.vrt_model.specs.declared.flat_model.FlatLatch.{FlatLatch}
 use Rattle.vrt_model.specs.declared.ids.Net.{Net}
 use Rattle.vrt_model.specs.declared.whole.Whole.{Whole}
 use Rattle.vrt_model.specs.declared.whole.WholePin.{WholePin}
-
-some_signal : (o : Option ℕ) → is_some o ≡ true → (s : ℕ) × (o ≡ Some s)
-some_signal None f = absurd (false≢true f)
-some_signal (Some s) f = (s, refl)
 
 -- ---- roots
 
@@ -120,7 +117,7 @@ module _ (k : Comparison) (phase : ℕ) (plain : IsPlainComparison k phase) wher
       by_port p m t =
           let a = and_parts (eqb p.net n && is_some (output_signal p.role)) (is_observed_port k.rules (cell_at k.design k.cell).name p.name phase) t in
           let b = and_parts (eqb p.net n) (is_some (output_signal p.role)) a.0 in
-          let s = some_signal (output_signal p.role) b.1 in
+          let s = some_of (output_signal p.role) b.1 in
           subst (λ (x : ℕ). x < length k.circuit.nets) (eqb-true p.net n b.0) (plain.ports m.0 p s.0 (record { there = m.1; role = s.1; seen = a.1 })).0
 
   -- the gates are observed, and nets of the circuit alone are

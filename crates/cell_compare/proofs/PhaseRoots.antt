@@ -9,12 +9,12 @@ use Rattle.bdd_core.specs.Store.{Diagrams, Means}
 use Rattle.bdd_core.specs.Words.{IsFilled, Writes, shows, word_at}
 use Rattle.bdd_core.specs.declared.handle.H.{H}
 use Rattle.bdd_core.specs.declared.handle.Spent.{Spent}
-use Rattle.bdd_ops.proofs.CountingLaws.{counted_more, counted_none, counted_same, counted_then, counts_err, counts_more, counts_ok, counts_then}
+use Rattle.bdd_ops.proofs.CountingLaws.{counted_more, counted_none, counts_err, counts_more, counts_ok, counts_then}
 use Rattle.bdd_ops.specs.Counting.{Counts, IsCounted}
 use Rattle.cell_compare.proofs.CircuitLaws.{constant_shows}
 use Rattle.cell_compare.proofs.PhaseBits.{input_below, variable_more, variables_few}
 use Rattle.cell_compare.specs.Phases.{HasRootsBefore, input_count, root_bit, variable_at}
-use Rattle.path_fixpoint.proofs.Frames.{shows_kept}
+use Rattle.bdd_core.proofs.Frames.{shows_kept}
 use Rattle.vrt_model.specs.Lists.{At}
 use Rattle.vrt_model.specs.Variables.{is_input}
 use Rattle.vrt_model.specs.declared.circuit.Circuit.{Circuit}
@@ -37,19 +37,13 @@ constant_means d h b sound e = record {
 pub counts_constant : {A : Type 0} (u : ℕ) (d : Diagrams) (x : A) → Counts u 1 d d (Ok x)
 counts_constant u d x = counts_ok u 1 d d x (counted_more u 0 1 d d (omega arith) (counted_none u d))
 
--- a word that is written after an operation
-pub counts_written : {A B : Type 0} (u : ℕ) (old mid new : Diagrams) (x : A) (y : B) (words : List ℕ) → Counts u 1 old mid (Ok x) → new ≡ record mid { words = words } → Counts u 1 old new (Ok y)
-counts_written u old mid new x y words before is =
-    counts_ok u 1 old new y
-    (counted_then u 1 0 old mid new before.added (counted_same u mid new (ap (λ (d : Diagrams). d.budget) is) (ap (λ (d : Diagrams). d.nodes) is)))
-
 -- ---- the nets so far
 
 module _ (roots : Span) (first old new : Diagrams) (n all : ℕ) (writes : Writes roots first old) (counted : IsCounted first.vars n first old) where
   -- the operation of one more net, in the variables of the first store
   next_counts : {A : Type 0} (r : Result A Spent) → Counts old.vars 1 old new r → Counts first.vars (n + 1) first new r
   next_counts r one =
-      counts_then first.vars n 1 first old new r counted (subst (λ (u : ℕ). Counts u 1 old new r) (ap (λ (d : Diagrams). d.vars) writes.rest) one)
+      counts_then first.vars n 1 first old new r counted (subst (λ (u : ℕ). Counts u 1 old new r) (ap (λ (d : Diagrams). d.vars) writes.adds.rest) one)
 
   pub counted_next : {A : Type 0} (x : A) → Counts old.vars 1 old new (Ok x) → IsCounted first.vars (n + 1) first new
   counted_next x one = (next_counts (Ok x) one).added

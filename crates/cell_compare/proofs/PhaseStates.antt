@@ -4,20 +4,18 @@ use Rattle.std.specs.Prelude.{flat_map, slice_get, slice_index, slice_index_or, 
 use Rattle.std.proofs.lemmas.Option.{slice_get-get_or}
 use Rattle.node_pool.specs.declared.region.Span.{Span}
 use Rattle.bdd_core.specs.Diagram.{IsReduced, Valuation, meaning}
-use Rattle.bdd_core.specs.Store.{Diagrams, IsSpan}
-use Rattle.bdd_core.specs.Words.{IsApart, IsFilled, Writes, shows, word_at}
+use Rattle.bdd_core.specs.Store.{Diagrams, IsSpan, AddsNodes}
+use Rattle.bdd_core.specs.Words.{IsApart, IsFilled, Writes, shows, word_at, WritesTwo}
 use Rattle.bdd_ops.specs.Ops.{bits_of}
 use Rattle.bdd_ops.specs.Counting.{IsCounted, IsSpanWithin}
 use Rattle.blif_eval.specs.Evaluated.{HasModelSpans, IsEvaluated, IsPlannedFor}
 use Rattle.blif_eval.specs.Plans.{IsPlan, entry_of}
 use Rattle.blif_eval.specs.declared.plan.ModelPlan.{ModelPlan}
 use Rattle.cell_compare.proofs.CountLaws.{reads_variables}
-use Rattle.cell_compare.proofs.FrameLaws.{adds_words, writes_added, two_first, two_filled, two_word}
 use Rattle.cell_compare.proofs.PartCounts.{part_room}
 use Rattle.cell_compare.proofs.PhaseCounts.{used_more, used_words}
 use Rattle.cell_compare.proofs.PhaseGiven.{no_hold, observed_nets, one_model, signal_bits}
 use Rattle.cell_compare.specs.Compared.{nothing_known}
-use Rattle.cell_compare.specs.Frames.{Adds, WritesTwo}
 use Rattle.cell_compare.specs.Phases.{AreSeenOutputs, HasInputBits, HasKnownClocks, HasRootBits, IsClearPhase, IsPlainComparison}
 use Rattle.cell_compare.specs.PhaseSteps.{HasPhaseWords, IsKnownModel, IsOpen, IsPhaseStore, IsSolved, evaluated_operations, gate_bits, opened_operations, solved_operations}
 use Rattle.cell_compare.specs.Results.{HasCircuitSpans}
@@ -26,7 +24,7 @@ use Rattle.cell_compare.specs.declared.phase_words.PhaseWords.{PhaseWords}
 use Rattle.channel_parts.specs.PartLists.{AreParts}
 use Rattle.channel_parts.specs.declared.part.Part.{Part}
 use Rattle.channel_parts.specs.declared.part.Parts.{Parts}
-use Rattle.path_fixpoint.proofs.Frames.{shows_kept}
+use Rattle.bdd_core.proofs.Frames.{shows_kept, adds_words, writes_added, two_first, two_filled, two_word}
 use Rattle.path_fixpoint.specs.Spending.{HasOneHold}
 use Rattle.vrt_model.specs.Comparison.{Comparison, phase_at}
 use Rattle.vrt_model.specs.Elements.{element_names, names_by_kind, signal_name}
@@ -118,7 +116,7 @@ module _ (nets signals variables : ℕ) (w : PhaseWords) (d : Diagrams) (h : Has
 
 module _ (a b span : Span) (old new : Diagrams) (writes : WritesTwo a b old new) (apart_a : IsApart span a) (apart_b : IsApart span b) (live : IsFilled old span) where
   pub shows_two : (n : ℕ) (v : Valuation) → n < span.len → shows new span n v ≡ shows old span n v
-  shows_two n v lt = ap (λ (h : ℕ). meaning new.nodes h v) (two_word a b span old new writes apart_a apart_b n lt) ∙ writes.kept (word_at old span n) (live n lt) v
+  shows_two n v lt = ap (λ (h : ℕ). meaning new.nodes h v) (two_word a b span old new writes apart_a apart_b n lt) ∙ writes.adds.kept (word_at old span n) (live n lt) v
 
   pub roots_two : (c : Circuit) (phase : Phase) → span.len ≡ length c.nets → HasRootBits c phase span old → HasRootBits c phase span new
   roots_two c phase len has n net lt at v = shows_two n v (omega (arith, lt, len)) ∙ has n net lt at v
@@ -271,9 +269,9 @@ output_inside k phase plain outputs are i output there =
     (subst (λ (n : ℕ). n < length k.circuit.nets) (sym seen.2) below.0, below.1)
 
 -- where nodes alone were added, the words show what they showed
-pub shows_added : (span : Span) (old new : Diagrams) (n : ℕ) (v : Valuation) → Adds old new → IsFilled old span → n < span.len → shows new span n v ≡ shows old span n v
+pub shows_added : (span : Span) (old new : Diagrams) (n : ℕ) (v : Valuation) → AddsNodes old new → IsFilled old span → n < span.len → shows new span n v ≡ shows old span n v
 shows_added span old new n v adds live lt =
-    shows_kept span span old new n v (writes_added span old new live adds) (ap (λ (ws : List ℕ). slice_index ws (span.start + n)) (adds_words old new adds)) (live n lt)
+    shows_kept span span old new n v (writes_added span old new live adds) (ap (λ (ws : List ℕ). slice_index ws (span.start + n)) (adds_words old new old.words adds)) (live n lt)
 
 -- live handles read only the variables of the store
 pub span_reads : (d : Diagrams) (span : Span) → IsReduced d.vars d.nodes → IsFilled d span → IsSpanWithin d.vars d span

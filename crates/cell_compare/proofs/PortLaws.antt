@@ -31,11 +31,6 @@ at_map f [] j y e = absurd (none-some y e)
 at_map f (x ∷ xs) zero y e = (x, refl, same_Some (f x) y e)
 at_map f (x ∷ xs) (suc j) y e = at_map f xs j y e
 
-pub map_at : {X Y : Type 0} (f : X → Y) (xs : List X) (j : ℕ) (x : X) → At xs j x → At (map f xs) j (f x)
-map_at f [] j x e = absurd (none-some x e)
-map_at f (y ∷ xs) zero x e = ap (λ z. Some (f z)) (same_Some y x e)
-map_at f (y ∷ xs) (suc j) x e = map_at f xs j x e
-
 -- ---- the nets of ports
 
 -- a port is a supply exactly where its name is one

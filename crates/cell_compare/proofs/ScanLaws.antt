@@ -10,7 +10,7 @@ use Rattle.cell_compare.proofs.NetLaws.{clear_same, faulty_same}
 use Rattle.cell_compare.specs.Scans.{IsClearNet, IsClearPlace, IsFaultyNet, IsFoundIn, IsScannedTo, reached}
 use Rattle.cell_compare.specs.declared.net.CircuitFault.{CircuitFault}
 use Rattle.channel_parts.specs.declared.part.Part.{Part}
-use Rattle.path_fixpoint.proofs.Frames.{shows_beside, word_beside}
+use Rattle.bdd_core.proofs.Frames.{shows_beside, word_beside}
 use Rattle.path_fixpoint.proofs.Places.{place_in, place_once}
 use Rattle.path_fixpoint.specs.Parts.{IsPlace}
 use Rattle.path_fixpoint.specs.Reaching.{slot_of}
@@ -35,7 +35,7 @@ module _ (part : Part) (observed : ℕ → Bool) (care : H) (gates out : Span) (
     place_fits i n p = omega (arith, place_in part i n p, len)
 
     care_same : IsSame (function_of old care) (function_of first care)
-    care_same v = wr.kept care.0 care_live v
+    care_same v = wr.adds.kept care.0 care_live v
 
     reached_same : (value : Bool) (i n : ℕ) → IsPlace part i n → IsSame (reached old out value i) (reached first out value i)
     reached_same value i n p v = shows_beside gates out first old (word_of (slot_of value) i) v wr apart filled (slot_word value i out.len (place_fits i n p))

@@ -3,7 +3,8 @@ use Rattle.std.proofs.Common.{◌≡◌, ℕ, zero, suc, ◌+◌, ◌-◌, ◌<�
 use Rattle.std.specs.Prelude.{filter_map, get_or, option_and_then, slice_get, unwrap_or}
 use Rattle.std.specs.List.{cons_option}
 use Rattle.std.proofs.lemmas.Option.{none-some, same_Some, slice_get-get_or}
-use Rattle.cell_compare.proofs.PortLaws.{at_map, map_at, ports_shown}
+use Rattle.blif_eval.proofs.Drivers.{at_map as map_at}
+use Rattle.cell_compare.proofs.PortLaws.{at_map, ports_shown}
 use Rattle.cell_compare.specs.Compared.{comparison}
 use Rattle.cell_compare.specs.Phases.{AreSeenOutputs, IsPlainComparison, IsSeenOutput}
 use Rattle.cell_compare.specs.PortLists.{net_by, next_by, output_at, port_at, ports_by, seen_output, supply_bit, unnamed}

@@ -3,6 +3,7 @@ use Rattle.std.proofs.Common.{◌≡◌, ℕ, ◌≤◌, Bool, true, false, cond
 use Rattle.std.specs.Prelude.{option_map, slice_get, unwrap_or}
 use Rattle.std.proofs.lemmas.Bool.{cases_Bool, cond-false, cond-true, false≢true}
 use Rattle.std.proofs.lemmas.Option.{same_Some}
+use Rattle.channel_parts.proofs.OneSolution.{shows_from}
 use Rattle.channel_parts.specs.OneSolution.{AreObserved}
 use Rattle.vrt_model.proofs.Filtered.{device_among}
 use Rattle.vrt_model.proofs.GatesGiven.{IsGiven, plain_any}
@@ -31,10 +32,6 @@ use Rattle.cell_compare.specs.Faults.{HasFixedBits, IsSettingAt}
 use Rattle.vrt_model.specs.Networks.{HasLevels, IsSource}
 
 -- ---- responses
-
-pub shows_from : (w : Network) (n : ℕ) (v : Bool) → Reaches w n v → ((u : Bool) → Reaches w n u → u ≡ v) → IsResponse w n (Shows v)
-shows_from w n true r h = (r, λ q. false≢true (h false q))
-shows_from w n false r h = (r, λ q. false≢true (sym (h true q)))
 
 -- a net that shows a bit does not float
 pub shows_no_float : (w : Network) (n : ℕ) (v : Bool) → IsResponse w n (Shows v) → IsResponse w n Float → ⊥

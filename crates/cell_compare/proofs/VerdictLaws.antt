@@ -1,5 +1,5 @@
 -- The verdict on a cell, its line, and what is known of the cell then, by what the steps of the comparison give.
-use Rattle.std.proofs.Common.{◌≡◌, ℕ, zero, suc, ◌<◌, Bool, true, List, [], ◌∷◌, length, Option, Some, None, arith, ap, subst, sym, refl, ◌∙◌, inl, inr}
+use Rattle.std.proofs.Common.{◌≡◌, ℕ, suc, ◌<◌, Bool, true, List, [], ◌∷◌, length, Option, Some, None, arith, ap, subst, sym, refl, ◌∙◌, inl, inr}
 use Rattle.std.specs.Prelude.{All, cond, filter, option_map}
 use Rattle.cell_compare.proofs.Acyclic.{circuit_acyclic, model_acyclic, model_cycle}
 use Rattle.cell_compare.proofs.Causes.{why_many, why_none}
@@ -10,13 +10,13 @@ use Rattle.cell_compare.specs.Compared.{IsBuilt, IsFlattened, comparison}
 use Rattle.cell_compare.specs.Steps.{ArePlans, AreSoft, IsChecked, IsPhaseCycle, IsPlanned, IsTold, IsToldWhy, is_output_role}
 use Rattle.cell_compare.specs.declared.flattened.Flattened.{Flattened}
 use Rattle.cell_compare.specs.declared.flattened.PhasePlan.{PhasePlan}
+use Rattle.known_nets.proofs.PlaceLaws.{there_at}
 use Rattle.vrt_model.proofs.Members.{all_among}
 use Rattle.vrt_model.specs.CellRules.{supply_of}
 use Rattle.vrt_model.specs.Comparison.{CellPort, Comparison, cell_at, phase_at, port_nets, port_nets_from, ports_from}
 use Rattle.vrt_model.specs.Equal.{IsEqual}
 use Rattle.vrt_model.specs.Facts.{IsTrueDrive, IsTrueFor, output_ports}
 use Rattle.vrt_model.specs.Inputs.{AreRules, IsDesign}
-use Rattle.vrt_model.specs.Lists.{At}
 use Rattle.vrt_model.specs.PairedPorts.{Paired, Model, model_of_paired, paired_model}
 use Rattle.vrt_model.specs.Unsupported.{AcyclicBefore, IsCycleWhy, IsSupported, IsUnsupportedBy, comparison_of, why_early}
 use Rattle.vrt_model.specs.VerdictText.{verdict_line}
@@ -58,12 +58,6 @@ outputs_among at (name ∷ names) (net ∷ nets) (Output signal ∷ roles) e sam
 
 -- ---- with a circuit
 
--- something stands at each place below the length
-there_is : {X : Type 0} (xs : List X) (i : ℕ) → i < length xs → (x : X) × At xs i x
-there_is [] i lt = absurd (omega (arith, lt))
-there_is (x ∷ xs) zero lt = (x, refl)
-there_is (x ∷ xs) (suc i) lt = there_is xs i (omega (arith, lt))
-
 module _ (design : Design) (blif : Blif) (rules : Rules) (cell m : ℕ) (f : Flattened) (read : IsDesign design) (there : cell < length design.cells) (built : IsBuilt design blif rules cell)
     (is : IsFlattened design blif rules cell m f) where
   -- what is compared, by the steps and by the definitions
@@ -79,7 +73,7 @@ module _ (design : Design) (blif : Blif) (rules : Rules) (cell m : ℕ) (f : Fla
   -- phases with plans have no cycle
   no_cycle : (upto : ℕ) (plans : List PhasePlan) → ArePlans rules f.circuit f.model upto plans → AcyclicBefore (comparison design rules cell f) upto
   no_cycle upto plans are p lt =
-      let plan = there_is plans p (omega (arith, lt, are.count)) in
+      let plan = there_at plans p (omega (arith, lt, are.count)) in
       (circuit_acyclic k p plan.0.parts (are.parts p plan.0 plan.1), model_acyclic k no_latch plan.0.model (are.models p plan.0 plan.1) p)
 
   -- a cell with few inputs and with plans is supported

@@ -1,7 +1,6 @@
 pub mod Cells
 pub mod Compared
 pub mod Faults
-pub mod Frames
 pub mod Operations
 pub mod Outputs
 pub mod PhaseSteps

@@ -3,10 +3,9 @@
 ghost use Rattle.std.specs.Prelude.{◌≡◌, ℕ, ◌*◌, ◌<◌, ◌≤◌, true, length, IfErr, IfOk};
 ghost use Rattle.bdd_core.specs.Diagram.{IsWithin, Valuation};
 ghost use Rattle.bdd_core.specs.Store.{IsLive, IsSpan, function_of};
-ghost use Rattle.bdd_core.specs.Words.{IsApart, IsFilled, Writes, word_at};
+ghost use Rattle.bdd_core.specs.Words.{IsApart, IsFilled, Writes, word_at, WritesTwo};
 ghost use Rattle.bdd_ops.specs.Counting.{IsSpanWithin};
 ghost use Rattle.cell_compare.specs.Faults.{HasFixedBits};
-ghost use Rattle.cell_compare.specs.Frames.{WritesTwo};
 ghost use Rattle.cell_compare.specs.Operations.{IsUsedUp, circuit_operations};
 ghost use Rattle.cell_compare.specs.Results.{CircuitGives, HasCircuitSpans, first_word, root_at};
 ghost use Rattle.channel_parts.specs.OneSolution.{AreObserved};
@@ -46,7 +45,7 @@ fn open(store: &mut Store, known: &[Option<bool>], roots: Span, gates: Span)
     ensures rest { store.new ≡ record store.old { words = store.new.words } }
     ensures first { (n : ℕ) → n < gates.len → word_at store.new gates n ≡ first_word (known_at known.now n) (word_at store.old roots n) }
 {
-    let _ends = store.node_count();
+    store.sound();
     for n in 0..gates.len {
         let root = store.read(roots, n);
         store.write(gates, n, first_handle(known[n as usize], root));
@@ -97,7 +96,7 @@ pub fn circuit_fault(
     ensures few { HasOneHold circuit.now → (u : ℕ) → IsWithin u (function_of store.old care) → IsSpanWithin u store.old roots → Spends u (circuit_operations parts.now.list) gates store.old store.new result }
     ensures spent { HasOneHold circuit.now → IfErr result (IsUsedUp store.old store.new) }
 {
-    let _ends = store.node_count();
+    store.sound();
     open(store, parts.known.as_slice(), roots, gates);
     for part in parts.list.as_slice() {
         let words = words_of(part, out);

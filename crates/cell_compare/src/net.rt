@@ -2,9 +2,8 @@
 
 ghost use Rattle.std.specs.Prelude.{◌≡◌, ℕ, ◌<◌, length, IfOk};
 ghost use Rattle.bdd_core.specs.Diagram.{IsWithin};
-ghost use Rattle.bdd_core.specs.Store.{IsLive, Means, function_of};
+ghost use Rattle.bdd_core.specs.Store.{IsLive, Means, function_of, AddsNodes};
 ghost use Rattle.bdd_ops.specs.Counting.{Counts};
-ghost use Rattle.cell_compare.specs.Frames.{Adds};
 ghost use Rattle.cell_compare.specs.Scans.{NetGives, fight_of, float_of};
 
 use bdd_core::{H, Spent, Store, ZERO};
@@ -26,11 +25,11 @@ pub struct CircuitFault {
 /// Where there is care and both values reach a net.
 fn fighting(store: &mut Store, care: H, zero: H, one: H) -> Result<H, Spent>
     requires { IsLive store.old care × IsLive store.old zero × IsLive store.old one }
-    ensures adds { Adds store.old store.new }
+    ensures adds { AddsNodes store.old store.new }
     ensures is { IfOk result (λ h. Means store.new h (fight_of (function_of store.old care) (function_of store.old zero) (function_of store.old one))) }
     ensures counts { (u : ℕ) → IsWithin u (function_of store.old care) → IsWithin u (function_of store.old zero) → IsWithin u (function_of store.old one) → Counts u 2 store.old store.new result }
 {
-    let _ends = store.node_count();
+    store.sound();
     let both = match and(store, zero, one) {
         Ok(both) => both,
         Err(spent) => return Err(spent),
@@ -41,11 +40,11 @@ fn fighting(store: &mut Store, care: H, zero: H, one: H) -> Result<H, Spent>
 /// Where there is care and neither value reaches a net.
 fn floating(store: &mut Store, care: H, zero: H, one: H) -> Result<H, Spent>
     requires { IsLive store.old care × IsLive store.old zero × IsLive store.old one }
-    ensures adds { Adds store.old store.new }
+    ensures adds { AddsNodes store.old store.new }
     ensures is { IfOk result (λ h. Means store.new h (float_of (function_of store.old care) (function_of store.old zero) (function_of store.old one))) }
     ensures counts { (u : ℕ) → IsWithin u (function_of store.old care) → IsWithin u (function_of store.old zero) → IsWithin u (function_of store.old one) → Counts u 2 store.old store.new result }
 {
-    let _ends = store.node_count();
+    store.sound();
     let any = match or(store, zero, one) {
         Ok(any) => any,
         Err(spent) => return Err(spent),
@@ -64,11 +63,11 @@ pub(crate) fn net_fault(
     seen: bool,
 ) -> Result<Option<CircuitFault>, Spent>
     requires { IsLive store.old care × IsLive store.old zero × IsLive store.old one }
-    ensures adds { Adds store.old store.new }
+    ensures adds { AddsNodes store.old store.new }
     ensures gives { IfOk result (λ found. NetGives (function_of store.old care) (function_of store.old zero) (function_of store.old one) seen net store.new found) }
     ensures counts { (u : ℕ) → IsWithin u (function_of store.old care) → IsWithin u (function_of store.old zero) → IsWithin u (function_of store.old one) → Counts u 4 store.old store.new result }
 {
-    let _ends = store.node_count();
+    store.sound();
     let fight = match fighting(store, care, zero, one) {
         Ok(fight) => fight,
         Err(spent) => return Err(spent),

@@ -2,10 +2,9 @@
 
 ghost use Rattle.std.specs.Prelude.{◌≡◌, ◌≢◌, ℕ, ◌*◌, ◌<◌, All, IsTrue, false, length, IfErr, IfOk};
 ghost use Rattle.bdd_core.specs.Diagram.{IsWithin};
-ghost use Rattle.bdd_core.specs.Store.{IsLive, IsSpan, Means, function_of};
+ghost use Rattle.bdd_core.specs.Store.{IsLive, IsSpan, Means, function_of, AddsNodes};
 ghost use Rattle.bdd_core.specs.Words.{IsFilled};
 ghost use Rattle.bdd_ops.specs.Counting.{Counts, IsSpanWithin};
-ghost use Rattle.cell_compare.specs.Frames.{Adds};
 ghost use Rattle.cell_compare.specs.Operations.{IsUsedUp};
 ghost use Rattle.cell_compare.specs.Outputs.{OutputsGive, difference_at, difference_of};
 
@@ -38,12 +37,12 @@ pub struct OutputFault {
 /// Where there is care and exactly one of the two is 1.
 fn difference(store: &mut Store, care: H, net: H, signal: H) -> Result<H, Spent>
     requires { IsLive store.old care × IsLive store.old net × IsLive store.old signal }
-    ensures adds { Adds store.old store.new }
+    ensures adds { AddsNodes store.old store.new }
     ensures is { IfOk result (λ h. Means store.new h (difference_of (function_of store.old care) (function_of store.old net) (function_of store.old signal))) }
     ensures spent { IfErr result (IsUsedUp store.old store.new) }
     ensures counts { (u : ℕ) → IsWithin u (function_of store.old care) → IsWithin u (function_of store.old net) → IsWithin u (function_of store.old signal) → Counts u 3 store.old store.new result }
 {
-    let _ends = store.node_count();
+    store.sound();
     let apart = match xor(store, net, signal) {
         Ok(apart) => apart,
         Err(spent) => return Err(spent),
@@ -71,12 +70,12 @@ fn check_output(
     requires gates { IsSpan store.old gates × IsFilled store.old gates }
     requires values { IsSpan store.old values × IsFilled store.old values }
     requires output { (output.net.0 < gates.len) × (output.signal < values.len) }
-    ensures adds { Adds store.old store.new }
+    ensures adds { AddsNodes store.old store.new }
     ensures is { IfOk result (λ h. Means store.new h (difference_at store.old care gates values output)) }
     ensures spent { IfErr result (IsUsedUp store.old store.new) }
     ensures counts { (u : ℕ) → IsWithin u (function_of store.old care) → IsSpanWithin u store.old gates → IsSpanWithin u store.old values → Counts u 3 store.old store.new result }
 {
-    let _ends = store.node_count();
+    store.sound();
     let net = store.read(gates, output.net.0);
     let signal = store.read(values, output.signal);
     difference(store, care, H(net), H(signal))
@@ -98,12 +97,12 @@ pub fn output_fault(
     requires gates { IsSpan store.old gates × IsFilled store.old gates }
     requires values { IsSpan store.old values × IsFilled store.old values }
     requires outputs { All (λ (o : Output). (o.net.0 < gates.len) × (o.signal < values.len)) outputs.now }
-    ensures adds { Adds store.old store.new }
+    ensures adds { AddsNodes store.old store.new }
     ensures gives { IfOk result (OutputsGive outputs.now care gates values store.old store.new) }
     ensures spent { IfErr result (IsUsedUp store.old store.new) }
     ensures counts { (u : ℕ) → IsWithin u (function_of store.old care) → IsSpanWithin u store.old gates → IsSpanWithin u store.old values → Counts u (3 * length outputs.now) store.old store.new result }
 {
-    let _ends = store.node_count();
+    store.sound();
     for i in 0..outputs.len() {
         let output = outputs[i];
         let at = match check_output(store, output, care, gates, values) {

@@ -50,7 +50,7 @@ fn check_outputs(
     requires known { IsKnownModel (comparison task.design.now task.rules.now task.cell task.flattened.now) task.phase task.budget task.plan.now.parts.list words store.old }
     ensures gives { IfOk result (PhaseGives (comparison task.entry.design.now task.entry.rules.now task.entry.cell task.entry.flattened.now) task.entry.budget task.entry.phase) }
 {
-    let _ends = store.node_count();
+    store.sound();
     match output_fault(store, outputs, ONE, words.gates, words.values) {
         Err(_) => Ok(PhaseFound::Spent),
         Ok(None) => Ok(PhaseFound::Clear),
@@ -89,7 +89,7 @@ fn check_model(
     requires solved { IsSolved (comparison task.design.now task.rules.now task.cell task.flattened.now) task.phase task.budget task.plan.now.parts.list words store.old }
     ensures gives { IfOk result (PhaseGives (comparison task.entry.design.now task.entry.rules.now task.entry.cell task.entry.flattened.now) task.entry.budget task.entry.phase) }
 {
-    let _ends = store.node_count();
+    store.sound();
     match eval_model(
         store,
         &task.flattened.model,
@@ -119,7 +119,7 @@ fn check_circuit(
     requires open { IsOpen (comparison task.design.now task.rules.now task.cell task.flattened.now) task.phase task.budget words store.old }
     ensures gives { IfOk result (PhaseGives (comparison task.entry.design.now task.entry.rules.now task.entry.cell task.entry.flattened.now) task.entry.budget task.entry.phase) }
 {
-    let _ends = store.node_count();
+    store.sound();
     let outputs = seen_outputs(
         alloc,
         task.design,
@@ -183,7 +183,7 @@ fn check_fresh(
     requires fresh { IsFresh (comparison task.design.now task.rules.now task.cell task.flattened.now) task.phase task.budget words store.old }
     ensures gives { IfOk result (PhaseGives (comparison task.entry.design.now task.entry.rules.now task.entry.cell task.entry.flattened.now) task.entry.budget task.entry.phase) }
 {
-    let _ends = store.node_count();
+    store.sound();
     let phases = task.rules.phases.as_slice();
     match open_roots(
         store,

@@ -75,7 +75,7 @@ pub(crate) fn take_words(
     ensures inputs { IfOk result (λ words. IsFilled store.new words.inputs) }
     ensures rest { store.new ≡ record store.old { words = store.new.words } }
 {
-    let _ends = store.node_count();
+    store.sound();
     let Some(all) = store.take_span(word_count(nets, signals, variables)) else {
         return Err(NoMemory);
     };

@@ -221,7 +221,7 @@ fn open_clock(store: &mut Store, phase: &Phase, one: ClockedSignal, inputs: Span
     ensures opened { word_at store.new inputs one.signal ≡ cond (clock_bit phase.now one.clock) 1 0 }
     ensures others { (s : ℕ) → s ≢ one.signal → word_at store.new inputs s ≡ word_at store.old inputs s }
 {
-    let _ends = store.node_count();
+    store.sound();
     let bit = constant(bit_of_clock(phase, one.clock));
     store.write(inputs, one.signal, bit.0);
 }
@@ -235,7 +235,7 @@ fn open_clocks(store: &mut Store, phase: &Phase, clocked: &[ClockedSignal], inpu
     ensures rest { store.new ≡ record store.old { words = store.new.words } }
     ensures opened { (c : ClockedValue) → Among clocked.now c → word_at store.new inputs c.signal ≡ cond (clock_bit phase.now c.clock) 1 0 }
 {
-    let _ends = store.node_count();
+    store.sound();
     for one in clocked {
         open_clock(store, phase, *one, inputs);
     }
@@ -251,7 +251,7 @@ fn open_tie(store: &mut Store, port: Port, roots: Span, inputs: Span)
     ensures tied { (s : ℕ) → input_signal port.role ≡ Some s → word_at store.new inputs s ≡ word_at store.old roots port.net }
     ensures others { (s : ℕ) → input_signal port.role ≢ Some s → word_at store.new inputs s ≡ word_at store.old inputs s }
 {
-    let _ends = store.node_count();
+    store.sound();
     if let Some(signal) = input_signal(port.role) {
         let root = store.read(roots, port.net);
         store.write(inputs, signal, root);
@@ -270,7 +270,7 @@ fn open_ties(store: &mut Store, ports: &[Port], roots: Span, inputs: Span)
     ensures tied { (p : Port) (s : ℕ) → IsTie ports.now p s → word_at store.new inputs s ≡ word_at store.old roots p.net }
     ensures others { (s : ℕ) → ((p : Port) → ¬ IsTie ports.now p s) → word_at store.new inputs s ≡ word_at store.old inputs s }
 {
-    let _ends = store.node_count();
+    store.sound();
     for port in ports {
         open_tie(store, *port, roots, inputs);
     }
@@ -300,7 +300,7 @@ pub(crate) fn open_inputs(
     ensures rest { store.new ≡ record store.old { words = store.new.words } }
     ensures given { IfOk result (λ _. HasInputBits (comparison design.now rules.now cell flattened.now) phase inputs store.new) }
 {
-    let _ends = store.node_count();
+    store.sound();
     let ports = ports_by(alloc, flattened.pairing.ports.as_slice())?;
     let clocked = flattened.pairing.clocked.as_slice();
     open_clocks(store, phase_of(rules, phase), clocked, inputs);

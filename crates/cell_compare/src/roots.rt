@@ -2,10 +2,9 @@
 
 ghost use Rattle.std.specs.Prelude.{◌≡◌, ◌≢◌, ℕ, ◌<◌, ◌≤◌, cond, length, IfErr, IfOk};
 ghost use Rattle.bdd_core.specs.Diagram.{Valuation};
-ghost use Rattle.bdd_core.specs.Store.{IsSpan, Means};
+ghost use Rattle.bdd_core.specs.Store.{IsSpan, Means, AddsNodes};
 ghost use Rattle.bdd_core.specs.Words.{IsFilled, Writes, shows, word_at};
 ghost use Rattle.bdd_ops.specs.Counting.{Counts};
-ghost use Rattle.cell_compare.specs.Frames.{Adds};
 ghost use Rattle.cell_compare.specs.Operations.{IsUsedUp};
 ghost use Rattle.cell_compare.specs.Phases.{HasRootBits, input_count, root_bit};
 ghost use Rattle.vrt_model.specs.Reading.{clock_bit};
@@ -49,12 +48,12 @@ pub(crate) fn count_of(kind: NetKind) -> u32
 /// The bit of a net with a given value, as a function: that of an input net is a variable.
 fn root_of(store: &mut Store, phase: &Phase, kind: NetKind, variable: u32) -> Result<H, Spent>
     requires { kind ≡ Input → variable < store.old.vars }
-    ensures adds { Adds store.old store.new }
+    ensures adds { AddsNodes store.old store.new }
     ensures is { IfOk result (λ h. Means store.new h (root_bit phase.now kind variable)) }
     ensures spent { IfErr result (IsUsedUp store.old store.new) }
     ensures counts { Counts store.old.vars 1 store.old store.new result }
 {
-    let _ends = store.node_count();
+    store.sound();
     match kind {
         NetKind::Supply(value) => Ok(constant(value)),
         NetKind::Clock(clock) => Ok(constant(bit_of_clock(phase, clock))),
@@ -81,7 +80,7 @@ fn open_root(
     ensures spent { IfErr result (IsUsedUp store.old store.new) }
     ensures counts { Counts store.old.vars 1 store.old store.new result }
 {
-    let _ends = store.node_count();
+    store.sound();
     let root = match root_of(store, phase, kind, variable) {
         Ok(root) => root,
         Err(spent) => return Err(spent),
@@ -109,7 +108,7 @@ pub fn open_roots(
     ensures spent { IfErr result (IsUsedUp store.old store.new) }
     ensures counts { Counts store.old.vars (length circuit.now.nets) store.old store.new result }
 {
-    let _ends = store.node_count();
+    store.sound();
     let _vars = store.vars();
     let mut variable = 0;
     let nets = circuit.nets.as_slice();

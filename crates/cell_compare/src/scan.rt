@@ -25,7 +25,7 @@ fn reach(store: &Store, out: Span, place: usize, value: bool) -> H
     ensures live { IsLive store.now result }
     ensures is { result.0 ≡ word_at store.now out (word_of (slot_of value) place) }
 {
-    let _ends = store.node_count();
+    store.sound();
     let first = 10 * place as u32;
     if value {
         H(store.read(out, first + 9))
@@ -64,7 +64,7 @@ fn check_net(
     ensures few { (u : ℕ) → IsWithin u (function_of store.old care) → IsSpanWithin u store.old gates → IsSpanWithin u store.old out → Spends u 4 gates store.old store.new result }
     ensures bit { IfOk result (λ found. found ≡ None → word_at store.new gates net.0 ≡ word_at store.old out (word_of (slot_of true) place)) }
 {
-    let _ends = store.node_count();
+    store.sound();
     let zero = reach(store, out, place, false);
     let one = reach(store, out, place, true);
     let found = match net_fault(store, net, care, zero, one, seen) {
@@ -100,7 +100,7 @@ pub(crate) fn scan(
     ensures gives { IfOk result (λ found. ScanGives part.now (mark_at observed.now) care gates out store.old store.new found) }
     ensures few { (u : ℕ) → IsWithin u (function_of store.old care) → IsSpanWithin u store.old gates → IsSpanWithin u store.old out → Spends u (4 * length part.now.nets) gates store.old store.new result }
 {
-    let _ends = store.node_count();
+    store.sound();
     let nets = part.nets.as_slice();
     for i in 0..nets.len() {
         let net = nets[i];

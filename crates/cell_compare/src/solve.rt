@@ -3,9 +3,8 @@
 ghost use Rattle.std.specs.Prelude.{◌≡◌, ℕ, length, IfOk};
 ghost use Rattle.bdd_core.specs.Diagram.{IsWithin};
 ghost use Rattle.bdd_core.specs.Store.{IsLive, function_of};
-ghost use Rattle.bdd_core.specs.Words.{IsApart, IsFilled};
+ghost use Rattle.bdd_core.specs.Words.{IsApart, IsFilled, WritesTwo};
 ghost use Rattle.bdd_ops.specs.Counting.{IsSpanWithin};
-ghost use Rattle.cell_compare.specs.Frames.{WritesTwo};
 ghost use Rattle.cell_compare.specs.Operations.{part_operations};
 ghost use Rattle.cell_compare.specs.Scans.{PartGives};
 ghost use Rattle.path_fixpoint.specs.Parts.{IsPart};

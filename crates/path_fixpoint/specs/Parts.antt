@@ -1,7 +1,6 @@
 -- What a channel-connected part is in its circuit.
 use Rattle.std.specs.Prelude.{◌≡◌, ℕ, ◌<◌, ◌⊎◌, Bool, IsTrue, true, List, length, slice_get, filter_map, All}
-use Rattle.plain_paths.specs.FlatCircuits.{IsFlat}
-use Rattle.vrt_model.specs.Circuits.{IsNet}
+use Rattle.vrt_model.specs.Circuits.{IsFlat, IsNet}
 use Rattle.vrt_model.specs.Lists.{At, Among}
 use Rattle.vrt_model.specs.Reading.{is_given}
 use Rattle.vrt_model.specs.declared.circuit.Circuit.{Circuit}

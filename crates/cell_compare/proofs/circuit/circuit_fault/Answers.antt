@@ -7,7 +7,7 @@ use Rattle.bdd_ops.proofs.CountingLaws.{counted_more, counted_same, counted_then
 use Rattle.bdd_ops.proofs.WithinLaws.{within_same}
 use Rattle.cell_compare.proofs.CircuitLaws.{IsSolvedBefore, root_spans, solved_all, solved_none, step_clear, step_fault, words_within}
 use Rattle.cell_compare.proofs.CountLaws.{opened_within, reads_variables, roots_within, sum_next, used_counted}
-use Rattle.cell_compare.proofs.FrameLaws.{two_first, two_then, two_wider}
+use Rattle.bdd_core.proofs.Frames.{two_first, two_then, two_wider}
 use Rattle.cell_compare.proofs.OrderLaws.{first_fault, ordered_parts}
 use Rattle.cell_compare.proofs.Ordered.{AreOrderedParts}
 use Rattle.cell_compare.specs.Operations.{circuit_operations, part_operations}
@@ -103,7 +103,7 @@ loop-part-preserved c =
       solved = λ phase are fixed.
           step_clear circuit phase observed c.args.parts.now.known c.args.parts.now.list c.args.care c.args.roots c.args.gates c.args.out c.requires.circuit c.requires.observed are c.args.store.now
           c.requires.spans c.requires.care fixed k part there c.loop-part.store c.check_part.new.store c.loop-part.invariant.writes c.loop-part.invariant.live
-          (c.loop-part.invariant.solved phase are fixed) clear (λ h v lt. c.check_part.ensures.writes.kept h lt v);
+          (c.loop-part.invariant.solved phase are fixed) clear (λ h v lt. c.check_part.ensures.writes.adds.kept h lt v);
       counted = λ one u care roots.
           let first = c.args.store.now in
           let old = c.loop-part.store in
@@ -111,7 +111,7 @@ loop-part-preserved c =
           let spans = c.requires.spans in
           let list = c.args.parts.now.list in
           let before = c.loop-part.invariant.counted one u care roots in
-          let now = c.in-Ok.ensures.few one u (within_same u (function_of first c.args.care) (function_of old c.args.care) (c.loop-part.invariant.writes.kept c.args.care.0 c.requires.care) care) before.1
+          let now = c.in-Ok.ensures.few one u (within_same u (function_of first c.args.care) (function_of old c.args.care) (c.loop-part.invariant.writes.adds.kept c.args.care.0 c.requires.care) care) before.1
           (roots_within u c.args.gates c.args.out c.args.roots first old c.loop-part.invariant.writes spans.roots_gates spans.roots_out spans.roots_live roots) in
           let sums = sum_next part_operations list k part there in (
             counted_more u (sum_by part_operations (take k list) + part_operations part) (sum_by part_operations (take (k + 1) list)) first new (omega (arith, sums))
@@ -152,7 +152,7 @@ returns-in-Err-clause-few c one u care roots =
     let sums = sum_next part_operations list k part there in
     let all = sum_by-take-le part_operations list (k + 1) in
     let before = c.loop-part.invariant.counted one u care roots in
-    let now = c.in-Err.ensures.few one u (within_same u (function_of first c.args.care) (function_of old c.args.care) (c.loop-part.invariant.writes.kept c.args.care.0 c.requires.care) care) before.1
+    let now = c.in-Err.ensures.few one u (within_same u (function_of first c.args.care) (function_of old c.args.care) (c.loop-part.invariant.writes.adds.kept c.args.care.0 c.requires.care) care) before.1
     (roots_within u c.args.gates c.args.out c.args.roots first old c.loop-part.invariant.writes spans.roots_gates spans.roots_out spans.roots_live roots) in
     spends_more u c.args.gates (sum_by part_operations (take k list) + part_operations part) (circuit_operations list) first new (Err c.in-Err.spent) (omega (arith, sums, all))
     (spends_behind u c.args.gates (sum_by part_operations (take k list)) (part_operations part) first old new (Err c.in-Err.spent) before.0 now)
@@ -170,7 +170,7 @@ returns-in-Some-clause-few c one u care roots =
     let sums = sum_next part_operations list k part there in
     let all = sum_by-take-le part_operations list (k + 1) in
     let before = c.loop-part.invariant.counted one u care roots in
-    let now = c.in-Ok.ensures.few one u (within_same u (function_of first c.args.care) (function_of old c.args.care) (c.loop-part.invariant.writes.kept c.args.care.0 c.requires.care) care) before.1
+    let now = c.in-Ok.ensures.few one u (within_same u (function_of first c.args.care) (function_of old c.args.care) (c.loop-part.invariant.writes.adds.kept c.args.care.0 c.requires.care) care) before.1
     (roots_within u c.args.gates c.args.out c.args.roots first old c.loop-part.invariant.writes spans.roots_gates spans.roots_out spans.roots_live roots) in
     spends_value u c.args.gates (circuit_operations list) first new c.in-Ok.found _
     (spends_more u c.args.gates (sum_by part_operations (take k list) + part_operations part) (circuit_operations list) first new (Ok c.in-Ok.found) (omega (arith, sums, all))
@@ -192,7 +192,7 @@ returns-clause-few c one u care roots =
 pub returns-in-Err-clause-spent : goal.returns-in-Err-clause-spent
 returns-in-Err-clause-spent c one =
     let d = c.args.store.now in
-    let sound = c.node_count-ends.ensures.sound in
+    let sound = c.sound.ensures.sound in
     used_counted d.vars (circuit_operations c.args.parts.now.list) d c.check_part.new.store (Err c.in-Err.spent)
     (returns-in-Err-clause-few c one d.vars (reads_variables d c.args.care.0 sound c.requires.care)
     (λ n lt. reads_variables d (word_at d c.args.roots n) sound (c.requires.spans.roots_live n lt))).counts

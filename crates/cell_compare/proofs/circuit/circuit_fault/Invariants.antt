@@ -2,12 +2,11 @@ use Rattle.std.proofs.Common.{ℕ, take}
 use Rattle.std.specs.Prelude.{sum_by}
 use Rattle.bdd_core.specs.Diagram.{IsWithin, Valuation}
 use Rattle.bdd_core.specs.Store.{function_of}
-use Rattle.bdd_core.specs.Words.{IsFilled}
+use Rattle.bdd_core.specs.Words.{IsFilled, WritesTwo}
 use Rattle.bdd_ops.specs.Counting.{IsCounted, IsSpanWithin}
 use Rattle.cell_compare.proofs.CircuitLaws.{IsSolvedBefore}
 use Rattle.cell_compare.proofs.Ordered.{AreOrderedParts}
 use Rattle.cell_compare.specs.Faults.{HasFixedBits}
-use Rattle.cell_compare.specs.Frames.{WritesTwo}
 use Rattle.cell_compare.specs.Operations.{part_operations}
 use Rattle.cell_compare.specs.Results.{root_at}
 use Rattle.path_fixpoint.specs.Spending.{HasOneHold}

@@ -1,30 +1,26 @@
-use Rattle.std.proofs.Common.{Err, Ok, arith}
+use Rattle.std.proofs.Common.{Err, arith}
 use Rattle.bdd_core.proofs.Results.{if_ok_more}
-use Rattle.bdd_core.specs.Diagram.{Function, choice, meaning}
+use Rattle.bdd_core.specs.Diagram.{Function}
 use Rattle.bdd_core.specs.Store.{function_of}
 use Rattle.bdd_ops.proofs.CountingLaws.{counts_made, counts_more}
 use Rattle.bdd_ops.proofs.WithinLaws.{within_or}
 use Rattle.bdd_ops.specs.Ops.{or_of}
 use Rattle.cell_compare.proofs.CountLaws.{counts_float}
-use Rattle.cell_compare.proofs.FrameLaws.{adds_made, adds_then}
+use Rattle.bdd_core.proofs.Frames.{nodes_then}
 use Rattle.cell_compare.proofs.NetLaws.{float_made}
 use Rattle.cell_compare.proofs.net.floating.Goals as goal
 
 pub returns-in-Err-clause-adds : goal.returns-in-Err-clause-adds
-returns-in-Err-clause-adds c =
-    adds_made c.args.store.now c.or.new.store (or_of (function_of c.args.store.now c.args.zero) (function_of c.args.store.now c.args.one)) (Err c.in-Err.spent) c.in-Err.ensures.makes
+returns-in-Err-clause-adds c = c.in-Err.ensures.makes.adds
 
 pub returns-clause-adds : goal.returns-clause-adds
 returns-clause-adds c =
-    adds_then c.args.store.now c.or.new.store c.ite.new.self
-    (adds_made c.args.store.now c.or.new.store (or_of (function_of c.args.store.now c.args.zero) (function_of c.args.store.now c.args.one)) (Ok c.in-Ok.any) c.in-Ok.ensures.makes)
-    (adds_made c.or.new.store c.ite.new.self (choice (function_of c.or.new.store c.in-Ok.any) (meaning c.or.new.store.nodes 0) (function_of c.or.new.store c.args.care)) c.ite.result c.ite.ensures.makes)
+    nodes_then c.args.store.now c.or.new.store c.ite.new.self c.in-Ok.ensures.makes.adds c.ite.ensures.makes.adds
 
 pub returns-clause-is : goal.returns-clause-is
 returns-clause-is c =
     if_ok_more _ _ c.ite.result
-    (λ h m. float_made c.args.store.now c.or.new.store c.ite.new.self c.args.care c.args.zero c.args.one
-    (adds_made c.args.store.now c.or.new.store (or_of (function_of c.args.store.now c.args.zero) (function_of c.args.store.now c.args.one)) (Ok c.in-Ok.any) c.in-Ok.ensures.makes)
+    (λ h m. float_made c.args.store.now c.or.new.store c.ite.new.self c.args.care c.args.zero c.args.one c.in-Ok.ensures.makes.adds
     c.requires.0 c.in-Ok.any h c.in-Ok.ensures.makes.ok m)
     c.ite.ensures.makes.ok
 
@@ -33,11 +29,11 @@ returns-in-Err-clause-counts c u care zero one =
     let old = c.args.store.now in
     let f : Function = or_of (function_of old c.args.zero) (function_of old c.args.one) in
     counts_more u 1 2 old c.or.new.store (Err c.in-Err.spent) (omega arith)
-    (counts_made u old c.or.new.store c.node_count-ends.ensures.sound.ends f (Err c.in-Err.spent) c.in-Err.ensures.makes (within_or u (function_of old c.args.zero) (function_of old c.args.one) zero one))
+    (counts_made u old c.or.new.store c.sound.ensures.sound.ends f (Err c.in-Err.spent) c.in-Err.ensures.makes (within_or u (function_of old c.args.zero) (function_of old c.args.one) zero one))
 
 pub returns-clause-counts : goal.returns-clause-counts
 returns-clause-counts c u care zero one =
     let old = c.args.store.now in
     let f : Function = or_of (function_of old c.args.zero) (function_of old c.args.one) in
-    counts_float u old c.or.new.store c.ite.new.self c.args.care f c.in-Ok.any c.ite.result c.node_count-ends.ensures.sound.ends c.requires.0 care c.in-Ok.ensures.makes
+    counts_float u old c.or.new.store c.ite.new.self c.args.care f c.in-Ok.any c.ite.result c.sound.ensures.sound.ends c.requires.0 care c.in-Ok.ensures.makes
     (within_or u (function_of old c.args.zero) (function_of old c.args.one) zero one) c.ite.ensures.makes

@@ -5,15 +5,15 @@ use Rattle.bdd_ops.proofs.CountingLaws.{counted_more, counted_none, counted_then
 use Rattle.bdd_ops.proofs.WithinLaws.{within_same}
 use Rattle.bdd_core.specs.Store.{function_of}
 use Rattle.bdd_core.specs.declared.handle.H.{H}
-use Rattle.cell_compare.proofs.FrameLaws.{adds_then, filled_added, span_added}
-use Rattle.cell_compare.proofs.OutputLaws.{adds_none, agree_more, agrees_first, budget_added, differs_first, span_within, used_later}
+use Rattle.bdd_core.proofs.Frames.{adds_none, nodes_then, filled_added, span_added}
+use Rattle.cell_compare.proofs.OutputLaws.{agree_more, agrees_first, budget_added, differs_first, span_within, used_later}
 use Rattle.cell_compare.specs.declared.outputs.Output.{Output}
 use Rattle.vrt_model.specs.Lists.{At}
 use Rattle.cell_compare.proofs.outputs.output_fault.Goals as goal
 
 pub loop-i-init : goal.loop-i-init
 loop-i-init c = record {
-  adds = adds_none c.args.store.now c.node_count-ends.ensures.sound c.node_count-ends.ensures.within;
+  adds = adds_none c.args.store.now c.sound.ensures.sound c.sound.ensures.within;
   agree = λ k output lt here. absurd (omega (arith, lt));
   counted = λ u care gates values. counted_none u c.args.store.now;
 }
@@ -30,7 +30,7 @@ check_output-requires-clause-values c =
     (span_added c.args.values c.args.store.now c.loop-i.store c.loop-i.invariant.adds c.requires.values.0, filled_added c.args.values c.args.store.now c.loop-i.store c.loop-i.invariant.adds c.requires.values.1)
 
 pub returns-in-Err-clause-adds : goal.returns-in-Err-clause-adds
-returns-in-Err-clause-adds c = adds_then c.args.store.now c.loop-i.store c.check_output.new.store c.loop-i.invariant.adds c.in-Err.ensures.adds
+returns-in-Err-clause-adds c = nodes_then c.args.store.now c.loop-i.store c.check_output.new.store c.loop-i.invariant.adds c.in-Err.ensures.adds
 
 pub returns-in-Err-clause-spent : goal.returns-in-Err-clause-spent
 returns-in-Err-clause-spent c =
@@ -49,7 +49,7 @@ returns-in-Err-clause-counts c u care gates values =
     (counts_then u (3 * i) 3 first old new (Err c.in-Err.spent) (c.loop-i.invariant.counted u care gates values) (counts_err u 3 old new c.in-Err.spent one))
 
 pub returns-then-is_somewhere-clause-adds : goal.returns-then-is_somewhere-clause-adds
-returns-then-is_somewhere-clause-adds c = adds_then c.args.store.now c.loop-i.store c.check_output.new.store c.loop-i.invariant.adds c.in-Ok.ensures.adds
+returns-then-is_somewhere-clause-adds c = nodes_then c.args.store.now c.loop-i.store c.check_output.new.store c.loop-i.invariant.adds c.in-Ok.ensures.adds
 
 pub returns-then-is_somewhere-clause-gives : goal.returns-then-is_somewhere-clause-gives
 returns-then-is_somewhere-clause-gives c =
@@ -86,7 +86,7 @@ loop-i-preserved c =
     let there : At outputs i output = slice_get-get_or outputs i (record { place = 0; net = record { 0 = 0 }; signal = 0 }) c.loop-i-test.true in
     let inside : (output.net.0 < c.args.gates.len) × (output.signal < c.args.values.len) = All-get_or (λ (o : Output). (o.net.0 < c.args.gates.len) × (o.signal < c.args.values.len)) outputs i (record { place = 0; net = record { 0 = 0 }; signal = 0 }) c.loop-i-test.true c.requires.outputs in
     record {
-      adds = adds_then first old new adds c.in-Ok.ensures.adds;
+      adds = nodes_then first old new adds c.in-Ok.ensures.adds;
       agree = agree_more outputs c.args.care c.args.gates c.args.values first old adds c.requires.care c.requires.gates.1 c.requires.values.1 i output there
           (agrees_first outputs c.args.care c.args.gates c.args.values first old adds c.requires.care c.requires.gates.1 c.requires.values.1 new output c.in-Ok.at inside.0 inside.1 c.in-Ok.ensures.is (c.is_somewhere.ensures.nowhere c.if-is_somewhere.false))
           c.loop-i.invariant.agree;

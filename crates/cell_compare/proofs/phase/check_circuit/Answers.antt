@@ -40,7 +40,7 @@ returns-in-Err c =
     let d = c.args.store.now in
     let parts = c.requires.plan.parts in
     let before = c.requires.open in
-    let sound = c.node_count-ends.ensures.sound in
+    let sound = c.sound.ensures.sound in
     let enough = work_enough k.circuit (phase_at k.rules c.args.task.phase) parts.0 c.args.task.plan.now.parts c.requires.plain.flat parts.1 (model_size k.model) 0 (omega arith) in
     record {
       gives = may_spend k c.args.task.budget c.args.task.phase (opened_operations k) (circuit_operations c.args.task.plan.now.parts.list) d c.circuit_fault.new.store c.in-Err.field-0
@@ -58,7 +58,7 @@ check_model-requires-clause-solved c =
     let parts = c.requires.plan.parts in
     let list = c.args.task.plan.now.parts.list in
     let before = c.requires.open in
-    let sound = c.node_count-ends.ensures.sound in
+    let sound = c.sound.ensures.sound in
     let one : H = record { 0 = 1 } in
     let marks = c.as_slice.result.now in
     let same : (n : ℕ) → mark_at marks n ≡ is_observed k c.args.task.phase n = λ n. ap (λ (xs : List Bool). mark_at xs n) c.as_slice.ensures.value ∙ c.in_ok-observed.ensures.is n in
@@ -68,7 +68,7 @@ check_model-requires-clause-solved c =
     let writes = c.circuit_fault.ensures.writes in
     let counts = (c.in-Ok-None.ensures.few (one_hold k c.args.task.phase c.requires.plain) d.vars (within_one d.vars d) (span_reads d words.roots sound before.roots_live)).counts in
     solved_next k c.args.task.phase c.requires.plain c.args.task.budget words d new list before writes c.circuit_fault.ensures.live
-    (store_more k c.args.task.phase c.requires.plain c.args.task.budget (opened_operations k) (circuit_operations list) words d new (ap (λ (x : Diagrams). x.own) writes.rest) (ap (λ (x : Diagrams). x.vars) writes.rest)
+    (store_more k c.args.task.phase c.requires.plain c.args.task.budget (opened_operations k) (circuit_operations list) words d new (ap (λ (x : Diagrams). x.own) writes.adds.rest) (ap (λ (x : Diagrams). x.vars) writes.adds.rest)
     writes.len counts.added before.store)
     (clear_phase k c.args.task.phase c.requires.plain (mark_at marks) same one words.roots words.gates d new before.roots (λ v. meaning_one d.nodes v) clear)
 
@@ -121,7 +121,7 @@ returns c =
     subst (λ (o : Option CircuitFault). CircuitGives k.circuit phase (mark_at marks) parts.0 one words.roots words.gates d new o) c.in-Ok-Some.field-0-is
     (c.in-Ok-Some.ensures.gives phase parts.0 parts.1 parts.2 (λ v. root_fixed k.circuit phase words.roots d before.roots v)) in
     let model = one_model k c.args.task.phase c.requires.plain words.inputs d before.inputs (nothing_known k.model) c.args.task.plan.now.model c.requires.plan.model (clocks_none k c.args.task.phase c.requires.plain) in
-    let vars : new.vars ≡ length (sources_of k c.args.task.phase) = ap (λ (x : Diagrams). x.vars) c.circuit_fault.ensures.writes.rest ∙ before.store.vars in
+    let vars : new.vars ≡ length (sources_of k c.args.task.phase) = ap (λ (x : Diagrams). x.vars) c.circuit_fault.ensures.writes.adds.rest ∙ before.store.vars in
     record {
       gives = circuit_told k c.args.task.phase c.args.task.budget c.requires.plain parts.0 c.args.task.plan.now.parts parts.1 parts.2 parts.4 model told
           (mark_at marks) same one words.roots d new fault before.roots (λ v. meaning_one d.nodes v) first

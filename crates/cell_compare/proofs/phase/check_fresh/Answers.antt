@@ -37,7 +37,7 @@ check_circuit-requires-clause-open c =
     let none : 0 + opened_operations k ≡ opened_operations k = omega arith in
     let store : IsPhaseStore k c.args.task.phase c.args.task.budget (opened_operations k) words mid =
     subst (λ (n : ℕ). IsPhaseStore k c.args.task.phase c.args.task.budget n words mid) none
-    (store_more k c.args.task.phase c.requires.plain c.args.task.budget 0 (opened_operations k) words d mid (ap (λ (x : Diagrams). x.own) writes.rest) (ap (λ (x : Diagrams). x.vars) writes.rest) writes.len
+    (store_more k c.args.task.phase c.requires.plain c.args.task.budget 0 (opened_operations k) words d mid (ap (λ (x : Diagrams). x.own) writes.adds.rest) (ap (λ (x : Diagrams). x.vars) writes.adds.rest) writes.len
     c.in-Ok.ensures.counts.added c.requires.fresh.store) in
     open_next k c.args.task.phase c.requires.plain c.args.task.budget words mid c.open_inputs.new.store store writes.live
     (subst (λ (p : Phase). HasRootBits k.circuit p words.roots mid) (sym is) c.in-Ok.ensures.opened) c.open_inputs.ensures.writes c.open_inputs.ensures.rest c.in_ok-open_inputs.ensures.given

@@ -23,13 +23,13 @@ check_outputs-requires-clause-known c =
     let words = c.args.words in
     let parts = c.args.task.plan.now.parts.list in
     let before = c.requires.solved in
-    let sound = c.node_count-ends.ensures.sound in
+    let sound = c.sound.ensures.sound in
     let writes = c.in-Ok.ensures.writes in
     let held : IsSpanWithin d.vars d words.held = λ i lt. absurd (let len = before.store.words.held_len in omega (arith, lt, len)) in
     let counts = c.in-Ok.ensures.counts d.vars (span_reads d words.inputs sound before.inputs_live) held in
     evaluated_next k c.args.task.phase c.requires.plain c.args.task.budget words d new parts c.args.task.plan.now.model c.requires.plan.model before writes c.in-Ok.ensures.evaluated
-    (store_more k c.args.task.phase c.requires.plain c.args.task.budget (solved_operations k parts) (20 * (model_size k.model + 1)) words d new (ap (λ (x : Diagrams). x.own) writes.rest)
-    (ap (λ (x : Diagrams). x.vars) writes.rest) writes.len counts.added before.store)
+    (store_more k c.args.task.phase c.requires.plain c.args.task.budget (solved_operations k parts) (20 * (model_size k.model + 1)) words d new (ap (λ (x : Diagrams). x.own) writes.adds.rest)
+    (ap (λ (x : Diagrams). x.vars) writes.adds.rest) writes.len counts.added before.store)
 
 pub returns-in-Err : goal.returns-in-Err
 returns-in-Err c =
@@ -38,7 +38,7 @@ returns-in-Err c =
     let words = c.args.words in
     let parts = c.requires.plan.parts in
     let before = c.requires.solved in
-    let sound = c.node_count-ends.ensures.sound in
+    let sound = c.sound.ensures.sound in
     let held : IsSpanWithin d.vars d words.held = λ i lt. absurd (let len = before.store.words.held_len in omega (arith, lt, len)) in
     let enough = work_enough k.circuit (phase_at k.rules c.args.task.phase) parts.0 c.args.task.plan.now.parts c.requires.plain.flat parts.1 (model_size k.model) 0 (omega arith) in
     record {

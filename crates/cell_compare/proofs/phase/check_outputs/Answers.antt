@@ -54,7 +54,7 @@ returns-in-Err c =
     let d = c.args.store.now in
     let known = c.requires.known in
     let parts = c.requires.plan.parts in
-    let sound = c.node_count-ends.ensures.sound in
+    let sound = c.sound.ensures.sound in
     record {
       gives = may_spend k c.args.task.budget c.args.task.phase (evaluated_operations k c.args.task.plan.now.parts.list) (3 * length c.args.outputs.now) d c.output_fault.new.store c.in-Err.field-0
           known.store.used known.store.vars c.requires.budget

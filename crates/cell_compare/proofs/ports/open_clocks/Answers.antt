@@ -1,7 +1,7 @@
 use Rattle.std.proofs.Common.{arith, false, get_or}
 use Rattle.std.proofs.lemmas.Option.{slice_get-get_or, slice_get_within}
 use Rattle.cell_compare.proofs.InputLaws.{clock_more}
-use Rattle.path_fixpoint.proofs.Frames.{rest_then, writes_then}
+use Rattle.bdd_core.proofs.Frames.{rest_then, writes_then}
 use Rattle.vrt_model.specs.Lists.{At}
 use Rattle.vrt_model.specs.declared.pairing.ClockedSignal.{ClockedSignal}
 use Rattle.cell_compare.proofs.ports.open_clocks.Goals as goal

@@ -2,7 +2,7 @@ use Rattle.std.proofs.Common.{arith, false, get_or}
 use Rattle.std.proofs.lemmas.Option.{slice_get-get_or, slice_get_within}
 use Rattle.cell_compare.proofs.InputLaws.{tie_more, tie_others}
 use Rattle.cell_compare.specs.declared.port_list.Port.{Port}
-use Rattle.path_fixpoint.proofs.Frames.{rest_then, writes_then}
+use Rattle.bdd_core.proofs.Frames.{rest_then, writes_then}
 use Rattle.vrt_model.specs.Lists.{At}
 use Rattle.vrt_model.specs.declared.pairing.PortRole.TheVariants.{Supply}
 use Rattle.cell_compare.proofs.ports.open_ties.Goals as goal

@@ -7,14 +7,14 @@ use Rattle.bdd_ops.proofs.CountingLaws.{counted_more, counts_ok}
 use Rattle.cell_compare.proofs.CountLaws.{used_counted}
 use Rattle.cell_compare.proofs.PhaseRoots.{counted_next, next_few, refused_next, roots_more, variable_in, variable_next}
 use Rattle.cell_compare.specs.Phases.{root_bit, variable_at}
-use Rattle.path_fixpoint.proofs.Frames.{writes_then}
+use Rattle.bdd_core.proofs.Frames.{writes_then}
 use Rattle.vrt_model.specs.Lists.{At}
 use Rattle.vrt_model.specs.declared.circuit.FlatNet.{FlatNet}
 use Rattle.cell_compare.proofs.roots.open_roots.Goals as goal
 
 pub open_root-requires-clause-variable : goal.open_root-requires-clause-variable
 open_root-requires-clause-variable c kind =
-    let vars : c.loop-n.store.vars ≡ c.args.store.now.vars = ap (λ (d : Diagrams). d.vars) c.loop-n.invariant.writes.rest in
+    let vars : c.loop-n.store.vars ≡ c.args.store.now.vars = ap (λ (d : Diagrams). d.vars) c.loop-n.invariant.writes.adds.rest in
     variable_in c.args.circuit.now c.as_slice-nets.result.now c.loop-n.n c.loop-n.variable c.loop-n.store.vars c.index-nets-n.result c.as_slice-nets.ensures c.loop-n-test.true
     c.loop-n.invariant.variable (omega (arith, vars, c.requires.vars)) kind
 

@@ -3,7 +3,7 @@ use Rattle.bdd_ops.proofs.CountingLaws.{counts_value}
 use Rattle.cell_compare.proofs.CountLaws.{kept_within, reach_within}
 use Rattle.cell_compare.proofs.OutputLaws.{span_within}
 use Rattle.path_fixpoint.proofs.SpendingLaws.{rewrites_word, spends_refused, spends_rewrites}
-use Rattle.cell_compare.proofs.FrameLaws.{adds_words}
+use Rattle.bdd_core.proofs.Frames.{adds_words}
 use Rattle.cell_compare.proofs.scan.check_net.Goals as goal
 
 pub returns-in-Err-clause-few : goal.returns-in-Err-clause-few
@@ -32,7 +32,7 @@ returns-clause-few c u care gates out =
     let adds = c.in-Ok.ensures.adds in
     let zero = reach_within u old c.args.out false c.args.place c.reach-zero.result c.reach-zero.ensures.is c.requires.place.0 out in
     let one = reach_within u old c.args.out true c.args.place c.reach-one.result c.reach-one.ensures.is c.requires.place.0 out in
-    let words : length mid.words ≡ length old.words = ap (λ (ws : List ℕ). length ws) (adds_words old mid adds) in
+    let words : length mid.words ≡ length old.words = ap (λ (ws : List ℕ). length ws) (adds_words old mid old.words adds) in
     spends_rewrites u c.args.gates 4 old mid new _ (c.in-Ok.ensures.counts u care zero one).added
     (rewrites_word u c.args.gates mid new c.args.net.0 c.reach-one.result.0 c.write.ensures c.requires.net (omega (arith, c.requires.gates.0.1, words))
     (kept_within u old mid c.reach-one.result adds c.reach-one.ensures.live one) (span_within u c.args.gates old mid adds c.requires.gates.1 gates))

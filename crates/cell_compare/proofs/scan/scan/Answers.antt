@@ -3,11 +3,10 @@ use Rattle.std.proofs.lemmas.Option.{slice_get-get_or}
 use Rattle.bdd_core.specs.Store.{function_of}
 use Rattle.bdd_ops.proofs.CountingLaws.{counted_more, counted_then, counts_ok}
 use Rattle.bdd_ops.proofs.WithinLaws.{within_same}
-use Rattle.cell_compare.proofs.FrameLaws.{span_written}
 use Rattle.cell_compare.proofs.ScanLaws.{scanned_more}
 use Rattle.cell_compare.specs.Scans.{IsClearNet, IsScannedTo, NetGives, reached}
 use Rattle.cell_compare.specs.declared.net.CircuitFault.{CircuitFault}
-use Rattle.path_fixpoint.proofs.Frames.{filled_beside, writes_then}
+use Rattle.bdd_core.proofs.Frames.{filled_beside, writes_then, span_written}
 use Rattle.path_fixpoint.proofs.SpendingLaws.{span_beside, spends_behind, spends_more, spends_value}
 use Rattle.path_fixpoint.specs.Parts.{IsPlace}
 use Rattle.vrt_model.specs.Lists.{At, mark_at}
@@ -18,7 +17,7 @@ net_at : (xs ys : List Net) (i : ℕ) (d : Net) → ys ≡ xs → i < length ys 
 net_at xs ys i d same lt = subst (λ (zs : List Net). At zs i (get_or ys i d)) same (slice_get-get_or ys i d lt)
 
 pub check_net-requires-clause-care : goal.check_net-requires-clause-care
-check_net-requires-clause-care c = omega (arith, c.requires.care, c.loop-i.invariant.writes.longer)
+check_net-requires-clause-care c = omega (arith, c.requires.care, c.loop-i.invariant.writes.adds.longer)
 
 pub check_net-requires-clause-gates : goal.check_net-requires-clause-gates
 check_net-requires-clause-gates c = (
@@ -56,7 +55,7 @@ loop-i-preserved c =
           new i net place c.loop-i.invariant.scanned clear (c.in-Ok.ensures.bit c.in_default.is) c.check_net.ensures.apart;
       counted = λ u care_in gates_in out_in.
           let before = c.loop-i.invariant.counted u care_in gates_in out_in in
-          let one = c.in-Ok.ensures.few u (within_same u (function_of first care) (function_of old care) (c.loop-i.invariant.writes.kept care.0 c.requires.care) care_in) before.1
+          let one = c.in-Ok.ensures.few u (within_same u (function_of first care) (function_of old care) (c.loop-i.invariant.writes.adds.kept care.0 c.requires.care) care_in) before.1
           (span_beside u gates out first old c.loop-i.invariant.writes c.requires.apart c.requires.out.1 out_in) in
           (counted_more u (4 * i + 4) (4 * (i + 1)) first new (omega arith) (counted_then u (4 * i) 4 first old new before.0 one.counts.added), one.within);
     }
@@ -82,7 +81,7 @@ returns-in-Err-clause-few c u care_in gates_in out_in =
     let i = c.loop-i.i in
     let shown : length c.as_slice-nets.result.now ≡ length part.nets = ap (λ (xs : List Net). length xs) c.as_slice-nets.ensures in
     let before = c.loop-i.invariant.counted u care_in gates_in out_in in
-    let one = c.in-Err.ensures.few u (within_same u (function_of first care) (function_of old care) (c.loop-i.invariant.writes.kept care.0 c.requires.care) care_in) before.1
+    let one = c.in-Err.ensures.few u (within_same u (function_of first care) (function_of old care) (c.loop-i.invariant.writes.adds.kept care.0 c.requires.care) care_in) before.1
     (span_beside u gates out first old c.loop-i.invariant.writes c.requires.apart c.requires.out.1 out_in) in
     spends_more u gates (4 * i + 4) (4 * length part.nets) first new (Err c.in-Err.spent) (omega (arith, shown, c.loop-i-test.true))
     (spends_behind u gates (4 * i) 4 first old new (Err c.in-Err.spent) before.0 one)
@@ -99,7 +98,7 @@ returns-in-Some-clause-few c u care_in gates_in out_in =
     let i = c.loop-i.i in
     let shown : length c.as_slice-nets.result.now ≡ length part.nets = ap (λ (xs : List Net). length xs) c.as_slice-nets.ensures in
     let before = c.loop-i.invariant.counted u care_in gates_in out_in in
-    let one = c.in-Ok.ensures.few u (within_same u (function_of first care) (function_of old care) (c.loop-i.invariant.writes.kept care.0 c.requires.care) care_in) before.1
+    let one = c.in-Ok.ensures.few u (within_same u (function_of first care) (function_of old care) (c.loop-i.invariant.writes.adds.kept care.0 c.requires.care) care_in) before.1
     (span_beside u gates out first old c.loop-i.invariant.writes c.requires.apart c.requires.out.1 out_in) in
     spends_value u gates (4 * length part.nets) first new c.in-Ok.found _
     (spends_more u gates (4 * i + 4) (4 * length part.nets) first new (Ok c.in-Ok.found) (omega (arith, shown, c.loop-i-test.true))

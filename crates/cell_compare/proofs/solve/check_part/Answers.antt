@@ -36,5 +36,5 @@ returns-clause-few c one u care gates roots =
     let spans = c.requires.spans in
     let solved = c.in-Ok.ensures.few one u gates roots in
     spends_behind u c.args.gates first (4 * length part.nets) old mid new c.scan.result solved.counts.added
-    (c.scan.ensures.few u (within_same u (function_of old c.args.care) (function_of mid c.args.care) (writes.kept c.args.care.0 c.requires.care) care)
+    (c.scan.ensures.few u (within_same u (function_of old c.args.care) (function_of mid c.args.care) (writes.adds.kept c.args.care.0 c.requires.care) care)
     (span_beside u c.args.out c.args.gates old mid writes spans.spans.apart spans.spans.gates_live gates) solved.within)
