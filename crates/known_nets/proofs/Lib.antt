@@ -4,6 +4,7 @@ pub mod KnownOnce
 pub mod NetKinds
 pub mod PlaceLaws
 pub mod RegionLaws
+pub mod SearchLaws
 pub mod SettleLaws
 pub mod ShutLaws
 pub mod SpreadLaws

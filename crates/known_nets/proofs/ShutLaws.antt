@@ -9,7 +9,7 @@ use Rattle.known_nets.proofs.NetKinds.{is_plain_is, kind_is_input, plain_is, tur
 use Rattle.known_nets.specs.Conduction.{conduction_of, is_input_at, is_input_kind, is_plain_at}
 use Rattle.known_nets.specs.Incidence.{AreHeldMarks, HasEnds}
 use Rattle.known_nets.specs.Regions.{GoTogether, IsInput, IsOpenAt, IsRegion, IsShutAt, KeepsOpen, KeepsShut, has_amount}
-use Rattle.known_nets.specs.Spreads.{HasArrived, IsClear, IsKnownOn, IsPassedOn, before, given, onward}
+use Rattle.known_nets.specs.Spreads.{HasArrived, IsZero, IsKnownOn, IsPassedOn, before, given, onward}
 use Rattle.known_nets.specs.declared.spread.Spread.TheVariants.{Joined}
 use Rattle.vrt_model.proofs.Filtered.{among_devices}
 use Rattle.vrt_model.proofs.Members.{among_any, any_among}
@@ -67,9 +67,6 @@ open_by_device c phase known n d there opens inside reading shut bits ins =
             | inr f ↦ input_not_fixed c phase m f.0 input f.1
           ]
     ]
-
-pub open_by_hold : (c : Circuit) (phase : Phase) (known : List (Option Bool)) (held : List Bool) (n : ℕ) → AreHeldMarks c held → mark_at held n ≡ true → IsOpenAt c phase known n
-open_by_hold c phase known held n marks e inside reading shut bits ins = (shut.plain n ins).1 ((marks n).0 e)
 
 -- where no device and no hold does, nothing keeps it open there
 pub shut_there : (c : Circuit) (known : List (Option Bool)) (held : List Bool) (ends : List (List ℕ)) (row : List ℕ) (n : ℕ) → HasEnds c (length c.devices) ends → n < length ends → row ≡ sources_at ends n
@@ -131,7 +128,7 @@ arrived_together c phase known levels base first n amount alone (onward {m = m} 
     (joined_on c phase known m n d on j (plain_is c m plain_m) (plain_is c n plain_n))
 
 -- a table in which one net has an amount
-pub alone_in : (base : List ℕ) (first : ℕ) → IsClear base → (k : ℕ) → 0 < slice_index (set base first 1) k → k ≡ first
+pub alone_in : (base : List ℕ) (first : ℕ) → IsZero base → (k : ℕ) → 0 < slice_index (set base first 1) k → k ≡ first
 alone_in base first clear k some =
     elim (cases_eq k first) [
       | inl same ↦ same
@@ -146,7 +143,7 @@ one_listed nets first n one at m =
     same_Some n first (sym (subst (λ (i : ℕ). At nets i n) place m.1) ∙ at)
 
 -- the nets with an amount are those of the list, where they are at first
-pub listed_from : (clear : List ℕ) (first : ℕ) (old new table : List ℕ) → IsClear clear → first < length clear → length old ≡ 1 → At old 0 first
+pub listed_from : (clear : List ℕ) (first : ℕ) (old new table : List ℕ) → IsZero clear → first < length clear → length old ≡ 1 → At old 0 first
     → ((n : ℕ) → Among old n → Among new n)
     → ((n : ℕ) → (slice_index table n ≡ slice_index (set clear first 1) n) ⊎ Among new n)
     → ((n : ℕ) → Among new n → (0 < slice_index table n) ⊎ Among old n)
@@ -180,7 +177,7 @@ has_number_is nets n = (
 )
 
 -- what has come from one net is nothing but at the nets of the list
-pub raised_from : (clear : List ℕ) (first : ℕ) (old new table : List ℕ) → IsClear clear → At old 0 first
+pub raised_from : (clear : List ℕ) (first : ℕ) (old new table : List ℕ) → IsZero clear → At old 0 first
     → ((n : ℕ) → Among old n → Among new n)
     → ((n : ℕ) → (slice_index table n ≡ slice_index (set clear first 1) n) ⊎ Among new n)
     → (n : ℕ) → (slice_index table n ≡ 0) ⊎ Among new n

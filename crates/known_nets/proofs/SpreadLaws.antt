@@ -9,7 +9,7 @@ use Rattle.graphs.specs.Graphs.{sources_at}
 use Rattle.known_nets.proofs.PlaceLaws.{at_last, below_or_at}
 use Rattle.known_nets.specs.Conduction.{conduction_of, is_plain_at, is_plain_kind}
 use Rattle.known_nets.specs.Incidence.{HasEnds, IsOtherEnd}
-use Rattle.known_nets.specs.Spreads.{ArePlain, HasArrived, HasCrossed, HasGone, HasGrown, HasPassedAll, HasPassedFirst, HasPassedOver, IsClear, IsEndOver, IsKnownOn, IsListedFrom, IsPassedOn, IsRaised, before, given, given_amount, onward, passed}
+use Rattle.known_nets.specs.Spreads.{ArePlain, HasArrived, HasCrossed, HasGone, HasGrown, HasPassedAll, HasPassedFirst, HasPassedOver, IsZero, IsEndOver, IsKnownOn, IsListedFrom, IsPassedOn, IsRaised, before, given, given_amount, onward, passed}
 use Rattle.known_nets.specs.declared.spread.Spread.{Spread}
 use Rattle.vrt_model.specs.Lists.{At, Among}
 use Rattle.vrt_model.specs.Path.{Joins}
@@ -325,12 +325,15 @@ module _ (spread : Spread) (c : Circuit) (known : List (Option Bool)) (levels : 
 
 -- ---- amounts are set back
 
--- the nets behind the first of a list are still to be cleared
-abbrev pub IsClearBut : List ℕ → List ℕ → ℕ → Type 0
-IsClearBut table nets at = (n : ℕ) → (slice_index table n ≡ 0) ⊎ IsListedFrom at nets n
+-- the nets behind the first of a list are still to be zeroed
+abbrev pub IsZeroBut : List ℕ → List ℕ → ℕ → Type 0
+IsZeroBut table nets at = (n : ℕ) → (slice_index table n ≡ 0) ⊎ IsListedFrom at nets n
 
-pub cleared : (table nets : List ℕ) (at net : ℕ) → At nets at net → IsClearBut table nets at → IsClearBut (set table net 0) nets (at + 1)
-cleared table nets at net here but n = which (but n)
+pub listed_first : (table nets : List ℕ) → ((n : ℕ) → (slice_index table n ≡ 0) ⊎ Among nets n) → IsZeroBut table nets 0
+listed_first table nets listed n = elim (listed n) [ inl e ↦ inl e | inr m ↦ inr (m.0, omega arith, m.1) ]
+
+pub zeroed : (table nets : List ℕ) (at net : ℕ) → At nets at net → IsZeroBut table nets at → IsZeroBut (set table net 0) nets (at + 1)
+zeroed table nets at net here but n = which (but n)
   where
     none : slice_index (set table net 0) net ≡ 0
     none = elim (cases_lt net (length table)) [
@@ -348,8 +351,8 @@ cleared table nets at net here but n = which (but n)
       | inr ne ↦ inr (l.0, (let le = l.1 in omega arith), l.2)
     ]
 
-pub clear_at_end : (table nets : List ℕ) (at : ℕ) → length nets ≤ at → IsClearBut table nets at → IsClear table
-clear_at_end table nets at end but n = elim (but n) [
+pub zero_at_end : (table nets : List ℕ) (at : ℕ) → length nets ≤ at → IsZeroBut table nets at → IsZero table
+zero_at_end table nets at end but n = elim (but n) [
   | inl e ↦ e
   | inr l ↦ (let le = l.1 in let lt = slice_get_within nets l.0 n l.2 in absurd (omega arith))
 ]

@@ -1,27 +1,25 @@
 -- Nets that are to be looked at: one step after another.
-use Rattle.std.proofs.Common.{◌≡◌, ◌≢◌, ℕ, ◌<◌, ◌⊎◌, Bool, true, false, List, [], ◌∷◌, ◌++◌, length, None, Option, Some, inl, inr, refl, subst, sym, ◌∙◌}
-use Rattle.std.proofs.lemmas.Bool.{false≢true}
+use Rattle.std.proofs.Common.{◌≡◌, ℕ, ◌<◌, ◌⊎◌, ◌||◌, Bool, true, false, List, length, None, Option, Some, arith, inl, inr, refl, subst, sym, ◌∙◌}
+use Rattle.std.proofs.lemmas.Bool.{false≢true, or_cases, or_parts}
 use Rattle.std.proofs.lemmas.Option.{none-some, slice_get_within}
 use Rattle.graphs.specs.Graphs.{ArcIn, sources_at}
-use Rattle.known_nets.proofs.PlaceLaws.{at_last}
-use Rattle.known_nets.specs.Conduction.{is_plain_at}
 use Rattle.known_nets.specs.Incidence.{HasGates}
 use Rattle.known_nets.specs.KnownTables.{known_at}
-use Rattle.known_nets.specs.Regions.{AreClear, HasMarkedEnds, IsReady}
-use Rattle.known_nets.specs.Spreads.{IsClear}
+use Rattle.known_nets.specs.Learned.{HasNoted}
+use Rattle.known_nets.specs.Regions.{HasMarkedEnds}
 use Rattle.known_nets.specs.Waits.{HasWaited}
-use Rattle.known_nets.specs.declared.signals.Tables.{Tables}
+use Rattle.known_nets.specs.declared.waiting.Waiting.{Waiting}
+use Rattle.vrt_model.specs.Lists.{MarksGrow, mark_at, At, Among}
 use Rattle.vrt_model.specs.Known.{IsPlain}
-use Rattle.vrt_model.specs.Lists.{At, Among, MarksGrow, mark_at}
 use Rattle.vrt_model.specs.Path.{Joins}
 use Rattle.vrt_model.specs.declared.circuit.Circuit.{Circuit}
 use Rattle.vrt_model.specs.declared.circuit.Device.{Device}
 
-pub waited_none : (c : Circuit) (marks : List Bool) (list : List ℕ) → HasWaited c marks marks list list
-waited_none c marks list = record { size = refl; grown = λ n e. e; listed = λ n e. inl e; plain = λ n e. inl e; stays = λ n m. m }
+pub waited_none : (c : Circuit) (w : Waiting) → HasWaited c w w
+waited_none c w = record { size = refl; grown = λ n e. e; listed = λ n e. inl e; plain = λ n e. inl e; stays = λ n m. m }
 
-pub waited_then : (c : Circuit) (old mid new : List Bool) (before between after : List ℕ) → HasWaited c old mid before between → HasWaited c mid new between after → HasWaited c old new before after
-waited_then c old mid new before between after one two = record {
+pub waited_then : (c : Circuit) (old mid new : Waiting) → HasWaited c old mid → HasWaited c mid new → HasWaited c old new
+waited_then c old mid new one two = record {
   size = two.size ∙ one.size;
   grown = λ n e. two.grown n (one.grown n e);
   listed = λ n e. elim (two.listed n e) [
@@ -62,42 +60,34 @@ ends_of_one c known more net bit gates row pending gated is inside only marked d
           marked there.0 d number there.1 m n j plain
     ]
 
--- ---- a net is taken from the list
+-- ---- bits are noted
 
--- what was on the list is on it still, but for the last
-pub popped : (before after : List ℕ) (net n : ℕ) → before ≡ after ++ net ∷ [] → Among before n → Among after n ⊎ (n ≡ net)
-popped before after net n is m =
-    elim (at_last after net n m.0 (subst (λ (l : List ℕ). At l m.0 n) is m.1)) [ inl earlier ↦ inl (m.0, earlier) | inr last ↦ inr (sym last.1) ]
-
--- where a net that is not to be looked at is taken from the list
-pub ready_without : (c : Circuit) (inside : List ℕ) (tables : Tables) (pending : List Bool) (before after : List ℕ) (net : ℕ) → before ≡ after ++ net ∷ []
-    → (mark_at pending net ≡ false) ⊎ (is_plain_at c net ≡ false) → IsReady c inside tables pending before → IsReady c inside tables pending after
-ready_without c inside tables pending before after net is none ready = record {
-  clear = ready.clear;
-  all_clear = ready.all_clear;
-  plain = ready.plain;
-  listed = λ n e.
-      elim (popped before after net n is (ready.listed n e)) [
-        | inl m ↦ m
-        | inr same ↦
-            let marked : mark_at pending net ≡ true = subst (λ (k : ℕ). mark_at pending k ≡ true) same e in
-            absurd (elim none [ inl f ↦ false≢true (sym f ∙ marked) | inr f ↦ false≢true (sym f ∙ ready.plain net marked) ])
-      ];
+pub noted_none : (c : Circuit) (known : List (Option Bool)) (w : Waiting) → HasNoted c false known known w w
+noted_none c known w = record {
+  size = refl;
+  grown = λ n v e. e;
+  waited = waited_none c w;
+  ends = ends_none c known w.marks.items;
+  same = λ e. (refl, refl);
+  falls = omega arith;
+  less = λ e. absurd (false≢true e);
 }
 
--- where a net is taken from the list and looked at
-pub ready_after : (c : Circuit) (inside inside' : List ℕ) (tables tables' : Tables) (pending pending' : List Bool) (before between after : List ℕ) (net : ℕ) → before ≡ between ++ net ∷ []
-    → IsReady c inside tables pending before → IsClear inside' → AreClear c tables'
-    → ((n : ℕ) → mark_at pending' n ≡ true → ((mark_at pending n ≡ true) × (n ≢ net)) ⊎ Among after n)
-    → ((n : ℕ) → mark_at pending' n ≡ true → (mark_at pending n ≡ true) ⊎ (is_plain_at c n ≡ true))
-    → ((n : ℕ) → Among between n → Among after n)
-    → IsReady c inside' tables' pending' after
-ready_after c inside inside' tables tables' pending pending' before between after net is ready clear all_clear waits plain stays = record {
-  clear = clear;
-  all_clear = all_clear;
-  plain = λ n e. elim (plain n e) [ inl o ↦ ready.plain n o | inr p ↦ p ];
-  listed = λ n e. elim (waits n e) [
-    | inr m ↦ m
-    | inl old ↦ elim (popped before between net n is (ready.listed n old.0)) [ inl m ↦ stays n m | inr same ↦ absurd (old.1 same) ]
+pub noted_then : (c : Circuit) (some more : Bool) (old mid new : List (Option Bool)) (before between after : Waiting) → HasNoted c some old mid before between → HasNoted c more mid new between after
+    → HasNoted c (some || more) old new before after
+noted_then c some more old mid new before between after one two = record {
+  size = two.size ∙ one.size;
+  grown = λ n v e. two.grown n v (one.grown n v e);
+  waited = waited_then c before between after one.waited two.waited;
+  ends = ends_then c old mid new between.marks.items after.marks.items one.ends two.ends two.waited.grown;
+  same = λ e.
+      let h = or_parts some more e in
+      let here = two.same h.1 in
+      let earlier = one.same h.0 in
+      (here.0 ∙ earlier.0, here.1 ∙ earlier.1);
+  falls = omega (arith, one.falls, two.falls);
+  less = λ e. elim (or_cases some more e) [
+    | inl h ↦ omega (arith, one.less h, two.falls)
+    | inr h ↦ omega (arith, two.less h, one.falls)
   ];
 }

@@ -4,5 +4,6 @@ pub mod KnownTables
 pub mod Learned
 pub mod Placed
 pub mod Regions
+pub mod Searches
 pub mod Spreads
 pub mod Waits

@@ -1,10 +1,9 @@
 -- Regions: the plain nets that devices known to conduct join to a net. A region is shut where all gates at it are known,
 -- it has no hold, and no device joins it to an input.
 use Rattle.std.specs.Prelude.{◌≡◌, ℕ, ◌⊎◌, ◌↔◌, nat_lt, Bool, true, false, List, [], length, None, Option, Some, slice_index, unwrap_or}
-use Rattle.known_nets.specs.Conduction.{conduction_of, is_input_at, is_plain_at}
+use Rattle.known_nets.specs.Conduction.{conduction_of, is_input_at}
 use Rattle.known_nets.specs.KnownTables.{HasGateBits, known_at}
-use Rattle.known_nets.specs.Spreads.{IsClear, IsKnownOn, IsSpread}
-use Rattle.known_nets.specs.declared.signals.Raised.{Raised}
+use Rattle.known_nets.specs.Spreads.{AreListed, AreNone, IsKnownOn, IsSpread}
 use Rattle.known_nets.specs.declared.signals.Tables.{Tables}
 use Rattle.known_nets.specs.declared.spread.Spread.TheVariants.{Strength, Value}
 use Rattle.vrt_model.specs.Known.{IsHeld, IsPlain, IsShut}
@@ -78,37 +77,27 @@ abbrev pub HasMarkedEnds : Circuit → List (Option Bool) → List (Option Bool)
 HasMarkedEnds c old new pending =
     (d : Device) (m n : ℕ) → Among c.devices d → Joins d m n → IsPlain c m → known_at old d.gate.0 ≡ None → (v : Bool) → known_at new d.gate.0 ≡ Some v → mark_at pending m ≡ true
 
--- amounts by net that are all 0
-pub record AreClear (c : Circuit) (tables : Tables) : Type 0 where
-  pub levels_size : length tables.levels.items ≡ length c.nets
-  pub zeros_size : length tables.zeros.items ≡ length c.nets
-  pub ones_size : length tables.ones.items ≡ length c.nets
-  pub levels : IsClear tables.levels.items
-  pub zeros : IsClear tables.zeros.items
-  pub ones : IsClear tables.ones.items
+-- no net has an amount in a table
+pub record AreZero (count : ℕ) (tables : Tables) : Type 0 where
+  pub levels : AreNone count tables.levels
+  pub zeros : AreNone count tables.zeros
+  pub ones : AreNone count tables.ones
 
--- amounts by net that are 0 but at the nets of lists
-pub record AreRaised (c : Circuit) (raised : Raised) (tables : Tables) : Type 0 where
-  pub levels_size : length tables.levels.items ≡ length c.nets
-  pub zeros_size : length tables.zeros.items ≡ length c.nets
-  pub ones_size : length tables.ones.items ≡ length c.nets
-  pub levels : (n : ℕ) → (slice_index tables.levels.items n ≡ 0) ⊎ Among raised.levels.items n
-  pub zeros : (n : ℕ) → (slice_index tables.zeros.items n ≡ 0) ⊎ Among raised.zeros.items n
-  pub ones : (n : ℕ) → (slice_index tables.ones.items n ≡ 0) ⊎ Among raised.ones.items n
+-- each table has an entry for each net, and each net with an amount was met
+pub record AreRaised (count : ℕ) (tables : Tables) : Type 0 where
+  pub levels_size : length tables.levels.table.items ≡ count
+  pub zeros_size : length tables.zeros.table.items ≡ count
+  pub ones_size : length tables.ones.table.items ≡ count
+  pub levels : AreListed tables.levels
+  pub zeros : AreListed tables.zeros
+  pub ones : AreListed tables.ones
 
 -- what spreads over some nets: the strengths from given nets, and over these each value
 pub record AreRegionSignals (c : Circuit) (known : List (Option Bool)) (nets : List ℕ) (tables : Tables) : Type 0 where
-  pub strengths : IsSpread Strength c known [] nets tables.levels.items
-  pub zeros : IsSpread (Value false) c known tables.levels.items nets tables.zeros.items
-  pub ones : IsSpread (Value true) c known tables.levels.items nets tables.ones.items
+  pub strengths : IsSpread Strength c known [] nets tables.levels.table.items
+  pub zeros : IsSpread (Value false) c known tables.levels.table.items nets tables.zeros.table.items
+  pub ones : IsSpread (Value true) c known tables.levels.table.items nets tables.ones.table.items
 
 -- the marks are those from before, but at the nets of a list
 abbrev pub HasKept : List ℕ → List Bool → List Bool → Type 0
 HasKept nets old new = (n : ℕ) → mark_at old n ≡ true → (mark_at new n ≡ true) ⊎ Among nets n
-
--- amounts are 0, and each marked net is on the list
-pub record IsReady (c : Circuit) (inside : List ℕ) (tables : Tables) (pending : List Bool) (waiting : List ℕ) : Type 0 where
-  pub clear : IsClear inside
-  pub all_clear : AreClear c tables
-  pub plain : (n : ℕ) → mark_at pending n ≡ true → is_plain_at c n ≡ true
-  pub listed : (n : ℕ) → mark_at pending n ≡ true → Among waiting n

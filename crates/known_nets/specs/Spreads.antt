@@ -1,10 +1,12 @@
 -- What spreads from net to net over devices that are known to conduct: which nets are joined, how strong they are, and
 -- which value reaches them. Each is an amount by net.
-use Rattle.std.specs.Prelude.{◌≡◌, ℕ, ◌+◌, ◌<◌, ◌≤◌, ◌-◌, ◌==◌, ◌⊎◌, min, Bool, true, false, not, cond, List, None, Option, Some, length, slice_index, sum_by}
+use Rattle.std.specs.Prelude.{◌≡◌, ℕ, ◌+◌, ◌<◌, ◌≤◌, ◌-◌, ◌==◌, ◌⊎◌, min, Bool, true, false, not, cond, List, [], None, Option, Some, length, slice_index, sum_by}
 use Rattle.known_nets.specs.Conduction.{conduction_of, is_plain_at}
 use Rattle.known_nets.specs.KnownTables.{known_at}
 use Rattle.known_nets.specs.declared.spread.Spread.TheVariants.{Joined, Strength, Value}
+use Rattle.known_nets.specs.declared.amounts.Amounts.{Amounts}
 use Rattle.known_nets.specs.declared.spread.Spread.{Spread}
+use Rattle.known_nets.specs.declared.spread.Spreading.{Spreading}
 use Rattle.vrt_model.specs.Lists.{At, Among}
 use Rattle.vrt_model.specs.Path.{Joins}
 use Rattle.vrt_model.specs.Reading.{is_in}
@@ -66,9 +68,9 @@ HasPassedAll spread c known levels table amount m = (d : Device) (n : ℕ) → I
 abbrev pub IsPassedOn : Spread → Circuit → List (Option Bool) → List ℕ → List ℕ → ℕ → Type 0
 IsPassedOn spread c known levels table m = HasPassedAll spread c known levels table (slice_index table m) m
 
--- no amount anywhere
-abbrev pub IsClear : List ℕ → Type 0
-IsClear table = (n : ℕ) → slice_index table n ≡ 0
+-- all amounts are 0
+abbrev pub IsZero : List ℕ → Type 0
+IsZero table = (n : ℕ) → slice_index table n ≡ 0
 
 -- the nets of a list are plain
 abbrev pub ArePlain : Circuit → List ℕ → Type 0
@@ -81,7 +83,7 @@ headroom table = sum_by (λ (amount : ℕ). 255 - amount) table
 -- the amounts of a spread from nothing, which has come to an end at some nets
 pub record IsSpread (spread : Spread) (c : Circuit) (known : List (Option Bool)) (levels nets table : List ℕ) : Type 0 where
   pub base : List ℕ
-  pub clear : IsClear base
+  pub clear : IsZero base
   pub arrived : (n : ℕ) → HasArrived spread c known levels base n (slice_index table n)
   pub closed : (n : ℕ) → Among nets n → IsPassedOn spread c known levels table n
 
@@ -130,3 +132,42 @@ pub record HasGone (spread : Spread) (c : Circuit) (known : List (Option Bool)) 
   pub arrived :
       (base : List ℕ) → HasArrived spread c known levels base m amount → ((n : ℕ) → HasArrived spread c known levels base n (slice_index old n))
       → (n : ℕ) → HasArrived spread c known levels base n (slice_index new n)
+
+-- ---- a spread over amounts
+
+-- all amounts are 0, and no net was met
+pub record AreNone (count : ℕ) (a : Amounts) : Type 0 where
+  pub size : length a.table.items ≡ count
+  pub zero : IsZero a.table.items
+  pub empty : a.met.items ≡ []
+
+-- each net with an amount was met
+abbrev pub AreListed : Amounts → Type 0
+AreListed a = (n : ℕ) → (slice_index a.table.items n ≡ 0) ⊎ Among a.met.items n
+
+-- amounts have come to plain nets, from an amount of a net and those that there were
+abbrev pub Goes : Spreading → ℕ → ℕ → Amounts → Amounts → Type 0
+Goes s amount m old new = HasGone s.spread s.circuit.now s.known.now s.levels.now amount m old.table.items new.table.items old.met.items new.met.items
+
+-- what passes over a device from a net with an amount, and to it from a given net, has come
+abbrev pub PassesOver : Spreading → Amounts → ℕ → ℕ → Device → Type 0
+PassesOver s new amount m d = HasPassedOver s.spread s.circuit.now s.known.now s.levels.now new.table.items amount m d
+
+-- it has come over the devices whose numbers are the first of a list
+abbrev pub PassesFirst : Spreading → Amounts → ℕ → ℕ → List ℕ → ℕ → Type 0
+PassesFirst s new amount m numbers bound = HasPassedFirst s.spread s.circuit.now s.known.now s.levels.now new.table.items amount m numbers bound
+
+-- it has come over all devices
+abbrev pub PassesAll : Spreading → Amounts → ℕ → ℕ → Type 0
+PassesAll s new amount m = HasPassedAll s.spread s.circuit.now s.known.now s.levels.now new.table.items amount m
+
+-- amounts have spread from the nets that were met until nothing changes
+pub record HasSpread (s : Spreading) (old new : Amounts) : Type 0 where
+  pub size : length new.table.items ≡ length old.table.items
+  pub plain : ArePlain s.circuit.now new.met.items
+  pub stays : (n : ℕ) → Among old.met.items n → Among new.met.items n
+  pub raised : (n : ℕ) → (slice_index new.table.items n ≡ slice_index old.table.items n) ⊎ Among new.met.items n
+  pub listed : (n : ℕ) → Among new.met.items n → (0 < slice_index new.table.items n) ⊎ Among old.met.items n
+  pub grown : (n : ℕ) → slice_index old.table.items n ≤ slice_index new.table.items n
+  pub arrived : (n : ℕ) → HasArrived s.spread s.circuit.now s.known.now s.levels.now old.table.items n (slice_index new.table.items n)
+  pub closed : (n : ℕ) → Among new.met.items n → IsPassedOn s.spread s.circuit.now s.known.now s.levels.now new.table.items n

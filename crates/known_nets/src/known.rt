@@ -1,260 +1,173 @@
 //! The known nets, from a list of nets to be looked at. What a net shows hangs on its region alone: where this is shut, the
 //! bits that its nets show are learned, and the nets at the devices that they gate are looked at again, and no others.
 
-ghost use Rattle.std.specs.Prelude.{◌≡◌, ℕ, ◌<◌, ◌≢◌, ◌⊎◌, Bool, List, Some, false, true, length, vec_len, IfOk, OnOk};
+ghost use Rattle.std.specs.Prelude.{◌≡◌, ℕ, true, length, vec_len, IfOk};
 ghost use Rattle.known_nets.specs.Conduction.{is_plain_at};
 ghost use Rattle.known_nets.specs.Incidence.{IsIncidence};
 ghost use Rattle.known_nets.specs.KnownTables.{AreKnown, HasFixedNets, IsKnownTable, known_at};
-ghost use Rattle.known_nets.specs.Learned.{unknown};
-ghost use Rattle.known_nets.specs.Regions.{AreClear, GoTogether, HasKept, IsReady, IsRegion, IsSettled, IsShutAt};
-ghost use Rattle.known_nets.specs.Spreads.{IsClear};
-ghost use Rattle.known_nets.specs.Waits.{HasWaited};
+ghost use Rattle.known_nets.specs.Regions.{GoTogether, IsRegion, IsShutAt};
+ghost use Rattle.known_nets.specs.Searches.{HasLookedAround, HasLookedAt, HasSearched, IsBegun, IsReady, IsSearch};
+ghost use Rattle.known_nets.specs.Waits.{waits};
 ghost use Rattle.vrt_model.specs.Circuits.{IsFlat};
-ghost use Rattle.vrt_model.specs.Lists.{Among, has_number, mark_at};
+ghost use Rattle.vrt_model.specs.Lists.{Among, has_number};
 ghost use Rattle.vrt_model.specs.declared.rules.Phase.{Phase as PhaseValue};
 
-use crate::conducting::is_plain;
+use crate::amounts::Amounts;
 use crate::fixed::fixed_bits;
-use crate::incidence::{Incidence, devices_by_net, no_marks};
+use crate::incidence::{Incidence, devices_by_net};
 use crate::learn::learn;
 use crate::region::{is_shut, region};
-use crate::signals::{Tables, clear_tables, find_signals, no_amounts, no_tables};
-use crate::spread::clear;
-use crate::waiting::{forget, wait};
+use crate::signals::{Tables, find_signals};
+use crate::waiting::Waiting;
 use std::alloc::Global;
 use vrt_model::{Circuit, NoMemory, Phase};
 
-/// Learns the bits that the nets of a shut region show, and says whether any was not known before.
-fn solve(
-    alloc: Global,
-    circuit: &Circuit,
-    by: &Incidence,
-    nets: &[usize],
-    known: &mut [Option<bool>],
-    tables: &mut Tables,
-    pending: &mut [bool],
-    waiting: &mut Vec<usize>,
-) -> Result<bool, NoMemory>
-    requires flat { IsFlat circuit.now }
-    requires by { IsIncidence circuit.now by.now }
-    requires known { length known.old ≡ length circuit.now.nets }
-    requires pending { length pending.old ≡ length circuit.now.nets }
-    requires tables { AreClear circuit.now tables.old }
-    requires region { IsRegion circuit.now known.old (has_number nets.now) }
-    requires shut { (n : ℕ) → Among nets.now n → IsShutAt circuit.now known.old n }
-    ensures tables { IfOk result (λ _. AreClear circuit.now tables.new) }
-    ensures waited { IfOk result (λ _. HasWaited circuit.now pending.old pending.new waiting.old.items waiting.new.items) }
-    ensures grown { IfOk result (λ _. (n : ℕ) (v : Bool) → known_at known.old n ≡ Some v → known_at known.new n ≡ Some v) }
-    ensures known { IfOk result (λ _. (phase : PhaseValue) → HasFixedNets circuit.now phase (known_at known.old) → AreKnown circuit.now phase (known_at known.old) → AreKnown circuit.now phase (known_at known.new)) }
-    ensures settled { IfOk result (λ _. (phase : PhaseValue) (before : List Bool) → HasFixedNets circuit.now phase (known_at known.old) → AreKnown circuit.now phase (known_at known.old) → HasKept nets.now before pending.old → IsSettled circuit.now phase known.old before → IsSettled circuit.now phase known.new pending.new) }
-    ensures same { IfOk result (λ more. more ≡ false → waiting.new.items ≡ waiting.old.items) }
-    ensures still { IfOk result (λ more. more ≡ false → known.new ≡ known.old) }
-    ensures less { IfOk result (λ more. more ≡ true → unknown known.new < unknown known.old) }
-{
-    let raised = find_signals(alloc, circuit, by.ends.as_slice(), nets, known, tables)?;
-    let gates = by.gates.as_slice();
-    let zeros = tables.zeros.as_slice();
-    let ones = tables.ones.as_slice();
-    let more = learn(circuit, gates, nets, zeros, ones, known, pending, waiting)?;
-    clear_tables(tables, &raised);
-    Ok(more)
+/// A search for the known nets of a circuit.
+#[derive(Drop)]
+pub(crate) struct Search {
+    /// The bits that are known, by net.
+    pub(crate) known: Vec<Option<bool>>,
+    /// The nets whose regions are to be looked at.
+    pub(crate) waiting: Waiting,
+    /// 1 at the nets of the region that is looked for.
+    pub(crate) inside: Amounts,
+    /// What comes to the nets of the region that is looked at.
+    pub(crate) tables: Tables,
 }
 
-/// Learns the bits that the nets of a region show where it is shut, and says whether any was not known before.
-fn learn_region(
-    alloc: Global,
-    circuit: &Circuit,
-    by: &Incidence,
-    nets: &[usize],
-    known: &mut [Option<bool>],
-    tables: &mut Tables,
-    pending: &mut [bool],
-    waiting: &mut Vec<usize>,
-) -> Result<bool, NoMemory>
-    requires flat { IsFlat circuit.now }
-    requires by { IsIncidence circuit.now by.now }
-    requires known { length known.old ≡ length circuit.now.nets }
-    requires pending { length pending.old ≡ length circuit.now.nets }
-    requires tables { AreClear circuit.now tables.old }
-    requires region { IsRegion circuit.now known.old (has_number nets.now) }
-    requires together { (phase : PhaseValue) (m n : ℕ) → Among nets.now m → Among nets.now n → GoTogether circuit.now phase known.old m n }
-    ensures tables { IfOk result (λ _. AreClear circuit.now tables.new) }
-    ensures waited { IfOk result (λ _. HasWaited circuit.now pending.old pending.new waiting.old.items waiting.new.items) }
-    ensures grown { IfOk result (λ _. (n : ℕ) (v : Bool) → known_at known.old n ≡ Some v → known_at known.new n ≡ Some v) }
-    ensures known { IfOk result (λ _. (phase : PhaseValue) → HasFixedNets circuit.now phase (known_at known.old) → AreKnown circuit.now phase (known_at known.old) → AreKnown circuit.now phase (known_at known.new)) }
-    ensures settled { IfOk result (λ _. (phase : PhaseValue) (before : List Bool) → HasFixedNets circuit.now phase (known_at known.old) → AreKnown circuit.now phase (known_at known.old) → HasKept nets.now before pending.old → IsSettled circuit.now phase known.old before → IsSettled circuit.now phase known.new pending.new) }
-    ensures same { IfOk result (λ more. more ≡ false → waiting.new.items ≡ waiting.old.items) }
-    ensures still { IfOk result (λ more. more ≡ false → known.new ≡ known.old) }
-    ensures less { IfOk result (λ more. more ≡ true → unknown known.new < unknown known.old) }
-{
-    if is_shut(circuit, by.ends.as_slice(), by.held.as_slice(), known, nets) {
-        solve(alloc, circuit, by, nets, known, tables, pending, waiting)
-    } else {
+impl Search {
+    /// A search in which the supplies and the clock ports are known, and no net waits.
+    fn begin(alloc: Global, circuit: &Circuit, phase: &Phase) -> Result<Search, NoMemory>
+        ensures { IfOk result (IsBegun circuit.now phase.now) }
+    {
+        let count = circuit.nets.len();
+        Ok(Search {
+            known: fixed_bits(alloc, circuit, phase)?,
+            waiting: Waiting::none(alloc, count)?,
+            inside: Amounts::none(alloc, count)?,
+            tables: Tables::none(alloc, count)?,
+        })
+    }
+
+    /// Learns the bits that the nets of a shut region show, and says whether any was not known before.
+    fn learn_shut_region(
+        &mut self,
+        circuit: &Circuit,
+        by: &Incidence,
+        nets: &[usize],
+    ) -> Result<bool, NoMemory>
+        requires flat { IsFlat circuit.now }
+        requires by { IsIncidence circuit.now by.now }
+        requires search { IsSearch circuit.now self.old }
+        requires region { IsRegion circuit.now self.old.known.items (has_number nets.now) }
+        requires shut { (n : ℕ) → Among nets.now n → IsShutAt circuit.now self.old.known.items n }
+        ensures { IfOk result (λ more. HasLookedAt circuit.now nets.now more self.old self.new) }
+    {
+        find_signals(circuit, by, self.known.as_slice(), nets, &mut self.tables)?;
+        let more = learn(
+            circuit,
+            by,
+            nets,
+            &self.tables,
+            &mut self.known,
+            &mut self.waiting,
+        )?;
+        self.tables.clear();
+        Ok(more)
+    }
+
+    /// Learns the bits that the nets of a region show where it is shut, and says whether any was not known before.
+    fn learn_region(
+        &mut self,
+        circuit: &Circuit,
+        by: &Incidence,
+        nets: &[usize],
+    ) -> Result<bool, NoMemory>
+        requires flat { IsFlat circuit.now }
+        requires by { IsIncidence circuit.now by.now }
+        requires search { IsSearch circuit.now self.old }
+        requires region { IsRegion circuit.now self.old.known.items (has_number nets.now) }
+        requires together { (phase : PhaseValue) (m n : ℕ) → Among nets.now m → Among nets.now n → GoTogether circuit.now phase self.old.known.items m n }
+        ensures { IfOk result (λ more. HasLookedAt circuit.now nets.now more self.old self.new) }
+    {
+        if is_shut(circuit, by, self.known.as_slice(), nets) {
+            self.learn_shut_region(circuit, by, nets)
+        } else {
+            Ok(false)
+        }
+    }
+
+    /// Learns what the region of a plain net shows: no net of it waits any more. Says whether any net was learned.
+    fn learn_around(
+        &mut self,
+        alloc: Global,
+        circuit: &Circuit,
+        by: &Incidence,
+        net: usize,
+    ) -> Result<bool, NoMemory>
+        requires flat { IsFlat circuit.now }
+        requires by { IsIncidence circuit.now by.now }
+        requires plain { is_plain_at circuit.now net ≡ true }
+        requires search { IsSearch circuit.now self.old }
+        ensures { IfOk result (λ more. HasLookedAround circuit.now net more self.old self.new) }
+    {
+        let nets = region(
+            alloc,
+            circuit,
+            by,
+            self.known.as_slice(),
+            net,
+            &mut self.inside,
+        )?;
+        self.waiting.forget(nets.as_slice());
+        let more = self.learn_region(circuit, by, nets.as_slice())?;
+        Ok(more)
+    }
+
+    /// Looks at the regions of the nets that wait until a net is learned, and says whether one was.
+    fn learn_next(
+        &mut self,
+        alloc: Global,
+        circuit: &Circuit,
+        by: &Incidence,
+    ) -> Result<bool, NoMemory>
+        requires flat { IsFlat circuit.now }
+        requires by { IsIncidence circuit.now by.now }
+        requires ready { IsReady circuit.now self.old }
+        ensures { IfOk result (λ more. HasSearched circuit.now more self.old self.new) }
+    {
+        while let Some(net) = self.waiting.list.pop() {
+            if self.waiting.has_plain(circuit, net) {
+                let more = self.learn_around(alloc, circuit, by, net)?;
+                if more {
+                    return Ok(true);
+                }
+            }
+        }
         Ok(false)
     }
-}
 
-/// Looks at the region of a plain net: no net of it is to be looked at any more. Says whether any net was learned.
-fn look(
-    alloc: Global,
-    circuit: &Circuit,
-    by: &Incidence,
-    net: usize,
-    inside: &mut [u8],
-    known: &mut [Option<bool>],
-    tables: &mut Tables,
-    pending: &mut [bool],
-    waiting: &mut Vec<usize>,
-) -> Result<bool, NoMemory>
-    requires flat { IsFlat circuit.now }
-    requires by { IsIncidence circuit.now by.now }
-    requires plain { is_plain_at circuit.now net ≡ true }
-    requires size { length inside.old ≡ length circuit.now.nets }
-    requires clear { IsClear inside.old }
-    requires known { length known.old ≡ length circuit.now.nets }
-    requires pending { length pending.old ≡ length circuit.now.nets }
-    requires tables { AreClear circuit.now tables.old }
-    ensures clear { IfOk result (λ _. IsClear inside.new) }
-    ensures tables { IfOk result (λ _. AreClear circuit.now tables.new) }
-    ensures waits { IfOk result (λ _. (n : ℕ) → mark_at pending.new n ≡ true → ((mark_at pending.old n ≡ true) × (n ≢ net)) ⊎ Among waiting.new.items n) }
-    ensures plain { IfOk result (λ _. (n : ℕ) → mark_at pending.new n ≡ true → (mark_at pending.old n ≡ true) ⊎ (is_plain_at circuit.now n ≡ true)) }
-    ensures stays { IfOk result (λ _. (n : ℕ) → Among waiting.old.items n → Among waiting.new.items n) }
-    ensures grown { IfOk result (λ _. (n : ℕ) (v : Bool) → known_at known.old n ≡ Some v → known_at known.new n ≡ Some v) }
-    ensures known { IfOk result (λ _. (phase : PhaseValue) → HasFixedNets circuit.now phase (known_at known.old) → AreKnown circuit.now phase (known_at known.old) → AreKnown circuit.now phase (known_at known.new)) }
-    ensures settled { IfOk result (λ _. (phase : PhaseValue) → HasFixedNets circuit.now phase (known_at known.old) → AreKnown circuit.now phase (known_at known.old) → IsSettled circuit.now phase known.old pending.old → IsSettled circuit.now phase known.new pending.new) }
-    ensures same { IfOk result (λ more. more ≡ false → waiting.new.items ≡ waiting.old.items) }
-    ensures still { IfOk result (λ more. more ≡ false → known.new ≡ known.old) }
-    ensures less { IfOk result (λ more. more ≡ true → unknown known.new < unknown known.old) }
-{
-    let met = region(alloc, circuit, by.ends.as_slice(), known, net, inside)?;
-    let nets = met.as_slice();
-    forget(pending, nets);
-    let more = learn_region(alloc, circuit, by, nets, known, tables, pending, waiting)?;
-    clear(inside, nets);
-    Ok(more)
-}
-
-/// Whether a net is plain and to be looked at.
-fn is_pending(circuit: &Circuit, pending: &[bool], net: usize) -> bool
-    ensures plain { result ≡ true → is_plain_at circuit.now net ≡ true }
-    ensures no { result ≡ false → (mark_at pending.now net ≡ false) ⊎ (is_plain_at circuit.now net ≡ false) }
-{
-    net < pending.len() && pending[net] && is_plain(circuit, net)
-}
-
-/// Looks at the regions of nets until a net is learned, and says whether one was.
-fn turn(
-    alloc: Global,
-    circuit: &Circuit,
-    by: &Incidence,
-    inside: &mut [u8],
-    known: &mut [Option<bool>],
-    tables: &mut Tables,
-    pending: &mut [bool],
-    waiting: &mut Vec<usize>,
-) -> Result<bool, NoMemory>
-    requires flat { IsFlat circuit.now }
-    requires by { IsIncidence circuit.now by.now }
-    requires size { length inside.old ≡ length circuit.now.nets }
-    requires known { length known.old ≡ length circuit.now.nets }
-    requires pending { length pending.old ≡ length circuit.now.nets }
-    requires ready { IsReady circuit.now inside.old tables.old pending.old waiting.old.items }
-    ensures ready { IfOk result (λ _. IsReady circuit.now inside.new tables.new pending.new waiting.new.items) }
-    ensures grown { IfOk result (λ _. (n : ℕ) (v : Bool) → known_at known.old n ≡ Some v → known_at known.new n ≡ Some v) }
-    ensures known { IfOk result (λ _. (phase : PhaseValue) → HasFixedNets circuit.now phase (known_at known.old) → AreKnown circuit.now phase (known_at known.old) → AreKnown circuit.now phase (known_at known.new)) }
-    ensures settled { IfOk result (λ _. (phase : PhaseValue) → HasFixedNets circuit.now phase (known_at known.old) → AreKnown circuit.now phase (known_at known.old) → IsSettled circuit.now phase known.old pending.old → IsSettled circuit.now phase known.new pending.new) }
-    ensures none { IfOk result (λ more. more ≡ false → (n : ℕ) → mark_at pending.new n ≡ false) }
-    ensures less { IfOk result (λ more. more ≡ true → unknown known.new < unknown known.old) }
-{
-    while let Some(net) = waiting.pop() {
-        if is_pending(circuit, pending, net) {
-            let more = look(
-                alloc, circuit, by, net, inside, known, tables, pending, waiting,
-            )?;
-            if more {
-                return Ok(true);
+    /// Looks at the regions of the nets that wait until none waits.
+    fn learn_all(
+        &mut self,
+        alloc: Global,
+        circuit: &Circuit,
+        by: &Incidence,
+    ) -> Result<(), NoMemory>
+        requires flat { IsFlat circuit.now }
+        requires by { IsIncidence circuit.now by.now }
+        requires ready { IsReady circuit.now self.old }
+        requires all { (n : ℕ) → is_plain_at circuit.now n ≡ true → waits self.old.waiting n ≡ true }
+        ensures known { IfOk result (λ _. (phase : PhaseValue) → HasFixedNets circuit.now phase (known_at self.old.known.items) → AreKnown circuit.now phase (known_at self.old.known.items) → IsKnownTable circuit.now phase (known_at self.new.known.items)) }
+        ensures size { IfOk result (λ _. length self.new.known.items ≡ length circuit.now.nets) }
+    {
+        'rounds: loop {
+            let more = self.learn_next(alloc, circuit, by)?;
+            if !more {
+                return Ok(());
             }
         }
     }
-    Ok(false)
-}
-
-/// The nets that are to be looked at, as marks by net and as a list.
-fn all_wait(
-    circuit: &Circuit,
-    pending: &mut [bool],
-    waiting: &mut Vec<usize>,
-) -> Result<(), NoMemory>
-    requires { length pending.old ≡ length circuit.now.nets }
-    ensures waited { OnOk result (HasWaited circuit.now pending.old pending.new waiting.old.items waiting.new.items) }
-    ensures all { OnOk result ((n : ℕ) → is_plain_at circuit.now n ≡ true → mark_at pending.new n ≡ true) }
-{
-    for net in 0..circuit.nets.len() {
-        wait(circuit, net, pending, waiting)?;
-    }
-    Ok(())
-}
-
-/// Looks at the regions of nets until none is to be looked at.
-fn settle(
-    alloc: Global,
-    circuit: &Circuit,
-    by: &Incidence,
-    inside: &mut [u8],
-    known: &mut [Option<bool>],
-    tables: &mut Tables,
-    pending: &mut [bool],
-    waiting: &mut Vec<usize>,
-) -> Result<(), NoMemory>
-    requires flat { IsFlat circuit.now }
-    requires by { IsIncidence circuit.now by.now }
-    requires size { length inside.old ≡ length circuit.now.nets }
-    requires known { length known.old ≡ length circuit.now.nets }
-    requires pending { length pending.old ≡ length circuit.now.nets }
-    requires ready { IsReady circuit.now inside.old tables.old pending.old waiting.old.items }
-    requires all { (n : ℕ) → is_plain_at circuit.now n ≡ true → mark_at pending.old n ≡ true }
-    ensures { IfOk result (λ _. (phase : PhaseValue) → HasFixedNets circuit.now phase (known_at known.old) → AreKnown circuit.now phase (known_at known.old) → IsKnownTable circuit.now phase (known_at known.new)) }
-{
-    'turns: loop {
-        let more = turn(alloc, circuit, by, inside, known, tables, pending, waiting)?;
-        if !more {
-            return Ok(());
-        }
-    }
-}
-
-/// Learns nets from the supplies and the clock ports, where no net is marked yet and no amount stands in a table.
-fn fill(
-    alloc: Global,
-    circuit: &Circuit,
-    by: &Incidence,
-    inside: &mut [u8],
-    known: &mut [Option<bool>],
-    tables: &mut Tables,
-    pending: &mut [bool],
-) -> Result<(), NoMemory>
-    requires flat { IsFlat circuit.now }
-    requires by { IsIncidence circuit.now by.now }
-    requires size { length inside.old ≡ length circuit.now.nets }
-    requires clear { IsClear inside.old }
-    requires known { length known.old ≡ length circuit.now.nets }
-    requires pending { length pending.old ≡ length circuit.now.nets }
-    requires none { (n : ℕ) → mark_at pending.old n ≡ false }
-    requires tables { AreClear circuit.now tables.old }
-    ensures { IfOk result (λ _. (phase : PhaseValue) → HasFixedNets circuit.now phase (known_at known.old) → AreKnown circuit.now phase (known_at known.old) → IsKnownTable circuit.now phase (known_at known.new)) }
-{
-    let mut waiting = Vec::new(alloc);
-    all_wait(circuit, pending, &mut waiting)?;
-    settle(
-        alloc,
-        circuit,
-        by,
-        inside,
-        known,
-        tables,
-        pending,
-        &mut waiting,
-    )
 }
 
 /// The known nets of a circuit without whole instances in a phase, with their bits, by net: the supplies and the clock
@@ -268,20 +181,9 @@ pub fn known_nets(
     ensures len { IfOk result (λ t. vec_len t ≡ length circuit.now.nets) }
     ensures known { IfOk result (λ t. IsKnownTable circuit.now phase.now (known_at t.items)) }
 {
-    let count = circuit.nets.len();
     let by = devices_by_net(alloc, circuit)?;
-    let mut inside = no_amounts(alloc, count)?;
-    let mut tables = no_tables(alloc, count)?;
-    let mut pending = no_marks(alloc, count)?;
-    let mut known = fixed_bits(alloc, circuit, phase)?;
-    fill(
-        alloc,
-        circuit,
-        &by,
-        &mut inside,
-        &mut known,
-        &mut tables,
-        &mut pending,
-    )?;
-    Ok(known)
+    let mut search = Search::begin(alloc, circuit, phase)?;
+    search.waiting.put_all(circuit)?;
+    search.learn_all(alloc, circuit, &by)?;
+    Ok(search.known)
 }

@@ -1,6 +1,7 @@
 //! The nets that are known before anything is solved.
 #![tactic(auto)]
 
+mod amounts;
 mod conducting;
 mod fixed;
 mod incidence;

@@ -1,7 +1,6 @@
 //! Lists of nets.
 
-ghost use Rattle.std.specs.Prelude.{◌≡◌, ◌++◌, ◌∷◌, [], length, IfOk, OnOk};
-ghost use Rattle.vrt_model.specs.Lists.{At};
+ghost use Rattle.std.specs.Prelude.{◌≡◌, ◌++◌, ◌∷◌, [], IfOk, OnOk};
 
 use std::alloc::Global;
 use vrt_model::NoMemory;
@@ -16,14 +15,12 @@ pub(crate) fn append(list: &mut Vec<usize>, net: usize) -> Result<(), NoMemory>
     }
 }
 
-/// A list of one net.
-pub(crate) fn only(alloc: Global, net: usize) -> Result<Vec<usize>, NoMemory>
-    ensures len { IfOk result (λ t. length t.items ≡ 1) }
-    ensures net { IfOk result (λ t. At t.items 0 net) }
+/// Adds nets at the end.
+pub(crate) fn append_all(list: &mut Vec<usize>, nets: &[usize]) -> Result<(), NoMemory>
+    ensures { OnOk result (list.new.items ≡ list.old.items ++ nets.now) }
 {
-    let mut nets = Vec::new(alloc);
-    match nets.push(net) {
-        Ok(()) => Ok(nets),
+    match list.extend_from_slice(nets) {
+        Ok(()) => Ok(()),
         Err(_) => Err(NoMemory),
     }
 }

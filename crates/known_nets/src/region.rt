@@ -1,53 +1,52 @@
 //! Regions: the plain nets that devices known to conduct join to a net. Where all gates at a region are known, it has no
 //! hold, and no device joins it to an input, it is shut: what its nets show hangs on nothing that is not known.
 
-ghost use Rattle.std.specs.Prelude.{◌≡◌, ℕ, ◌<◌, ◌⊎◌, false, true, length, set, slice_index, IfOk};
+ghost use Rattle.std.specs.Prelude.{◌≡◌, ℕ, ◌<◌, false, true, length, IfOk};
 ghost use Rattle.known_nets.specs.Conduction.{is_plain_at};
-ghost use Rattle.known_nets.specs.Incidence.{AreHeldMarks, HasEnds};
+ghost use Rattle.known_nets.specs.Incidence.{IsIncidence};
 ghost use Rattle.known_nets.specs.Regions.{GoTogether, IsOpenAt, IsRegion, IsShutAt, KeepsOpen, KeepsShut};
-ghost use Rattle.known_nets.specs.Spreads.{ArePlain, IsClear};
-ghost use Rattle.vrt_model.specs.Lists.{At, Among, has_number, mark_at};
+ghost use Rattle.known_nets.specs.Spreads.{AreNone, ArePlain};
+ghost use Rattle.vrt_model.specs.Lists.{mark_at, At, Among, has_number};
 ghost use Rattle.vrt_model.specs.declared.circuit.Device.{Device as DeviceValue};
 ghost use Rattle.vrt_model.specs.declared.rules.Phase.{Phase as PhaseValue};
 
+use crate::amounts::Amounts;
 use crate::conducting::{conduction, is_input};
-use crate::incidence::other_end;
-use crate::lists::only;
-use crate::spread::{Spread, spread_from};
+use crate::incidence::{Incidence, other_end};
+use crate::lists::copied;
+use crate::spread::{Spread, Spreading, spread_from};
 use std::alloc::Global;
-use vrt_model::{Circuit, Device, NoMemory, Seq};
+use vrt_model::{Circuit, Device, NoMemory};
 
-/// Gives a net the amount 1.
-fn begin(table: &mut [u8], net: usize)
-    requires { net < length table.old }
-    ensures { table.new ≡ set table.old net 1 }
-{
-    table[net] = 1;
-}
-
-/// The nets of the region of a plain net. Each gets the amount 1.
+/// The nets of the region of a plain net. No net has an amount before and after.
 pub(crate) fn region(
     alloc: Global,
     circuit: &Circuit,
-    ends: &[Seq<u32>],
+    by: &Incidence,
     known: &[Option<bool>],
     net: usize,
-    table: &mut [u8],
+    inside: &mut Amounts,
 ) -> Result<Vec<usize>, NoMemory>
-    requires ends { HasEnds circuit.now (length circuit.now.devices) ends.now }
-    requires count { length ends.now ≡ length circuit.now.nets }
-    requires size { length table.old ≡ length circuit.now.nets }
+    requires by { IsIncidence circuit.now by.now }
     requires plain { is_plain_at circuit.now net ≡ true }
-    requires clear { IsClear table.old }
+    requires none { AreNone (length circuit.now.nets) inside.old }
+    ensures none { IfOk result (λ _. AreNone (length circuit.now.nets) inside.new) }
     ensures region { IfOk result (λ t. IsRegion circuit.now known.now (has_number t.items)) }
-    ensures raised { IfOk result (λ t. (n : ℕ) → (slice_index table.new n ≡ 0) ⊎ Among t.items n) }
     ensures has { IfOk result (λ t. Among t.items net) }
     ensures together { IfOk result (λ t. (phase : PhaseValue) (n : ℕ) → Among t.items n → GoTogether circuit.now phase known.now net n) }
 {
-    let mut met = only(alloc, net)?;
-    begin(table, net);
-    spread_from(circuit, ends, known, Spread::Joined, &[], table, &mut met)?;
-    Ok(met)
+    inside.begin_at(net)?;
+    let joined = Spreading {
+        circuit,
+        by,
+        known,
+        spread: Spread::Joined,
+        levels: &[],
+    };
+    spread_from(joined, inside)?;
+    let nets = copied(alloc, inside.met.as_slice())?;
+    inside.clear();
+    Ok(nets)
 }
 
 /// Whether the region of a net may be shut as far as a device goes: this is a keeper, or does not end at the net, or its
@@ -93,46 +92,36 @@ fn is_marked(marks: &[bool], net: usize) -> bool
 }
 
 /// Whether the region of a plain net may be shut as far as its hold and the devices at it go.
-fn is_shut_at(
-    circuit: &Circuit,
-    ends: &[Seq<u32>],
-    held: &[bool],
-    known: &[Option<bool>],
-    net: usize,
-) -> bool
-    requires ends { HasEnds circuit.now (length circuit.now.devices) ends.now }
-    requires net { net < length ends.now }
-    requires held { AreHeldMarks circuit.now held.now }
+fn is_shut_at(circuit: &Circuit, by: &Incidence, known: &[Option<bool>], net: usize) -> bool
+    requires by { IsIncidence circuit.now by.now }
+    requires net { net < length by.now.ends.items }
     ensures yes { result ≡ true → IsShutAt circuit.now known.now net }
     ensures no { result ≡ false → (phase : PhaseValue) → IsOpenAt circuit.now phase known.now net }
 {
-    if is_marked(held, net) {
+    if is_marked(by.held.as_slice(), net) {
         false
     } else {
-        all_keep_shut(circuit, known, ends[net].as_slice(), net)
+        all_keep_shut(circuit, known, by.ends[net].as_slice(), net)
     }
 }
 
 /// Whether a region is shut, which has these nets.
 pub(crate) fn is_shut(
     circuit: &Circuit,
-    ends: &[Seq<u32>],
-    held: &[bool],
+    by: &Incidence,
     known: &[Option<bool>],
     nets: &[usize],
 ) -> bool
-    requires ends { HasEnds circuit.now (length circuit.now.devices) ends.now }
-    requires count { length ends.now ≡ length circuit.now.nets }
+    requires by { IsIncidence circuit.now by.now }
     requires plain { ArePlain circuit.now nets.now }
-    requires held { AreHeldMarks circuit.now held.now }
     ensures yes { result ≡ true → (n : ℕ) → Among nets.now n → IsShutAt circuit.now known.now n }
     ensures no { result ≡ false → (phase : PhaseValue) → (n : ℕ) × Among nets.now n × IsOpenAt circuit.now phase known.now n }
 {
     for net in nets {
-        if *net >= ends.len() {
+        if *net >= by.ends.len() {
             return false;
         }
-        let shut = is_shut_at(circuit, ends, held, known, *net);
+        let shut = is_shut_at(circuit, by, known, *net);
         if !shut {
             return false;
         }

@@ -1,20 +1,18 @@
-//! What spreads from net to net over devices that are known to conduct: which nets are joined, how strong they are, and
-//! which value reaches them. A list has the nets that are to be looked at: a net is put on it again only where its amount
-//! has grown, so that the work follows the nets at which something happens.
+//! What spreads from net to net over the devices that are known to conduct.
 
-ghost use Rattle.std.specs.Prelude.{◌≡◌, ℕ, ◌<◌, ◌≤◌, ◌⊎◌, true, Some, length, set, slice_get, slice_index, OnOk};
+ghost use Rattle.std.specs.Prelude.{◌≡◌, ℕ, ◌<◌, true, false, Some, length, slice_get, slice_index, OnOk};
 ghost use Rattle.graphs.specs.Graphs.{sources_at};
 ghost use Rattle.known_nets.specs.Conduction.{conduction_of, is_plain_at};
-ghost use Rattle.known_nets.specs.Incidence.{HasEnds};
-ghost use Rattle.known_nets.specs.Spreads.{ArePlain, HasArrived, HasCrossed, HasGone, HasPassedAll, HasPassedFirst, HasPassedOver, IsClear, IsEndOver, IsPassedOn, IsRaised, given_amount, level_of_end, passed};
+ghost use Rattle.known_nets.specs.Incidence.{IsIncidence};
+ghost use Rattle.known_nets.specs.Spreads.{ArePlain, Goes, HasCrossed, HasSpread, IsEndOver, PassesAll, PassesFirst, PassesOver, given_amount, level_of_end, passed};
 ghost use Rattle.vrt_model.specs.Lists.{At, Among};
 ghost use Rattle.vrt_model.specs.Path.{Joins};
 ghost use Rattle.vrt_model.specs.Reading.{is_in};
 ghost use Rattle.vrt_model.specs.declared.circuit.Device.{Device as DeviceValue};
 
+use crate::amounts::{Amounts, amount_at};
 use crate::conducting::{conduction, is_plain, known_bit};
-use crate::incidence::other_end;
-use crate::lists::append;
+use crate::incidence::{Incidence, other_end};
 use vrt_model::{Circuit, Device, NoMemory, Seq};
 
 /// The level of supplies, inputs and clock ports.
@@ -31,14 +29,19 @@ pub(crate) enum Spread {
     Value(bool),
 }
 
-/// The amount of a net in a table, and 0 past its end.
-pub(crate) fn amount_at(table: &[u8], net: usize) -> u8
-    ensures { result ≡ slice_index table.now net }
-{
-    match table.get(net) {
-        Some(amount) => *amount,
-        None => 0,
-    }
+/// A spread over the devices of a circuit that are known to conduct.
+#[derive(Clone, Copy)]
+pub(crate) struct Spreading<'a> {
+    /// The circuit.
+    pub(crate) circuit: &'a Circuit,
+    /// Its devices by net.
+    pub(crate) by: &'a Incidence,
+    /// The known bits, by net.
+    pub(crate) known: &'a [Option<bool>],
+    /// What spreads.
+    pub(crate) spread: Spread,
+    /// The strengths of the nets, where a value spreads.
+    pub(crate) levels: &'a [u8],
 }
 
 /// The level of a net: the source level where it is not plain.
@@ -68,23 +71,15 @@ fn given_amount(spread: Spread, known: &[Option<bool>], net: usize) -> u8
 
 /// What passes over a device from one net to another. A value passes where the lesser of the one net's level and the
 /// device's is the level of the other: else a stronger signal blocks it there.
-fn passed(
-    spread: Spread,
-    circuit: &Circuit,
-    levels: &[u8],
-    amount: u8,
-    from: usize,
-    device: &Device,
-    to: usize,
-) -> u8
-    ensures { result ≡ passed spread circuit.now levels.now amount from device.now to }
+fn passed(over: Spreading<'_>, amount: u8, from: usize, device: &Device, to: usize) -> u8
+    ensures { result ≡ passed over.entry.spread over.entry.circuit.now over.entry.levels.now amount from device.now to }
 {
-    match spread {
+    match over.spread {
         Spread::Joined => amount,
         Spread::Strength => amount.min(device.level),
         Spread::Value(_) => {
-            let through = level_at(circuit, levels, from).min(device.level);
-            if through == level_at(circuit, levels, to) {
+            let through = level_at(over.circuit, over.levels, from).min(device.level);
+            if through == level_at(over.circuit, over.levels, to) {
                 amount
             } else {
                 0
@@ -109,140 +104,89 @@ fn end_over(known: &[Option<bool>], device: &Device, net: usize) -> Option<usize
     other_end(device, net)
 }
 
-/// Writes the amount of a net. There is none past the end of the table.
-fn put(table: &mut [u8], net: usize, amount: u8)
-    ensures { table.new ≡ set table.old net amount }
-{
-    if net < table.len() {
-        table[net] = amount;
-    }
-}
-
-/// Raises the amount of a net and lists it to be looked at, where it was less.
-fn raise(table: &mut [u8], met: &mut Vec<usize>, net: usize, amount: u8) -> Result<(), NoMemory>
-    ensures { OnOk result (IsRaised net amount table.old table.new met.old.items met.new.items) }
-{
-    if net < table.len() && amount_at(table, net) < amount {
-        append(met, net)?;
-        put(table, net, amount);
-    }
-    Ok(())
-}
-
 /// Passes an amount of a plain net over a device to the net at its other end, or takes what comes from there where that
 /// net is not plain.
 fn cross(
-    circuit: &Circuit,
-    known: &[Option<bool>],
-    spread: Spread,
-    levels: &[u8],
+    over: Spreading<'_>,
     device: &Device,
     net: usize,
     other: usize,
     amount: u8,
-    table: &mut [u8],
-    met: &mut Vec<usize>,
+    amounts: &mut Amounts,
 ) -> Result<(), NoMemory>
-    requires there { Among circuit.now.devices device.now }
+    requires there { Among over.circuit.now.devices device.now }
     requires bare { is_in true device.now ≡ true }
-    requires on { conduction_of known.now device.now ≡ Some true }
+    requires on { conduction_of over.known.now device.now ≡ Some true }
     requires joins { Joins device.now net other }
-    requires plain { is_plain_at circuit.now net ≡ true }
-    requires size { length table.old ≡ length circuit.now.nets }
-    ensures gone { OnOk result (HasGone spread circuit.now known.now levels.now amount net table.old table.new met.old.items met.new.items) }
-    ensures crossed { OnOk result (HasCrossed spread circuit.now known.now levels.now table.new amount net device.now other) }
+    requires plain { is_plain_at over.circuit.now net ≡ true }
+    requires size { length amounts.old.table.items ≡ length over.circuit.now.nets }
+    ensures gone { OnOk result (Goes over.entry amount net amounts.old amounts.new) }
+    ensures crossed { OnOk result (HasCrossed over.entry.spread over.entry.circuit.now over.entry.known.now over.entry.levels.now amounts.new.table.items amount net device.now other) }
 {
-    if is_plain(circuit, other) {
-        let forth = passed(spread, circuit, levels, amount, net, device, other);
-        raise(table, met, other, forth)
+    if is_plain(over.circuit, other) {
+        let forth = passed(over, amount, net, device, other);
+        amounts.raise(other, forth)
     } else {
-        let given = given_amount(spread, known, other);
-        let back = passed(spread, circuit, levels, given, other, device, net);
-        raise(table, met, net, back)
+        let given = given_amount(over.spread, over.known, other);
+        let back = passed(over, given, other, device, net);
+        amounts.raise(net, back)
     }
 }
 
-/// Looks at one device at a plain net with an amount: passes it on to the net at the other end, or takes what comes from
-/// there where that net is not plain.
-fn visit(
-    circuit: &Circuit,
-    known: &[Option<bool>],
-    spread: Spread,
-    levels: &[u8],
+/// Passes an amount of a plain net over a device, where this is known to conduct.
+fn pass_over(
+    over: Spreading<'_>,
     device: &Device,
     net: usize,
     amount: u8,
-    table: &mut [u8],
-    met: &mut Vec<usize>,
+    amounts: &mut Amounts,
 ) -> Result<(), NoMemory>
-    requires there { Among circuit.now.devices device.now }
-    requires plain { is_plain_at circuit.now net ≡ true }
-    requires size { length table.old ≡ length circuit.now.nets }
-    ensures gone { OnOk result (HasGone spread circuit.now known.now levels.now amount net table.old table.new met.old.items met.new.items) }
-    ensures crossed { OnOk result (HasPassedOver spread circuit.now known.now levels.now table.new amount net device.now) }
+    requires there { Among over.circuit.now.devices device.now }
+    requires plain { is_plain_at over.circuit.now net ≡ true }
+    requires size { length amounts.old.table.items ≡ length over.circuit.now.nets }
+    ensures gone { OnOk result (Goes over.entry amount net amounts.old amounts.new) }
+    ensures passed { OnOk result (PassesOver over.entry amounts.new amount net device.now) }
 {
-    match end_over(known, device, net) {
-        Some(other) => cross(
-            circuit, known, spread, levels, device, net, other, amount, table, met,
-        ),
+    match end_over(over.known, device, net) {
+        Some(other) => cross(over, device, net, other, amount, amounts),
         None => Ok(()),
     }
 }
 
-/// Looks at the device of a number at a net.
-fn visit_at(
-    circuit: &Circuit,
-    known: &[Option<bool>],
-    spread: Spread,
-    levels: &[u8],
+/// Passes an amount of a plain net over the device of a number.
+fn pass_over_number(
+    over: Spreading<'_>,
     number: usize,
     net: usize,
     amount: u8,
-    table: &mut [u8],
-    met: &mut Vec<usize>,
+    amounts: &mut Amounts,
 ) -> Result<(), NoMemory>
-    requires plain { is_plain_at circuit.now net ≡ true }
-    requires size { length table.old ≡ length circuit.now.nets }
-    ensures gone { OnOk result (HasGone spread circuit.now known.now levels.now amount net table.old table.new met.old.items met.new.items) }
-    ensures crossed { OnOk result ((d : DeviceValue) → At circuit.now.devices number d → HasPassedOver spread circuit.now known.now levels.now table.new amount net d) }
+    requires plain { is_plain_at over.circuit.now net ≡ true }
+    requires size { length amounts.old.table.items ≡ length over.circuit.now.nets }
+    ensures gone { OnOk result (Goes over.entry amount net amounts.old amounts.new) }
+    ensures passed { OnOk result ((d : DeviceValue) → At over.entry.circuit.now.devices number d → PassesOver over.entry amounts.new amount net d) }
 {
-    match circuit.devices.get(number) {
-        Some(device) => visit(
-            circuit, known, spread, levels, device, net, amount, table, met,
-        ),
+    match over.circuit.devices.get(number) {
+        Some(device) => pass_over(over, device, net, amount, amounts),
         None => Ok(()),
     }
 }
 
-/// Looks at the devices of these numbers at a net.
-fn visit_all(
-    circuit: &Circuit,
-    known: &[Option<bool>],
-    spread: Spread,
-    levels: &[u8],
+/// Passes an amount of a plain net over the devices of these numbers.
+fn pass_over_numbers(
+    over: Spreading<'_>,
     numbers: &[u32],
     net: usize,
     amount: u8,
-    table: &mut [u8],
-    met: &mut Vec<usize>,
+    amounts: &mut Amounts,
 ) -> Result<(), NoMemory>
-    requires plain { is_plain_at circuit.now net ≡ true }
-    requires size { length table.old ≡ length circuit.now.nets }
-    ensures gone { OnOk result (HasGone spread circuit.now known.now levels.now amount net table.old table.new met.old.items met.new.items) }
-    ensures crossed { OnOk result (HasPassedFirst spread circuit.now known.now levels.now table.new amount net numbers.now (length numbers.now)) }
+    requires plain { is_plain_at over.circuit.now net ≡ true }
+    requires size { length amounts.old.table.items ≡ length over.circuit.now.nets }
+    ensures gone { OnOk result (Goes over.entry amount net amounts.old amounts.new) }
+    ensures passed { OnOk result (PassesFirst over.entry amounts.new amount net numbers.now (length numbers.now)) }
 {
     for number in numbers {
-        visit_at(
-            circuit,
-            known,
-            spread,
-            levels,
-            *number as usize,
-            net,
-            amount,
-            table,
-            met,
-        )?;
+        pass_over_number(over, *number as usize, net, amount, amounts)?;
     }
     Ok(())
 }
@@ -258,29 +202,17 @@ fn numbers_at(ends: &[Seq<u32>], net: usize) -> &[u32]
     }
 }
 
-/// Looks at a net: passes its amount on over all devices that are known to conduct.
-fn look(
-    circuit: &Circuit,
-    ends: &[Seq<u32>],
-    known: &[Option<bool>],
-    spread: Spread,
-    levels: &[u8],
-    net: usize,
-    table: &mut [u8],
-    met: &mut Vec<usize>,
-) -> Result<(), NoMemory>
-    requires ends { HasEnds circuit.now (length circuit.now.devices) ends.now }
-    requires count { length ends.now ≡ length circuit.now.nets }
-    requires plain { is_plain_at circuit.now net ≡ true }
-    requires size { length table.old ≡ length circuit.now.nets }
-    ensures gone { OnOk result (HasGone spread circuit.now known.now levels.now (slice_index table.old net) net table.old table.new met.old.items met.new.items) }
-    ensures passed { OnOk result (HasPassedAll spread circuit.now known.now levels.now table.new (slice_index table.old net) net) }
+/// Passes the amount of a plain net on over all devices that are known to conduct.
+fn pass_on(over: Spreading<'_>, net: usize, amounts: &mut Amounts) -> Result<(), NoMemory>
+    requires by { IsIncidence over.circuit.now over.by.now }
+    requires plain { is_plain_at over.circuit.now net ≡ true }
+    requires size { length amounts.old.table.items ≡ length over.circuit.now.nets }
+    ensures gone { OnOk result (Goes over.entry (slice_index amounts.old.table.items net) net amounts.old amounts.new) }
+    ensures passed { OnOk result (PassesAll over.entry amounts.new (slice_index amounts.old.table.items net) net) }
 {
-    let amount = amount_at(table, net);
-    let numbers = numbers_at(ends, net);
-    visit_all(
-        circuit, known, spread, levels, numbers, net, amount, table, met,
-    )
+    let amount = amounts.at(net);
+    let numbers = numbers_at(over.by.ends.as_slice(), net);
+    pass_over_numbers(over, numbers, net, amount, amounts)
 }
 
 /// The net at a place of a list.
@@ -291,44 +223,19 @@ fn net_at(met: &[usize], at: usize) -> usize
     met[at]
 }
 
-/// Lets amounts spread from the nets of a list until nothing changes. A net is put on the list again each time that its
-/// amount rises.
-pub(crate) fn spread_from(
-    circuit: &Circuit,
-    ends: &[Seq<u32>],
-    known: &[Option<bool>],
-    spread: Spread,
-    levels: &[u8],
-    table: &mut [u8],
-    met: &mut Vec<usize>,
-) -> Result<(), NoMemory>
-    requires ends { HasEnds circuit.now (length circuit.now.devices) ends.now }
-    requires count { length ends.now ≡ length circuit.now.nets }
-    requires size { length table.old ≡ length circuit.now.nets }
-    requires plain { ArePlain circuit.now met.old.items }
-    ensures plain { OnOk result (ArePlain circuit.now met.new.items) }
-    ensures stays { OnOk result ((n : ℕ) → Among met.old.items n → Among met.new.items n) }
-    ensures raised { OnOk result ((n : ℕ) → (slice_index table.new n ≡ slice_index table.old n) ⊎ Among met.new.items n) }
-    ensures listed { OnOk result ((n : ℕ) → Among met.new.items n → (0 < slice_index table.new n) ⊎ Among met.old.items n) }
-    ensures grown { OnOk result ((n : ℕ) → slice_index table.old n ≤ slice_index table.new n) }
-    ensures arrived { OnOk result ((n : ℕ) → HasArrived spread circuit.now known.now levels.now table.old n (slice_index table.new n)) }
-    ensures closed { OnOk result ((n : ℕ) → Among met.new.items n → IsPassedOn spread circuit.now known.now levels.now table.new n) }
+/// Lets amounts spread from the nets that were met until nothing changes. A net is met again each time that its amount
+/// rises.
+pub(crate) fn spread_from(over: Spreading<'_>, amounts: &mut Amounts) -> Result<(), NoMemory>
+    requires by { IsIncidence over.circuit.now over.by.now }
+    requires size { length amounts.old.table.items ≡ length over.circuit.now.nets }
+    requires plain { ArePlain over.circuit.now amounts.old.met.items }
+    ensures { OnOk result (HasSpread over.entry amounts.old amounts.new) }
 {
     let mut at = 0;
-    'on: while at < met.len() {
-        let net = net_at(met.as_slice(), at);
-        look(circuit, ends, known, spread, levels, net, table, met)?;
+    'on: while at < amounts.met.len() {
+        let net = net_at(amounts.met.as_slice(), at);
+        pass_on(over, net, amounts)?;
         at += 1;
     }
     Ok(())
-}
-
-/// Sets the amounts of these nets back to 0.
-pub(crate) fn clear(table: &mut [u8], nets: &[usize])
-    requires { (n : ℕ) → (slice_index table.old n ≡ 0) ⊎ Among nets.now n }
-    ensures { IsClear table.new }
-{
-    for net in nets {
-        put(table, *net, 0);
-    }
 }

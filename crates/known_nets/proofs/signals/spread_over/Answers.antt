@@ -1,19 +1,21 @@
-use Rattle.std.proofs.Common.{ℕ, List, drop, length, arith, subst, sym}
-use Rattle.std.proofs.lemmas.List.{take_at}
-use Rattle.known_nets.specs.Spreads.{IsClear, IsSpread}
+use Rattle.std.proofs.Common.{Global, Vec, ◌≡◌, ℕ, List, ◌++◌, ap, subst, sym, ◌∙◌}
+use Rattle.std.proofs.lemmas.Result.{on_ok_weaker}
+use Rattle.known_nets.specs.Spreads.{HasSpread, IsSpread, IsZero}
 use Rattle.vrt_model.specs.Lists.{Among}
 use Rattle.known_nets.proofs.signals.spread_over.Goals as goal
 
 pub returns-clause-spread : goal.returns-clause-spread
 returns-clause-spread c =
-    let base = c.deref_mut.result.now in
-    let table = c.spread_from.new.table in
-    let clear : IsClear base = subst IsClear (sym c.deref_mut.ensures.value) c.requires.clear in
-    let spread : IsSpread c.args.spread c.args.circuit.now c.args.known.now c.args.levels.now c.args.nets.now table = record {
-      base = base;
-      clear = clear;
-      arrived = c.in_ok-spread_from.ensures.arrived;
-      closed = λ n m. c.in_ok-spread_from.ensures.closed n (c.in_ok-spread_from.ensures.stays n (subst (λ (l : List ℕ). Among l n) (sym c.in_ok-met.ensures) m));
+    let over = c.args.over in
+    let nets = c.args.nets.now in
+    let first = c.begin_over.new.self in
+    let last = c.spread_from.new.amounts in
+    let met : first.met.items ≡ nets = c.in_ok-begin_over.ensures.met ∙ ap (λ (l : List ℕ). l ++ nets) c.requires.none.empty in
+    let zero : IsZero first.table.items = subst (λ (v : Vec ℕ Global). IsZero v.items) (sym c.in_ok-begin_over.ensures.table) c.requires.none.zero in
+    let is_spread : HasSpread over first last → IsSpread over.spread over.circuit.now over.known.now over.levels.now nets last.table.items = λ has. record {
+      base = first.table.items;
+      clear = zero;
+      arrived = has.arrived;
+      closed = λ n m. has.closed n (has.stays n (subst (λ (l : List ℕ). Among l n) (sym met) m));
     } in
-    subst (IsSpread c.args.spread c.args.circuit.now c.args.known.now c.args.levels.now c.args.nets.now)
-    (sym (take_at table (drop (length table) c.args.table.now.items) c.args.table.now.len (omega arith))) spread
+    on_ok_weaker c.spread_from.result is_spread c.spread_from.ensures

@@ -5,8 +5,8 @@ use Rattle.known_nets.proofs.spread.spread_from.Given as goal
 
 -- the nets before the place are passed on, or stand behind it once more
 abbrev pub invariant-on : goal.invariant-on
-invariant-on l = GoesOn l.spread l.circuit l.known l.levels l.at l.initial.table l.table l.initial.met.items l.met.items
+invariant-on l = GoesOn l.over.spread l.over.circuit.now l.over.known.now l.over.levels.now l.at l.initial.amounts.table.items l.amounts.table.items l.initial.amounts.met.items l.amounts.met.items
 
--- a net is listed only where an amount has risen
+-- a net is met only where an amount has risen
 abbrev pub decreases-on : goal.decreases-on
-decreases-on l = headroom l.table + (length l.met.items - l.at)
+decreases-on l = headroom l.amounts.table.items + (length l.amounts.met.items - l.at)
