@@ -14,6 +14,7 @@ pub record NumberedPlace : Type 0 where
   pub number : ℕ
   pub at : Place
 
+-- all places with their numbers
 abbrev pub numbered_places : Top → List NumberedPlace
 numbered_places t = map (λ (p : ℕ × Place). let one : NumberedPlace = record { number = p.0; at = p.1 } in one) (enumerate_from 0 (all_places t))
 
@@ -22,6 +23,7 @@ abbrev pub is_whole : (ℕ → Bool) → ℕ → Bool
 is_whole choice zero = false
 is_whole choice (suc n) = choice n
 
+-- the places of the instances that are left whole
 abbrev pub whole_places : Cut → List NumberedPlace
 whole_places cut = filter (λ (p : NumberedPlace). is_whole cut.choice p.number) (numbered_places cut.top)
 
@@ -30,6 +32,7 @@ abbrev pub is_inside : Place → Place → Bool
 is_inside inner outer =
     nat_lt (length outer.path) (length inner.path) && same_path (drop (length inner.path - length outer.path) inner.path) outer.path
 
+-- the place is inside an instance that is left whole
 abbrev pub is_inside_whole : Cut → Place → Bool
 is_inside_whole cut at = list_any (λ (o : NumberedPlace). is_whole cut.choice o.number && is_inside at o.at) (numbered_places cut.top)
 
@@ -37,6 +40,7 @@ is_inside_whole cut at = list_any (λ (o : NumberedPlace). is_whole cut.choice o
 abbrev pub is_left_out : Cut → NumberedPlace → Bool
 is_left_out cut p = is_whole cut.choice p.number || is_inside_whole cut p.at
 
+-- the places whose cards are in the circuit
 abbrev pub shown : Cut → List NumberedPlace
 shown cut = filter (λ p. not (is_left_out cut p)) (numbered_places cut.top)
 

@@ -31,11 +31,13 @@ pub record Pin : Type 0 where
   pub port : CellPort
   pub net : Net
 
+-- ports, each with its net
 abbrev pub pins_from : List CellPort → List ℕ → List Pin
 pins_from [] nets = []
 pins_from (port ∷ ports) [] = []
 pins_from (port ∷ ports) (n ∷ nets) = (let pin : Pin = record { port = port; net = net_id n } in pin) ∷ pins_from ports nets
 
+-- the ports of the instance at a place
 abbrev pub pins_of : Comparison → Place → List Pin
 pins_of k at = pins_from (ports_of k) at.ports
 
@@ -58,6 +60,7 @@ driven_pins_from facts cell j (p ∷ pins) =
       | Some s ↦ record { net = p.net; signal = s; drive = drive_in facts cell j; observed = false } ∷ driven_pins_from facts cell (suc j) pins
     ]
 
+-- the output pins of the instance at a place
 abbrev pub driven_pins : List CellFacts → Comparison → Place → List WholePin
 driven_pins facts k at = driven_pins_from facts at.cell 0 (pins_of k at)
 
@@ -89,21 +92,24 @@ abbrev pub others_at : List OutputAt → OutputAt → List OutputAt
 others_at outputs one =
     filter (λ (o : OutputAt). (o.pin.net.0 == one.pin.net.0) && not ((o.instance == one.instance) && (o.output == one.output))) outputs
 
--- an output that meets gates alone
+-- an output is allowed where it meets gates alone
 abbrev pub meets_gates_only : List Device → List OutputAt → OutputAt → Bool
 meets_gates_only devices outputs one = is_empty (channels_at devices one.pin.net.0) && is_empty (others_at outputs one)
 
--- else its drive is a level, and all that it meets besides gates are devices of at most that level and whole outputs of that very drive
+-- a drive is this level
 abbrev pub has_level : ℕ → Drive → Bool
 has_level level Soft = false
 has_level level (Level other) = other == level
 
+-- or where its drive is a level, and all that it meets besides gates are devices of at most that level and whole
+-- outputs of that very drive
 abbrev pub fits_drive : List Device → List OutputAt → OutputAt → Drive → Bool
 fits_drive devices outputs one Soft = false
 fits_drive devices outputs one (Level level) =
     list_all (λ (d : Device). nat_le d.level level) (channels_at devices one.pin.net.0)
     && list_all (λ (o : OutputAt). has_level level o.pin.drive) (others_at outputs one)
 
+-- one of the two
 abbrev pub is_output_allowed : List Device → List OutputAt → OutputAt → Bool
 is_output_allowed devices outputs one = meets_gates_only devices outputs one || fits_drive devices outputs one one.pin.drive
 
@@ -115,24 +121,26 @@ IsChain Arc from to = (n : ℕ) × (nets : List ℕ) × Arc from n × IsWalk Arc
 abbrev pub CoverArc : FlatModel → ℕ → ℕ → Type 0
 CoverArc flat from to = (cover : Cover) × Among flat.covers cover × Among cover.inputs from × (to ≡ cover.output)
 
--- how a port of a whole instance is linked to an output in a phase: an input by a chain of arcs inside or by the
--- structure of the model; an output by a chain from a net of its part inside to another output; and a port that the
--- cell's `assume` rules for the phase name, or that has a `clockport` rule, to each output
+-- an input is linked to an output by a chain of arcs inside or by the structure of the model
 abbrev pub LinksInput : Comparison → ℕ → CellPort → CellPort → ℕ → ℕ → Type 0
 LinksInput k phase from to s out =
     (input_signal from.role ≡ Some s) × (output_signal to.role ≡ Some out)
     × (IsChain (HasArc k.circuit (phase_at k.rules phase)) from.net to.net ⊎ IsChain (CoverArc k.model) s out)
 
+-- an output is linked to another by a chain from a net of its part inside
 abbrev pub LinksOutput : Comparison → ℕ → CellPort → CellPort → ℕ → ℕ → Type 0
 LinksOutput k phase from to s out =
     (output_signal from.role ≡ Some s) × (output_signal to.role ≡ Some out) × (from.place ≢ to.place)
     × ((m : ℕ) × IsTogether k.circuit (phase_at k.rules phase) bare from.net m × IsChain (HasArc k.circuit (phase_at k.rules phase)) m to.net)
 
+-- an `assume` rule of the cell names the port, or it has a clock
 abbrev pub is_named_port : Comparison → ℕ → CellPort → Bool
 is_named_port k phase port =
     list_any (λ (e : Expr). has_name (names_in e) port.name) (assumed k.rules (cell_at k.design k.cell).name phase)
     || is_some (clock_of_port k.rules (cell_at k.design k.cell).name port.name)
 
+-- how a port of a whole instance is linked to an output in a phase: by one of these; and a port that the cell's
+-- `assume` rules for the phase name, or that has a `clockport` rule, to each output
 abbrev pub Links : Comparison → ℕ → CellPort → CellPort → Type 0
 Links k phase from to =
     ((s : ℕ) × (out : ℕ) × (LinksInput k phase from to s out ⊎ LinksOutput k phase from to s out))
