@@ -2,6 +2,7 @@
 use Rattle.std.specs.Prelude.{◌≡◌, ℕ, ◌+◌, ◌*◌, ◌^◌, ◌<◌, Bool, true, All, List, [], replicate, length, Option, None}
 use Rattle.blif_eval.specs.Plans.{IsPlan}
 use Rattle.channel_parts.specs.PartLists.{IsPartList}
+use Rattle.cell_compare.specs.declared.flattened.Comparison.{Comparison as CellComparison}
 use Rattle.cell_compare.specs.declared.flattened.Flattened.{Flattened}
 use Rattle.cell_compare.specs.declared.flattened.PhaseFound.{PhaseFound}
 use Rattle.cell_compare.specs.declared.flattened.PhaseFound.TheVariants.{Clear, Fault, Spent}
@@ -11,6 +12,8 @@ use Rattle.vrt_model.specs.Budget.{model_size, work}
 use Rattle.vrt_model.specs.Circuits.{IsCircuit, IsFlat}
 use Rattle.vrt_model.specs.Comparison.{Comparison, cell_at, phase_at}
 use Rattle.vrt_model.specs.Equal.{IsPhaseEqual}
+use Rattle.vrt_model.specs.Inputs.{AreRules, IsBlif, IsDesign}
+use Rattle.vrt_model.specs.Models.{AreModels}
 use Rattle.vrt_model.specs.FlatBlif.{flat_model_of}
 use Rattle.vrt_model.specs.FlatCircuit.{flat_circuit}
 use Rattle.vrt_model.specs.FlatModels.{IsFlatModel}
@@ -38,6 +41,15 @@ pub record IsBuilt (design : Design) (blif : Blif) (rules : Rules) (cell : ℕ) 
   pub instance_matches : rules.instance_matches ≡ []
   pub assumes : rules.assumes ≡ []
 
+-- a netlist, models and rules in their ranges, and a cell of which all is built
+pub record AreInputs (design : Design) (blif : Blif) (rules : Rules) (cell : ℕ) : Type 0 where
+  pub netlist : IsDesign design
+  pub names : IsBlif blif
+  pub models : AreModels blif
+  pub valid : AreRules rules
+  pub there : cell < length design.cells
+  pub built : IsBuilt design blif rules cell
+
 -- the comparison of a cell without holds
 abbrev pub comparison : Design → Rules → ℕ → Flattened → Comparison
 comparison design rules cell f = record {
@@ -49,6 +61,10 @@ comparison design rules cell f = record {
   model = f.model;
   groups = [];
 }
+
+-- the comparison that the code has
+abbrev pub comparison_in : CellComparison → Comparison
+comparison_in s = comparison s.design.now s.rules.now s.cell s.flattened.now
 
 -- what is known of a cell before its phases: its model, its flat circuit and flat model, and their pairing, none of
 -- which has anything in its way

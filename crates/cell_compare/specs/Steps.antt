@@ -4,21 +4,23 @@ use Rattle.std.specs.Option.{option_or}
 use Rattle.blif_eval.specs.Plans.{ArcOf, IsPlan}
 use Rattle.channel_parts.specs.PartLists.{IsPartList, net_numbers}
 use Rattle.channel_parts.specs.declared.part.Parts.{Parts}
-use Rattle.cell_compare.specs.Compared.{IsFlattened, MaySpend, comparison, nothing_known}
-use Rattle.cell_compare.specs.Phases.{input_count}
+use Rattle.cell_compare.specs.Compared.{IsFlattened, MaySpend, comparison, comparison_in, nothing_known}
+use Rattle.cell_compare.specs.Phases.{IsPlainComparison, input_count}
+use Rattle.cell_compare.specs.declared.flattened.Comparison.{Comparison as CellComparison}
 use Rattle.cell_compare.specs.declared.flattened.Flattened.{Flattened}
 use Rattle.cell_compare.specs.declared.flattened.PhasePlan.{PhasePlan}
 use Rattle.cell_compare.specs.declared.unchecked.Unchecked.{Unchecked}
 use Rattle.cell_compare.specs.declared.unchecked.Unchecked.TheVariants.{Because, NoMemory}
 use Rattle.flatten.specs.Structures.{IsStructured}
 use Rattle.latch_match.specs.Paired.{IsPairing}
-use Rattle.vrt_model.specs.Comparison.{Comparison, output_signal, phase_at}
+use Rattle.vrt_model.specs.Circuits.{IsFlat, IsCircuit}
+use Rattle.vrt_model.specs.Comparison.{Comparison, cell_at, output_signal, phase_at}
 use Rattle.vrt_model.specs.Equal.{IsEqual}
 use Rattle.vrt_model.specs.FlatBlif.{flat_model_of}
 use Rattle.vrt_model.specs.FlatModels.{IsFlatModel}
 use Rattle.vrt_model.specs.Known.{HasArc, IsFirstCycle}
 use Rattle.vrt_model.specs.Lists.{At}
-use Rattle.vrt_model.specs.PairedPorts.{output_is_input, paired_model, ports_fault}
+use Rattle.vrt_model.specs.PairedPorts.{HasRoles, output_is_input, paired_model, ports_fault}
 use Rattle.vrt_model.specs.Places.{Finding, IsFirst}
 use Rattle.vrt_model.specs.Unrolled.{Top}
 use Rattle.vrt_model.specs.Unsupported.{circuit_limits, device_without_kind, model_limits, supply_tie, too_large, why_early, why_of}
@@ -140,6 +142,16 @@ PlansTell rules c flat (Ok plans) = ArePlans rules c flat (length rules.phases) 
 PlansTell rules c flat (Err stop) = Stops (IsPlannedTo rules c flat) stop
 
 -- ---- the verdict
+
+-- What can be compared phase by phase: a flat circuit without holds and a flat model without latches, whose ports pair.
+pub record IsComparable (s : CellComparison) : Type 0 where
+  pub cell : s.cell < length s.design.now.cells
+  pub plain : (phase : ℕ) → phase < length s.rules.now.phases → IsPlainComparison (comparison_in s) phase
+  pub roles : HasRoles s.rules.now (cell_at s.design.now s.cell) s.flattened.now.pairing
+  pub circuit : IsCircuit s.flattened.now.circuit
+  pub flat : IsFlat s.flattened.now.circuit
+  pub model : IsFlatModel s.flattened.now.model
+  pub latchless : s.flattened.now.model.latches ≡ []
 
 -- few inputs, and a plan for each phase
 pub record IsPlanned (rules : Rules) (f : Flattened) : Type 0 where

@@ -1,47 +1,36 @@
 //! The phases of a cell in their order.
 
-ghost use Rattle.std.specs.Prelude.{◌≡◌, ℕ, ◌<◌, ◌≤◌, [], length, IfOk};
-ghost use Rattle.cell_compare.specs.Compared.{comparison};
-ghost use Rattle.cell_compare.specs.Phases.{IsPlainComparison, input_count};
-ghost use Rattle.cell_compare.specs.Steps.{ArePlans, IsChecked, IsTold};
-ghost use Rattle.vrt_model.specs.Circuits.{IsCircuit, IsFlat};
-ghost use Rattle.vrt_model.specs.Comparison.{cell_at};
-ghost use Rattle.vrt_model.specs.FlatModels.{IsFlatModel};
-ghost use Rattle.vrt_model.specs.PairedPorts.{HasRoles};
+ghost use Rattle.std.specs.Prelude.{◌≤◌, length, IfOk};
+ghost use Rattle.cell_compare.specs.Compared.{comparison_in};
+ghost use Rattle.cell_compare.specs.Phases.{input_count};
+ghost use Rattle.cell_compare.specs.Steps.{ArePlans, IsChecked, IsComparable, IsTold};
 
 use crate::early::too_many_inputs;
-use crate::flattened::{Flattened, PhaseFound, PhasePlan};
+use crate::flattened::{Comparison, PhaseFound, PhasePlan};
 use crate::phase::check_phase;
 use crate::plans::plans;
 use crate::unchecked::Unchecked;
 use std::alloc::Global;
-use vrt_model::{Design, NoMemory, Rules, Verdict, Why};
+use vrt_model::{NoMemory, Verdict, Why};
 
 /// What is found phase by phase, with at most `budget` nodes in each: the first fault, or the first phase for which the
 /// budget is used up, or else equal.
 fn check_phases(
     alloc: Global,
     budget: u32,
-    design: &Design,
-    rules: &Rules,
-    cell: u32,
-    flattened: &Flattened,
+    compared: Comparison<'_>,
     plans: &[PhasePlan],
 ) -> Result<Verdict, NoMemory>
     requires budget { (65536 ≤ budget) × (budget ≤ 64000000) }
-    requires cell { cell < length design.now.cells }
-    requires phases { length rules.now.phases ≤ 16 }
-    requires plain { (phase : ℕ) → phase < length rules.now.phases → IsPlainComparison (comparison design.now rules.now cell flattened.now) phase }
-    requires roles { HasRoles rules.now (cell_at design.now cell) flattened.now.pairing }
-    requires circuit { IsCircuit flattened.now.circuit }
-    requires model { IsFlatModel flattened.now.model }
-    requires inputs { input_count flattened.now.circuit ≤ 1000 }
-    requires plans { ArePlans rules.now flattened.now.circuit flattened.now.model (length rules.now.phases) plans.now }
-    ensures { IfOk result (IsChecked (comparison design.now rules.now cell flattened.now) budget) }
+    requires comparable { IsComparable compared }
+    requires phases { length compared.rules.now.phases ≤ 16 }
+    requires inputs { input_count compared.flattened.now.circuit ≤ 1000 }
+    requires plans { ArePlans compared.rules.now compared.flattened.now.circuit compared.flattened.now.model (length compared.rules.now.phases) plans.now }
+    ensures { IfOk result (IsChecked (comparison_in compared.entry) budget) }
 {
     for (phase, plan) in plans.iter().enumerate() {
         let phase = phase as u32;
-        match check_phase(alloc, budget, design, rules, cell, flattened, phase, plan)? {
+        match check_phase(alloc, budget, compared, phase, plan)? {
             PhaseFound::Clear => {}
             PhaseFound::Fault(fault) => return Ok(Verdict::Fault(fault)),
             PhaseFound::Spent => {
@@ -59,35 +48,19 @@ fn check_phases(
 pub(crate) fn check_cell(
     alloc: Global,
     budget: u32,
-    design: &Design,
-    rules: &Rules,
-    cell: u32,
-    flattened: &Flattened,
+    compared: Comparison<'_>,
 ) -> Result<Verdict, NoMemory>
     requires budget { (65536 ≤ budget) × (budget ≤ 64000000) }
-    requires cell { cell < length design.now.cells }
-    requires phases { length rules.now.phases ≤ 16 }
-    requires plain { (phase : ℕ) → phase < length rules.now.phases → IsPlainComparison (comparison design.now rules.now cell flattened.now) phase }
-    requires roles { HasRoles rules.now (cell_at design.now cell) flattened.now.pairing }
-    requires circuit { IsCircuit flattened.now.circuit }
-    requires flat { IsFlat flattened.now.circuit }
-    requires model { IsFlatModel flattened.now.model }
-    requires latchless { flattened.now.model.latches ≡ [] }
-    ensures { IfOk result (IsTold design.now rules.now cell flattened.now budget) }
+    requires comparable { IsComparable compared }
+    requires phases { length compared.rules.now.phases ≤ 16 }
+    ensures { IfOk result (IsTold compared.entry.design.now compared.entry.rules.now compared.entry.cell compared.entry.flattened.now budget) }
 {
-    if let Some(count) = too_many_inputs(&flattened.circuit) {
+    if let Some(count) = too_many_inputs(&compared.flattened.circuit) {
         return Ok(Verdict::Unsupported(Why::TooManyVars { count }));
     }
-    match plans(alloc, rules, &flattened.circuit, &flattened.model) {
-        Ok(plans) => check_phases(
-            alloc,
-            budget,
-            design,
-            rules,
-            cell,
-            flattened,
-            plans.as_slice(),
-        ),
+    let flattened = compared.flattened;
+    match plans(alloc, compared.rules, &flattened.circuit, &flattened.model) {
+        Ok(plans) => check_phases(alloc, budget, compared, plans.as_slice()),
         Err(Unchecked::Because(why)) => Ok(Verdict::Unsupported(why)),
         Err(Unchecked::NoMemory) => Err(NoMemory),
     }

@@ -1,7 +1,7 @@
 //! One cell compared with its model.
 
 ghost use Rattle.std.specs.Prelude.{◌≡◌, ◌≤◌, ◌<◌, [], None, false, length, IfOk};
-ghost use Rattle.cell_compare.specs.Compared.{IsBuilt};
+ghost use Rattle.cell_compare.specs.Compared.{AreInputs, IsBuilt};
 ghost use Rattle.cell_compare.specs.Cells.{HasLine, HasFacts};
 ghost use Rattle.vrt_model.specs.Inputs.{AreRules, IsBlif, IsDesign};
 ghost use Rattle.vrt_model.specs.Models.{AreModels};
@@ -10,7 +10,7 @@ ghost use Rattle.vrt_model.specs.Verdicts.{IsVerdict};
 
 use crate::checks::check_cell;
 use crate::early::flatten_cell;
-use crate::flattened::Flattened;
+use crate::flattened::{Comparison, Flattened};
 use crate::known_facts::{facts_of, no_facts};
 use crate::unchecked::Unchecked;
 use latch_match::{is_skipped, model_of};
@@ -51,12 +51,7 @@ fn compare_with(
     model: u32,
 ) -> Result<Compared, NoMemory>
     requires budget { (65536 ≤ budget) × (budget ≤ 64000000) }
-    requires design { IsDesign design.now }
-    requires blif { IsBlif blif.now }
-    requires models { AreModels blif.now }
-    requires rules { AreRules rules.now }
-    requires cell { cell < length design.now.cells }
-    requires built { IsBuilt design.now blif.now rules.now cell }
+    requires inputs { AreInputs design.now blif.now rules.now cell }
     requires paired { paired_model design.now blif.now rules.now cell ≡ Model model }
     ensures verdict { IfOk result (λ c. IsVerdict design.now blif.now rules.now budget cell c.verdict) }
     ensures line { IfOk result (λ c. HasLine design.now blif.now rules.now cell c.verdict c.flattened) }
@@ -67,7 +62,13 @@ fn compare_with(
         Err(Unchecked::Because(why)) => return Ok(without(alloc, Verdict::Unsupported(why))),
         Err(Unchecked::NoMemory) => return Err(NoMemory),
     };
-    let verdict = check_cell(alloc, budget, design, rules, cell, &flattened)?;
+    let compared = Comparison {
+        design,
+        rules,
+        cell,
+        flattened: &flattened,
+    };
+    let verdict = check_cell(alloc, budget, compared)?;
     let facts = facts_of(alloc, &verdict, flattened.pairing.ports.as_slice())?;
     Ok(Compared {
         verdict,

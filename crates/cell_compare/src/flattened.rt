@@ -2,7 +2,7 @@
 
 use blif_eval::ModelPlan;
 use channel_parts::Parts;
-use vrt_model::{Circuit, FaultAt, FlatModel, Pairing};
+use vrt_model::{Circuit, Design, FaultAt, FlatModel, Pairing, Rules};
 
 /// The flat circuit and the flat model of a cell, and how its ports and the signals of the model pair.
 pub struct Flattened {
@@ -23,6 +23,19 @@ impl Drop for Flattened {
             model: _model,
         } = self;
     }
+}
+
+/// A cell that is compared with its model.
+#[derive(Clone, Copy)]
+pub(crate) struct Comparison<'a> {
+    /// The netlist.
+    pub(crate) design: &'a Design,
+    /// The rules.
+    pub(crate) rules: &'a Rules,
+    /// The number of the cell.
+    pub(crate) cell: u32,
+    /// What was made of the cell and of its model.
+    pub(crate) flattened: &'a Flattened,
 }
 
 /// The order in which a phase is worked through: the parts of the circuit, and the signals of the model.

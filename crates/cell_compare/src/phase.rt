@@ -1,7 +1,7 @@
 //! One phase of a cell: its circuit against its model, at every valuation.
 
 ghost use Rattle.std.specs.Prelude.{◌≡◌, ◌≤◌, ◌<◌, length, IfOk};
-ghost use Rattle.cell_compare.specs.Compared.{IsPhasePlan, PhaseGives, comparison};
+ghost use Rattle.cell_compare.specs.Compared.{IsPhasePlan, PhaseGives, comparison_in};
 ghost use Rattle.cell_compare.specs.PhaseSteps.{IsFresh, IsKnownModel, IsOpen, IsSolved};
 ghost use Rattle.cell_compare.specs.Phases.{AreSeenOutputs, IsPlainComparison, input_count};
 ghost use Rattle.vrt_model.specs.Circuits.{IsCircuit};
@@ -10,25 +10,22 @@ ghost use Rattle.vrt_model.specs.FlatModels.{IsFlatModel};
 ghost use Rattle.vrt_model.specs.PairedPorts.{HasRoles};
 
 use crate::circuit::circuit_fault;
-use crate::flattened::{Flattened, PhaseFound, PhasePlan};
+use crate::flattened::{Comparison, PhaseFound, PhasePlan};
 use crate::outputs::{Output, output_fault};
 use crate::phase_words::{PhaseWords, input_nets, take_words, word_count};
 use crate::ports::{observed_nets, open_inputs, seen_outputs};
 use crate::roots::open_roots;
-use crate::tell::{tell_circuit_fault, tell_difference};
+use crate::tell::{told_circuit_fault, told_difference};
 use bdd_core::{ONE, Store};
 use blif_eval::eval_model;
 use std::alloc::Global;
-use vrt_model::{Design, NoMemory, Rules};
+use vrt_model::NoMemory;
 
-/// What is compared: a cell in a phase, the order in which the phase is worked through, and the budget of its nodes.
+/// A cell compared in a phase, the order in which the phase is worked through, and the budget of its nodes.
 #[derive(Clone, Copy)]
 struct PhaseTask<'a> {
     budget: u32,
-    design: &'a Design,
-    rules: &'a Rules,
-    cell: u32,
-    flattened: &'a Flattened,
+    compared: Comparison<'a>,
     phase: u32,
     plan: &'a PhasePlan,
 }
@@ -42,30 +39,20 @@ fn check_outputs(
     outputs: &[Output],
 ) -> Result<PhaseFound, NoMemory>
     requires budget { 65536 ≤ task.budget }
-    requires cell { task.cell < length task.design.now.cells }
-    requires plain { IsPlainComparison (comparison task.design.now task.rules.now task.cell task.flattened.now) task.phase }
-    requires plan { IsPhasePlan (comparison task.design.now task.rules.now task.cell task.flattened.now) task.phase task.plan.now }
-    requires outputs { AreSeenOutputs (comparison task.design.now task.rules.now task.cell task.flattened.now) task.phase outputs.now }
-    requires few { length outputs.now ≤ length task.flattened.now.circuit.nets }
-    requires known { IsKnownModel (comparison task.design.now task.rules.now task.cell task.flattened.now) task.phase task.budget task.plan.now.parts.list words store.old }
-    ensures gives { IfOk result (PhaseGives (comparison task.entry.design.now task.entry.rules.now task.entry.cell task.entry.flattened.now) task.entry.budget task.entry.phase) }
+    requires cell { task.compared.cell < length task.compared.design.now.cells }
+    requires plain { IsPlainComparison (comparison_in task.compared) task.phase }
+    requires plan { IsPhasePlan (comparison_in task.compared) task.phase task.plan.now }
+    requires outputs { AreSeenOutputs (comparison_in task.compared) task.phase outputs.now }
+    requires few { length outputs.now ≤ length task.compared.flattened.now.circuit.nets }
+    requires known { IsKnownModel (comparison_in task.compared) task.phase task.budget task.plan.now.parts.list words store.old }
+    ensures gives { IfOk result (PhaseGives (comparison_in task.entry.compared) task.entry.budget task.entry.phase) }
 {
     store.sound();
     match output_fault(store, outputs, ONE, words.gates, words.values) {
         Err(_) => Ok(PhaseFound::Spent),
         Ok(None) => Ok(PhaseFound::Clear),
         Ok(Some(fault)) => {
-            let told = tell_difference(
-                store,
-                alloc,
-                task.design,
-                task.rules,
-                task.cell,
-                task.flattened,
-                task.phase,
-                words,
-                fault,
-            )?;
+            let told = told_difference(store, alloc, task.compared, task.phase, words, fault)?;
             Ok(PhaseFound::Fault(told))
         }
     }
@@ -80,19 +67,19 @@ fn check_model(
     outputs: &[Output],
 ) -> Result<PhaseFound, NoMemory>
     requires budget { 65536 ≤ task.budget }
-    requires cell { task.cell < length task.design.now.cells }
-    requires plain { IsPlainComparison (comparison task.design.now task.rules.now task.cell task.flattened.now) task.phase }
-    requires model { IsFlatModel task.flattened.now.model }
-    requires plan { IsPhasePlan (comparison task.design.now task.rules.now task.cell task.flattened.now) task.phase task.plan.now }
-    requires outputs { AreSeenOutputs (comparison task.design.now task.rules.now task.cell task.flattened.now) task.phase outputs.now }
-    requires few { length outputs.now ≤ length task.flattened.now.circuit.nets }
-    requires solved { IsSolved (comparison task.design.now task.rules.now task.cell task.flattened.now) task.phase task.budget task.plan.now.parts.list words store.old }
-    ensures gives { IfOk result (PhaseGives (comparison task.entry.design.now task.entry.rules.now task.entry.cell task.entry.flattened.now) task.entry.budget task.entry.phase) }
+    requires cell { task.compared.cell < length task.compared.design.now.cells }
+    requires plain { IsPlainComparison (comparison_in task.compared) task.phase }
+    requires model { IsFlatModel task.compared.flattened.now.model }
+    requires plan { IsPhasePlan (comparison_in task.compared) task.phase task.plan.now }
+    requires outputs { AreSeenOutputs (comparison_in task.compared) task.phase outputs.now }
+    requires few { length outputs.now ≤ length task.compared.flattened.now.circuit.nets }
+    requires solved { IsSolved (comparison_in task.compared) task.phase task.budget task.plan.now.parts.list words store.old }
+    ensures gives { IfOk result (PhaseGives (comparison_in task.entry.compared) task.entry.budget task.entry.phase) }
 {
     store.sound();
     match eval_model(
         store,
-        &task.flattened.model,
+        &task.compared.flattened.model,
         &task.plan.model,
         words.inputs,
         words.held,
@@ -111,36 +98,21 @@ fn check_circuit(
     words: PhaseWords,
 ) -> Result<PhaseFound, NoMemory>
     requires budget { 65536 ≤ task.budget }
-    requires cell { task.cell < length task.design.now.cells }
-    requires plain { IsPlainComparison (comparison task.design.now task.rules.now task.cell task.flattened.now) task.phase }
-    requires roles { HasRoles task.rules.now (cell_at task.design.now task.cell) task.flattened.now.pairing }
-    requires model { IsFlatModel task.flattened.now.model }
-    requires plan { IsPhasePlan (comparison task.design.now task.rules.now task.cell task.flattened.now) task.phase task.plan.now }
-    requires open { IsOpen (comparison task.design.now task.rules.now task.cell task.flattened.now) task.phase task.budget words store.old }
-    ensures gives { IfOk result (PhaseGives (comparison task.entry.design.now task.entry.rules.now task.entry.cell task.entry.flattened.now) task.entry.budget task.entry.phase) }
+    requires cell { task.compared.cell < length task.compared.design.now.cells }
+    requires plain { IsPlainComparison (comparison_in task.compared) task.phase }
+    requires roles { HasRoles task.compared.rules.now (cell_at task.compared.design.now task.compared.cell) task.compared.flattened.now.pairing }
+    requires model { IsFlatModel task.compared.flattened.now.model }
+    requires plan { IsPhasePlan (comparison_in task.compared) task.phase task.plan.now }
+    requires open { IsOpen (comparison_in task.compared) task.phase task.budget words store.old }
+    ensures gives { IfOk result (PhaseGives (comparison_in task.entry.compared) task.entry.budget task.entry.phase) }
 {
     store.sound();
-    let outputs = seen_outputs(
-        alloc,
-        task.design,
-        task.rules,
-        task.cell,
-        task.flattened,
-        task.phase,
-    )?;
+    let outputs = seen_outputs(alloc, task.compared, task.phase)?;
     let outputs = outputs.as_slice();
-    let observed = observed_nets(
-        alloc,
-        task.design,
-        task.rules,
-        task.cell,
-        task.flattened,
-        task.phase,
-        outputs,
-    )?;
+    let observed = observed_nets(alloc, task.compared, task.phase, outputs)?;
     match circuit_fault(
         store,
-        &task.flattened.circuit,
+        &task.compared.flattened.circuit,
         &task.plan.parts,
         observed.as_slice(),
         ONE,
@@ -151,13 +123,10 @@ fn check_circuit(
         Err(_) => Ok(PhaseFound::Spent),
         Ok(None) => check_model(store, alloc, task, words, outputs),
         Ok(Some(fault)) => {
-            let told = tell_circuit_fault(
+            let told = told_circuit_fault(
                 store,
                 alloc,
-                task.design,
-                task.rules,
-                task.cell,
-                task.flattened,
+                task.compared,
                 task.phase,
                 words.least,
                 fault,
@@ -175,19 +144,19 @@ fn check_fresh(
     words: PhaseWords,
 ) -> Result<PhaseFound, NoMemory>
     requires budget { 65536 ≤ task.budget }
-    requires cell { task.cell < length task.design.now.cells }
-    requires plain { IsPlainComparison (comparison task.design.now task.rules.now task.cell task.flattened.now) task.phase }
-    requires roles { HasRoles task.rules.now (cell_at task.design.now task.cell) task.flattened.now.pairing }
-    requires model { IsFlatModel task.flattened.now.model }
-    requires plan { IsPhasePlan (comparison task.design.now task.rules.now task.cell task.flattened.now) task.phase task.plan.now }
-    requires fresh { IsFresh (comparison task.design.now task.rules.now task.cell task.flattened.now) task.phase task.budget words store.old }
-    ensures gives { IfOk result (PhaseGives (comparison task.entry.design.now task.entry.rules.now task.entry.cell task.entry.flattened.now) task.entry.budget task.entry.phase) }
+    requires cell { task.compared.cell < length task.compared.design.now.cells }
+    requires plain { IsPlainComparison (comparison_in task.compared) task.phase }
+    requires roles { HasRoles task.compared.rules.now (cell_at task.compared.design.now task.compared.cell) task.compared.flattened.now.pairing }
+    requires model { IsFlatModel task.compared.flattened.now.model }
+    requires plan { IsPhasePlan (comparison_in task.compared) task.phase task.plan.now }
+    requires fresh { IsFresh (comparison_in task.compared) task.phase task.budget words store.old }
+    ensures gives { IfOk result (PhaseGives (comparison_in task.entry.compared) task.entry.budget task.entry.phase) }
 {
     store.sound();
-    let phases = task.rules.phases.as_slice();
+    let phases = task.compared.rules.phases.as_slice();
     match open_roots(
         store,
-        &task.flattened.circuit,
+        &task.compared.flattened.circuit,
         &phases[task.phase as usize],
         words.roots,
     ) {
@@ -197,10 +166,7 @@ fn check_fresh(
     open_inputs(
         store,
         alloc,
-        task.design,
-        task.rules,
-        task.cell,
-        task.flattened,
+        task.compared,
         task.phase,
         words.roots,
         words.inputs,
@@ -215,35 +181,29 @@ fn check_fresh(
 pub(crate) fn check_phase(
     alloc: Global,
     budget: u32,
-    design: &Design,
-    rules: &Rules,
-    cell: u32,
-    flattened: &Flattened,
+    compared: Comparison<'_>,
     phase: u32,
     plan: &PhasePlan,
 ) -> Result<PhaseFound, NoMemory>
     requires budget { (65536 ≤ budget) × (budget ≤ 64000000) }
-    requires cell { cell < length design.now.cells }
-    requires plain { IsPlainComparison (comparison design.now rules.now cell flattened.now) phase }
-    requires roles { HasRoles rules.now (cell_at design.now cell) flattened.now.pairing }
-    requires circuit { IsCircuit flattened.now.circuit }
-    requires model { IsFlatModel flattened.now.model }
-    requires inputs { input_count flattened.now.circuit ≤ 1000 }
-    requires plan { IsPhasePlan (comparison design.now rules.now cell flattened.now) phase plan.now }
-    ensures gives { IfOk result (PhaseGives (comparison design.now rules.now cell flattened.now) budget phase) }
+    requires cell { compared.cell < length compared.design.now.cells }
+    requires plain { IsPlainComparison (comparison_in compared) phase }
+    requires roles { HasRoles compared.rules.now (cell_at compared.design.now compared.cell) compared.flattened.now.pairing }
+    requires circuit { IsCircuit compared.flattened.now.circuit }
+    requires model { IsFlatModel compared.flattened.now.model }
+    requires inputs { input_count compared.flattened.now.circuit ≤ 1000 }
+    requires plan { IsPhasePlan (comparison_in compared) phase plan.now }
+    ensures gives { IfOk result (PhaseGives (comparison_in compared.entry) budget phase) }
 {
-    let nets = flattened.circuit.nets.len() as u32;
-    let signals = flattened.model.signals.len() as u32;
-    let variables = input_nets(&flattened.circuit);
+    let nets = compared.flattened.circuit.nets.len() as u32;
+    let signals = compared.flattened.model.signals.len() as u32;
+    let variables = input_nets(&compared.flattened.circuit);
     let count = word_count(nets, signals, variables);
     let mut store = Store::with_budget(alloc, budget, count, variables)?;
     let words = take_words(&mut store, nets, signals, variables)?;
     let task = PhaseTask {
         budget,
-        design,
-        rules,
-        cell,
-        flattened,
+        compared,
         phase,
         plan,
     };

@@ -5,7 +5,7 @@ ghost use Rattle.std.specs.List.{cons_option, list_any};
 ghost use Rattle.std.specs.Option.{option_copied};
 ghost use Rattle.bdd_core.specs.Store.{IsSpan};
 ghost use Rattle.bdd_core.specs.Words.{IsApart, IsFilled, Writes, word_at};
-ghost use Rattle.cell_compare.specs.Compared.{comparison};
+ghost use Rattle.cell_compare.specs.Compared.{comparison_in};
 ghost use Rattle.cell_compare.specs.Phases.{AreSeenOutputs, HasInputBits, HasRootBits, IsPlainComparison};
 ghost use Rattle.cell_compare.specs.PortLists.{AreTiesWithin, HasOneNet, IsTie, input_names_of, seen_output};
 ghost use Rattle.vrt_model.specs.CellRules.{is_observed_port};
@@ -19,7 +19,7 @@ ghost use Rattle.vrt_model.specs.PairedPorts.{HasRoles};
 ghost use Rattle.vrt_model.specs.declared.circuit.Device.{Device as DeviceValue};
 ghost use Rattle.vrt_model.specs.declared.rules.ObserveRule.{ObserveRule as RuleValue};
 
-use crate::flattened::Flattened;
+use crate::flattened::Comparison;
 use crate::outputs::Output;
 use crate::port_list::{Port, input_signal, output_signal, ports_by};
 use crate::roots::{bit_of_clock, constant};
@@ -125,21 +125,18 @@ fn cell_of(design: &Design, cell: u32) -> &Cell
 /// The output ports that are observed in a phase, in the order of the ports.
 pub(crate) fn seen_outputs(
     alloc: Global,
-    design: &Design,
-    rules: &Rules,
-    cell: u32,
-    flattened: &Flattened,
+    compared: Comparison<'_>,
     phase: u32,
 ) -> Result<Vec<Output>, NoMemory>
-    requires cell { cell < length design.now.cells }
-    requires plain { IsPlainComparison (comparison design.now rules.now cell flattened.now) phase }
-    requires roles { HasRoles rules.now (cell_at design.now cell) flattened.now.pairing }
-    ensures are { IfOk result (λ outputs. AreSeenOutputs (comparison design.now rules.now cell flattened.now) phase outputs.items) }
-    ensures few { IfOk result (λ outputs. length outputs.items ≤ length flattened.now.circuit.nets) }
+    requires cell { compared.cell < length compared.design.now.cells }
+    requires plain { IsPlainComparison (comparison_in compared) phase }
+    requires roles { HasRoles compared.rules.now (cell_at compared.design.now compared.cell) compared.flattened.now.pairing }
+    ensures are { IfOk result (λ outputs. AreSeenOutputs (comparison_in compared.entry) phase outputs.items) }
+    ensures few { IfOk result (λ outputs. length outputs.items ≤ length compared.entry.flattened.now.circuit.nets) }
 {
-    let own = cell_of(design, cell);
-    let ports = ports_by(alloc, flattened.pairing.ports.as_slice())?;
-    outputs_at(alloc, rules, own, phase, ports.as_slice())
+    let own = cell_of(compared.design, compared.cell);
+    let ports = ports_by(alloc, compared.flattened.pairing.ports.as_slice())?;
+    outputs_at(alloc, compared.rules, own, phase, ports.as_slice())
 }
 
 /// No mark yet.
@@ -186,20 +183,17 @@ fn mark_outputs(marks: &mut Vec<bool>, outputs: &[Output])
 /// Whether each net is observed in a phase, where these are the outputs that are compared: gates and outputs are.
 pub(crate) fn observed_nets(
     alloc: Global,
-    design: &Design,
-    rules: &Rules,
-    cell: u32,
-    flattened: &Flattened,
+    compared: Comparison<'_>,
     phase: u32,
     outputs: &[Output],
 ) -> Result<Vec<bool>, NoMemory>
-    requires plain { IsPlainComparison (comparison design.now rules.now cell flattened.now) phase }
-    requires outputs { AreSeenOutputs (comparison design.now rules.now cell flattened.now) phase outputs.now }
-    ensures len { IfOk result (λ marks. length marks.items ≡ length flattened.now.circuit.nets) }
-    ensures is { IfOk result (λ marks. (n : ℕ) → mark_at marks.items n ≡ is_observed (comparison design.now rules.now cell flattened.now) phase n) }
+    requires plain { IsPlainComparison (comparison_in compared) phase }
+    requires outputs { AreSeenOutputs (comparison_in compared) phase outputs.now }
+    ensures len { IfOk result (λ marks. length marks.items ≡ length compared.entry.flattened.now.circuit.nets) }
+    ensures is { IfOk result (λ marks. (n : ℕ) → mark_at marks.items n ≡ is_observed (comparison_in compared.entry) phase n) }
 {
-    let mut marks = no_marks(alloc, flattened.circuit.nets.len())?;
-    mark_gates(&mut marks, flattened.circuit.devices.as_slice());
+    let mut marks = no_marks(alloc, compared.flattened.circuit.nets.len())?;
+    mark_gates(&mut marks, compared.flattened.circuit.devices.as_slice());
     mark_outputs(&mut marks, outputs);
     Ok(marks)
 }
@@ -281,29 +275,25 @@ fn open_ties(store: &mut Store, ports: &[Port], roots: Span, inputs: Span)
 pub(crate) fn open_inputs(
     store: &mut Store,
     alloc: Global,
-    design: &Design,
-    rules: &Rules,
-    cell: u32,
-    flattened: &Flattened,
+    compared: Comparison<'_>,
     phase: u32,
     roots: Span,
     inputs: Span,
 ) -> Result<(), NoMemory>
-    requires cell { cell < length design.now.cells }
-    requires plain { IsPlainComparison (comparison design.now rules.now cell flattened.now) phase }
-    requires roles { HasRoles rules.now (cell_at design.now cell) flattened.now.pairing }
-    requires roots { IsSpan store.old roots × IsFilled store.old roots × (roots.len ≡ length flattened.now.circuit.nets) }
-    requires bits { HasRootBits flattened.now.circuit (phase_at rules.now phase) roots store.old }
-    requires inputs { IsSpan store.old inputs × IsFilled store.old inputs × (inputs.len ≡ length flattened.now.model.signals + 1) }
-    requires apart { IsApart roots inputs }
+    requires cell { compared.cell < length compared.design.now.cells }
+    requires plain { IsPlainComparison (comparison_in compared) phase }
+    requires roles { HasRoles compared.rules.now (cell_at compared.design.now compared.cell) compared.flattened.now.pairing }
+    requires roots { IsSpan store.old roots × IsFilled store.old roots × (roots.len ≡ length compared.flattened.now.circuit.nets) }
+    requires bits { HasRootBits compared.flattened.now.circuit (phase_at compared.rules.now phase) roots store.old }
+    requires inputs { IsSpan store.old inputs × IsFilled store.old inputs × (inputs.len ≡ length compared.flattened.now.model.signals + 1) × IsApart roots inputs }
     ensures writes { Writes inputs store.old store.new }
     ensures rest { store.new ≡ record store.old { words = store.new.words } }
-    ensures given { IfOk result (λ _. HasInputBits (comparison design.now rules.now cell flattened.now) phase inputs store.new) }
+    ensures given { IfOk result (λ _. HasInputBits (comparison_in compared.entry) phase inputs store.new) }
 {
     store.sound();
-    let ports = ports_by(alloc, flattened.pairing.ports.as_slice())?;
-    let clocked = flattened.pairing.clocked.as_slice();
-    open_clocks(store, phase_of(rules, phase), clocked, inputs);
+    let ports = ports_by(alloc, compared.flattened.pairing.ports.as_slice())?;
+    let clocked = compared.flattened.pairing.clocked.as_slice();
+    open_clocks(store, phase_of(compared.rules, phase), clocked, inputs);
     open_ties(store, ports.as_slice(), roots, inputs);
     Ok(())
 }
@@ -351,14 +341,11 @@ fn names_of_inputs(alloc: Global, nets: &[FlatNet]) -> Result<Seq<Text>, NoMemor
 /// The names of the variables of a phase: those of the input nets, in their order.
 pub(crate) fn input_names(
     alloc: Global,
-    design: &Design,
-    rules: &Rules,
-    cell: u32,
-    flattened: &Flattened,
+    compared: Comparison<'_>,
     phase: u32,
 ) -> Result<Seq<Text>, NoMemory>
-    requires plain { IsPlainComparison (comparison design.now rules.now cell flattened.now) phase }
-    ensures { IfOk result (λ names. names ≡ variable_names (comparison design.now rules.now cell flattened.now) phase) }
+    requires plain { IsPlainComparison (comparison_in compared) phase }
+    ensures { IfOk result (λ names. names ≡ variable_names (comparison_in compared.entry) phase) }
 {
-    names_of_inputs(alloc, flattened.circuit.nets.as_slice())
+    names_of_inputs(alloc, compared.flattened.circuit.nets.as_slice())
 }

@@ -55,9 +55,8 @@ fn check_net(
 ) -> Result<Option<CircuitFault>, Spent>
     requires care { IsLive store.old care }
     requires gates { IsSpan store.old gates × IsFilled store.old gates }
-    requires net { net.0 < gates.len }
     requires out { IsSpan store.old out × IsFilled store.old out }
-    requires place { (10 * place + 10 ≤ out.len) × (out.len < 2 ^ 32) }
+    requires place { (net.0 < gates.len) × (10 * place + 10 ≤ out.len) × (out.len < 2 ^ 32) }
     ensures writes { Writes gates store.old store.new }
     ensures apart { (k : ℕ) → k ≢ net.0 → word_at store.new gates k ≡ word_at store.old gates k }
     ensures gives { IfOk result (λ found. NetGives (function_of store.old care) (reached store.old out false place) (reached store.old out true place) seen net store.new found) }
@@ -93,8 +92,7 @@ pub(crate) fn scan(
     requires gates { IsSpan store.old gates × IsFilled store.old gates }
     requires nets { All (λ (n : Net). (n.0 < gates.len) × (n.0 < length observed.now)) part.now.nets }
     requires once { (i j n : ℕ) → IsPlace part.now i n → IsPlace part.now j n → i ≡ j }
-    requires out { IsSpan store.old out × IsFilled store.old out }
-    requires len { (out.len ≡ 10 * length part.now.nets) × (out.len < 2 ^ 32) }
+    requires out { IsSpan store.old out × IsFilled store.old out × (out.len ≡ 10 * length part.now.nets) × (out.len < 2 ^ 32) }
     requires apart { IsApart out gates }
     ensures writes { Writes gates store.old store.new }
     ensures gives { IfOk result (λ found. ScanGives part.now (mark_at observed.now) care gates out store.old store.new found) }

@@ -9,7 +9,7 @@ use Rattle.cell_compare.proofs.PhaseCounts.{may_spend}
 use Rattle.cell_compare.proofs.PhaseGiven.{clear_phase, observed_nets, one_model, root_fixed}
 use Rattle.cell_compare.proofs.PhaseStates.{circuit_spans, clocks_none, one_hold, solved_next, span_reads, store_more}
 use Rattle.cell_compare.proofs.PhaseTold.{circuit_told}
-use Rattle.cell_compare.specs.Compared.{comparison, nothing_known}
+use Rattle.cell_compare.specs.Compared.{comparison_in, nothing_known}
 use Rattle.cell_compare.specs.Operations.{circuit_operations}
 use Rattle.cell_compare.specs.PhaseSteps.{IsTold, opened_operations}
 use Rattle.cell_compare.specs.Results.{CircuitGives, IsClearCircuit, IsFirstFault}
@@ -23,20 +23,20 @@ use Rattle.cell_compare.proofs.phase.check_circuit.Goals as goal
 
 pub circuit_fault-requires-clause-observed : goal.circuit_fault-requires-clause-observed
 circuit_fault-requires-clause-observed c =
-    let k = comparison c.args.task.design.now c.args.task.rules.now c.args.task.cell c.args.task.flattened.now in
+    let k = comparison_in c.args.task.compared in
     let marks = c.as_slice.result.now in
     let same : (n : ℕ) → mark_at marks n ≡ is_observed k c.args.task.phase n = λ n. ap (λ (xs : List Bool). mark_at xs n) c.as_slice.ensures.value ∙ c.in_ok-observed.ensures.is n in
     subst (λ (o : ℕ → Bool). AreObserved k.circuit o) (sym (fun_ext same)) (observed_nets k c.args.task.phase c.requires.plain)
 
 pub circuit_fault-requires-clause-spans : goal.circuit_fault-requires-clause-spans
 circuit_fault-requires-clause-spans c =
-    let k = comparison c.args.task.design.now c.args.task.rules.now c.args.task.cell c.args.task.flattened.now in
+    let k = comparison_in c.args.task.compared in
     let parts = c.requires.plan.parts in
     circuit_spans k c.args.task.phase c.requires.plain c.args.words c.args.store.now c.requires.open.store.words parts.0 c.args.task.plan.now.parts parts.1 c.requires.open.roots_live
 
 pub returns-in-Err : goal.returns-in-Err
 returns-in-Err c =
-    let k = comparison c.args.task.design.now c.args.task.rules.now c.args.task.cell c.args.task.flattened.now in
+    let k = comparison_in c.args.task.compared in
     let d = c.args.store.now in
     let parts = c.requires.plan.parts in
     let before = c.requires.open in
@@ -50,7 +50,7 @@ returns-in-Err c =
 
 pub check_model-requires-clause-solved : goal.check_model-requires-clause-solved
 check_model-requires-clause-solved c =
-    let k = comparison c.args.task.design.now c.args.task.rules.now c.args.task.cell c.args.task.flattened.now in
+    let k = comparison_in c.args.task.compared in
     let phase = phase_at k.rules c.args.task.phase in
     let d = c.args.store.now in
     let new = c.circuit_fault.new.store in
@@ -72,9 +72,9 @@ check_model-requires-clause-solved c =
     writes.len counts.added before.store)
     (clear_phase k c.args.task.phase c.requires.plain (mark_at marks) same one words.roots words.gates d new before.roots (λ v. meaning_one d.nodes v) clear)
 
-pub tell_circuit_fault-requires-clause-live : goal.tell_circuit_fault-requires-clause-live
-tell_circuit_fault-requires-clause-live c =
-    let k = comparison c.args.task.design.now c.args.task.rules.now c.args.task.cell c.args.task.flattened.now in
+pub told_circuit_fault-requires-clause-live : goal.told_circuit_fault-requires-clause-live
+told_circuit_fault-requires-clause-live c =
+    let k = comparison_in c.args.task.compared in
     let phase = phase_at k.rules c.args.task.phase in
     let d = c.args.store.now in
     let new = c.circuit_fault.new.store in
@@ -87,9 +87,9 @@ tell_circuit_fault-requires-clause-live c =
     (c.in-Ok-Some.ensures.gives phase parts.0 parts.1 parts.2 (λ v. root_fixed k.circuit phase words.roots d c.requires.open.roots v)) in
     first.live
 
-pub tell_circuit_fault-requires-clause-some : goal.tell_circuit_fault-requires-clause-some
-tell_circuit_fault-requires-clause-some c =
-    let k = comparison c.args.task.design.now c.args.task.rules.now c.args.task.cell c.args.task.flattened.now in
+pub told_circuit_fault-requires-clause-some : goal.told_circuit_fault-requires-clause-some
+told_circuit_fault-requires-clause-some c =
+    let k = comparison_in c.args.task.compared in
     let phase = phase_at k.rules c.args.task.phase in
     let d = c.args.store.now in
     let new = c.circuit_fault.new.store in
@@ -104,7 +104,7 @@ tell_circuit_fault-requires-clause-some c =
 
 pub returns : goal.returns
 returns c =
-    let k = comparison c.args.task.design.now c.args.task.rules.now c.args.task.cell c.args.task.flattened.now in
+    let k = comparison_in c.args.task.compared in
     let phase = phase_at k.rules c.args.task.phase in
     let d = c.args.store.now in
     let new = c.circuit_fault.new.store in

@@ -4,7 +4,7 @@ use Rattle.bdd_ops.specs.Counting.{IsSpanWithin}
 use Rattle.cell_compare.proofs.PartCounts.{work_enough}
 use Rattle.cell_compare.proofs.PhaseCounts.{may_spend}
 use Rattle.cell_compare.proofs.PhaseStates.{evaluated_next, planned, span_reads, store_more}
-use Rattle.cell_compare.specs.Compared.{comparison}
+use Rattle.cell_compare.specs.Compared.{comparison_in}
 use Rattle.cell_compare.specs.PhaseSteps.{solved_operations}
 use Rattle.vrt_model.specs.Budget.{model_size}
 use Rattle.vrt_model.specs.Comparison.{phase_at}
@@ -12,12 +12,12 @@ use Rattle.cell_compare.proofs.phase.check_model.Goals as goal
 
 pub eval_model-requires-clause-plan : goal.eval_model-requires-clause-plan
 eval_model-requires-clause-plan c =
-    let k = comparison c.args.task.design.now c.args.task.rules.now c.args.task.cell c.args.task.flattened.now in
+    let k = comparison_in c.args.task.compared in
     planned k c.args.task.phase c.requires.plain c.args.task.plan.now.model c.args.words.inputs c.args.store.now c.requires.plan.model
 
 pub check_outputs-requires-clause-known : goal.check_outputs-requires-clause-known
 check_outputs-requires-clause-known c =
-    let k = comparison c.args.task.design.now c.args.task.rules.now c.args.task.cell c.args.task.flattened.now in
+    let k = comparison_in c.args.task.compared in
     let d = c.args.store.now in
     let new = c.eval_model.new.store in
     let words = c.args.words in
@@ -33,7 +33,7 @@ check_outputs-requires-clause-known c =
 
 pub returns-in-Err : goal.returns-in-Err
 returns-in-Err c =
-    let k = comparison c.args.task.design.now c.args.task.rules.now c.args.task.cell c.args.task.flattened.now in
+    let k = comparison_in c.args.task.compared in
     let d = c.args.store.now in
     let words = c.args.words in
     let parts = c.requires.plan.parts in

@@ -12,7 +12,7 @@ use Rattle.cell_compare.proofs.PhaseEqual.{equal_phase}
 use Rattle.cell_compare.proofs.PhaseOutputs.{same_outputs}
 use Rattle.cell_compare.proofs.PhaseStates.{output_inside, shows_added, span_reads}
 use Rattle.cell_compare.proofs.PhaseTold.{difference_told}
-use Rattle.cell_compare.specs.Compared.{comparison}
+use Rattle.cell_compare.specs.Compared.{comparison_in}
 use Rattle.cell_compare.specs.Outputs.{IsFirstDifference, OutputsGive}
 use Rattle.cell_compare.specs.PhaseSteps.{IsTold, evaluated_operations, gate_bits, value_bits}
 use Rattle.cell_compare.specs.declared.outputs.OutputFault.{OutputFault}
@@ -24,7 +24,7 @@ use Rattle.cell_compare.proofs.phase.check_outputs.Goals as goal
 
 pub output_fault-requires-clause-outputs : goal.output_fault-requires-clause-outputs
 output_fault-requires-clause-outputs c n o lt =
-    let k = comparison c.args.task.design.now c.args.task.rules.now c.args.task.cell c.args.task.flattened.now in
+    let k = comparison_in c.args.task.compared in
     let words = c.requires.known.store.words in
     let inside = output_inside k c.args.task.phase c.requires.plain c.args.outputs.now c.requires.outputs n (slice_index_or c.args.outputs.now n o) (slice_get-get_or c.args.outputs.now n o lt) in
     let nets = words.gates_len in
@@ -33,9 +33,9 @@ output_fault-requires-clause-outputs c n o lt =
     let signal = inside.1 in
     (omega (arith, net, nets), omega (arith, signal, signals))
 
-pub tell_difference-requires-clause-output : goal.tell_difference-requires-clause-output
-tell_difference-requires-clause-output c =
-    let k = comparison c.args.task.design.now c.args.task.rules.now c.args.task.cell c.args.task.flattened.now in
+pub told_difference-requires-clause-output : goal.told_difference-requires-clause-output
+told_difference-requires-clause-output c =
+    let k = comparison_in c.args.task.compared in
     let words = c.requires.known.store.words in
     let one : H = record { 0 = 1 } in
     let fault = c.in-Ok-Some.fault in
@@ -50,7 +50,7 @@ tell_difference-requires-clause-output c =
 
 pub returns-in-Err : goal.returns-in-Err
 returns-in-Err c =
-    let k = comparison c.args.task.design.now c.args.task.rules.now c.args.task.cell c.args.task.flattened.now in
+    let k = comparison_in c.args.task.compared in
     let d = c.args.store.now in
     let known = c.requires.known in
     let parts = c.requires.plan.parts in
@@ -64,7 +64,7 @@ returns-in-Err c =
 
 pub returns-in-Ok-None : goal.returns-in-Ok-None
 returns-in-Ok-None c =
-    let k = comparison c.args.task.design.now c.args.task.rules.now c.args.task.cell c.args.task.flattened.now in
+    let k = comparison_in c.args.task.compared in
     let d = c.args.store.now in
     let words = c.args.words in
     let known = c.requires.known in
@@ -77,7 +77,7 @@ returns-in-Ok-None c =
 
 pub returns-in_ok-told-in-Ok-Some : goal.returns-in_ok-told-in-Ok-Some
 returns-in_ok-told-in-Ok-Some c =
-    let k = comparison c.args.task.design.now c.args.task.rules.now c.args.task.cell c.args.task.flattened.now in
+    let k = comparison_in c.args.task.compared in
     let d = c.args.store.now in
     let new = c.output_fault.new.store in
     let words = c.args.words in
@@ -98,6 +98,6 @@ returns-in_ok-told-in-Ok-Some c =
       gives = difference_told k c.args.task.phase c.args.task.budget c.requires.plain parts.0 c.args.task.plan.now.parts parts.1 parts.2 parts.4 known.model told
           c.args.outputs.now c.requires.outputs one words.gates words.values d new fault (λ v. meaning_one d.nodes v) known.clear known.signals differs
           (subst (λ (count : ℕ). IsTold k c.args.task.phase Differs (unwrap_or (slice_get (cell_at k.design k.cell).ports fault.output.place) []) count (function_of new fault.at) told) vars c.in_ok-told-in-Ok-Some.ensures.told)
-          (c.in_ok-told-in-Ok-Some.ensures.circuit ∙ ap (λ (b : Bool). Some b) (shows_added words.gates d new fault.output.net.0 bits adds known.gates_live net_below))
-          (c.in_ok-told-in-Ok-Some.ensures.wanted ∙ ap (λ (b : Bool). Some b) (shows_added words.values d new fault.output.signal bits adds known.values_live signal_below));
+          (c.in_ok-told-in-Ok-Some.ensures.values.0 ∙ ap (λ (b : Bool). Some b) (shows_added words.gates d new fault.output.net.0 bits adds known.gates_live net_below))
+          (c.in_ok-told-in-Ok-Some.ensures.values.1 ∙ ap (λ (b : Bool). Some b) (shows_added words.values d new fault.output.signal bits adds known.values_live signal_below));
     }

@@ -2,14 +2,14 @@ use Rattle.std.proofs.Common.{◌≡◌, ℕ, length, ap, sym, subst, ◌∙◌}
 use Rattle.bdd_core.specs.Store.{Diagrams}
 use Rattle.cell_compare.proofs.PhaseBits.{sources_count}
 use Rattle.cell_compare.proofs.PhaseCounts.{used_none, used_words}
-use Rattle.cell_compare.specs.Compared.{comparison}
+use Rattle.cell_compare.specs.Compared.{comparison_in}
 use Rattle.cell_compare.specs.PhaseSteps.{HasPhaseWords}
 use Rattle.vrt_model.specs.Held.{sources_of}
 use Rattle.cell_compare.proofs.phase.check_phase.Goals as goal
 
 pub check_fresh-requires-clause-fresh : goal.check_fresh-requires-clause-fresh
 check_fresh-requires-clause-fresh c =
-    let k = comparison c.args.design.now c.args.rules.now c.args.cell c.args.flattened.now in
+    let k = comparison_in c.args.compared in
     let d = c.in_ok-store.store in
     let new = c.take_words.new.store in
     let words = c.in_ok-words.words in

@@ -3,7 +3,7 @@ use Rattle.std.specs.Prelude.{◌==◌}
 use Rattle.std.specs.List.{list_any}
 use Rattle.known_nets.proofs.IncidenceLaws.{none_set}
 use Rattle.cell_compare.proofs.ObservedLaws.{observed_is}
-use Rattle.cell_compare.specs.Compared.{comparison}
+use Rattle.cell_compare.specs.Compared.{comparison_in}
 use Rattle.cell_compare.specs.declared.outputs.Output.{Output}
 use Rattle.vrt_model.specs.Lists.{mark_at}
 use Rattle.vrt_model.specs.declared.circuit.Device.{Device}
@@ -18,4 +18,4 @@ returns-clause-is c n =
     (c.mark_gates.ensures.is n
     ∙ (ap (λ (b : Bool). b || on_gates c.as_slice.result.now) (ap (λ (ms : List Bool). mark_at ms n) c.in_ok-marks.ensures ∙ none_set c.len.result n)
     ∙ ap on_gates c.as_slice.ensures))
-    ∙ sym (observed_is (comparison c.args.design.now c.args.rules.now c.args.cell c.args.flattened.now) c.args.phase n c.args.outputs.now c.requires.plain c.requires.outputs))
+    ∙ sym (observed_is (comparison_in c.args.compared) c.args.phase n c.args.outputs.now c.requires.plain c.requires.outputs))

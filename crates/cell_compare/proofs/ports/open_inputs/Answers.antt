@@ -2,7 +2,7 @@ use Rattle.std.proofs.Common.{◌≡◌, List, map, arith, ap, subst, sym, ◌�
 use Rattle.bdd_core.specs.Store.{Diagrams}
 use Rattle.cell_compare.proofs.InputLaws.{constant_word, inputs_given, ties_one, ties_within}
 use Rattle.cell_compare.proofs.PortLaws.{ports_shown}
-use Rattle.cell_compare.specs.Compared.{comparison}
+use Rattle.cell_compare.specs.Compared.{comparison_in}
 use Rattle.cell_compare.specs.PortLists.{ports_by, unnamed}
 use Rattle.vrt_model.specs.Comparison.{Comparison, cell_at, ports_of}
 use Rattle.vrt_model.specs.Lists.{Among}
@@ -21,29 +21,29 @@ open_clocks-requires-clause-one c a b m l =
 
 pub open_ties-requires-clause-within : goal.open_ties-requires-clause-within
 open_ties-requires-clause-within c =
-    let k : Comparison = comparison c.args.design.now c.args.rules.now c.args.cell c.args.flattened.now in
+    let k : Comparison = comparison_in c.args.compared in
     let shown : c.as_slice-2.result.now ≡ map unnamed (ports_of k) =
     c.as_slice-2.ensures.value ∙ c.in_ok-ports.ensures ∙ ap (λ roles. ports_by 0 2 roles) c.as_slice.ensures
-    ∙ ports_shown c.args.rules.now (cell_at c.args.design.now c.args.cell) c.args.flattened.now.pairing c.requires.roles in
+    ∙ ports_shown c.args.compared.rules.now (cell_at c.args.compared.design.now c.args.compared.cell) c.args.compared.flattened.now.pairing c.requires.roles in
     ties_within k c.as_slice-2.result.now shown c.requires.plain.inputs c.args.roots.len c.args.inputs.len c.requires.roots.2 c.requires.inputs.2
 
 pub open_ties-requires-clause-one : goal.open_ties-requires-clause-one
 open_ties-requires-clause-one c =
-    let k : Comparison = comparison c.args.design.now c.args.rules.now c.args.cell c.args.flattened.now in
+    let k : Comparison = comparison_in c.args.compared in
     let shown : c.as_slice-2.result.now ≡ map unnamed (ports_of k) =
     c.as_slice-2.ensures.value ∙ c.in_ok-ports.ensures ∙ ap (λ roles. ports_by 0 2 roles) c.as_slice.ensures
-    ∙ ports_shown c.args.rules.now (cell_at c.args.design.now c.args.cell) c.args.flattened.now.pairing c.requires.roles in
+    ∙ ports_shown c.args.compared.rules.now (cell_at c.args.compared.design.now c.args.compared.cell) c.args.compared.flattened.now.pairing c.requires.roles in
     ties_one k c.as_slice-2.result.now shown c.requires.plain.inputs
 
 pub returns-clause-given : goal.returns-clause-given
 returns-clause-given c =
-    let k : Comparison = comparison c.args.design.now c.args.rules.now c.args.cell c.args.flattened.now in
+    let k : Comparison = comparison_in c.args.compared in
     let shown : c.as_slice-2.result.now ≡ map unnamed (ports_of k) =
     c.as_slice-2.ensures.value ∙ c.in_ok-ports.ensures ∙ ap (λ roles. ports_by 0 2 roles) c.as_slice.ensures
-    ∙ ports_shown c.args.rules.now (cell_at c.args.design.now c.args.cell) c.args.flattened.now.pairing c.requires.roles in
+    ∙ ports_shown c.args.compared.rules.now (cell_at c.args.compared.design.now c.args.compared.cell) c.args.compared.flattened.now.pairing c.requires.roles in
     inputs_given k c.as_slice-2.result.now shown c.requires.plain.inputs c.args.phase c.args.roots c.args.inputs c.args.store.now c.open_clocks.new.store c.open_ties.new.store
     (ap (λ (d : Diagrams). d.nodes) c.open_ties.ensures.rest ∙ ap (λ (d : Diagrams). d.nodes) c.open_clocks.ensures.rest)
-    c.open_clocks.ensures.writes c.requires.apart c.requires.roots.2 c.requires.bits
+    c.open_clocks.ensures.writes c.requires.inputs.3 c.requires.roots.2 c.requires.bits
     (λ d m. c.open_clocks.ensures.opened d (subst (λ (xs : List ClockedSignal). Among xs d) (sym c.as_slice-clocked.ensures) m)
     ∙ ap (λ ph. constant_word ph d) c.phase_of.ensures)
     c.open_ties.ensures.tied c.open_ties.ensures.others

@@ -51,7 +51,7 @@ loop-i-preserved c =
     let clear : IsClearNet (function_of old care) zero one (mark_at c.args.observed.now net.0) = subst (λ (b : Bool). IsClearNet (function_of old care) zero one b) c.is_seen-seen.ensures gives in
     record {
       writes = writes_then gates first old new c.loop-i.invariant.writes c.check_net.ensures.writes;
-      scanned = scanned_more part (mark_at c.args.observed.now) care gates out c.requires.once c.requires.len.0 c.requires.apart first old c.loop-i.invariant.writes c.requires.care c.requires.out.1
+      scanned = scanned_more part (mark_at c.args.observed.now) care gates out c.requires.once c.requires.out.2 c.requires.apart first old c.loop-i.invariant.writes c.requires.care c.requires.out.1
           new i net place c.loop-i.invariant.scanned clear (c.in-Ok.ensures.bit c.in_default.is) c.check_net.ensures.apart;
       counted = λ u care_in gates_in out_in.
           let before = c.loop-i.invariant.counted u care_in gates_in out_in in
