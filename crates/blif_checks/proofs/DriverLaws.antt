@@ -3,8 +3,9 @@ use Rattle.std.proofs.Common.{◌≡◌, ◌<◌, ◌++◌, ◌∷◌, ◌&&◌,
 use Rattle.std.specs.Prelude.{bytes_eq, filter, find, is_none, is_some, position, slice_get, unwrap_or}
 use Rattle.std.proofs.lemmas.List.Folds.{list_any-append}
 use Rattle.std.proofs.lemmas.List.Quantifiers.{position-Some}
-use Rattle.text_lines.specs.Names.{distinct, is_among, with_names}
-use Rattle.text_lines.proofs.NameLaws.{names_once}
+use Rattle.vrt_model.specs.Lists.{distinct, has_name}
+use Rattle.names.specs.Names.{with_names}
+use Rattle.names.proofs.NameLaws.{bytes_eq-sym, names_once, once_has_same}
 use Rattle.vrt_model.specs.FlatBlif.{model_at, model_numbered}
 use Rattle.vrt_model.specs.Inputs.{AllApart, IsModel}
 use Rattle.vrt_model.specs.Models.{OnLine, drivers_in, interface_of, is_driving, is_reading, line_in, listed_inputs, on_line, on_lines, ties_on, uses_in}
@@ -19,7 +20,9 @@ use Rattle.blif_checks.specs.Tables.{AreTables}
 use Rattle.blif_checks.specs.declared.mentions.Mention.{Mention}
 use Rattle.blif_checks.specs.declared.tables.Tables.{Tables}
 use Rattle.blif_checks.proofs.MentionLaws.{joined}
-use Rattle.blif_checks.proofs.NameLaws.{any_placed, bytes_eq-sym, once_has_same, once_is_all, place_is}
+use Rattle.names.proofs.PlaceLaws.{any_placed}
+use Rattle.names.proofs.ApartLaws.{once_is_all}
+use Rattle.blif_checks.proofs.NameLaws.{place_is}
 
 -- ---- the line of a listed name
 
@@ -34,14 +37,14 @@ listed_there (x ∷ names) (l ∷ lines) name (suc n) line here before lt at =
     ap (λ b. option_map (λ (o : OnLine). o.line) (cond b (Some (on_line l x)) (find (λ (o : OnLine). bytes_eq o.name name) (on_lines names lines)))) (bytes_eq-sym x name ∙ before 0 (omega arith))
     ∙ listed_there names lines name n line here (λ k lt. before (suc k) (omega arith)) (omega arith) at
 
-pub none_listed : (names : List (List ℕ)) (lines : List ℕ) (name : List ℕ) → length lines ≡ length names → is_none (line_in (on_lines names lines) name) ≡ not (is_among names name)
+pub none_listed : (names : List (List ℕ)) (lines : List ℕ) (name : List ℕ) → length lines ≡ length names → is_none (line_in (on_lines names lines) name) ≡ not (has_name names name)
 none_listed [] lines name e = refl
 none_listed (x ∷ names) [] name e = absurd (omega (arith, e))
 none_listed (x ∷ names) (l ∷ lines) name e =
     ap (λ b. is_none (option_map (λ (o : OnLine). o.line) (cond b (Some (on_line l x)) (find (λ (o : OnLine). bytes_eq o.name name) (on_lines names lines))))) (bytes_eq-sym x name)
     ∙ by_test (bytes_eq name x) (none_listed names lines name (omega (arith, e))) where
-      by_test : (b : Bool) → is_none (line_in (on_lines names lines) name) ≡ not (is_among names name)
-          → is_none (option_map (λ (o : OnLine). o.line) (cond b (Some (on_line l x)) (find (λ (o : OnLine). bytes_eq o.name name) (on_lines names lines)))) ≡ not (b || is_among names name)
+      by_test : (b : Bool) → is_none (line_in (on_lines names lines) name) ≡ not (has_name names name)
+          → is_none (option_map (λ (o : OnLine). o.line) (cond b (Some (on_line l x)) (find (λ (o : OnLine). bytes_eq o.name name) (on_lines names lines)))) ≡ not (b || has_name names name)
       by_test true rest = refl
       by_test false rest = rest
 
@@ -89,7 +92,7 @@ heads_are g m inputs clocks ins clks ilines clines old mid new is i c ie ce il c
     (e ∙ ap₂ (λ (a : List OnLine) (b : List OnLine). old ++ map g (map (at_earlier a) b)) (ap₂ on_lines (c ∙ once_same m.clocks is.clocks) cl) (ap₂ on_lines ie il))
     (n ∙ ap₂ (λ (a : List (List ℕ)) (b : List OnLine). mid ++ map g (others a b)) (i ∙ once_same m.inputs is.inputs) (ap₂ on_lines ce cl))
     ∙ ap (λ (l : List OnLine). old ++ map g (map (at_earlier (on_lines m.clocks m.clock_lines)) (on_lines m.inputs m.input_lines) ++ l))
-    (others_same (λ (o : OnLine). not (is_among m.inputs o.name)) (λ (o : OnLine). is_none (line_in (on_lines m.inputs m.input_lines) o.name)) (on_lines m.clocks m.clock_lines)
+    (others_same (λ (o : OnLine). not (has_name m.inputs o.name)) (λ (o : OnLine). is_none (line_in (on_lines m.inputs m.input_lines) o.name)) (on_lines m.clocks m.clock_lines)
     (λ o. sym (none_listed m.inputs m.input_lines o.name is.input_lines)))
 
 pub clock_count : (m : BlifModel) (clocks : List (List ℕ)) (lines : List ℕ) → IsModel m → clocks ≡ with_names [] m.clocks → lines ≡ m.clock_lines → length lines ≡ length clocks
@@ -105,32 +108,32 @@ list_at f (m ∷ ms) zero e = refl
 list_at f (m ∷ ms) (suc n) e = list_at f ms n e
 
 reads_at : (blif : Blif) (tables : Tables) (reads : List (List (List ℕ))) (name f : List ℕ) (number : ℕ) → AreTables blif tables → AreReads blif reads → number ≡ unwrap_or (position (bytes_eq name) tables.names) 0
-    → is_among (get_or reads number []) f ≡ is_among ((model_at blif (model_numbered blif name)).inputs ++ (model_at blif (model_numbered blif name)).clocks) f
+    → has_name (get_or reads number []) f ≡ has_name ((model_at blif (model_numbered blif name)).inputs ++ (model_at blif (model_numbered blif name)).clocks) f
 reads_at blif tables reads name f number are is n =
-    ap₂ (λ (xs : List (List (List ℕ))) k. is_among (get_or xs k []) f) is (n ∙ ap (λ (o : Option ℕ). unwrap_or o 0) (place_is blif tables name are))
-    ∙ ap (λ (ns : List (List ℕ)). is_among ns f) (list_at read_by blif.models (model_numbered blif name) refl)
+    ap₂ (λ (xs : List (List (List ℕ))) k. has_name (get_or xs k []) f) is (n ∙ ap (λ (o : Option ℕ). unwrap_or o 0) (place_is blif tables name are))
+    ∙ ap (λ (ns : List (List ℕ)). has_name ns f) (list_at read_by blif.models (model_numbered blif name) refl)
     ∙ once_has_same ((model_at blif (model_numbered blif name)).inputs ++ (model_at blif (model_numbered blif name)).clocks) f
 
 interface_at : (blif : Blif) (tables : Tables) (name f : List ℕ) (number : ℕ) → AreTables blif tables → number ≡ unwrap_or (position (bytes_eq name) tables.names) 0
-    → is_among (get_or tables.interfaces number []) f ≡ is_among (interface_of (model_at blif (model_numbered blif name))) f
+    → has_name (get_or tables.interfaces number []) f ≡ has_name (interface_of (model_at blif (model_numbered blif name))) f
 interface_at blif tables name f number are n =
-    ap₂ (λ (xs : List (List (List ℕ))) k. is_among (get_or xs k []) f) are.interfaces (n ∙ ap (λ (o : Option ℕ). unwrap_or o 0) (place_is blif tables name are))
-    ∙ ap (λ (ns : List (List ℕ)). is_among ns f) (list_at (λ (m : BlifModel). distinct (interface_of m)) blif.models (model_numbered blif name) refl)
+    ap₂ (λ (xs : List (List (List ℕ))) k. has_name (get_or xs k []) f) are.interfaces (n ∙ ap (λ (o : Option ℕ). unwrap_or o 0) (place_is blif tables name are))
+    ∙ ap (λ (ns : List (List ℕ)). has_name ns f) (list_at (λ (m : BlifModel). distinct (interface_of m)) blif.models (model_numbered blif name) refl)
     ∙ once_has_same (interface_of (model_at blif (model_numbered blif name))) f
 
 pub reading_is : (blif : Blif) (tables : Tables) (reads : List (List (List ℕ))) (s : SubLine) (t : Tie) (name f : List ℕ) (number : ℕ) → AreTables blif tables → AreReads blif reads → name ≡ s.model → f ≡ t.formal
-    → number ≡ unwrap_or (position (bytes_eq name) tables.names) 0 → is_among (get_or reads number []) f ≡ is_reading blif s t
+    → number ≡ unwrap_or (position (bytes_eq name) tables.names) 0 → has_name (get_or reads number []) f ≡ is_reading blif s t
 reading_is blif tables reads s t name f number are is sn fn n =
-    ap (is_among (get_or reads number [])) fn ∙ reads_at blif tables reads s.model t.formal number are is (n ∙ ap (λ (x : List ℕ). unwrap_or (position (bytes_eq x) tables.names) 0) sn)
+    ap (has_name (get_or reads number [])) fn ∙ reads_at blif tables reads s.model t.formal number are is (n ∙ ap (λ (x : List ℕ). unwrap_or (position (bytes_eq x) tables.names) 0) sn)
 
 pub driving_is : (blif : Blif) (tables : Tables) (reads : List (List (List ℕ))) (s : SubLine) (t : Tie) (name f : List ℕ) (number : ℕ) → AreTables blif tables → AreReads blif reads → name ≡ s.model → f ≡ t.formal
-    → number ≡ unwrap_or (position (bytes_eq name) tables.names) 0 → (is_among (get_or tables.interfaces number []) f && not (is_among (get_or reads number []) f)) ≡ is_driving blif s t
+    → number ≡ unwrap_or (position (bytes_eq name) tables.names) 0 → (has_name (get_or tables.interfaces number []) f && not (has_name (get_or reads number []) f)) ≡ is_driving blif s t
 driving_is blif tables reads s t name f number are is sn fn n =
     ap₂ (λ a b. a && not b)
-    (ap (is_among (get_or tables.interfaces number [])) fn ∙ interface_at blif tables s.model t.formal number are (n ∙ ap (λ (x : List ℕ). unwrap_or (position (bytes_eq x) tables.names) 0) sn)
+    (ap (has_name (get_or tables.interfaces number [])) fn ∙ interface_at blif tables s.model t.formal number are (n ∙ ap (λ (x : List ℕ). unwrap_or (position (bytes_eq x) tables.names) 0) sn)
     ∙ list_any-append (bytes_eq t.formal) ((model_at blif (model_numbered blif s.model)).inputs ++ (model_at blif (model_numbered blif s.model)).clocks) (model_at blif (model_numbered blif s.model)).outputs)
     (reading_is blif tables reads s t name f number are is sn fn n)
-    ∙ by_tests (is_reading blif s t) (is_among (model_at blif (model_numbered blif s.model)).outputs t.formal) where
+    ∙ by_tests (is_reading blif s t) (has_name (model_at blif (model_numbered blif s.model)).outputs t.formal) where
       by_tests : (r o : Bool) → ((r || o) && not r) ≡ (o && not r)
       by_tests true true = refl
       by_tests true false = refl
@@ -138,7 +141,7 @@ driving_is blif tables reads s t name f number are is sn fn n =
       by_tests false false = refl
 
 -- the list of a name at a number, where there is none
-pub none_at : (lists : List (List (List ℕ))) (n : ℕ) (name : List ℕ) → slice_get lists n ≡ None → is_among (get_or lists n []) name ≡ false
+pub none_at : (lists : List (List (List ℕ))) (n : ℕ) (name : List ℕ) → slice_get lists n ≡ None → has_name (get_or lists n []) name ≡ false
 none_at [] n name e = refl
 none_at (x ∷ lists) zero name e = cc
 none_at (x ∷ lists) (suc n) name e = none_at lists n name e

@@ -1,5 +1,6 @@
 -- The calls that judge the mentions of a model, and the models.
 use Rattle.std.proofs.Common.{◌≡◌, ◌<◌, ◌≤◌, ◌+◌, ◌++◌, ◌∷◌, ◌&&◌, ◌||◌, inl, inr, [], ℕ, zero, suc, List, Bool, true, false, cond, map, flat_map, take, drop, length, get_or, Option, Some, None, option_map, refl, ap, ap₂, sym, ◌∙◌, subst, arith}
+use Rattle.blif_checks.proofs.SubLaws.{from_place}
 use Rattle.std.specs.Prelude.{◌⊎◌, ◌==◌, bytes_eq, filter_map, find, nat_le, slice_get}
 use Rattle.std.specs.List.{cons_option}
 use Rattle.std.proofs.lemmas.Bool.{leb-true, leb-false}
@@ -7,11 +8,11 @@ use Rattle.std.proofs.lemmas.Slice.Eq.{bytes_eq-Decides}
 use Rattle.std.proofs.lemmas.List.{drop_all, drop_more, take_more}
 use Rattle.std.proofs.lemmas.List.Elements.{All-get_or}
 use Rattle.std.proofs.lemmas.Option.{get_or_from_slice_get, slice_get_within}
-use Rattle.text_lines.specs.Names.{is_among, with_names}
-use Rattle.text_lines.proofs.NameLaws.{names_once}
+use Rattle.vrt_model.specs.Lists.{At, has_name}
+use Rattle.names.specs.Names.{with_names}
+use Rattle.names.proofs.NameLaws.{names_once, once_has_same}
 use Rattle.vrt_model.specs.FlatBlif.{cover_signals, latch_signals, sub_signals}
 use Rattle.vrt_model.specs.Inputs.{IsBlif, IsModel}
-use Rattle.vrt_model.specs.Lists.{At}
 use Rattle.vrt_model.specs.Models.{DriverFault, OnLine, driver_fault, driver_fault_in, drivers_in, on_line, on_lines, uses_in}
 use Rattle.vrt_model.specs.declared.blif.Blif.{Blif}
 use Rattle.vrt_model.specs.declared.blif.BlifModel.{BlifModel}
@@ -26,7 +27,6 @@ use Rattle.blif_checks.specs.declared.faults.ModelFault.{ModelFault}
 use Rattle.blif_checks.specs.declared.faults.ModelFault.TheVariants.{DrivenTwice, Undriven, NoMemory}
 use Rattle.blif_checks.specs.declared.mentions.Mention.{Mention}
 use Rattle.blif_checks.specs.declared.notes.Note.{Note}
-use Rattle.blif_checks.proofs.NameLaws.{once_has_same}
 use Rattle.blif_checks.proofs.NoteLaws.{eq_yes}
 
 -- ---- the least line
@@ -130,13 +130,13 @@ told_never notes names mentions line o f least none found (inr e) = inr (line, r
 
 -- ---- all that a model's notes show
 
-all_named : (signals : List OnLine) (i : ℕ) (o : OnLine) → At signals i o → is_among (map (λ (o : OnLine). o.name) signals) o.name ≡ true
+all_named : (signals : List OnLine) (i : ℕ) (o : OnLine) → At signals i o → has_name (map (λ (o : OnLine). o.name) signals) o.name ≡ true
 all_named [] i o at = cc
 all_named (x ∷ signals) zero o at =
     let same : x ≡ o = cc in
-    ap (λ b. b || is_among (map (λ (o : OnLine). o.name) signals) o.name) ((bytes_eq-Decides o.name x.name).1 (sym (ap (λ (p : OnLine). p.name) same)))
+    ap (λ b. b || has_name (map (λ (o : OnLine). o.name) signals) o.name) ((bytes_eq-Decides o.name x.name).1 (sym (ap (λ (p : OnLine). p.name) same)))
 all_named (x ∷ signals) (suc i) o at = by_test (bytes_eq o.name x.name) (all_named signals i o at) where
-  by_test : (b : Bool) → is_among (map (λ (o : OnLine). o.name) signals) o.name ≡ true → (b || is_among (map (λ (o : OnLine). o.name) signals) o.name) ≡ true
+  by_test : (b : Bool) → has_name (map (λ (o : OnLine). o.name) signals) o.name ≡ true → (b || has_name (map (λ (o : OnLine). o.name) signals) o.name) ≡ true
   by_test true e = refl
   by_test false e = e
 
@@ -180,16 +180,13 @@ pub notes_are_of : (blif : Blif) (m : BlifModel) (names : List (List ℕ)) (note
     → drivers ≡ map (numbered names) (drivers_in blif m) → uses ≡ map (numbered names) (uses_in blif m) → ds ≡ drivers → us ≡ uses → count ≡ length names → length notes ≡ count → AreNotes notes ds us → AreNotesOf blif m notes names
 notes_are_of blif m names notes drivers uses ds us count is n d u de ue c l are = record {
   known = λ i o at.
-      ap (λ (ns : List (List ℕ)). is_among ns o.name) (n ∙ names_once (named_in m)) ∙ once_has_same (named_in m) o.name
-      ∙ ap (λ (ns : List (List ℕ)). is_among ns o.name) (sym (mentioned_names m is)) ∙ all_named (mentions_in m) i o at;
+      ap (λ (ns : List (List ℕ)). has_name ns o.name) (n ∙ names_once (named_in m)) ∙ once_has_same (named_in m) o.name
+      ∙ ap (λ (ns : List (List ℕ)). has_name ns o.name) (sym (mentioned_names m is)) ∙ all_named (mentions_in m) i o at;
   count = l ∙ c;
   notes_are = subst (λ (xs : List Mention). AreNotes notes xs (map (numbered names) (uses_in blif m))) (de ∙ d) (subst (AreNotes notes ds) (ue ∙ u) are);
 }
 
 -- ---- the models
-
-from_here : {X : Type 0} (xs : List X) (i : ℕ) (x : X) → i < length xs → slice_get xs i ≡ Some x → drop i xs ≡ x ∷ drop (i + 1) xs
-from_here xs i x lt here = drop_more xs i x lt ∙ ap (λ t. t ∷ drop (i + 1) xs) (get_or_from_slice_get xs i x x here)
 
 -- each model is one
 pub model_is : (blif : Blif) (models : List BlifModel) (i : ℕ) (m : BlifModel) → IsBlif blif → models ≡ blif.models → slice_get models i ≡ Some m → IsModel m
@@ -201,7 +198,7 @@ model_is blif models i m is same here =
 pub model_first : (blif : Blif) (models : List BlifModel) (i : ℕ) (m : BlifModel) (f : ModelFault) → models ≡ blif.models → i < length models → slice_get models i ≡ Some m
     → slice_get (filter_map (driver_fault_in blif) (drop i blif.models)) 0 ≡ driver_fault blif → option_map of_driver (driver_fault_in blif m) ≡ Some f → option_map of_driver (driver_fault blif) ≡ Some f
 model_first blif models i m f same lt here so_far e =
-    ap (option_map of_driver) (sym so_far ∙ ap (λ (ms : List BlifModel). slice_get (filter_map (driver_fault_in blif) ms) 0) (ap (drop i) (sym same) ∙ from_here models i m lt here)) ∙ by_fault (driver_fault_in blif m) e where
+    ap (option_map of_driver) (sym so_far ∙ ap (λ (ms : List BlifModel). slice_get (filter_map (driver_fault_in blif) ms) 0) (ap (drop i) (sym same) ∙ from_place models i m lt here)) ∙ by_fault (driver_fault_in blif m) e where
       by_fault : (o : Option DriverFault) → option_map of_driver o ≡ Some f → option_map of_driver (slice_get (cons_option o (filter_map (driver_fault_in blif) (drop (i + 1) models))) 0) ≡ Some f
       by_fault None e = cc
       by_fault (Some d) e = e
@@ -212,7 +209,7 @@ pub model_none : (blif : Blif) (models : List BlifModel) (i : ℕ) (m : BlifMode
     → slice_get (filter_map (driver_fault_in blif) (drop (i + 1) blif.models)) 0 ≡ driver_fault blif
 model_none blif models i m same lt here so_far e =
     ap (λ (ms : List BlifModel). slice_get (filter_map (driver_fault_in blif) (drop (i + 1) ms)) 0) (sym same) ∙ by_fault (driver_fault_in blif m) refl e
-    ∙ sym (ap (λ (ms : List BlifModel). slice_get (filter_map (driver_fault_in blif) ms) 0) (ap (drop i) (sym same) ∙ from_here models i m lt here)) ∙ so_far where
+    ∙ sym (ap (λ (ms : List BlifModel). slice_get (filter_map (driver_fault_in blif) ms) 0) (ap (drop i) (sym same) ∙ from_place models i m lt here)) ∙ so_far where
       by_fault : (o : Option DriverFault) → driver_fault_in blif m ≡ o → option_map of_driver o ≡ None
           → slice_get (filter_map (driver_fault_in blif) (drop (i + 1) models)) 0 ≡ slice_get (cons_option (driver_fault_in blif m) (filter_map (driver_fault_in blif) (drop (i + 1) models))) 0
       by_fault None is e = sym (ap (λ o. slice_get (cons_option o (filter_map (driver_fault_in blif) (drop (i + 1) models))) 0) is)

@@ -1,14 +1,13 @@
 -- The first signal of a model with two drivers or none, by notes and by the definition.
 use Rattle.std.proofs.Common.{◌≡◌, ◌<◌, ◌≤◌, ◌+◌, ◌++◌, ◌∷◌, ◌&&◌, ◌||◌, inl, inr, [], ℕ, zero, suc, List, Bool, true, false, cond, not, map, flat_map, length, get_or, Option, Some, None, option_map, refl, ap, ap₂, sym, ◌∙◌, subst, arith}
-use Rattle.std.specs.Prelude.{◌⊎◌, ◌==◌, bytes_eq, filter, filter_map, find, is_none, nat_lt, slice_get}
+use Rattle.std.specs.Prelude.{◌⊎◌, ◌==◌, bytes_eq, filter, filter_map, find, is_none, nat_lt, slice_get, Result, Ok, Err}
 use Rattle.std.specs.List.{cons_option, list_any}
 use Rattle.std.specs.Option.{option_or}
-use Rattle.std.proofs.lemmas.Bool.{cases_eq, cases_lt, lt-ltb, eqb-true, or_parts}
+use Rattle.std.proofs.lemmas.Bool.{and_parts, cases_eq, cases_lt, eqb-true, lt-ltb, or_parts}
 use Rattle.std.proofs.lemmas.List.Folds.{list_any-append}
 use Rattle.std.proofs.lemmas.Slice.Eq.{bytes_eq-Decides}
-use Rattle.text_lines.specs.Names.{is_among}
+use Rattle.vrt_model.specs.Lists.{At, has_name}
 use Rattle.vrt_model.specs.FlatBlif.{cover_signals, latch_signals, sub_signals}
-use Rattle.vrt_model.specs.Lists.{At}
 use Rattle.vrt_model.specs.Models.{DriverFault, Never, OnLine, Twice, count_lines, driver_fault_in, drivers_in, drivers_of_name, fault_on, is_driven_twice_on, is_least_bad, is_undriven_on, lines_of, names_on, never_on, on_line, on_lines, uses_in, uses_of_name}
 use Rattle.vrt_model.specs.declared.blif.Blif.{Blif}
 use Rattle.vrt_model.specs.declared.blif.BlifModel.{BlifModel}
@@ -24,7 +23,6 @@ use Rattle.blif_checks.specs.declared.judge.Shown.{Shown}
 use Rattle.blif_checks.specs.declared.mentions.Mention.{Mention}
 use Rattle.blif_checks.specs.declared.notes.Note.{Note}
 use Rattle.blif_checks.proofs.NoteLaws.{below, eq_no, eq_yes, has_line, lt_no, second_there, use_there}
-use Rattle.std.specs.Prelude.{Result, Ok, Err}
 
 -- ---- numbers of names
 
@@ -32,11 +30,11 @@ one_plus : (n : ℕ) → 1 + n ≡ suc n
 one_plus n = omega arith
 
 -- a name among others is found at its number
-number_there : (names : List (List ℕ)) (name : List ℕ) → is_among names name ≡ true → (number_among names name < length names) × (get_or names (number_among names name) [] ≡ name)
+number_there : (names : List (List ℕ)) (name : List ℕ) → has_name names name ≡ true → (number_among names name < length names) × (get_or names (number_among names name) [] ≡ name)
 number_there [] name e = cc
 number_there (n ∷ names) name e = by_test (bytes_eq name n) refl e (number_there names name) where
-  by_test : (b : Bool) → bytes_eq name n ≡ b → (b || is_among names name) ≡ true
-      → (is_among names name ≡ true → (number_among names name < length names) × (get_or names (number_among names name) [] ≡ name))
+  by_test : (b : Bool) → bytes_eq name n ≡ b → (b || has_name names name) ≡ true
+      → (has_name names name ≡ true → (number_among names name < length names) × (get_or names (number_among names name) [] ≡ name))
       → (cond (not b) (1 + number_among names name) 0 < suc (length names)) × (get_or (n ∷ names) (cond (not b) (1 + number_among names name) 0) [] ≡ name)
   by_test true h rest further = (omega arith, sym ((bytes_eq-Decides name n).0 h))
   by_test false h rest further =
@@ -52,7 +50,7 @@ found_at (n ∷ names) other lt = by_head (bytes_eq other n) refl lt (found_at n
   by_head false h lt further = ap (λ k. get_or (n ∷ names) k []) (one_plus (number_among names other)) ∙ further (omega arith)
 
 -- another name has its number only if it is the same
-number_same : (names : List (List ℕ)) (name other : List ℕ) → is_among names name ≡ true → (number_among names other == number_among names name) ≡ bytes_eq other name
+number_same : (names : List (List ℕ)) (name other : List ℕ) → has_name names name ≡ true → (number_among names other == number_among names name) ≡ bytes_eq other name
 number_same names name other e = by_test (bytes_eq other name) refl where
   differs : bytes_eq other name ≡ false → number_among names other ≡ number_among names name → ⊥
   differs h same =
@@ -71,7 +69,7 @@ number_same names name other e = by_test (bytes_eq other name) refl where
 line_of : OnLine → ℕ
 line_of o = o.line
 
-lines_same : (names : List (List ℕ)) (name : List ℕ) (list : List OnLine) → is_among names name ≡ true
+lines_same : (names : List (List ℕ)) (name : List ℕ) (list : List OnLine) → has_name names name ≡ true
     → lines_for (number_among names name) (map (numbered names) list) ≡ map line_of (filter (λ (o : OnLine). bytes_eq o.name name) list)
 unfolding line_of
 lines_same names name [] e = refl
@@ -126,16 +124,12 @@ empty_is (o ∷ list) = refl
 
 -- ---- a mention, by its note and by the definition
 
-is_twice_by : (driven : List OnLine) (line : ℕ) → Bool
-is_twice_by driven line =
-    nat_lt 1 (count_lines (λ l. not (nat_lt line l)) driven) && nat_lt (count_lines (λ l. nat_lt l line) driven) 2 && list_any (λ (o : OnLine). o.line == line) driven
-
 note_at : (notes : List Note) (k : ℕ) → k < length notes → (note : Note) × (slice_get notes k ≡ Some note)
 note_at [] k lt = absurd (omega arith)
 note_at (n ∷ notes) zero lt = (n, refl)
 note_at (n ∷ notes) (suc k) lt = note_at notes k (omega arith)
 
-pub twice_is : (blif : Blif) (m : BlifModel) (notes : List Note) (names : List (List ℕ)) (o : OnLine) → is_among names o.name ≡ true → length notes ≡ length names
+pub twice_is : (blif : Blif) (m : BlifModel) (notes : List Note) (names : List (List ℕ)) (o : OnLine) → has_name names o.name ≡ true → length notes ≡ length names
     → AreNotes notes (map (numbered names) (drivers_in blif m)) (map (numbered names) (uses_in blif m)) → is_second notes (numbered names o) ≡ is_driven_twice_on blif m o.line o.name
 twice_is blif m notes names o among count are =
     let at = note_at notes (number_among names o.name) (omega (arith, (number_there names o.name among).0, count)) in
@@ -147,7 +141,7 @@ twice_is blif m notes names o among count are =
     ∙ sym (ap₂ (λ a b. a && b)
     (ap₂ (λ a b. nat_lt 1 a && nat_lt b 2) (count_is o.line (drivers_of_name blif m o.name)) (below_is o.line (drivers_of_name blif m o.name))) (any_is o.line (drivers_of_name blif m o.name)))
 
-pub undriven_is : (blif : Blif) (m : BlifModel) (notes : List Note) (names : List (List ℕ)) (o : OnLine) → is_among names o.name ≡ true → length notes ≡ length names
+pub undriven_is : (blif : Blif) (m : BlifModel) (notes : List Note) (names : List (List ℕ)) (o : OnLine) → has_name names o.name ≡ true → length notes ≡ length names
     → AreNotes notes (map (numbered names) (drivers_in blif m)) (map (numbered names) (uses_in blif m)) → is_first_use notes (numbered names o) ≡ is_undriven_on blif m o.line o.name
 undriven_is blif m notes names o among count are =
     let at = note_at notes (number_among names o.name) (omega (arith, (number_there names o.name among).0, count)) in
@@ -285,10 +279,6 @@ or_true : (a b : Bool) → (a || b) ≡ true → (a ≡ true) ⊎ (b ≡ true)
 or_true true b e = inl refl
 or_true false b e = inr e
 
-and_true : (a b : Bool) → (a && b) ≡ true → (a ≡ true) × (b ≡ true)
-and_true true b e = (refl, e)
-and_true false b e = cc
-
 or_behind : (a b : Bool) → b ≡ true → (a || b) ≡ true
 or_behind true b e = refl
 or_behind false b e = e
@@ -384,16 +374,16 @@ line_there blif m notes names line i o are at bad here =
     any_at line (drivers_in blif m ++ uses_in blif m) (elim (or_true (is_second notes o) (is_first_use notes o) bad) [
       | inl second ↦
           let twice : is_driven_twice_on blif m x.0.line x.0.name ≡ true = sym (twice_is blif m notes names x.0 known are.count are.notes_are) ∙ ap (is_second notes) x.2 ∙ second in
-          let any = (and_true (nat_lt 1 (count_lines (λ k. not (nat_lt x.0.line k)) (drivers_of_name blif m x.0.name)) && nat_lt (count_lines (λ k. nat_lt k x.0.line) (drivers_of_name blif m x.0.name)) 2)
+          let any = (and_parts (nat_lt 1 (count_lines (λ k. not (nat_lt x.0.line k)) (drivers_of_name blif m x.0.name)) && nat_lt (count_lines (λ k. nat_lt k x.0.line) (drivers_of_name blif m x.0.name)) 2)
           (list_any (λ (p : OnLine). p.line == x.0.line) (drivers_of_name blif m x.0.name)) twice).1 in
           let among : list_any (λ (p : OnLine). p.line == line) (drivers_in blif m) ≡ true =
           ap (λ k. list_any (λ (p : OnLine). p.line == k) (drivers_in blif m)) (sym l) ∙ filtered_any (λ (p : OnLine). bytes_eq p.name x.0.name) x.0.line (drivers_in blif m) any in
           list_any-append (λ (p : OnLine). p.line == line) (drivers_in blif m) (uses_in blif m) ∙ ap (λ b. b || list_any (λ (p : OnLine). p.line == line) (uses_in blif m)) among
       | inr first ↦
           let never : is_undriven_on blif m x.0.line x.0.name ≡ true = sym (undriven_is blif m notes names x.0 known are.count are.notes_are) ∙ ap (is_first_use notes) x.2 ∙ first in
-          let both = (and_true (is_none (slice_get (drivers_of_name blif m x.0.name) 0) && list_any (λ (p : OnLine). p.line == x.0.line) (uses_of_name blif m x.0.name))
+          let both = (and_parts (is_none (slice_get (drivers_of_name blif m x.0.name) 0) && list_any (λ (p : OnLine). p.line == x.0.line) (uses_of_name blif m x.0.name))
           (count_lines (λ k. nat_lt k x.0.line) (uses_of_name blif m x.0.name) == 0) never).0 in
-          let any = (and_true (is_none (slice_get (drivers_of_name blif m x.0.name) 0)) (list_any (λ (p : OnLine). p.line == x.0.line) (uses_of_name blif m x.0.name)) both).1 in
+          let any = (and_parts (is_none (slice_get (drivers_of_name blif m x.0.name) 0)) (list_any (λ (p : OnLine). p.line == x.0.line) (uses_of_name blif m x.0.name)) both).1 in
           let among : list_any (λ (p : OnLine). p.line == line) (uses_in blif m) ≡ true =
           ap (λ k. list_any (λ (p : OnLine). p.line == k) (uses_in blif m)) (sym l) ∙ filtered_any (λ (p : OnLine). bytes_eq p.name x.0.name) x.0.line (uses_in blif m) any in
           list_any-append (λ (p : OnLine). p.line == line) (drivers_in blif m) (uses_in blif m) ∙ ap (λ b. list_any (λ (p : OnLine). p.line == line) (drivers_in blif m) || b) among

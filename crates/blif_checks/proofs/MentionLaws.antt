@@ -1,5 +1,7 @@
 -- Lists of mentions that grow card by card.
-use Rattle.std.proofs.Common.{◌≡◌, ◌<◌, ◌≤◌, ◌+◌, ◌++◌, ◌∷◌, [], ℕ, List, Bool, true, false, cond, not, map, flat_map, take, length, Some, None, refl, ap, sym, ◌∙◌, arith}
+use Rattle.std.proofs.Common.{Bool, List, None, Some, [], ap, append-nil, append_assoc, arith, cond, false, flat_map, length, map, not, refl, sym, take, true, ℕ, ◌++◌, ◌+◌, ◌<◌, ◌∙◌, ◌∷◌, ◌≡◌, ◌≤◌}
+use Rattle.std.proofs.lemmas.Grind.{flat_map-append}
+use Rattle.std.proofs.lemmas.List.Elements.{filter-append}
 use Rattle.std.specs.Prelude.{filter, nat_lt, position, slice_get}
 use Rattle.std.specs.List.{position_or_len}
 use Rattle.std.proofs.lemmas.Bool.{ltb-false}
@@ -7,38 +9,18 @@ use Rattle.std.proofs.lemmas.List.Sums.{prefix_len-le-length}
 use Rattle.vrt_model.specs.FlatBlif.{cover_signals, latch_signals, sub_signals}
 use Rattle.vrt_model.specs.declared.blif.BlifModel.{BlifModel}
 use Rattle.blif_checks.specs.Signals.{named_in}
-use Rattle.std.proofs.lemmas.List.{take_more}
+use Rattle.std.proofs.lemmas.List.{map-append, take_more}
 use Rattle.std.proofs.lemmas.Option.{get_or_from_slice_get}
-use Rattle.text_lines.specs.Names.{with_names}
-use Rattle.text_lines.proofs.NameLaws.{with_names-append}
+use Rattle.names.specs.Names.{with_names}
+use Rattle.names.proofs.NameLaws.{with_names-append}
 use Rattle.vrt_model.specs.Models.{OnLine, on_line}
 use Rattle.vrt_model.specs.declared.blif.Tie.{Tie}
 use Rattle.blif_checks.specs.declared.mentions.Mention.{Mention}
 
 -- ---- lists
 
-assoc : {X : Type 0} (a b c : List X) → (a ++ b) ++ c ≡ a ++ (b ++ c)
-assoc [] b c = refl
-assoc (x ∷ a) b c = ap (λ r. x ∷ r) (assoc a b c)
-
-no_end : {X : Type 0} (a : List X) → a ++ [] ≡ a
-no_end [] = refl
-no_end (x ∷ a) = ap (λ r. x ∷ r) (no_end a)
-
-map_end : {X Y : Type 0} (f : X → Y) (a b : List X) → map f (a ++ b) ≡ map f a ++ map f b
-map_end f [] b = refl
-map_end f (x ∷ a) b = ap (λ r. f x ∷ r) (map_end f a b)
-
 flat_end : {X Y : Type 0} (f : X → List Y) (a : List X) (x : X) → flat_map f (a ++ x ∷ []) ≡ flat_map f a ++ f x
-flat_end f [] x = no_end (f x)
-flat_end f (y ∷ a) x = ap (λ r. f y ++ r) (flat_end f a x) ∙ sym (assoc (f y) (flat_map f a) (f x))
-
-kept_end : {X : Type 0} (p : X → Bool) (a b : List X) → filter p (a ++ b) ≡ filter p a ++ filter p b
-kept_end p [] b = refl
-kept_end p (x ∷ a) b = by_test (p x) (kept_end p a b) where
-  by_test : (t : Bool) → filter p (a ++ b) ≡ filter p a ++ filter p b → cond t (x ∷ filter p (a ++ b)) (filter p (a ++ b)) ≡ cond t (x ∷ filter p a) (filter p a) ++ filter p b
-  by_test true e = ap (λ r. x ∷ r) e
-  by_test false e = e
+flat_end f a x = flat_map-append f a (x ∷ []) ∙ ap (λ r. flat_map f a ++ r) (append-nil (f x))
 
 -- the items up to a place and that one
 one_further : {X : Type 0} (xs : List X) (i : ℕ) (x : X) → i < length xs → slice_get xs i ≡ Some x → take (i + 1) xs ≡ take i xs ++ x ∷ []
@@ -47,13 +29,13 @@ one_further xs i x lt here = take_more xs i x lt ∙ ap (λ t. take i xs ++ t �
 -- ---- mentions
 
 pub joined : (g : OnLine → Mention) (xs ys : List OnLine) (old mid new : List Mention) → mid ≡ old ++ map g xs → new ≡ mid ++ map g ys → new ≡ old ++ map g (xs ++ ys)
-joined g xs ys old mid new e f = f ∙ ap (λ l. l ++ map g ys) e ∙ assoc old (map g xs) (map g ys) ∙ ap (λ l. old ++ l) (sym (map_end g xs ys))
+joined g xs ys old mid new e f = f ∙ ap (λ l. l ++ map g ys) e ∙ append_assoc old (map g xs) (map g ys) ∙ ap (λ l. old ++ l) (sym (map-append g xs ys))
 
 -- signals on one line, and one more
 pub joined_line : (g : OnLine → Mention) (line : ℕ) (xs ys : List (List ℕ)) (old mid new : List Mention) → mid ≡ old ++ map g (map (on_line line) xs) → new ≡ mid ++ map g (map (on_line line) ys)
     → new ≡ old ++ map g (map (on_line line) (xs ++ ys))
 joined_line g line xs ys old mid new e f =
-    joined g (map (on_line line) xs) (map (on_line line) ys) old mid new e f ∙ ap (λ l. old ++ map g l) (sym (map_end (on_line line) xs ys))
+    joined g (map (on_line line) xs) (map (on_line line) ys) old mid new e f ∙ ap (λ l. old ++ map g l) (sym (map-append (on_line line) xs ys))
 
 -- the mentions of one card more
 pub more : {X : Type 0} (g : OnLine → Mention) (f : X → List OnLine) (xs : List X) (i : ℕ) (x : X) (old list new : List Mention) → i < length xs → slice_get xs i ≡ Some x
@@ -67,7 +49,7 @@ pub more_one : {X : Type 0} (g : OnLine → Mention) (f : X → OnLine) (xs : Li
     → list ≡ old ++ map g (map f (take i xs)) → new ≡ list ++ g (f x) ∷ [] → new ≡ old ++ map g (map f (take (i + 1) xs))
 more_one g f xs i x old list new lt here e n =
     joined g (map f (take i xs)) (f x ∷ []) old list new e n
-    ∙ ap (λ l. old ++ map g l) (sym (map_end f (take i xs) (x ∷ [])) ∙ ap (map f) (sym (one_further xs i x lt here)))
+    ∙ ap (λ l. old ++ map g l) (sym (map-append f (take i xs) (x ∷ [])) ∙ ap (map f) (sym (one_further xs i x lt here)))
 
 -- the actual of one tie more
 pub more_actual : (g : OnLine → Mention) (line : ℕ) (ties : List Tie) (i : ℕ) (t : Tie) (old list new : List Mention) → i < length ties → slice_get ties i ≡ Some t
@@ -75,7 +57,7 @@ pub more_actual : (g : OnLine → Mention) (line : ℕ) (ties : List Tie) (i : �
     → new ≡ old ++ map g (map (on_line line) (map (λ (t : Tie). t.actual) (take (i + 1) ties)))
 more_actual g line ties i t old list new lt here e n =
     joined_line g line (map (λ (t : Tie). t.actual) (take i ties)) (t.actual ∷ []) old list new e n
-    ∙ ap (λ ns. old ++ map g (map (on_line line) ns)) (sym (map_end (λ (t : Tie). t.actual) (take i ties) (t ∷ [])) ∙ ap (map (λ (t : Tie). t.actual)) (sym (one_further ties i t lt here)))
+    ∙ ap (λ ns. old ++ map g (map (on_line line) ns)) (sym (map-append (λ (t : Tie). t.actual) (take i ties) (t ∷ [])) ∙ ap (map (λ (t : Tie). t.actual)) (sym (one_further ties i t lt here)))
 
 -- one mention more, if it passes
 pub more_kept : {X : Type 0} (g : OnLine → Mention) (f : X → OnLine) (p : X → Bool) (xs : List X) (i : ℕ) (x : X) (old list new : List Mention) → i < length xs → slice_get xs i ≡ Some x
@@ -83,7 +65,7 @@ pub more_kept : {X : Type 0} (g : OnLine → Mention) (f : X → OnLine) (p : X 
 more_kept g f p xs i x old list new lt here e n =
     joined g (map f (filter p (take i xs))) (map f (filter p (x ∷ []))) old list new e n
     ∙ ap (λ l. old ++ map g l)
-    (sym (map_end f (filter p (take i xs)) (filter p (x ∷ []))) ∙ ap (map f) (sym (kept_end p (take i xs) (x ∷ [])) ∙ ap (filter p) (sym (one_further xs i x lt here))))
+    (sym (map-append f (filter p (take i xs)) (filter p (x ∷ []))) ∙ ap (map f) (sym (filter-append p (take i xs) (x ∷ [])) ∙ ap (filter p) (sym (one_further xs i x lt here))))
 
 -- ---- names
 
@@ -100,7 +82,7 @@ pub names_more_one : {X : Type 0} (f : X → List ℕ) (xs : List X) (i : ℕ) (
     → names ≡ with_names old (map f (take i xs)) → new ≡ with_names names (f x ∷ []) → new ≡ with_names old (map f (take (i + 1) xs))
 names_more_one f xs i x old names new lt here e n =
     names_joined old names new (map f (take i xs)) (f x ∷ []) e n
-    ∙ ap (with_names old) (sym (map_end f (take i xs) (x ∷ [])) ∙ ap (map f) (sym (one_further xs i x lt here)))
+    ∙ ap (with_names old) (sym (map-append f (take i xs) (x ∷ [])) ∙ ap (map f) (sym (one_further xs i x lt here)))
 
 -- the number of a name that is not there
 pub position_none : {X : Type 0} (p : X → Bool) (xs : List X) → position p xs ≡ None → position_or_len p xs ≡ length xs

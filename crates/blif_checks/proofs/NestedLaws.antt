@@ -3,13 +3,13 @@ use Rattle.std.proofs.Common.{◌≡◌, ◌<◌, ◌≤◌, ◌∷◌, inl, inr
 use Rattle.std.specs.Prelude.{◌⊎◌, bytes_eq, position, slice_get, unwrap_or}
 use Rattle.std.proofs.Math.Path.{fun_ext}
 use Rattle.std.proofs.lemmas.Bool.{cases_lt}
-use Rattle.std.proofs.lemmas.List.{length-map}
+use Rattle.std.proofs.lemmas.List.{get_or_past, length-map}
 use Rattle.nesting.specs.Depths.{AreInside, in_list}
 use Rattle.nesting.specs.First.{AreShallow as AreShallowLists, IsFirstFault}
 use Rattle.nesting.specs.declared.first.NestingFault.{NestingFault}
 use Rattle.nesting.specs.declared.first.NestingFault.TheVariants.{Recursion as RecursionFault, Depth as DepthFault}
 use Rattle.vrt_model.specs.FlatBlif.{model_at, model_numbered}
-use Rattle.vrt_model.specs.Lists.{At, Among}
+use Rattle.vrt_model.specs.Lists.{Among, At}
 use Rattle.vrt_model.specs.Models.{models_within}
 use Rattle.vrt_model.specs.Nesting.{depth_in}
 use Rattle.vrt_model.specs.declared.blif.Blif.{Blif}
@@ -59,11 +59,6 @@ numbered_sub blif [] i n e = cc
 numbered_sub blif (s ∷ ss) zero n e = let same : model_numbered blif s.model ≡ n = cc in (s, sym same)
 numbered_sub blif (s ∷ ss) (suc i) n e = numbered_sub blif ss i n e
 
-past_all : (xs : List (List ℕ)) (n : ℕ) → length xs ≤ n → get_or xs n [] ≡ []
-past_all [] n le = refl
-past_all (x ∷ xs) zero le = absurd (omega arith)
-past_all (x ∷ xs) (suc n) le = past_all xs n (omega arith)
-
 none_among : (i n : ℕ) → At [] i n → ⊥
 none_among i n e = cc
 
@@ -75,7 +70,7 @@ inside_is blif all inner m n among = elim (cases_lt 0 (length blif.models)) [
       let lt : model_numbered blif from.0.model < length blif.models = number_within blif from.0.model some in
       omega (arith, count_is blif all inner, from.1, lt)
   | inr none ↦
-      let nothing : in_list all m ≡ [] = past_all all m (omega (arith, count_is blif all inner)) in
+      let nothing : in_list all m ≡ [] = get_or_past all m [] (omega (arith, count_is blif all inner)) in
       let here : Among [] n = subst (λ (xs : List ℕ). Among xs n) nothing among in
       absurd (none_among here.0 n here.1)
 ]

@@ -2,7 +2,7 @@
 use Rattle.std.proofs.Common.{◌≡◌, ◌≢◌, ◌<◌, ◌≤◌, ◌++◌, ◌∷◌, ◌&&◌, ◌||◌, inl, inr, [], ℕ, zero, suc, List, Bool, true, false, cond, not, map, length, set, replicate, Option, Some, None, refl, ap, ap₂, sym, ◌∙◌, subst, arith}
 use Rattle.std.specs.Prelude.{◌==◌, filter, is_none, nat_lt, slice_get}
 use Rattle.std.specs.List.{list_any}
-use Rattle.std.proofs.lemmas.Bool.{cases_eq, cases_lt, ltb-true, ltb-false, lt-ltb, eqb-true}
+use Rattle.std.proofs.lemmas.Bool.{cases_eq, cases_lt, eqb-true, lt-ltb, ltb-false, ltb-true, or_parts}
 use Rattle.blif_checks.specs.Notes.{AreNotes, IsNote, count_to, is_by, is_line, lines_for, no_note}
 use Rattle.blif_checks.specs.declared.mentions.Mention.{Mention}
 use Rattle.blif_checks.specs.declared.notes.Note.{Note}
@@ -175,19 +175,6 @@ notes_use_none notes o drivers uses past are = record {
       subst (IsNote note (lines_for k drivers)) (sym (lines_other k uses o (omega (arith, lt, past)))) (are.each k note e);
 }
 
-is_no_note : IsNote no_note [] []
-is_no_note = record { first_is = λ l. refl; second_is = λ l. refl; used_is = λ l. refl }
-
--- without drivers and uses
-pub notes_none : (count : ℕ) (notes : List Note) → notes ≡ replicate count no_note → AreNotes notes [] []
-notes_none count notes e = record {
-  each = λ k note at. subst (λ (n : Note). IsNote n [] []) (blank count k note (ap (λ (ns : List Note). slice_get ns k) (sym e) ∙ at)) is_no_note;
-} where
-  blank : (count k : ℕ) (note : Note) → slice_get (replicate count no_note) k ≡ Some note → no_note ≡ note
-  blank zero k note at = cc
-  blank (suc count) zero note at = same_note no_note note at
-  blank (suc count) (suc k) note at = blank count k note at
-
 -- ---- what a note shows
 
 abbrev pub below : ℕ → List ℕ → ℕ
@@ -206,20 +193,16 @@ lt_step l x other = elim (cases_lt l x) [
 differs : (x line : ℕ) → (x == line) ≡ false → x ≢ line
 differs x line e same = let yes = eq_yes x line same in cc
 
-or_split : (a b : Bool) → (a || b) ≡ false → (a ≡ false) × (b ≡ false)
-or_split true b e = cc
-or_split false b e = (refl, e)
-
 -- lines up to a line and not below it are that line
 not_there : (line : ℕ) (lines : List ℕ) → has_line lines line ≡ false → count_to line lines ≡ below line lines
 not_there zero [] e = refl
 not_there (suc l) [] e = refl
 not_there zero (x ∷ lines) e =
-    let parts = or_split (x == 0) (has_line lines 0) e in
+    let parts = or_parts (x == 0) (has_line lines 0) e in
     let other : x ≢ 0 = differs x 0 parts.0 in
     ap (λ b. cond (not b) (suc (count_to 0 lines)) (count_to 0 lines)) (lt-ltb 0 x (omega (arith, other))) ∙ not_there zero lines parts.1
 not_there (suc l) (x ∷ lines) e =
-    let parts = or_split (x == suc l) (has_line lines (suc l)) e in
+    let parts = or_parts (x == suc l) (has_line lines (suc l)) e in
     ap₂ (λ b n. cond (not b) (suc n) n) (lt_step l x (differs x (suc l) parts.0)) (not_there (suc l) lines parts.1)
 
 count_here : (d : ℕ) (lines : List ℕ) → nat_lt 0 (count_to d (d ∷ lines)) ≡ true

@@ -1,13 +1,13 @@
 -- The formals of ties, one by one, and the sub-models.
 use Rattle.std.proofs.Common.{arith, ◌≤◌, ◌≡◌, ◌++◌, ◌∷◌, ◌||◌, ◌<◌, ◌+◌, not, [], ℕ, List, Bool, true, false, cond, map, flat_map, length, drop, take, Option, Some, None, option_map, refl, ap, ap₂, sym, ◌∙◌}
-use Rattle.std.specs.Prelude.{bytes_eq, slice_get}
-use Rattle.std.specs.Prelude.{find, is_none}
+use Rattle.std.specs.Prelude.{bytes_eq, slice_get, find, is_none}
 use Rattle.std.specs.Option.{option_or}
-use Rattle.std.proofs.lemmas.List.{drop_all, drop_more, take_more}
+use Rattle.std.proofs.lemmas.List.{drop_all, drop_more, map-append, take_more}
 use Rattle.std.proofs.lemmas.List.Folds.{find-append, list_any-append}
 use Rattle.std.proofs.lemmas.Option.{get_or_from_slice_get}
 use Rattle.text_lines.specs.Faults.{first_of, when}
-use Rattle.text_lines.specs.Names.{distinct, first_missing, is_among, with_name}
+use Rattle.vrt_model.specs.Lists.{distinct, has_name}
+use Rattle.names.specs.Names.{first_missing, with_name}
 use Rattle.vrt_model.specs.Models.{bad_formal, bad_formal_after, bad_sub, interface_of, is_bad_sub, is_model}
 use Rattle.vrt_model.specs.declared.blif.BlifModel.{BlifModel}
 use Rattle.text_lines.proofs.FaultLaws.{none_cons, when_no}
@@ -18,7 +18,7 @@ use Rattle.vrt_model.specs.declared.blif.Tie.{Tie}
 use Rattle.blif_checks.specs.declared.faults.ModelFault.{ModelFault}
 use Rattle.blif_checks.specs.declared.faults.ModelFault.TheVariants.{Formals, UnknownModel}
 use Rattle.blif_checks.specs.Subs.{bad_formal_in, is_bad_formal, sub_fault, subs_fault}
-use Rattle.blif_checks.proofs.NameLaws.{HaveSame, once_has_same, with_front}
+use Rattle.names.proofs.NameLaws.{HaveSame, once_has_same, or_swap, with_front}
 
 -- what ties refuse depends on the names alone
 pub bad_same : (signals others seen known tied : List (List ℕ)) → HaveSame signals others → HaveSame seen known → bad_formal_after signals seen tied ≡ bad_formal_after others known tied
@@ -35,17 +35,13 @@ missing_same seen known [] k = refl
 missing_same seen known (n ∷ names) k = ap₂ (λ b rest. cond (not b) (Some n) rest) (k n) (missing_same seen known names k)
 
 pub missing_append : (known xs ys : List (List ℕ)) → first_missing known (xs ++ ys) ≡ option_or (first_missing known xs) (first_missing known ys)
-missing_append known xs ys = find-append (λ name. not (is_among known name)) xs ys
+missing_append known xs ys = find-append (λ name. not (has_name known name)) xs ys
 
 -- one formal more that fits
 pub formal_fits : (signals seen : List (List ℕ)) (f : List ℕ) (fs : List (List ℕ)) → is_bad_formal signals seen f ≡ false
     → bad_formal_after signals (with_name seen f) fs ≡ bad_formal_after signals seen (f ∷ fs)
 formal_fits signals seen f fs good =
     bad_same signals signals (with_name seen f) (f ∷ seen) fs (λ n. refl) (with_front seen f) ∙ ap (λ b. cond b (Some f) (bad_formal_after signals (f ∷ seen) fs)) (sym good)
-
--- one that does not
-pub formal_fails : (signals seen : List (List ℕ)) (f : List ℕ) (fs : List (List ℕ)) → is_bad_formal signals seen f ≡ true → bad_formal_after signals seen (f ∷ fs) ≡ Some f
-formal_fails signals seen f fs bad = ap (λ b. cond b (Some f) (bad_formal_after signals (f ∷ seen) fs)) bad
 
 -- ---- the first fault of several lists
 
@@ -55,7 +51,7 @@ first_append (None ∷ xs) ys = first_append xs ys
 first_append (Some f ∷ xs) ys = refl
 
 -- the items from a place on
-from_place : {X : Type 0} (xs : List X) (i : ℕ) (x : X) → i < length xs → slice_get xs i ≡ Some x → drop i xs ≡ x ∷ drop (i + 1) xs
+pub from_place : {X : Type 0} (xs : List X) (i : ℕ) (x : X) → i < length xs → slice_get xs i ≡ Some x → drop i xs ≡ x ∷ drop (i + 1) xs
 from_place xs i x lt here = drop_more xs i x lt ∙ ap (λ y. y ∷ drop (i + 1) xs) (get_or_from_slice_get xs i x x here)
 
 -- none so far, and one here
@@ -70,15 +66,11 @@ pub none_here : {X F : Type 0} (fault : X → Option F) (xs : List X) (i : ℕ) 
 none_here fault xs i x all lt here so_far e =
     ap (λ o. first_of (o ∷ map fault (drop (i + 1) xs))) (sym e) ∙ sym (ap (λ ys. first_of (map fault ys)) (from_place xs i x lt here)) ∙ so_far
 
-map_append : {X Y : Type 0} (f : X → Y) (xs ys : List X) → map f (xs ++ ys) ≡ map f xs ++ map f ys
-map_append f [] ys = refl
-map_append f (x ∷ xs) ys = ap (λ rest. f x ∷ rest) (map_append f xs ys)
-
 -- the same for lists in things, as the sub-models in models
 from_group : {G X F : Type 0} (fault : X → Option F) (items : G → List X) (gs : List G) (i : ℕ) (g : G) → i < length gs → slice_get gs i ≡ Some g
     → first_of (map fault (flat_map items (drop i gs))) ≡ option_or (first_of (map fault (items g))) (first_of (map fault (flat_map items (drop (i + 1) gs))))
 from_group fault items gs i g lt here =
-    ap (λ hs. first_of (map fault (flat_map items hs))) (from_place gs i g lt here) ∙ ap first_of (map_append fault (items g) (flat_map items (drop (i + 1) gs)))
+    ap (λ hs. first_of (map fault (flat_map items hs))) (from_place gs i g lt here) ∙ ap first_of (map-append fault (items g) (flat_map items (drop (i + 1) gs)))
     ∙ first_append (map fault (items g)) (map fault (flat_map items (drop (i + 1) gs)))
 
 pub first_in : {G X F : Type 0} (fault : X → Option F) (items : G → List X) (gs : List G) (i : ℕ) (g : G) (f : F) (all : Option F) → i < length gs → slice_get gs i ≡ Some g
@@ -93,31 +85,25 @@ none_in fault items gs i g all lt here so_far e =
 
 -- ---- ties
 
-or_swap : (p q : Bool) → (p || q) ≡ (q || (p || false))
-or_swap true true = refl
-or_swap true false = refl
-or_swap false true = refl
-or_swap false false = refl
-
 -- one tie more
 pub formals_turn : (interface seen new : List (List ℕ)) (ties : List Tie) (i : ℕ) (tie : Tie) → i < length ties → slice_get ties i ≡ Some tie
     → (bad_formal_after interface seen (map (λ (t : Tie). t.formal) (drop i ties)) ≡ bad_formal_after interface [] (map (λ (t : Tie). t.formal) ties))
-    × ((name : List ℕ) → is_among seen name ≡ is_among (map (λ (t : Tie). t.formal) (take i ties)) name)
+    × ((name : List ℕ) → has_name seen name ≡ has_name (map (λ (t : Tie). t.formal) (take i ties)) name)
     → is_bad_formal interface seen tie.formal ≡ false → new ≡ with_name seen tie.formal
     → (bad_formal_after interface new (map (λ (t : Tie). t.formal) (drop (i + 1) ties)) ≡ bad_formal_after interface [] (map (λ (t : Tie). t.formal) ties))
-    × ((name : List ℕ) → is_among new name ≡ is_among (map (λ (t : Tie). t.formal) (take (i + 1) ties)) name)
+    × ((name : List ℕ) → has_name new name ≡ has_name (map (λ (t : Tie). t.formal) (take (i + 1) ties)) name)
 formals_turn interface seen new ties i tie lt here so_far good e = (
   ap (λ s. bad_formal_after interface s (map (λ (t : Tie). t.formal) (drop (i + 1) ties))) e
       ∙ formal_fits interface seen tie.formal (map (λ (t : Tie). t.formal) (drop (i + 1) ties)) good
       ∙ ap (λ ts. bad_formal_after interface seen (map (λ (t : Tie). t.formal) ts)) (sym (from_place ties i tie lt here))
       ∙ so_far.0,
   λ name.
-      ap (λ s. is_among s name) e ∙ with_front seen tie.formal name
+      ap (λ s. has_name s name) e ∙ with_front seen tie.formal name
       ∙ ap (λ b. bytes_eq name tie.formal || b) (so_far.1 name)
-      ∙ or_swap (bytes_eq name tie.formal) (is_among (map (λ (t : Tie). t.formal) (take i ties)) name)
+      ∙ sym (or_swap (has_name (map (λ (t : Tie). t.formal) (take i ties)) name) (bytes_eq name tie.formal))
       ∙ sym (list_any-append (bytes_eq name) (map (λ (t : Tie). t.formal) (take i ties)) (tie.formal ∷ []))
-      ∙ ap (λ ns. is_among ns name) (sym (map_append (λ (t : Tie). t.formal) (take i ties) (tie ∷ [])))
-      ∙ ap (λ ts. is_among (map (λ (t : Tie). t.formal) ts) name) (ap (λ t. take i ties ++ t ∷ []) (sym (get_or_from_slice_get ties i tie tie here)) ∙ sym (take_more ties i tie lt)),
+      ∙ ap (λ ns. has_name ns name) (sym (map-append (λ (t : Tie). t.formal) (take i ties) (tie ∷ [])))
+      ∙ ap (λ ts. has_name (map (λ (t : Tie). t.formal) ts) name) (ap (λ t. take i ties ++ t ∷ []) (sym (get_or_from_slice_get ties i tie tie here)) ∙ sym (take_more ties i tie lt)),
 )
 
 map_or : {X Y : Type 0} (g : X → Y) (a b : Option X) → option_map g (option_or a b) ≡ option_or (option_map g a) (option_map g b)
@@ -129,7 +115,7 @@ bad_in : (line : ℕ) (m : BlifModel) (interface tied : List (List ℕ)) → int
 bad_in line m interface tied is =
     map_or (Formals line) (bad_formal_after (interface_of m) [] tied) (first_missing tied (m.inputs ++ m.clocks))
     ∙ ap (λ o. option_or (option_map (Formals line) o) (option_map (Formals line) (first_missing tied (m.inputs ++ m.clocks))))
-    (bad_same (interface_of m) interface [] [] tied (λ n. sym (once_has_same (interface_of m) n) ∙ ap (λ ns. is_among ns n) (sym is)) (λ n. refl))
+    (bad_same (interface_of m) interface [] [] tied (λ n. sym (once_has_same (interface_of m) n) ∙ ap (λ ns. has_name ns n) (sym is)) (λ n. refl))
 
 left_out : (line : ℕ) (m : BlifModel) (seen tied : List (List ℕ)) → HaveSame seen tied
     → option_map (Formals line) (first_missing tied (m.inputs ++ m.clocks)) ≡ option_or (option_map (Formals line) (first_missing seen m.inputs)) (option_map (Formals line) (first_missing seen m.clocks))
@@ -153,10 +139,10 @@ ties_rest line m interface seen tied inputs all is same none e f =
 -- one tie more, by the call that takes its formal
 pub formals_step : (line : ℕ) (interface seen new : List (List ℕ)) (ties : List Tie) (i : ℕ) (tie : Tie) (name : List ℕ) → i < length ties → slice_get ties i ≡ Some tie → name ≡ tie.formal
     → (bad_formal_after interface seen (map (λ (t : Tie). t.formal) (drop i ties)) ≡ bad_formal_after interface [] (map (λ (t : Tie). t.formal) ties))
-    × ((n : List ℕ) → is_among seen n ≡ is_among (map (λ (t : Tie). t.formal) (take i ties)) n)
+    × ((n : List ℕ) → has_name seen n ≡ has_name (map (λ (t : Tie). t.formal) (take i ties)) n)
     → when (is_bad_formal interface seen name) (Formals line name) ≡ None → new ≡ with_name seen name
     → (bad_formal_after interface new (map (λ (t : Tie). t.formal) (drop (i + 1) ties)) ≡ bad_formal_after interface [] (map (λ (t : Tie). t.formal) ties))
-    × ((n : List ℕ) → is_among new n ≡ is_among (map (λ (t : Tie). t.formal) (take (i + 1) ties)) n)
+    × ((n : List ℕ) → has_name new n ≡ has_name (map (λ (t : Tie). t.formal) (take (i + 1) ties)) n)
 formals_step line interface seen new ties i tie name lt here is so_far none e =
     formals_turn interface seen new ties i tie lt here so_far
     (ap (is_bad_formal interface seen) (sym is) ∙ when_no (is_bad_formal interface seen name) (Formals line name) none) (e ∙ ap (with_name seen) is)
@@ -173,7 +159,7 @@ pub sub_rest : (sub : SubLine) (m : BlifModel) (interface seen : List (List ℕ)
     → option_map (Formals sub.line) (first_missing seen ins) ≡ inputs → option_or inputs (option_map (Formals sub.line) (first_missing seen clks)) ≡ all
     → option_map (Formals sub.line) (bad_formal_in m (formals sub)) ≡ all
 sub_rest sub m interface seen ties ins clks inputs all is same i c tied none e f =
-    ties_rest sub.line m interface seen (formals sub) inputs all is (λ n. tied n ∙ ap (λ ts. is_among (map (λ (t : Tie). t.formal) ts) n) same)
+    ties_rest sub.line m interface seen (formals sub) inputs all is (λ n. tied n ∙ ap (λ ts. has_name (map (λ (t : Tie). t.formal) ts) n) same)
     (ap (λ ts. option_map (Formals sub.line) (bad_formal_after interface [] (map (λ (t : Tie). t.formal) ts))) (sym same) ∙ none)
     (ap (λ ns. option_map (Formals sub.line) (first_missing seen ns)) (sym i) ∙ e) (ap (λ ns. option_or inputs (option_map (Formals sub.line) (first_missing seen ns))) (sym c) ∙ f)
 

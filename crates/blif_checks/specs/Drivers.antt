@@ -1,6 +1,6 @@
 -- What drives the signals of a model, and what uses them.
 use Rattle.std.specs.Prelude.{◌≡◌, ℕ, Bool, min, not, List, ◌++◌, ◌∷◌, map, filter, option_to_list, unwrap_or}
-use Rattle.text_lines.specs.Names.{distinct, is_among}
+use Rattle.vrt_model.specs.Lists.{distinct, has_name}
 use Rattle.vrt_model.specs.Models.{OnLine, is_driving, is_reading, line_in, on_line}
 use Rattle.vrt_model.specs.declared.blif.Blif.{Blif}
 use Rattle.vrt_model.specs.declared.blif.BlifModel.{BlifModel}
@@ -23,7 +23,7 @@ at_earlier clocks o = on_line (min o.line (unwrap_or (line_in clocks o.name) o.l
 
 -- those that are not among some names
 abbrev pub others : List (List ℕ) → List OnLine → List OnLine
-others names listed = filter (λ (o : OnLine). not (is_among names o.name)) listed
+others names listed = filter (λ (o : OnLine). not (has_name names o.name)) listed
 
 -- what is tied, on the line of the sub-model
 abbrev pub tied_on : SubLine → Tie → OnLine

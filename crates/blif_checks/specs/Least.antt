@@ -1,7 +1,6 @@
 -- The first signal of a model with two drivers or none.
 use Rattle.std.specs.Prelude.{◌≡◌, ◌⊎◌, ◌≤◌, ℕ, Bool, true, false, ◌==◌, ◌&&◌, ◌||◌, List, [], get_or, length, map, find, nat_le, cond, Option, Some, None, Result, Ok, Err}
-use Rattle.vrt_model.specs.Lists.{At}
-use Rattle.text_lines.specs.Names.{is_among}
+use Rattle.vrt_model.specs.Lists.{At, has_name}
 use Rattle.vrt_model.specs.Models.{DriverFault, Never, OnLine, Twice, drivers_in, uses_in}
 use Rattle.vrt_model.specs.declared.blif.Blif.{Blif}
 use Rattle.vrt_model.specs.declared.blif.BlifModel.{BlifModel}
@@ -47,7 +46,7 @@ pub record IsOnLine (notes : List Note) (names : List (List ℕ)) (mentions : Li
 
 -- what notes by names show of a model
 pub record AreNotesOf (blif : Blif) (m : BlifModel) (notes : List Note) (names : List (List ℕ)) : Type 0 where
-  pub known : (i : ℕ) (o : OnLine) → At (mentions_in m) i o → is_among names o.name ≡ true
+  pub known : (i : ℕ) (o : OnLine) → At (mentions_in m) i o → has_name names o.name ≡ true
   pub count : length notes ≡ length names
   pub notes_are : AreNotes notes (map (numbered names) (drivers_in blif m)) (map (numbered names) (uses_in blif m))
 

@@ -2,7 +2,8 @@
 use Rattle.std.specs.Prelude.{[], ◌++◌, ℕ, List, Bool, not, ◌||◌, if◌then◌else◌, map, flat_map, Option, Some, option_map}
 use Rattle.std.specs.Option.{option_or}
 use Rattle.text_lines.specs.Faults.{first_of}
-use Rattle.text_lines.specs.Names.{first_missing, is_among}
+use Rattle.names.specs.Names.{first_missing}
+use Rattle.vrt_model.specs.Lists.{has_name}
 use Rattle.vrt_model.specs.FlatBlif.{formals, model_at, model_numbered}
 use Rattle.vrt_model.specs.Models.{bad_formal_after, interface_of, is_model}
 use Rattle.vrt_model.specs.declared.blif.Blif.{Blif}
@@ -28,4 +29,4 @@ subs_fault blif = first_of (map (sub_fault blif) (flat_map (λ (m : BlifModel). 
 
 -- a tied formal is no interface signal or stands among those before it
 abbrev pub is_bad_formal : List (List ℕ) → List (List ℕ) → List ℕ → Bool
-is_bad_formal signals seen formal = not (is_among signals formal) || is_among seen formal
+is_bad_formal signals seen formal = not (has_name signals formal) || has_name seen formal

@@ -1,6 +1,6 @@
 -- What is looked up by name: the numbers of models, and the signals of their interfaces.
 use Rattle.std.specs.Prelude.{◌≡◌, map}
-use Rattle.text_lines.specs.Names.{distinct}
+use Rattle.vrt_model.specs.Lists.{distinct}
 use Rattle.vrt_model.specs.Models.{interface_of}
 use Rattle.vrt_model.specs.declared.blif.Blif.{Blif}
 use Rattle.vrt_model.specs.declared.blif.BlifModel.{BlifModel}

@@ -1,7 +1,7 @@
 //! What drives the signals of a model.
 
 ghost use Rattle.std.specs.Prelude.{◌≡◌, ◌++◌, ◌∷◌, [], min, length, map, slice_get, unwrap_or, IfOk, OnOk};
-ghost use Rattle.text_lines.specs.Names.{with_names};
+ghost use Rattle.names.specs.Names.{with_names};
 ghost use Rattle.vrt_model.specs.Models.{drivers_in, line_in, listed_inputs, on_line, on_lines};
 ghost use Rattle.vrt_model.specs.declared.blif.CoverLine.{CoverLine as CoverValue};
 ghost use Rattle.vrt_model.specs.declared.blif.LatchLine.{LatchLine as LatchValue};
@@ -14,8 +14,8 @@ use crate::mentions::{Mention, add};
 use crate::roles::Role;
 use crate::tables::Tables;
 use crate::ties::add_subs;
+use names::Names;
 use std::alloc::Global;
-use text_lines::Names;
 use vrt_model::{Blif, BlifModel, CoverLine, LatchLine, NoMemory, Seq, Text};
 
 // The line at a place.

@@ -6,8 +6,8 @@ ghost use Rattle.blif_checks.specs.Nested.{AreInner};
 ghost use Rattle.blif_checks.specs.Tables.{AreTables};
 
 use crate::tables::Tables;
+use names::Names;
 use std::alloc::Global;
-use text_lines::Names;
 use vrt_model::{Blif, BlifModel, NoMemory, Seq};
 
 /// The number of a name, 0 where it has none.

@@ -17,8 +17,8 @@ use crate::roles::reads_of;
 use crate::signals::signals_of;
 use crate::tables::Tables;
 use crate::uses::uses_of;
+use names::Names;
 use std::alloc::Global;
-use text_lines::Names;
 use vrt_model::{Blif, BlifModel, NoMemory, Seq, Text};
 
 // Whether a line is there and is this one.

@@ -5,8 +5,8 @@ ghost use Rattle.vrt_model.specs.FlatBlif.{cover_signals, latch_signals};
 ghost use Rattle.vrt_model.specs.Models.{on_line, on_lines};
 ghost use Rattle.blif_checks.specs.Mentions.{cover_mentions, latch_mentions, mentions_in, number_among, numbered, sub_mentions};
 
+use names::Names;
 use std::alloc::Global;
-use text_lines::Names;
 use vrt_model::{BlifModel, CoverLine, LatchLine, NoMemory, Seq, SubLine, Text, Tie};
 
 /// A signal on a line, by its number.

@@ -1,15 +1,15 @@
 //! Which formals a model reads and which it drives.
 
 ghost use Rattle.std.specs.Prelude.{◌≡◌, ◌&&◌, [], get_or, map, not, IfOk};
-ghost use Rattle.text_lines.specs.Names.{is_among};
+ghost use Rattle.vrt_model.specs.Lists.{has_name};
 ghost use Rattle.vrt_model.specs.Models.{is_driving, is_reading};
 ghost use Rattle.blif_checks.specs.Drivers.{AreReads, in_role, read_by};
 ghost use Rattle.blif_checks.specs.Tables.{AreTables};
 
 use crate::inner::number_of;
 use crate::tables::Tables;
+use names::Names;
 use std::alloc::Global;
-use text_lines::Names;
 use vrt_model::{Blif, BlifModel, NoMemory, Seq, SubLine, Tie};
 
 /// What a sub-model does at a tie.
@@ -47,7 +47,7 @@ pub(crate) fn reads_of(alloc: Global, models: &[BlifModel]) -> Result<Seq<Names>
 
 // Whether a list of lists of names, at a number, has a name.
 fn has_at(lists: &[Names], number: usize, name: &[u8]) -> bool
-    ensures { result ≡ is_among (get_or lists.now number []) name.now }
+    ensures { result ≡ has_name (get_or lists.now number []) name.now }
 {
     match lists.get(number) {
         Some(names) => names.contains(name),

@@ -1,13 +1,14 @@
 //! The signals of a model.
 
 ghost use Rattle.std.specs.Prelude.{◌≡◌, [], List, map, flat_map, IfOk, OnOk};
-ghost use Rattle.text_lines.specs.Names.{distinct, with_names};
+ghost use Rattle.vrt_model.specs.Lists.{distinct};
+ghost use Rattle.names.specs.Names.{with_names};
 ghost use Rattle.vrt_model.specs.FlatBlif.{cover_signals, latch_signals, sub_signals};
 ghost use Rattle.vrt_model.specs.declared.blif.Tie.{Tie as TieValue};
 ghost use Rattle.blif_checks.specs.Signals.{named_in};
 
+use names::Names;
 use std::alloc::Global;
-use text_lines::Names;
 use vrt_model::{BlifModel, CoverLine, LatchLine, NoMemory, SubLine, Tie};
 
 // Adds the signals of a cover.

@@ -1,7 +1,8 @@
 //! The first sub-model that does not fit.
 
 ghost use Rattle.std.specs.Prelude.{◌≡◌, ◌⊎◌, [], None, ℕ, List, Bool, true, false, map, option_map, IfSome, IfNone, OnOk};
-ghost use Rattle.text_lines.specs.Names.{distinct, first_missing, is_among, with_name};
+ghost use Rattle.vrt_model.specs.Lists.{distinct, has_name};
+ghost use Rattle.names.specs.Names.{first_missing, with_name};
 ghost use Rattle.text_lines.specs.Faults.{first_of, when};
 ghost use Rattle.vrt_model.specs.FlatBlif.{formals, model_at, model_numbered};
 ghost use Rattle.vrt_model.specs.Models.{bad_formal_after, bad_sub, interface_of, is_model};
@@ -11,8 +12,8 @@ ghost use Rattle.blif_checks.specs.Tables.{AreTables};
 
 use crate::ModelFault;
 use crate::tables::Tables;
+use names::Names;
 use std::alloc::Global;
-use text_lines::Names;
 use vrt_model::{Blif, BlifModel, SubLine, Text, Tie};
 
 // The fault of a formal that does not fit.
@@ -68,7 +69,7 @@ fn take_formals(
 ) -> Result<(), ModelFault>
     requires { seen.old ≡ [] }
     ensures fault { Judges result (option_map (ModelFault.Formals line) (bad_formal_after interface.now [] (map (λ t. t.formal) ties.now))) }
-    ensures seen { OnOk result ((name : List ℕ) → is_among seen.new name ≡ is_among (map (λ t. t.formal) ties.now) name) }
+    ensures seen { OnOk result ((name : List ℕ) → has_name seen.new name ≡ has_name (map (λ t. t.formal) ties.now) name) }
 {
     for tie in ties {
         take_formal(alloc, line, interface, seen, tie.formal.as_bytes())?;

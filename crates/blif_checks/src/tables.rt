@@ -1,14 +1,15 @@
 //! Look-ups by name.
 
 ghost use Rattle.std.specs.Prelude.{◌≡◌, ◌++◌, ◌∷◌, [], List, ℕ, map, IfOk, OnOk};
-ghost use Rattle.text_lines.specs.Names.{distinct, with_names};
+ghost use Rattle.vrt_model.specs.Lists.{distinct};
+ghost use Rattle.names.specs.Names.{with_names};
 ghost use Rattle.vrt_model.specs.Inputs.{IsBlif};
 ghost use Rattle.vrt_model.specs.Models.{interface_of};
 ghost use Rattle.vrt_model.specs.declared.blif.BlifModel.{BlifModel};
 ghost use Rattle.blif_checks.specs.Tables.{AreTables};
 
+use names::Names;
 use std::alloc::Global;
-use text_lines::Names;
 use vrt_model::{Blif, BlifModel, NoMemory, Seq};
 
 /// The numbers of models by name, and of each model the signals of its interface.

@@ -10,7 +10,7 @@ ghost use Rattle.blif_checks.specs.Tables.{AreTables};
 use crate::mentions::{Mention, add};
 use crate::roles::{Role, has_role};
 use crate::tables::Tables;
-use text_lines::Names;
+use names::Names;
 use vrt_model::{Blif, NoMemory, Seq, SubLine, Tie};
 
 /// Adds what a tie has in a role, if it has that role.

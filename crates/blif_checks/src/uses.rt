@@ -11,8 +11,8 @@ use crate::mentions::{Mention, add, add_all, add_listed};
 use crate::roles::Role;
 use crate::tables::Tables;
 use crate::ties::add_subs;
+use names::Names;
 use std::alloc::Global;
-use text_lines::Names;
 use vrt_model::{Blif, BlifModel, CoverLine, LatchLine, NoMemory, Seq};
 
 // Adds the inputs of covers.

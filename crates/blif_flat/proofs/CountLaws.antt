@@ -28,19 +28,10 @@ use Rattle.blif_flat.specs.declared.counts.Counts.{Counts}
 use Rattle.blif_flat.specs.declared.counts.Inside.{Inside}
 use Rattle.blif_checks.specs.declared.tables.Tables.{Tables}
 use Rattle.blif_checks.proofs.NameLaws.{place_is}
-use Rattle.blif_flat.proofs.OnceLaws.{interface_among, left_untied, none_tied, signals_apart}
+use Rattle.blif_flat.proofs.OnceLaws.{interface_among, left_untied, signals_apart}
+use Rattle.names.proofs.FilterLaws.{filter_new}
 
 -- ---- lists
-
--- the items up to a place, and one more
-pub map_more : {X Y : Type 0} (f : X → Y) (xs : List X) (i : ℕ) (x : X) (list new : List Y) → i < length xs → slice_get xs i ≡ Some x
-    → list ≡ map f (take i xs) → new ≡ list ++ f x ∷ [] → new ≡ map f (take (i + 1) xs)
-map_more {X} {Y} f xs i x list new lt here e n =
-    n ∙ ap (λ (ys : List Y). ys ++ f x ∷ []) e ∙ sym (map_end (take i xs))
-    ∙ ap (map f) (sym (take_more xs i x lt ∙ ap (λ t. take i xs ++ t ∷ []) (get_or_from_slice_get xs i x x here))) where
-      map_end : (ys : List X) → map f (ys ++ x ∷ []) ≡ map f ys ++ f x ∷ []
-      map_end [] = refl
-      map_end (y ∷ ys) = ap (λ (r : List Y). f y ∷ r) (map_end ys)
 
 sum_same : {X : Type 0} (f g : X → ℕ) → ((x : X) → f x ≡ g x) → (xs : List X) → sum_by f xs ≡ sum_by g xs
 sum_same f g h [] = refl
@@ -87,9 +78,6 @@ at_each : (f : List Inside → ℕ) → f [] ≡ 0 → (all : List (List Inside)
 at_each f none [] m = sym none
 at_each f none (x ∷ all) zero = refl
 at_each f none (x ∷ all) (suc m) = at_each f none all m
-
-pub first_sums : (all : List (List Inside)) (kind : Counted) (sums : List ℕ) → sums ≡ [] → AreSums all kind 0 sums
-first_sums all kind sums e m = ap (λ ns. get_or ns m 0) e
 
 pub sums_next : (all given : List (List Inside)) (kind : Counted) (depth : ℕ) (sums known next : List ℕ) → given ≡ all → known ≡ sums → AreSums all kind depth sums
     → next ≡ map (sum_over kind known) given → AreSums all kind (depth + 1) next
@@ -152,11 +140,11 @@ count_places blif (p ∷ places) = let rest = count_places blif places in let mo
 
 -- ---- tables of sub-models
 
-first_none : {X : Type 0} (a b : Option X) → option_or a b ≡ None → a ≡ None
-first_none None b e = refl
-first_none (Some x) b e = cc
+pub both_none : {X : Type 0} (a b : Option X) → option_or a b ≡ None → (a ≡ None) × (b ≡ None)
+both_none None b e = (refl, e)
+both_none (Some x) b e = cc
 
-is_none_is : {X : Type 0} (o : Option X) → not (is_none o) ≡ false → o ≡ None
+pub is_none_is : {X : Type 0} (o : Option X) → not (is_none o) ≡ false → o ≡ None
 is_none_is None e = refl
 is_none_is (Some x) e = cc
 
@@ -179,7 +167,7 @@ no_subs : (i : ℕ) (s : SubLine) → At [] i s → ⊥
 no_subs i s e = cc
 
 pub all_fit : (blif : Blif) → bad_sub blif ≡ None → AllFit blif
-all_fit blif none m i s h = record { formals = first_none _ _ (is_none_is (bad_formal blif s) (or_parts (not (is_model blif s.model)) (not (is_none (bad_formal blif s))) (good blif.models none m h)).1) } where
+all_fit blif none m i s h = record { formals = (both_none _ _ (is_none_is (bad_formal blif s) (or_parts (not (is_model blif s.model)) (not (is_none (bad_formal blif s))) (good blif.models none m h)).1)).0 } where
   good : (ms : List BlifModel) → find (is_bad_sub blif) (flat_map (λ (m : BlifModel). m.subs) ms) ≡ None → (m : ℕ)
       → At (unwrap_or (slice_get ms m) (record { line = 0; name = []; inputs = []; input_lines = []; clocks = []; clock_lines = []; outputs = []; output_lines = []; covers = []; latches = []; subs = [] })).subs i s
       → is_bad_sub blif s ≡ false
@@ -243,10 +231,6 @@ below_is blif all names signals rows are kind (suc depth) m =
     (λ i s h. carried_both _ _ _ _ (weight_is blif all names signals rows are kind s (are.fit m i s h))
     (ap (λ n. carried (below all kind depth n)) (are.numbers s.model) ∙ below_is blif all names signals rows are kind depth (model_numbered blif s.model)))
 
-pub sums_are : (blif : Blif) (all : List (List Inside)) (names : List (List ℕ)) (signals : List (List (List ℕ))) (rows : List ℕ) → AreInsides blif all names signals rows → (kind : Counted) (depth : ℕ) (sums : List ℕ)
-    → AreSums all kind depth sums → (m : ℕ) → get_or sums m 0 ≡ carried (within blif kind depth m)
-sums_are blif all names signals rows are kind depth sums sum m = sum m ∙ below_is blif all names signals rows are kind depth m
-
 pub insides_are : (blif : Blif) (tables : Tables) (models : List BlifModel) (all : List (List Inside)) (signals : List (List (List ℕ))) (given rows : List ℕ) → AreTables blif tables → models ≡ blif.models
     → signals ≡ map signals_of blif.models → rows ≡ map rows_in models → given ≡ rows → bad_sub blif ≡ None → all ≡ map (inside_in tables.names signals given) models
     → AreInsides blif all tables.names signals given
@@ -263,7 +247,7 @@ insides_are blif tables models all signals given rows are same s r g none a = re
 top_signals : (blif : Blif) (depth m : ℕ)
     → length (flat_map (flat_signals_at blif) (models_in blif depth (top_model m))) ≡ length (signals_of (model_at blif m)) + within blif Signals depth m
 top_signals blif depth m =
-    signals_in blif depth (top_model m) ∙ inner_is blif depth m [] ∙ ap (λ (xs : List (List ℕ)). length xs + within blif Signals depth m) (none_tied (signals_of (model_at blif m)))
+    signals_in blif depth (top_model m) ∙ inner_is blif depth m [] ∙ ap (λ (xs : List (List ℕ)). length xs + within blif Signals depth m) (filter_new (signals_of (model_at blif m)))
 
 top_rows : (blif : Blif) (depth m : ℕ)
     → sum_by (λ (c : Cover). length c.rows) (flat_map (λ (at : ModelPlace). map (flat_cover blif at) (model_at blif at.model).covers) (models_in blif depth (top_model m)))

@@ -2,16 +2,16 @@
 use Rattle.std.proofs.Common.{◌≡◌, ◌<◌, ◌≤◌, ◌+◌, ◌++◌, ◌∷◌, ◌&&◌, ◌||◌, inl, inr, [], ℕ, zero, suc, not, List, map, flat_map, filter, length, Option, Some, None, Bool, true, false, refl, ap, ap₂, sym, ◌∙◌, arith, cond}
 use Rattle.std.specs.Prelude.{bytes_eq, count_by, is_some, slice_get, unwrap_or, ◌==◌}
 use Rattle.std.specs.List.{sum_by}
-use Rattle.std.proofs.lemmas.Bool.{cases_eq}
+use Rattle.std.proofs.lemmas.Bool.{and_parts, cases_eq}
 use Rattle.std.proofs.lemmas.List.Recursion.{is_count_by}
 use Rattle.std.proofs.lemmas.List.Sums.{sum_by-cons}
 use Rattle.std.proofs.lemmas.Slice.Eq.{bytes_eq-Decides}
-use Rattle.text_lines.specs.Names.{is_among}
-use Rattle.text_lines.proofs.ApartLaws.{NoRepeat}
-use Rattle.vrt_model.specs.Lists.{At, place_of}
-use Rattle.vrt_model.proofs.Members.{among_any}
+use Rattle.vrt_model.specs.Lists.{At, has_name, place_of}
+use Rattle.names.proofs.ApartLaws.{NoRepeat}
+use Rattle.names.proofs.FilterLaws.{has_name_filter}
 use Rattle.blif_checks.specs.Mentions.{number_among}
-use Rattle.blif_checks.proofs.NameLaws.{any_placed, bytes_eq-sym}
+use Rattle.names.proofs.PlaceLaws.{any_placed, at_among}
+use Rattle.names.proofs.NameLaws.{bytes_eq-sym}
 use Rattle.blif_checks.proofs.NoteLaws.{eq_no, eq_yes}
 
 -- how many items pass
@@ -29,10 +29,6 @@ hits_is p xs = is_count_by (λ ys. hits p ys) p refl (λ y ys. by_test (p y) (hi
   by_test : (b : Bool) (n : ℕ) → cond b 1 0 + n ≡ cond b (1 + n) n
   by_test true n = refl
   by_test false n = omega arith
-
-pub total_is : {X : Type 0} (f : X → ℕ) (xs : List X) → total f xs ≡ sum_by f xs
-total_is f [] = refl
-total_is f (x ∷ xs) = ap (λ n. f x + n) (total_is f xs) ∙ sym (sum_by-cons f x xs)
 
 pub hits_join : {X : Type 0} (p : X → Bool) (xs ys : List X) → hits p (xs ++ ys) ≡ hits p xs + hits p ys
 hits_join p [] ys = omega arith
@@ -108,87 +104,64 @@ same_hits p n (x ∷ xs) = by_test (bytes_eq n x) refl (same_hits p n xs) where
       ∙ one_more (p n) (hits p (filter (bytes_eq n) xs)) (length (filter (bytes_eq n) xs)) e
   by_test false h e = e
 
-pub and_both : (a b : Bool) → (a && b) ≡ true → (a ≡ true) × (b ≡ true)
-and_both true b e = (refl, e)
-and_both false b e = cc
-
--- a name that is not kept is another
-pub kept_name : (p : List ℕ → Bool) (xs : List (List ℕ)) (name : List ℕ) → is_among (filter p xs) name ≡ (p name && is_among xs name)
-kept_name p [] name = none (p name) where
-  none : (b : Bool) → false ≡ (b && false)
-  none true = refl
-  none false = refl
-kept_name p (x ∷ xs) name = by_test (p x) (bytes_eq name x) refl refl (kept_name p xs name) where
-  by_test : (b same : Bool) → p x ≡ b → bytes_eq name x ≡ same → is_among (filter p xs) name ≡ (p name && is_among xs name)
-      → is_among (cond b (x ∷ filter p xs) (filter p xs)) name ≡ (p name && (bytes_eq name x || is_among xs name))
-  by_test true true h s e =
-      let is : p name ≡ true = ap p ((bytes_eq-Decides name x).0 s) ∙ h in
-      ap (λ (b : Bool). b || is_among (filter p xs) name) s ∙ sym (ap₂ (λ (b c : Bool). b && (c || is_among xs name)) is s)
-  by_test true false h s e =
-      ap (λ (b : Bool). b || is_among (filter p xs) name) s ∙ e ∙ sym (ap (λ (c : Bool). p name && (c || is_among xs name)) s)
-  by_test false true h s e =
-      let is : p name ≡ false = ap p ((bytes_eq-Decides name x).0 s) ∙ h in
-      e ∙ ap (λ (b : Bool). b && is_among xs name) is ∙ sym (ap (λ (b : Bool). b && (bytes_eq name x || is_among xs name)) is)
-  by_test false false h s e = e ∙ sym (ap (λ (c : Bool). p name && (c || is_among xs name)) s)
-
 -- of two names one is not the other
-apart_from : (x : List ℕ) (xs : List (List ℕ)) (n : List ℕ) → is_among xs x ≡ false → is_among xs n ≡ true → bytes_eq n x ≡ false
+apart_from : (x : List ℕ) (xs : List (List ℕ)) (n : List ℕ) → has_name xs x ≡ false → has_name xs n ≡ true → bytes_eq n x ≡ false
 apart_from x xs n out there = by_test (bytes_eq n x) refl where
   by_test : (b : Bool) → bytes_eq n x ≡ b → b ≡ false
-  by_test true h = let both : true ≡ false = sym there ∙ ap (is_among xs) ((bytes_eq-Decides n x).0 h) ∙ out in cc
+  by_test true h = let both : true ≡ false = sym there ∙ ap (has_name xs) ((bytes_eq-Decides n x).0 h) ∙ out in cc
   by_test false h = refl
 
 -- a list with the same names as one without repeats, each once, has as many that pass
-pub hits_once : (p : List ℕ → Bool) (names others : List (List ℕ)) → NoRepeat names → ((n : List ℕ) → is_among names n ≡ true → length (filter (bytes_eq n) others) ≡ 1)
-    → ((n : List ℕ) → is_among others n ≡ true → is_among names n ≡ true) → hits p others ≡ hits p names
+pub hits_once : (p : List ℕ → Bool) (names others : List (List ℕ)) → NoRepeat names → ((n : List ℕ) → has_name names n ≡ true → length (filter (bytes_eq n) others) ≡ 1)
+    → ((n : List ℕ) → has_name others n ≡ true → has_name names n ≡ true) → hits p others ≡ hits p names
 hits_once p [] [] apart one within = refl
 hits_once p [] (x ∷ others) apart one within =
-    let both : false ≡ true = within x (ap (λ (b : Bool). b || is_among others x) ((bytes_eq-Decides x x).1 refl)) in cc
+    let both : false ≡ true = within x (ap (λ (b : Bool). b || has_name others x) ((bytes_eq-Decides x x).1 refl)) in cc
 hits_once p (x ∷ names) others apart one within =
     hits_split p (bytes_eq x) others
     ∙ ap₂ ◌+◌
-    (same_hits p x others ∙ ap (λ k. cond (p x) k 0) (one x (ap (λ (b : Bool). b || is_among names x) ((bytes_eq-Decides x x).1 refl))))
+    (same_hits p x others ∙ ap (λ k. cond (p x) k 0) (one x (ap (λ (b : Bool). b || has_name names x) ((bytes_eq-Decides x x).1 refl))))
     (hits_once p names (filter (λ y. not (bytes_eq x y)) others) apart.1 later behind) where
       or_second : (a b : Bool) → b ≡ true → (a || b) ≡ true
       or_second true b e = refl
       or_second false b e = e
 
-      later : (n : List ℕ) → is_among names n ≡ true → length (filter (bytes_eq n) (filter (λ y. not (bytes_eq x y)) others)) ≡ 1
+      later : (n : List ℕ) → has_name names n ≡ true → length (filter (bytes_eq n) (filter (λ y. not (bytes_eq x y)) others)) ≡ 1
       later n there =
           ap (λ (ys : List (List ℕ)). length ys)
           (kept_twice (λ y. not (bytes_eq x y)) (bytes_eq n)
           (λ y e. ap not (ap (bytes_eq x) (sym ((bytes_eq-Decides n y).0 e)) ∙ bytes_eq-sym x n ∙ apart_from x names n apart.0 there)) others)
-          ∙ one n (or_second (bytes_eq n x) (is_among names n) there)
+          ∙ one n (or_second (bytes_eq n x) (has_name names n) there)
 
       not_not : (b : Bool) → not b ≡ true → b ≡ false
       not_not true e = cc
       not_not false e = refl
 
-      behind : (n : List ℕ) → is_among (filter (λ y. not (bytes_eq x y)) others) n ≡ true → is_among names n ≡ true
+      behind : (n : List ℕ) → has_name (filter (λ y. not (bytes_eq x y)) others) n ≡ true → has_name names n ≡ true
       behind n e =
-          let both = and_both (not (bytes_eq x n)) (is_among others n) (sym (kept_name (λ y. not (bytes_eq x y)) others n) ∙ e) in
-          ap (λ (b : Bool). b || is_among names n) (sym (bytes_eq-sym n x ∙ not_not (bytes_eq x n) both.0)) ∙ within n both.1
+          let both = and_parts (not (bytes_eq x n)) (has_name others n) (sym (has_name_filter (λ y. not (bytes_eq x y)) others n) ∙ e) in
+          ap (λ (b : Bool). b || has_name names n) (sym (bytes_eq-sym n x ∙ not_not (bytes_eq x n) both.0)) ∙ within n both.1
 
-none_kept : (n : List ℕ) (xs : List (List ℕ)) → is_among xs n ≡ false → filter (bytes_eq n) xs ≡ []
+none_kept : (n : List ℕ) (xs : List (List ℕ)) → has_name xs n ≡ false → filter (bytes_eq n) xs ≡ []
 none_kept n [] e = refl
 none_kept n (x ∷ xs) e = by_test (bytes_eq n x) e (none_kept n xs) where
-  by_test : (b : Bool) → (b || is_among xs n) ≡ false → (is_among xs n ≡ false → filter (bytes_eq n) xs ≡ []) → cond b (x ∷ filter (bytes_eq n) xs) (filter (bytes_eq n) xs) ≡ []
+  by_test : (b : Bool) → (b || has_name xs n) ≡ false → (has_name xs n ≡ false → filter (bytes_eq n) xs ≡ []) → cond b (x ∷ filter (bytes_eq n) xs) (filter (bytes_eq n) xs) ≡ []
   by_test true h rest = cc
   by_test false h rest = rest h
 
 -- a name that does not repeat stands once
-pub stands_once : (n : List ℕ) (xs : List (List ℕ)) → NoRepeat xs → is_among xs n ≡ true → length (filter (bytes_eq n) xs) ≡ 1
+pub stands_once : (n : List ℕ) (xs : List (List ℕ)) → NoRepeat xs → has_name xs n ≡ true → length (filter (bytes_eq n) xs) ≡ 1
 stands_once n [] apart e = cc
 stands_once n (x ∷ xs) apart e = by_test (bytes_eq n x) refl e (stands_once n xs apart.1) where
-  by_test : (b : Bool) → bytes_eq n x ≡ b → (b || is_among xs n) ≡ true → (is_among xs n ≡ true → length (filter (bytes_eq n) xs) ≡ 1)
+  by_test : (b : Bool) → bytes_eq n x ≡ b → (b || has_name xs n) ≡ true → (has_name xs n ≡ true → length (filter (bytes_eq n) xs) ≡ 1)
       → length (cond b (x ∷ filter (bytes_eq n) xs) (filter (bytes_eq n) xs)) ≡ 1
   by_test true h there rest =
-      ap (λ (ys : List (List ℕ)). suc (length ys)) (none_kept n xs (ap (is_among xs) ((bytes_eq-Decides n x).0 h) ∙ apart.0))
+      ap (λ (ys : List (List ℕ)). suc (length ys)) (none_kept n xs (ap (has_name xs) ((bytes_eq-Decides n x).0 h) ∙ apart.0))
   by_test false h there rest = rest there
 
 -- two lists of the same names without repeats
-pub hits_apart : (p : List ℕ → Bool) (names others : List (List ℕ)) → NoRepeat names → NoRepeat others → ((n : List ℕ) → is_among names n ≡ true → is_among others n ≡ true)
-    → ((n : List ℕ) → is_among others n ≡ true → is_among names n ≡ true) → hits p others ≡ hits p names
+pub hits_apart : (p : List ℕ → Bool) (names others : List (List ℕ)) → NoRepeat names → NoRepeat others → ((n : List ℕ) → has_name names n ≡ true → has_name others n ≡ true)
+    → ((n : List ℕ) → has_name others n ≡ true → has_name names n ≡ true) → hits p others ≡ hits p names
 hits_apart p names others apart apart' to from = hits_once p names others apart (λ n e. stands_once n others apart' (to n e)) from
 
 -- ---- numbers that follow one another
@@ -239,7 +212,7 @@ one_plus : (n : ℕ) → 1 + n ≡ suc n
 one_plus n = omega arith
 
 -- a name among others has its place by its number
-pub place_number : (names : List (List ℕ)) (n : List ℕ) → is_among names n ≡ true → place_of names n ≡ Some (number_among names n)
+pub place_number : (names : List (List ℕ)) (n : List ℕ) → has_name names n ≡ true → place_of names n ≡ Some (number_among names n)
 place_number names n e = by_place (place_of names n) refl (sym (any_placed (bytes_eq n) names) ∙ e) where
   by_test : (b : Bool) (k : ℕ) → is_some (cond b (Some k) None) ≡ true → cond b (Some k) None ≡ Some k
   by_test true k h = refl
@@ -249,7 +222,7 @@ place_number names n e = by_place (place_of names n) refl (sym (any_placed (byte
   by_place o h some = by_test _ (number_among names n) some
 
 -- another name has no place
-pub place_none : (names : List (List ℕ)) (n : List ℕ) → is_among names n ≡ false → place_of names n ≡ None
+pub place_none : (names : List (List ℕ)) (n : List ℕ) → has_name names n ≡ false → place_of names n ≡ None
 place_none names n e = by_place (place_of names n) refl (sym (any_placed (bytes_eq n) names) ∙ e) where
   by_place : (o : Option ℕ) → place_of names n ≡ o → is_some (place_of names n) ≡ false → o ≡ None
   by_place None h none = refl
@@ -258,12 +231,9 @@ place_none names n e = by_place (place_of names n) refl (sym (any_placed (bytes_
 pub first_number : (x : List ℕ) (xs : List (List ℕ)) → number_among (x ∷ xs) x ≡ 0
 first_number x xs = ap (λ (b : Bool). cond (not b) (1 + number_among xs x) 0) ((bytes_eq-Decides x x).1 refl)
 
-pub later_number : (x : List ℕ) (xs : List (List ℕ)) (n : List ℕ) → is_among xs x ≡ false → is_among xs n ≡ true → number_among (x ∷ xs) n ≡ suc (number_among xs n)
+pub later_number : (x : List ℕ) (xs : List (List ℕ)) (n : List ℕ) → has_name xs x ≡ false → has_name xs n ≡ true → number_among (x ∷ xs) n ≡ suc (number_among xs n)
 later_number x xs n out there =
     ap (λ (b : Bool). cond (not b) (1 + number_among xs n) 0) (apart_from x xs n out there) ∙ one_plus (number_among xs n)
-
-pub at_among : (xs : List (List ℕ)) (i : ℕ) (n : List ℕ) → At xs i n → is_among xs n ≡ true
-at_among xs i n e = among_any (bytes_eq n) xs n (i, e) ((bytes_eq-Decides n n).1 refl)
 
 -- the names by their numbers from a number on
 pub hits_numbers : (base x : ℕ) (names : List (List ℕ)) → NoRepeat names → hits (λ n. (base + number_among names n) == x) names ≡ span base (length names) x

@@ -20,7 +20,7 @@ use Rattle.vrt_model.specs.declared.flat_model.Cover.{Cover}
 use Rattle.vrt_model.specs.declared.flat_model.FlatLatch.{FlatLatch}
 use Rattle.vrt_model.specs.declared.flat_model.FlatModel.{FlatModel}
 use Rattle.vrt_model.proofs.Members.{among_left, among_right, at_none, find_none}
-use Rattle.blif_flat.proofs.CountLaws.{signals_in}
+use Rattle.blif_flat.proofs.CountLaws.{both_none, is_none_is, signals_in}
 use Rattle.blif_flat.proofs.OneDriverCounts.{hits, hits_flat, hits_is, hits_join, hits_map, span_within, total, total_both, total_same}
 use Rattle.blif_flat.proofs.OneDriverDepths.{Ends, ends_upto, models_end}
 use Rattle.blif_flat.proofs.OneDriverLines.{none_told}
@@ -64,14 +64,6 @@ sub_there : (ms : List BlifModel) (n : ℕ) (s : SubLine) → Among (unwrap_or (
 sub_there [] n s a = absurd (at_none a.0 s a.1)
 sub_there (m ∷ ms) zero s a = among_left m.subs (flat_map (λ (m : BlifModel). m.subs) ms) s a
 sub_there (m ∷ ms) (suc n) s a = among_right m.subs (flat_map (λ (m : BlifModel). m.subs) ms) s (sub_there ms n s a)
-
-both_none : {X : Type 0} (a b : Option X) → option_or a b ≡ None → (a ≡ None) × (b ≡ None)
-both_none None b e = (refl, e)
-both_none (Some x) b e = cc
-
-is_none_is : {X : Type 0} (o : Option X) → not (is_none o) ≡ false → o ≡ None
-is_none_is None e = refl
-is_none_is (Some x) e = cc
 
 sub_fits : (blif : Blif) → bad_sub blif ≡ None → (n : ℕ) (s : SubLine) → Among (model_at blif n).subs s → IsSubTied blif s
 sub_fits blif none n s a =

@@ -5,11 +5,10 @@ use Rattle.std.specs.List.{list_any}
 use Rattle.std.proofs.lemmas.Bool.{cases_lt, eqb-true}
 use Rattle.std.proofs.lemmas.Option.{same_Some, slice_get-map}
 use Rattle.std.proofs.lemmas.Slice.Eq.{bytes_eq-Decides}
-use Rattle.text_lines.specs.Names.{is_among}
-use Rattle.text_lines.proofs.NameLaws.{names_once}
+use Rattle.vrt_model.specs.Lists.{Among, At, has_name}
+use Rattle.names.proofs.NameLaws.{bytes_eq-sym, names_once, once_has_same}
 use Rattle.vrt_model.specs.FlatBlif.{cover_signals, latch_signals, signals_of, sub_signals}
 use Rattle.vrt_model.specs.Inputs.{IsModel}
-use Rattle.vrt_model.specs.Lists.{Among, At}
 use Rattle.vrt_model.specs.Models.{OnLine, driver_fault_in, drivers_in, drivers_of_name, is_driven_twice_on, is_driving, is_reading, is_undriven_on, line_in, listed_inputs, names_on, on_line, on_lines, ties_on, uses_in, uses_of_name}
 use Rattle.vrt_model.specs.declared.blif.Blif.{Blif}
 use Rattle.vrt_model.specs.declared.blif.BlifModel.{BlifModel}
@@ -20,7 +19,6 @@ use Rattle.vrt_model.specs.declared.blif.Tie.{Tie}
 use Rattle.vrt_model.proofs.Filtered.{among_kept, filter_among}
 use Rattle.vrt_model.proofs.Members.{among_either, among_filter, among_flat_map, among_left, among_map, among_right, any_among, at_none, find_among}
 use Rattle.blif_checks.specs.Signals.{named_in}
-use Rattle.blif_checks.proofs.NameLaws.{bytes_eq-sym, once_has_same}
 use Rattle.blif_checks.proofs.NoteLaws.{eq_yes}
 use Rattle.blif_flat.proofs.OnceLaws.{signals_once}
 use Rattle.blif_flat.proofs.OneDriverLines.{not_twice, not_undriven, twice_there, undriven_there}
@@ -186,7 +184,7 @@ use_named blif m o a =
     ]
 
 -- what a card names is a signal of the model
-card_named : (m : BlifModel) (l : ℕ) (n : List ℕ) → Among (names_on m l) n → is_among (signals_of m) n ≡ true
+card_named : (m : BlifModel) (l : ℕ) (n : List ℕ) → Among (names_on m l) n → has_name (signals_of m) n ≡ true
 card_named m l n a =
     elim (among_either _ _ n a) [
       | inr sub ↦
@@ -199,12 +197,12 @@ card_named m l n a =
               let s = among_flat_map (λ (x : CoverLine). cond (x.line == l) (cover_signals x) []) m.covers n cover in cover_named m s.0 n s.1 (kept_cond (s.0.line == l) (cover_signals s.0) n s.2)
           | inl head ↦
               let o = among_map (λ (p : OnLine). p.name) (filter (λ (p : OnLine). p.line == l) (on_lines m.inputs m.input_lines ++ on_lines m.clocks m.clock_lines ++ on_lines m.outputs m.output_lines)) n head in
-              subst (λ (x : List ℕ). is_among (signals_of m) x ≡ true) o.2
+              subst (λ (x : List ℕ). has_name (signals_of m) x ≡ true) o.2
               (listed o.0 (among_filter (λ (p : OnLine). p.line == l) (on_lines m.inputs m.input_lines ++ on_lines m.clocks m.clock_lines ++ on_lines m.outputs m.output_lines) o.0 o.1))
         ]
       ]
     ] where
-      listed : (o : OnLine) → Among (on_lines m.inputs m.input_lines ++ on_lines m.clocks m.clock_lines ++ on_lines m.outputs m.output_lines) o → is_among (signals_of m) o.name ≡ true
+      listed : (o : OnLine) → Among (on_lines m.inputs m.input_lines ++ on_lines m.clocks m.clock_lines ++ on_lines m.outputs m.output_lines) o → has_name (signals_of m) o.name ≡ true
       listed o h =
           elim (among_either _ _ o h) [
             | inr output ↦ output_named m o.name (listed_name m.outputs m.output_lines o output)
@@ -326,10 +324,10 @@ named_touched blif m n is tied a =
       ]
     ]
 
-signal_touched : (blif : Blif) (m : BlifModel) (n : List ℕ) → IsModel m → AllTied blif m → is_among (signals_of m) n ≡ true → IsTouched blif m n
+signal_touched : (blif : Blif) (m : BlifModel) (n : List ℕ) → IsModel m → AllTied blif m → has_name (signals_of m) n ≡ true → IsTouched blif m n
 signal_touched blif m n is tied e =
-    let there : is_among (named_in m) n ≡ true =
-    sym (once_has_same (named_in m) n) ∙ ap (λ (ns : List (List ℕ)). is_among ns n) (sym (names_once (named_in m)) ∙ signals_once m) ∙ e in
+    let there : has_name (named_in m) n ≡ true =
+    sym (once_has_same (named_in m) n) ∙ ap (λ (ns : List (List ℕ)). has_name ns n) (sym (names_once (named_in m)) ∙ signals_once m) ∙ e in
     let x = any_among (bytes_eq n) (named_in m) there in
     named_touched blif m n is tied (subst (λ (y : List ℕ). Among (named_in m) y) (sym ((bytes_eq-Decides n x.0).0 x.2)) x.1)
 
@@ -387,8 +385,8 @@ by_names n (o ∷ list) =
 
 -- each signal of a model is driven once, and nothing else is driven
 pub record IsDriven (blif : Blif) (m : BlifModel) : Type 0 where
-  pub one : (n : List ℕ) → is_among (signals_of m) n ≡ true → length (filter (bytes_eq n) (map (λ (o : OnLine). o.name) (drivers_in blif m))) ≡ 1
-  pub within : (n : List ℕ) → is_among (map (λ (o : OnLine). o.name) (drivers_in blif m)) n ≡ true → is_among (signals_of m) n ≡ true
+  pub one : (n : List ℕ) → has_name (signals_of m) n ≡ true → length (filter (bytes_eq n) (map (λ (o : OnLine). o.name) (drivers_in blif m))) ≡ 1
+  pub within : (n : List ℕ) → has_name (map (λ (o : OnLine). o.name) (drivers_in blif m)) n ≡ true → has_name (signals_of m) n ≡ true
 
 pub is_driven : (blif : Blif) (m : BlifModel) → IsModel m → AllTied blif m → driver_fault_in blif m ≡ None → IsDriven blif m
 is_driven blif m is tied none = record {
@@ -397,5 +395,5 @@ is_driven blif m is tied none = record {
       λ n e.
       let x = any_among (bytes_eq n) (map (λ (o : OnLine). o.name) (drivers_in blif m)) e in
       let o = among_map (λ (o : OnLine). o.name) (drivers_in blif m) x.0 x.1 in
-      subst (λ (y : List ℕ). is_among (signals_of m) y ≡ true) (o.2 ∙ sym ((bytes_eq-Decides n x.0).0 x.2)) (card_named m o.0.line o.0.name (driver_named blif m o.0 o.1));
+      subst (λ (y : List ℕ). has_name (signals_of m) y ≡ true) (o.2 ∙ sym ((bytes_eq-Decides n x.0).0 x.2)) (card_named m o.0.line o.0.name (driver_named blif m o.0 o.1));
 }

@@ -1,13 +1,13 @@
 -- How often a flat signal is driven at one place of an unrolled model.
 use Rattle.std.proofs.Common.{◌≡◌, ◌+◌, ◌++◌, ◌∷◌, ◌&&◌, ◌||◌, [], ℕ, zero, suc, List, Bool, true, false, cond, not, map, flat_map, length, Option, Some, None, option_map, refl, ap, ap₂, sym, ◌∙◌, subst, arith}
+use Rattle.std.proofs.lemmas.Bool.{and_parts}
 use Rattle.std.specs.Prelude.{◌==◌, bytes_eq, filter, find, is_none, min, slice_get, unwrap_or}
 use Rattle.std.proofs.lemmas.Option.{same_Some}
 use Rattle.std.proofs.lemmas.Slice.Eq.{bytes_eq-Decides}
-use Rattle.text_lines.specs.Names.{is_among}
-use Rattle.text_lines.proofs.ApartLaws.{NoRepeat}
+use Rattle.vrt_model.specs.Lists.{At, has_name, place_of}
+use Rattle.names.proofs.ApartLaws.{NoRepeat, kept_apart}
 use Rattle.vrt_model.specs.FlatBlif.{ModelPlace, formals, inner_signals, model_at, model_numbered, signal_at, signals_of}
 use Rattle.vrt_model.specs.Inputs.{IsModel}
-use Rattle.vrt_model.specs.Lists.{At, has_name, place_of}
 use Rattle.vrt_model.specs.Models.{OnLine, bad_formal_after, drivers_in, interface_of, is_driving, line_in, listed_inputs, on_line, on_lines, ties_on}
 use Rattle.vrt_model.specs.declared.blif.Blif.{Blif}
 use Rattle.vrt_model.specs.declared.blif.BlifModel.{BlifModel}
@@ -17,8 +17,10 @@ use Rattle.vrt_model.specs.declared.blif.SubLine.{SubLine}
 use Rattle.vrt_model.specs.declared.blif.Tie.{Tie}
 use Rattle.blif_checks.specs.Mentions.{number_among}
 use Rattle.blif_checks.proofs.DriverLaws.{none_listed}
-use Rattle.blif_flat.proofs.OnceLaws.{kept_apart, signals_apart}
-use Rattle.blif_flat.proofs.OneDriverCounts.{and_both, at_among, first_number, hits, hits_apart, hits_flat, hits_join, hits_listed, hits_map, hits_numbers, hits_once, hits_same, hits_split, kept_name, later_number, place_none, place_number, span, total, total_same}
+use Rattle.blif_flat.proofs.OnceLaws.{fits, signals_apart}
+use Rattle.names.proofs.PlaceLaws.{at_among}
+use Rattle.names.proofs.FilterLaws.{has_name_filter}
+use Rattle.blif_flat.proofs.OneDriverCounts.{first_number, hits, hits_apart, hits_flat, hits_join, hits_listed, hits_map, hits_numbers, hits_once, hits_same, hits_split, later_number, place_none, place_number, span, total, total_same}
 use Rattle.blif_flat.proofs.OneDriverNames.{IsDriven}
 
 -- ---- the names of a place and their numbers
@@ -31,9 +33,9 @@ gives blif p x n = signal_at blif p n == x
 pub record IsTied (blif : Blif) (p : ModelPlace) : Type 0 where
   pub apart : NoRepeat p.tied
   pub count : length p.ties ≡ length p.tied
-  pub known : (n : List ℕ) → is_among p.tied n ≡ true → is_among (signals_of (model_at blif p.model)) n ≡ true
+  pub known : (n : List ℕ) → has_name p.tied n ≡ true → has_name (signals_of (model_at blif p.model)) n ≡ true
 
-pub tied_signal : (blif : Blif) (p : ModelPlace) (n : List ℕ) → is_among p.tied n ≡ true → signal_at blif p n ≡ unwrap_or (slice_get p.ties (number_among p.tied n)) 0
+pub tied_signal : (blif : Blif) (p : ModelPlace) (n : List ℕ) → has_name p.tied n ≡ true → signal_at blif p n ≡ unwrap_or (slice_get p.ties (number_among p.tied n)) 0
 tied_signal blif p n e =
     ap (λ (o : Option ℕ). unwrap_or (option_map (λ (k : ℕ). unwrap_or (slice_get p.ties k) 0) o) (p.base + unwrap_or (place_of (inner_signals (model_at blif p.model) p.tied) n) 0)) (place_number p.tied n e)
 
@@ -41,17 +43,17 @@ not_not : (b : Bool) → not b ≡ true → b ≡ false
 not_not true e = cc
 not_not false e = refl
 
-own_signal : (blif : Blif) (p : ModelPlace) (n : List ℕ) → is_among (inner_signals (model_at blif p.model) p.tied) n ≡ true
+own_signal : (blif : Blif) (p : ModelPlace) (n : List ℕ) → has_name (inner_signals (model_at blif p.model) p.tied) n ≡ true
     → signal_at blif p n ≡ p.base + number_among (inner_signals (model_at blif p.model) p.tied) n
 own_signal blif p n e =
-    let both = and_both (not (is_among p.tied n)) (is_among (signals_of (model_at blif p.model)) n) (sym (kept_name (λ name. not (has_name p.tied name)) (signals_of (model_at blif p.model)) n) ∙ e) in
-    ap₂ (λ (o k : Option ℕ). unwrap_or (option_map (λ (k : ℕ). unwrap_or (slice_get p.ties k) 0) o) (p.base + unwrap_or k 0)) (place_none p.tied n (not_not (is_among p.tied n) both.0))
+    let both = and_parts (not (has_name p.tied n)) (has_name (signals_of (model_at blif p.model)) n) (sym (has_name_filter (λ name. not (has_name p.tied name)) (signals_of (model_at blif p.model)) n) ∙ e) in
+    ap₂ (λ (o k : Option ℕ). unwrap_or (option_map (λ (k : ℕ). unwrap_or (slice_get p.ties k) 0) o) (p.base + unwrap_or k 0)) (place_none p.tied n (not_not (has_name p.tied n) both.0))
     (place_number (inner_signals (model_at blif p.model) p.tied) n e)
 
 -- the signals of a place are what is tied and its own numbers
 own_and_tied : (blif : Blif) (p : ModelPlace) (x : ℕ) → IsTied blif p
     → hits (gives blif p x) (signals_of (model_at blif p.model)) ≡ hits (λ k. k == x) p.ties + span p.base (length (inner_signals (model_at blif p.model) p.tied)) x
-own_and_tied blif p x is = hits_split (gives blif p x) (is_among p.tied) names ∙ ap₂ ◌+◌ tied own where
+own_and_tied blif p x is = hits_split (gives blif p x) (has_name p.tied) names ∙ ap₂ ◌+◌ tied own where
   names : List (List ℕ)
   names = signals_of (model_at blif p.model)
 
@@ -61,11 +63,11 @@ own_and_tied blif p x is = hits_split (gives blif p x) (is_among p.tied) names �
   and_yes : (a b : Bool) → a ≡ true → b ≡ true → (a && b) ≡ true
   and_yes a b e f = ap₂ (λ c d. c && d) e f
 
-  tied : hits (gives blif p x) (filter (is_among p.tied) names) ≡ hits (λ k. k == x) p.ties
+  tied : hits (gives blif p x) (filter (has_name p.tied) names) ≡ hits (λ k. k == x) p.ties
   tied =
-      hits_apart (gives blif p x) p.tied (filter (is_among p.tied) names) is.apart (kept_apart (is_among p.tied) names (signals_apart (model_at blif p.model)))
-      (λ n e. kept_name (is_among p.tied) names n ∙ and_yes (is_among p.tied n) (is_among names n) e (is.known n e))
-      (λ n e. (and_both (is_among p.tied n) (is_among names n) (sym (kept_name (is_among p.tied) names n) ∙ e)).0)
+      hits_apart (gives blif p x) p.tied (filter (has_name p.tied) names) is.apart (kept_apart (has_name p.tied) names (signals_apart (model_at blif p.model)))
+      (λ n e. has_name_filter (has_name p.tied) names n ∙ and_yes (has_name p.tied n) (has_name names n) e (is.known n e))
+      (λ n e. (and_parts (has_name p.tied n) (has_name names n) (sym (has_name_filter (has_name p.tied) names n) ∙ e)).0)
       ∙ hits_same (gives blif p x) (λ n. unwrap_or (slice_get p.ties (number_among p.tied n)) 0 == x) p.tied (λ i n e. ap (λ k. k == x) (tied_signal blif p n (at_among p.tied i n e)))
       ∙ hits_listed x p.tied p.ties is.apart is.count
 
@@ -159,23 +161,19 @@ pub record IsSubTied (blif : Blif) (s : SubLine) : Type 0 where
   pub fitting : bad_formal_after (interface_of (model_at blif (model_numbered blif s.model))) [] (formals s) ≡ None
   pub whole : find (λ name. not (has_name (formals s) name)) ((model_at blif (model_numbered blif s.model)).inputs ++ (model_at blif (model_numbered blif s.model)).clocks) ≡ None
 
-fits : (b : Bool) (f : List ℕ) (o : Option (List ℕ)) → cond b (Some f) o ≡ None → (b ≡ false) × (o ≡ None)
-fits true f o e = cc
-fits false f o e = (refl, e)
-
 -- a formal that fits is an interface signal
-pub formal_known : (signals seen fs : List (List ℕ)) (n : List ℕ) → bad_formal_after signals seen fs ≡ None → is_among fs n ≡ true → is_among signals n ≡ true
+pub formal_known : (signals seen fs : List (List ℕ)) (n : List ℕ) → bad_formal_after signals seen fs ≡ None → has_name fs n ≡ true → has_name signals n ≡ true
 formal_known signals seen [] n e h = cc
 formal_known signals seen (f ∷ fs) n e h = by_test (bytes_eq n f) refl h (formal_known signals (f ∷ seen) fs n (both e).1) where
-  both : bad_formal_after signals seen (f ∷ fs) ≡ None → ((not (is_among signals f) || is_among seen f) ≡ false) × (bad_formal_after signals (f ∷ seen) fs ≡ None)
-  both h = fits (not (is_among signals f) || is_among seen f) f (bad_formal_after signals (f ∷ seen) fs) h
+  both : bad_formal_after signals seen (f ∷ fs) ≡ None → ((not (has_name signals f) || has_name seen f) ≡ false) × (bad_formal_after signals (f ∷ seen) fs ≡ None)
+  both h = fits (not (has_name signals f) || has_name seen f) f (bad_formal_after signals (f ∷ seen) fs) h
 
   known : (a b : Bool) → (not a || b) ≡ false → a ≡ true
   known true b h = refl
   known false b h = cc
 
-  by_test : (b : Bool) → bytes_eq n f ≡ b → (b || is_among fs n) ≡ true → (is_among fs n ≡ true → is_among signals n ≡ true) → is_among signals n ≡ true
-  by_test true same h rest = ap (is_among signals) ((bytes_eq-Decides n f).0 same) ∙ known (is_among signals f) (is_among seen f) (both e).0
+  by_test : (b : Bool) → bytes_eq n f ≡ b → (b || has_name fs n) ≡ true → (has_name fs n ≡ true → has_name signals n ≡ true) → has_name signals n ≡ true
+  by_test true same h rest = ap (has_name signals) ((bytes_eq-Decides n f).0 same) ∙ known (has_name signals f) (has_name seen f) (both e).0
   by_test false same h rest = rest h
 
 -- the signal that a formal is within is the one to which it is tied without
@@ -189,11 +187,11 @@ tie_number f (u ∷ ties) apart (suc i) t e =
     ap (λ (j : ℕ). unwrap_or (slice_get (f u.actual ∷ map f (map (λ (t : Tie). t.actual) ties)) j) 0)
     (later_number u.formal (map (λ (t : Tie). t.formal) ties) t.formal apart.0 (formal_there ties i t e))
     ∙ tie_number f ties apart.1 i t e where
-      formal_there : (ts : List Tie) (i : ℕ) (t : Tie) → At ts i t → is_among (map (λ (t : Tie). t.formal) ts) t.formal ≡ true
+      formal_there : (ts : List Tie) (i : ℕ) (t : Tie) → At ts i t → has_name (map (λ (t : Tie). t.formal) ts) t.formal ≡ true
       formal_there [] i t e = cc
       formal_there (v ∷ ts) zero t e =
-          ap (λ (b : Bool). b || is_among (map (λ (t : Tie). t.formal) ts) t.formal) ((bytes_eq-Decides t.formal v.formal).1 (ap (λ (y : Tie). y.formal) (sym (same_Some v t e))))
-      formal_there (v ∷ ts) (suc i) t e = or_second (bytes_eq t.formal v.formal) (is_among (map (λ (t : Tie). t.formal) ts) t.formal) (formal_there ts i t e) where
+          ap (λ (b : Bool). b || has_name (map (λ (t : Tie). t.formal) ts) t.formal) ((bytes_eq-Decides t.formal v.formal).1 (ap (λ (y : Tie). y.formal) (sym (same_Some v t e))))
+      formal_there (v ∷ ts) (suc i) t e = or_second (bytes_eq t.formal v.formal) (has_name (map (λ (t : Tie). t.formal) ts) t.formal) (formal_there ts i t e) where
         or_second : (a b : Bool) → b ≡ true → (a || b) ≡ true
         or_second true b e = refl
         or_second false b e = e

@@ -1,14 +1,14 @@
 -- The ties of a sub-model: those of inputs and clocks, and those that the sub-model drives.
 use Rattle.std.proofs.Common.{◌≡◌, ◌+◌, ◌++◌, ◌∷◌, ◌&&◌, ◌||◌, [], ℕ, List, Bool, true, false, cond, not, map, refl, ap, ap₂, sym, ◌∙◌, subst, arith}
+use Rattle.std.proofs.lemmas.Bool.{and_parts}
 use Rattle.std.specs.Prelude.{◌==◌, bytes_eq, filter}
 use Rattle.std.proofs.lemmas.List.{length-map}
 use Rattle.std.proofs.lemmas.List.Folds.{list_any-append}
 use Rattle.std.proofs.lemmas.Slice.Eq.{bytes_eq-Decides}
-use Rattle.text_lines.specs.Names.{is_among}
-use Rattle.text_lines.proofs.ApartLaws.{NoRepeat, distinct_apart}
+use Rattle.vrt_model.specs.Lists.{Among, has_name}
+use Rattle.names.proofs.ApartLaws.{NoRepeat, kept_apart, once_by}
 use Rattle.vrt_model.specs.FlatBlif.{ModelPlace, formals, model_at, model_numbered, signal_at, sub_signals}
 use Rattle.vrt_model.specs.Inputs.{AllApart, IsModel}
-use Rattle.vrt_model.specs.Lists.{Among, has_name}
 use Rattle.vrt_model.specs.Models.{interface_of, is_driving, is_reading}
 use Rattle.vrt_model.specs.declared.blif.Blif.{Blif}
 use Rattle.vrt_model.specs.declared.blif.BlifModel.{BlifModel}
@@ -16,37 +16,35 @@ use Rattle.vrt_model.specs.declared.blif.SubLine.{SubLine}
 use Rattle.vrt_model.specs.declared.blif.Tie.{Tie}
 use Rattle.vrt_model.proofs.Members.{among_filter, any_among, find_none}
 use Rattle.blif_flat.specs.Places.{placed}
-use Rattle.blif_checks.proofs.NameLaws.{once_is_all}
-use Rattle.blif_flat.proofs.OnceLaws.{formals_apart, interface_among, kept_apart}
-use Rattle.blif_flat.proofs.OneDriverCounts.{and_both, at_among, hits, hits_apart, hits_map, hits_same, hits_split, kept_name}
+use Rattle.blif_flat.proofs.OnceLaws.{formals_apart, interface_among}
+use Rattle.names.proofs.PlaceLaws.{at_among}
+use Rattle.names.proofs.FilterLaws.{has_name_filter}
+use Rattle.blif_flat.proofs.OneDriverCounts.{hits, hits_apart, hits_map, hits_same, hits_split}
 use Rattle.blif_flat.proofs.OneDriverNames.{mapped}
 use Rattle.blif_flat.proofs.OneDriverPlaces.{IsSubTied, IsTied, formal_known, gives, heads, sub_hits, tie_number, tied_signal}
 
 -- ---- inputs and clocks
 
-once_by : (xs : List (List ℕ)) → AllApart bytes_eq xs → NoRepeat xs
-once_by xs apart = subst NoRepeat (once_is_all xs apart) (distinct_apart [] xs tt)
-
 or_second : (a b : Bool) → b ≡ true → (a || b) ≡ true
 or_second true b e = refl
 or_second false b e = e
 
-joined_apart : (a b : List (List ℕ)) → NoRepeat a → NoRepeat b → ((n : List ℕ) → is_among a n ≡ true → is_among b n ≡ false) → NoRepeat (a ++ b)
+joined_apart : (a b : List (List ℕ)) → NoRepeat a → NoRepeat b → ((n : List ℕ) → has_name a n ≡ true → has_name b n ≡ false) → NoRepeat (a ++ b)
 joined_apart [] b na nb out = nb
 joined_apart (x ∷ a) b na nb out = (
-  list_any-append (bytes_eq x) a b ∙ ap₂ (λ p q. p || q) na.0 (out x (ap (λ (c : Bool). c || is_among a x) ((bytes_eq-Decides x x).1 refl))),
-  joined_apart a b na.1 nb (λ n e. out n (or_second (bytes_eq n x) (is_among a n) e)),
+  list_any-append (bytes_eq x) a b ∙ ap₂ (λ p q. p || q) na.0 (out x (ap (λ (c : Bool). c || has_name a x) ((bytes_eq-Decides x x).1 refl))),
+  joined_apart a b na.1 nb (λ n e. out n (or_second (bytes_eq n x) (has_name a n) e)),
 )
 
 heads_apart : (m : BlifModel) → IsModel m → NoRepeat (heads m)
 heads_apart m is =
     joined_apart m.inputs (filter (λ name. not (has_name m.inputs name)) m.clocks) (once_by m.inputs is.inputs) (kept_apart (λ name. not (has_name m.inputs name)) m.clocks (once_by m.clocks is.clocks))
-    (λ n e. kept_name (λ name. not (has_name m.inputs name)) m.clocks n ∙ ap (λ (b : Bool). not b && is_among m.clocks n) e)
+    (λ n e. has_name_filter (λ name. not (has_name m.inputs name)) m.clocks n ∙ ap (λ (b : Bool). not b && has_name m.clocks n) e)
 
-heads_same : (m : BlifModel) (n : List ℕ) → is_among (heads m) n ≡ is_among (m.inputs ++ m.clocks) n
+heads_same : (m : BlifModel) (n : List ℕ) → has_name (heads m) n ≡ has_name (m.inputs ++ m.clocks) n
 heads_same m n =
     list_any-append (bytes_eq n) m.inputs (filter (λ name. not (has_name m.inputs name)) m.clocks)
-    ∙ ap (λ (b : Bool). is_among m.inputs n || b) (kept_name (λ name. not (has_name m.inputs name)) m.clocks n) ∙ by_tests (is_among m.inputs n) (is_among m.clocks n)
+    ∙ ap (λ (b : Bool). has_name m.inputs n || b) (has_name_filter (λ name. not (has_name m.inputs name)) m.clocks n) ∙ by_tests (has_name m.inputs n) (has_name m.clocks n)
     ∙ sym (list_any-append (bytes_eq n) m.inputs m.clocks) where
       by_tests : (a c : Bool) → (a || (not a && c)) ≡ (a || c)
       by_tests true c = refl
@@ -67,7 +65,7 @@ formals_kept r (t ∷ ties) = by_test (r t.formal) (formals_kept r ties) where
   by_test true e = ap (λ (ns : List (List ℕ)). t.formal ∷ ns) e
   by_test false e = e
 
-known_kind : (m : BlifModel) (n : List ℕ) → is_among (interface_of m) n ≡ true → (is_among (m.inputs ++ m.clocks) n || is_among m.outputs n) ≡ true
+known_kind : (m : BlifModel) (n : List ℕ) → has_name (interface_of m) n ≡ true → (has_name (m.inputs ++ m.clocks) n || has_name m.outputs n) ≡ true
 known_kind m n e = sym (list_any-append (bytes_eq n) (m.inputs ++ m.clocks) m.outputs) ∙ e
 
 -- the formals that are not driven are the inputs and clocks
@@ -77,11 +75,11 @@ read_hits blif s g is good =
     let m : BlifModel = model_at blif (model_numbered blif s.model) in
     hits_apart g (heads m) (filter (λ n. not (drives m n)) (formals s)) (heads_apart m good) (kept_apart (λ n. not (drives m n)) (formals s) (formals_apart (interface_of m) [] (formals s) is.fitting))
     (λ n e.
-    let read : is_among (m.inputs ++ m.clocks) n ≡ true = sym (heads_same m n) ∙ e in
-    kept_name (λ n. not (drives m n)) (formals s) n ∙ ap₂ (λ a b. a && b) (ap (λ (b : Bool). not (is_among m.outputs n && not b)) read ∙ and_no (is_among m.outputs n)) (tied n read))
+    let read : has_name (m.inputs ++ m.clocks) n ≡ true = sym (heads_same m n) ∙ e in
+    has_name_filter (λ n. not (drives m n)) (formals s) n ∙ ap₂ (λ a b. a && b) (ap (λ (b : Bool). not (has_name m.outputs n && not b)) read ∙ and_no (has_name m.outputs n)) (tied n read))
     (λ n e.
-    let both = and_both (not (drives m n)) (is_among (formals s) n) (sym (kept_name (λ n. not (drives m n)) (formals s) n) ∙ e) in
-    heads_same m n ∙ by_tests (is_among (m.inputs ++ m.clocks) n) (is_among m.outputs n) (known_kind m n (formal_known (interface_of m) [] (formals s) n is.fitting both.1)) both.0) where
+    let both = and_parts (not (drives m n)) (has_name (formals s) n) (sym (has_name_filter (λ n. not (drives m n)) (formals s) n) ∙ e) in
+    heads_same m n ∙ by_tests (has_name (m.inputs ++ m.clocks) n) (has_name m.outputs n) (known_kind m n (formal_known (interface_of m) [] (formals s) n is.fitting both.1)) both.0) where
       and_no : (b : Bool) → not (b && false) ≡ true
       and_no true = refl
       and_no false = refl
@@ -90,11 +88,11 @@ read_hits blif s g is good =
       not_out true e = refl
       not_out false e = cc
 
-      tied : (n : List ℕ) → is_among ((model_at blif (model_numbered blif s.model)).inputs ++ (model_at blif (model_numbered blif s.model)).clocks) n ≡ true → is_among (formals s) n ≡ true
+      tied : (n : List ℕ) → has_name ((model_at blif (model_numbered blif s.model)).inputs ++ (model_at blif (model_numbered blif s.model)).clocks) n ≡ true → has_name (formals s) n ≡ true
       tied n e =
           let x = any_among (bytes_eq n) ((model_at blif (model_numbered blif s.model)).inputs ++ (model_at blif (model_numbered blif s.model)).clocks) e in
-          ap (is_among (formals s)) ((bytes_eq-Decides n x.0).0 x.2)
-          ∙ not_out (is_among (formals s) x.0)
+          ap (has_name (formals s)) ((bytes_eq-Decides n x.0).0 x.2)
+          ∙ not_out (has_name (formals s) x.0)
           (find_none (λ name. not (has_name (formals s) name)) ((model_at blif (model_numbered blif s.model)).inputs ++ (model_at blif (model_numbered blif s.model)).clocks) x.0 is.whole x.1)
 
       by_tests : (i o : Bool) → (i || o) ≡ true → not (o && not i) ≡ true → i ≡ true
@@ -107,7 +105,7 @@ pub tie_kind : (blif : Blif) (s : SubLine) (t : Tie) → IsSubTied blif s → Am
 tie_kind blif s t is a =
     let m : BlifModel = model_at blif (model_numbered blif s.model) in
     let f = mapped (λ (t : Tie). t.formal) s.ties t a in
-    by_tests (is_among (m.inputs ++ m.clocks) t.formal) (is_among m.outputs t.formal)
+    by_tests (has_name (m.inputs ++ m.clocks) t.formal) (has_name m.outputs t.formal)
     (known_kind m t.formal (formal_known (interface_of m) [] (formals s) t.formal is.fitting (at_among (formals s) f.0 t.formal f.1))) where
       by_tests : (i o : Bool) → (i || o) ≡ true → ((o && not i) || i) ≡ true
       by_tests true true e = refl

@@ -1,13 +1,15 @@
 -- Models at their places, and what is unrolled.
 use Rattle.std.proofs.Common.{◌≡◌, ◌<◌, ◌≤◌, ◌+◌, ◌++◌, ◌∷◌, [], ℕ, zero, suc, not, List, map, flat_map, filter, length, get_or, take, drop, Some, None, Bool, true, false, refl, ap, ap₂, sym, ◌∙◌, subst, arith, add-one, cond, append-nil, append_assoc, length-append}
+use Rattle.std.proofs.lemmas.Grind.{flat_map-append}
+use Rattle.std.proofs.lemmas.List.Elements.{filter-append, filter_agree}
 use Rattle.std.specs.Prelude.{bytes_eq, decimal, position, slice_get, unwrap_or, option_map}
-use Rattle.std.proofs.lemmas.List.{drop_all, drop_more, length-map, take_more}
+use Rattle.std.proofs.lemmas.List.{drop_all, drop_more, length-map, map-append, take_more}
 use Rattle.std.proofs.lemmas.List.Sums.{sum_by-cons}
 use Rattle.std.proofs.lemmas.Option.{get_or_from_slice_get}
-use Rattle.text_lines.specs.Names.{is_among, with_names}
-use Rattle.text_lines.proofs.NameLaws.{names_once, with_names-append}
-use Rattle.vrt_model.specs.FlatBlif.{ModelPlace, all_models, flat_model_of, flat_cover, flat_latch, flat_signals_at, formals, inner_count, inner_signals, model_at, model_numbered, models_in, signal_at, signals_of, sub_signals, subs_at, subs_from, top_model}
 use Rattle.vrt_model.specs.Lists.{has_name, path_name, place_of}
+use Rattle.names.specs.Names.{with_names}
+use Rattle.names.proofs.NameLaws.{names_once, once_has_same, with_names-append}
+use Rattle.vrt_model.specs.FlatBlif.{ModelPlace, all_models, flat_model_of, flat_cover, flat_latch, flat_signals_at, formals, inner_count, inner_signals, model_at, model_numbered, models_in, signal_at, signals_of, sub_signals, subs_at, subs_from, top_model}
 use Rattle.vrt_model.specs.Models.{bad_sub}
 use Rattle.vrt_model.specs.Unrolled.{deepest}
 use Rattle.vrt_model.specs.declared.blif.Blif.{Blif}
@@ -28,29 +30,11 @@ use Rattle.blif_flat.specs.declared.places.Place.{Place}
 use Rattle.blif_checks.specs.declared.tables.Tables.{Tables}
 use Rattle.blif_flat.specs.declared.unroll.Parts.{Parts}
 use Rattle.blif_flat.proofs.CountLaws.{all_fit, signals_at, signals_in}
-use Rattle.blif_checks.proofs.NameLaws.{once_has_same, place_is}
-use Rattle.blif_flat.proofs.OnceLaws.{all_named, formals_apart, kept_apart, signals_apart}
+use Rattle.blif_checks.proofs.NameLaws.{place_is}
+use Rattle.names.proofs.ApartLaws.{all_named, kept_apart}
+use Rattle.blif_flat.proofs.OnceLaws.{formals_apart, signals_apart}
 
 -- ---- lists
-
-map_join : {X Y : Type 0} (f : X → Y) (a b : List X) → map f (a ++ b) ≡ map f a ++ map f b
-map_join f [] b = refl
-map_join {X} {Y} f (x ∷ a) b = ap (λ (r : List Y). f x ∷ r) (map_join f a b)
-
-flat_join : {X Y : Type 0} (f : X → List Y) (a b : List X) → flat_map f (a ++ b) ≡ flat_map f a ++ flat_map f b
-flat_join f [] b = refl
-flat_join {X} {Y} f (x ∷ a) b = ap (λ (r : List Y). f x ++ r) (flat_join f a b) ∙ sym (append_assoc (f x) (flat_map f a) (flat_map f b))
-
-filter_join : {X : Type 0} (p : X → Bool) (a b : List X) → filter p (a ++ b) ≡ filter p a ++ filter p b
-filter_join p [] b = refl
-filter_join {X} p (x ∷ a) b = by_test (p x) (filter_join p a b) where
-  by_test : (t : Bool) → filter p (a ++ b) ≡ filter p a ++ filter p b → cond t (x ∷ filter p (a ++ b)) (filter p (a ++ b)) ≡ cond t (x ∷ filter p a) (filter p a) ++ filter p b
-  by_test true e = ap (λ (r : List X). x ∷ r) e
-  by_test false e = e
-
-filter_by : {X : Type 0} (p q : X → Bool) → ((x : X) → p x ≡ q x) → (xs : List X) → filter p xs ≡ filter q xs
-filter_by p q h [] = refl
-filter_by {X} p q h (x ∷ xs) = ap₂ (λ (b : Bool) (rest : List X). cond b (x ∷ rest) rest) (h x) (filter_by p q h xs)
 
 one_further : {X : Type 0} (xs : List X) (i : ℕ) (x : X) → i < length xs → slice_get xs i ≡ Some x → take (i + 1) xs ≡ take i xs ++ x ∷ []
 one_further xs i x lt here = take_more xs i x lt ∙ ap (λ t. take i xs ++ t ∷ []) (get_or_from_slice_get xs i x x here)
@@ -60,30 +44,30 @@ pub named_more : (p : List ℕ → Bool) (xs : List (List ℕ)) (i : ℕ) (x : L
     → names ≡ with_names [] (filter p (take i xs)) → new ≡ with_names names (filter p (x ∷ [])) → new ≡ with_names [] (filter p (take (i + 1) xs))
 named_more p xs i x names new lt here e n =
     n ∙ ap (λ ns. with_names ns (filter p (x ∷ []))) e ∙ sym (with_names-append [] (filter p (take i xs)) (filter p (x ∷ [])))
-    ∙ ap (with_names []) (sym (filter_join p (take i xs) (x ∷ [])) ∙ ap (filter p) (sym (one_further xs i x lt here)))
+    ∙ ap (with_names []) (sym (filter-append p (take i xs) (x ∷ [])) ∙ ap (filter p) (sym (one_further xs i x lt here)))
 
 -- the numbers of those that pass, and one more
 pub passed_more : (f : List ℕ → ℕ) (p : List ℕ → Bool) (xs : List (List ℕ)) (i : ℕ) (x : List ℕ) (numbers new : List ℕ) → i < length xs → slice_get xs i ≡ Some x
     → numbers ≡ map f (filter p (take i xs)) → new ≡ numbers ++ map f (filter p (x ∷ [])) → new ≡ map f (filter p (take (i + 1) xs))
 passed_more f p xs i x numbers new lt here e n =
-    n ∙ ap (λ ns. ns ++ map f (filter p (x ∷ []))) e ∙ sym (map_join f (filter p (take i xs)) (filter p (x ∷ [])))
-    ∙ ap (map f) (sym (filter_join p (take i xs) (x ∷ [])) ∙ ap (filter p) (sym (one_further xs i x lt here)))
+    n ∙ ap (λ ns. ns ++ map f (filter p (x ∷ []))) e ∙ sym (map-append f (filter p (take i xs)) (filter p (x ∷ [])))
+    ∙ ap (map f) (sym (filter-append p (take i xs) (x ∷ [])) ∙ ap (filter p) (sym (one_further xs i x lt here)))
 
 -- those that are not among names, where each name stands once in a table of them
 pub clocks_are : (f : List ℕ → ℕ) (names inputs clocks given : List (List ℕ)) (numbers : List ℕ) → names ≡ with_names [] inputs → given ≡ clocks
-    → numbers ≡ map f (filter (λ name. not (is_among names name)) given) → numbers ≡ map f (filter (λ name. not (has_name inputs name)) clocks)
+    → numbers ≡ map f (filter (λ name. not (has_name names name)) given) → numbers ≡ map f (filter (λ name. not (has_name inputs name)) clocks)
 clocks_are f names inputs clocks given numbers n g e =
-    e ∙ ap₂ (λ ns xs. map f (filter (λ name. not (is_among ns name)) xs)) (n ∙ names_once inputs) g
-    ∙ ap (map f) (filter_by (λ name. not (is_among _ name)) (λ name. not (has_name inputs name)) (λ name. ap not (once_has_same inputs name)) clocks)
+    e ∙ ap₂ (λ ns xs. map f (filter (λ name. not (has_name ns name)) xs)) (n ∙ names_once inputs) g
+    ∙ ap (map f) (filter_agree (λ name. not (has_name _ name)) (λ name. not (has_name inputs name)) (λ name. ap not (once_has_same inputs name)) clocks)
 
 -- ---- places
 
 -- the own signals of a place
 pub own_is : (blif : Blif) (signals : List (List (List ℕ))) (m : ℕ) (tied inner : List (List ℕ)) → signals ≡ map signals_of blif.models
-    → inner ≡ with_names [] (filter (λ name. not (is_among tied name)) (get_or signals m [])) → inner ≡ inner_signals (model_at blif m) tied
+    → inner ≡ with_names [] (filter (λ name. not (has_name tied name)) (get_or signals m [])) → inner ≡ inner_signals (model_at blif m) tied
 own_is blif signals m tied inner lists e =
-    e ∙ ap (λ (xs : List (List ℕ)). with_names [] (filter (λ name. not (is_among tied name)) xs)) (signals_at blif signals m lists)
-    ∙ all_named (inner_signals (model_at blif m) tied) (kept_apart (λ name. not (is_among tied name)) (signals_of (model_at blif m)) (signals_apart (model_at blif m)))
+    e ∙ ap (λ (xs : List (List ℕ)). with_names [] (filter (λ name. not (has_name tied name)) xs)) (signals_at blif signals m lists)
+    ∙ all_named (inner_signals (model_at blif m) tied) (kept_apart (λ name. not (has_name tied name)) (signals_of (model_at blif m)) (signals_apart (model_at blif m)))
 
 -- a name is the signal that the definition says
 pub signal_is : (blif : Blif) (p : Place) → IsPlace blif p → number_in p ≡ signal_at blif (place_in p)
@@ -124,7 +108,7 @@ with_none blif parts =
     parts_same (parts.signals ++ []) parts.signals (parts.covers ++ []) parts.covers (parts.latches ++ []) parts.latches (append-nil parts.signals) (append-nil parts.covers) (append-nil parts.latches)
 
 joined : {Y : Type 0} (f : ModelPlace → List Y) (old : List Y) (a b : List ModelPlace) → old ++ flat_map f (a ++ b) ≡ (old ++ flat_map f a) ++ flat_map f b
-joined {Y} f old a b = ap (λ (r : List Y). old ++ r) (flat_join f a b) ∙ sym (append_assoc old (flat_map f a) (flat_map f b))
+joined {Y} f old a b = ap (λ (r : List Y). old ++ r) (flat_map-append f a b) ∙ sym (append_assoc old (flat_map f a) (flat_map f b))
 
 pub with_more : (blif : Blif) (a b : List ModelPlace) (parts : Parts) → with_places blif (a ++ b) parts ≡ with_places blif b (with_places blif a parts)
 with_more blif a b parts =

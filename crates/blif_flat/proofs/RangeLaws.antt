@@ -7,11 +7,10 @@ use Rattle.std.proofs.lemmas.List.Quantifiers.{position-Some}
 use Rattle.std.proofs.lemmas.List.Sums.{sum_by-cons}
 use Rattle.std.proofs.lemmas.Option.{get_or_from_slice_get, same_Some}
 use Rattle.std.proofs.lemmas.Slice.Eq.{bytes_eq-Decides}
-use Rattle.text_lines.specs.Names.{is_among}
+use Rattle.vrt_model.specs.Lists.{Among, At, has_name, place_of}
 use Rattle.vrt_model.specs.FlatBlif.{ModelPlace, all_models, cover_signals, flat_cover, flat_latch, flat_model_of, formals, inner_count, inner_signals, latch_signals, model_at, model_numbered, models_in, flat_signals_at, signal_at, signals_of, sub_signals, subs_at, subs_from, top_model}
 use Rattle.vrt_model.specs.FlatModels.{IsControl, IsCover, IsFlatModel, IsLatch, IsRow, drivers_of}
 use Rattle.vrt_model.specs.Inputs.{IsBlif, IsCoverLine, IsModel}
-use Rattle.vrt_model.specs.Lists.{Among, At, has_name, place_of}
 use Rattle.vrt_model.specs.Unrolled.{deepest}
 use Rattle.vrt_model.specs.Unsupported.{model_limits, too_large}
 use Rattle.vrt_model.specs.declared.blif.Blif.{Blif}
@@ -25,9 +24,9 @@ use Rattle.blif_flat.specs.Places.{placed, signals_left}
 use Rattle.blif_checks.specs.Signals.{named_in}
 use Rattle.blif_flat.proofs.CountLaws.{signals_in}
 use Rattle.blif_flat.proofs.FlatLaws.{rows_within, signals_within}
-use Rattle.blif_checks.proofs.NameLaws.{any_placed}
+use Rattle.names.proofs.PlaceLaws.{any_placed}
 use Rattle.blif_flat.proofs.OnceLaws.{named_among}
-use Rattle.blif_flat.proofs.OneDriverCounts.{kept_name}
+use Rattle.names.proofs.FilterLaws.{has_name_filter}
 
 -- ---- lists
 
@@ -48,7 +47,7 @@ among_flat f (z ∷ xs) (suc i) x y a b = among_right (f z) (flat_map f xs) y (a
 
 -- each signal of the model at a place has a number below a bound
 abbrev pub IsBelow : Blif → ℕ → ModelPlace → Type 0
-IsBelow blif total at = (n : List ℕ) → is_among (signals_of (model_at blif at.model)) n ≡ true → signal_at blif at n < total
+IsBelow blif total at = (n : List ℕ) → has_name (signals_of (model_at blif at.model)) n ≡ true → signal_at blif at n < total
 
 abbrev HasPlaceRoom : Blif → ℕ → ℕ → ModelPlace → Type 0
 HasPlaceRoom blif total depth at = at.base + inner_count blif depth (model_at blif at.model) at.tied ≤ total
@@ -69,8 +68,8 @@ own_below blif total depth p same tied room n among = by_tie (place_of p.tied n)
       let most = inner_first blif depth p.model p.tied in
       omega (arith, lt, room, most)
   by_own None e out =
-      let own : is_among (inner_signals (model_at blif p.model) p.tied) n ≡ true =
-      kept_name (λ name. not (has_name p.tied name)) (signals_of (model_at blif p.model)) n ∙ ap₂ (λ (b c : Bool). not b && c) out among in
+      let own : has_name (inner_signals (model_at blif p.model) p.tied) n ≡ true =
+      has_name_filter (λ name. not (has_name p.tied name)) (signals_of (model_at blif p.model)) n ∙ ap₂ (λ (b c : Bool). not b && c) out among in
       absurd (clash _ own (any_placed (bytes_eq n) (inner_signals (model_at blif p.model) p.tied) ∙ ap is_some e))
 
   by_tie : (o : Option ℕ) → place_of p.tied n ≡ o
@@ -83,27 +82,27 @@ own_below blif total depth p same tied room n among = by_tie (place_of p.tied n)
 
 -- ---- names on cards
 
-named_by_card : (m : BlifModel) (n : List ℕ) → Among (named_in m) n → is_among (signals_of m) n ≡ true
+named_by_card : (m : BlifModel) (n : List ℕ) → Among (named_in m) n → has_name (signals_of m) n ≡ true
 named_by_card m n a = named_among m n (among_any (bytes_eq n) (named_in m) n a ((bytes_eq-Decides n n).1 refl))
 
-pub input_named : (m : BlifModel) (n : List ℕ) → Among m.inputs n → is_among (signals_of m) n ≡ true
+pub input_named : (m : BlifModel) (n : List ℕ) → Among m.inputs n → has_name (signals_of m) n ≡ true
 input_named m n a = named_by_card m n (among_left _ _ n (among_left _ _ n (among_left _ _ n (among_left _ _ n (among_left m.inputs m.clocks n a)))))
 
-pub clock_named : (m : BlifModel) (n : List ℕ) → Among m.clocks n → is_among (signals_of m) n ≡ true
+pub clock_named : (m : BlifModel) (n : List ℕ) → Among m.clocks n → has_name (signals_of m) n ≡ true
 clock_named m n a = named_by_card m n (among_left _ _ n (among_left _ _ n (among_left _ _ n (among_left _ _ n (among_right m.inputs m.clocks n a)))))
 
-pub output_named : (m : BlifModel) (n : List ℕ) → Among m.outputs n → is_among (signals_of m) n ≡ true
+pub output_named : (m : BlifModel) (n : List ℕ) → Among m.outputs n → has_name (signals_of m) n ≡ true
 output_named m n a = named_by_card m n (among_left _ _ n (among_left _ _ n (among_left _ _ n (among_right (m.inputs ++ m.clocks) m.outputs n a))))
 
-pub cover_named : (m : BlifModel) (c : CoverLine) (n : List ℕ) → Among m.covers c → Among (cover_signals c) n → is_among (signals_of m) n ≡ true
+pub cover_named : (m : BlifModel) (c : CoverLine) (n : List ℕ) → Among m.covers c → Among (cover_signals c) n → has_name (signals_of m) n ≡ true
 cover_named m c n a b =
     named_by_card m n (among_left _ _ n (among_left _ _ n (among_right (m.inputs ++ m.clocks ++ m.outputs) (flat_map cover_signals m.covers) n (among_flat cover_signals m.covers a.0 c n a.1 b))))
 
-pub latch_named : (m : BlifModel) (l : LatchLine) (n : List ℕ) → Among m.latches l → Among (latch_signals l) n → is_among (signals_of m) n ≡ true
+pub latch_named : (m : BlifModel) (l : LatchLine) (n : List ℕ) → Among m.latches l → Among (latch_signals l) n → has_name (signals_of m) n ≡ true
 latch_named m l n a b =
     named_by_card m n (among_left _ _ n (among_right (m.inputs ++ m.clocks ++ m.outputs ++ flat_map cover_signals m.covers) (flat_map latch_signals m.latches) n (among_flat latch_signals m.latches a.0 l n a.1 b)))
 
-pub tie_named : (m : BlifModel) (s : SubLine) (n : List ℕ) → Among m.subs s → Among (sub_signals s) n → is_among (signals_of m) n ≡ true
+pub tie_named : (m : BlifModel) (s : SubLine) (n : List ℕ) → Among m.subs s → Among (sub_signals s) n → has_name (signals_of m) n ≡ true
 tie_named m s n a b =
     named_by_card m n (among_right (m.inputs ++ m.clocks ++ m.outputs ++ flat_map cover_signals m.covers ++ flat_map latch_signals m.latches) (flat_map sub_signals m.subs) n (among_flat sub_signals m.subs a.0 s n a.1 b))
 
@@ -201,7 +200,7 @@ latches_below blif total depth m room =
     let l = among_map (flat_latch blif p.0) (model_at blif p.0.model).latches x p.2 in
     subst (IsLatch total) l.2 (latch_below blif total p.0 l.0 (places_below blif total depth m room p.0 p.1) l.1))
 
-names_below : (blif : Blif) (total depth m : ℕ) → inner_count blif depth (model_at blif m) [] ≤ total → (names : List (List ℕ)) → ((n : List ℕ) → Among names n → is_among (signals_of (model_at blif m)) n ≡ true)
+names_below : (blif : Blif) (total depth m : ℕ) → inner_count blif depth (model_at blif m) [] ≤ total → (names : List (List ℕ)) → ((n : List ℕ) → Among names n → has_name (signals_of (model_at blif m)) n ≡ true)
     → All (λ s. s < total) (map (signal_at blif (top_model m)) names)
 names_below blif total depth m room names named =
     all_by (λ s. s < total) (map (signal_at blif (top_model m)) names)

@@ -8,8 +8,8 @@ ghost use Rattle.blif_flat.specs.Counts.{AreCounts, AreSums, below, inside_in, r
 ghost use Rattle.blif_checks.specs.Tables.{AreTables};
 
 use blif_checks::{Tables, number_of, signals_of};
+use names::Names;
 use std::alloc::Global;
-use text_lines::Names;
 use vrt_model::{Blif, BlifModel, NoMemory, Seq, SubLine, Text};
 
 /// What is counted: signals, rows of covers, and sub-models.

@@ -1,7 +1,8 @@
 //! Models with their sub-models unrolled.
 
 ghost use Rattle.std.specs.Prelude.{◌≡◌, ◌≤◌, ◌++◌, ◌∷◌, ℕ, Some, None, [], List, filter, map, not, length, IfOk, OnOk};
-ghost use Rattle.text_lines.specs.Names.{is_among, with_names};
+ghost use Rattle.vrt_model.specs.Lists.{has_name};
+ghost use Rattle.names.specs.Names.{with_names};
 ghost use Rattle.vrt_model.specs.FlatBlif.{flat_model_of, model_at, signals_of};
 ghost use Rattle.vrt_model.specs.Inputs.{IsBlif};
 ghost use Rattle.vrt_model.specs.Models.{AreModels, bad_sub};
@@ -16,8 +17,8 @@ use crate::limits::first_above;
 use crate::places::{Place, number_at, top_place};
 use crate::unroll::{Parts, numbers_of, unroll};
 use blif_checks::{Tables, tables_of};
+use names::Names;
 use std::alloc::Global;
-use text_lines::Names;
 use vrt_model::{Blif, BlifModel, FlatModel, NoMemory, Seq, Text};
 
 // The first count of a model that passes its limit, if any does.
@@ -54,7 +55,7 @@ fn add_clock(
     numbers: &mut Seq<u32>,
 ) -> Result<(), NoMemory>
     requires { HasRoom place.now }
-    ensures { OnOk result (numbers.new ≡ numbers.old ++ map (number_in place.now) (filter (λ name. not (is_among inputs.now name)) (clock.now ∷ []))) }
+    ensures { OnOk result (numbers.new ≡ numbers.old ++ map (number_in place.now) (filter (λ name. not (has_name inputs.now name)) (clock.now ∷ []))) }
 {
     if inputs.contains(clock.as_bytes()) {
         return Ok(());
@@ -73,7 +74,7 @@ fn clocks_of(
     clocks: &[Text],
 ) -> Result<Seq<u32>, NoMemory>
     requires { HasRoom place.now }
-    ensures { IfOk result (λ numbers. numbers ≡ map (number_in place.now) (filter (λ name. not (is_among inputs.now name)) clocks.now)) }
+    ensures { IfOk result (λ numbers. numbers ≡ map (number_in place.now) (filter (λ name. not (has_name inputs.now name)) clocks.now)) }
 {
     let mut numbers = Seq::new(alloc);
     for clock in clocks {

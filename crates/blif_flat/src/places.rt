@@ -2,17 +2,17 @@
 
 ghost use Rattle.std.specs.Prelude.{◌≡◌, ◌+◌, ◌≤◌, ◌∷◌, ℕ, [], List, map, filter, not, length, get_or, slice_get, position, unwrap_or, bytes_eq, IfOk, OnOk};
 ghost use Rattle.std.specs.Fmt.{decimal};
-ghost use Rattle.text_lines.specs.Names.{is_among, with_names};
+ghost use Rattle.vrt_model.specs.Lists.{has_name, path_name};
+ghost use Rattle.names.specs.Names.{with_names};
 ghost use Rattle.vrt_model.specs.FlatBlif.{inner_signals, model_at, signals_of, top_model};
-ghost use Rattle.vrt_model.specs.Lists.{path_name};
 ghost use Rattle.vrt_model.specs.declared.blif.Tie.{Tie as TieValue};
 ghost use Rattle.blif_flat.specs.Counts.{Fits};
 ghost use Rattle.blif_flat.specs.Places.{HasRoom, IsPlace, number_in, place_in, placed};
 ghost use Rattle.blif_checks.specs.Tables.{AreTables};
 
 use blif_checks::{Tables, number_of};
+use names::Names;
 use std::alloc::Global;
-use text_lines::Names;
 use vrt_model::{Blif, NoMemory, Seq, SubLine, Text, Tie};
 
 /// A model at its place in the unrolled one: its number, its path by places of sub-models, the signals that are tied
@@ -110,7 +110,7 @@ fn actuals_of(alloc: Global, place: &Place, ties: &[Tie]) -> Result<Seq<u32>, No
 
 // Adds a signal if it is not tied.
 fn add_untied(names: &mut Names, tied: &Names, signal: &Text) -> Result<(), NoMemory>
-    ensures { OnOk result (names.new ≡ with_names names.old (filter (λ name. not (is_among tied.now name)) (signal.now ∷ []))) }
+    ensures { OnOk result (names.new ≡ with_names names.old (filter (λ name. not (has_name tied.now name)) (signal.now ∷ []))) }
 {
     if !tied.contains(signal.as_bytes()) {
         names.number(signal.as_bytes())?;
@@ -120,7 +120,7 @@ fn add_untied(names: &mut Names, tied: &Names, signal: &Text) -> Result<(), NoMe
 
 // Those of some signals that are not tied.
 fn untied(alloc: Global, signals: &[Text], tied: &Names) -> Result<Names, NoMemory>
-    ensures { IfOk result (λ names. names ≡ with_names [] (filter (λ name. not (is_among tied.now name)) signals.now)) }
+    ensures { IfOk result (λ names. names ≡ with_names [] (filter (λ name. not (has_name tied.now name)) signals.now)) }
 {
     let mut names = Names::new(alloc);
     for signal in signals {
@@ -136,7 +136,7 @@ fn own_signals(
     model: usize,
     tied: &Names,
 ) -> Result<Names, NoMemory>
-    ensures { IfOk result (λ names. names ≡ with_names [] (filter (λ name. not (is_among tied.now name)) (get_or signals.now model []))) }
+    ensures { IfOk result (λ names. names ≡ with_names [] (filter (λ name. not (has_name tied.now name)) (get_or signals.now model []))) }
 {
     match signals.get(model) {
         Some(list) => untied(alloc, list.as_slice(), tied),

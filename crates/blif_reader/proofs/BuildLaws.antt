@@ -2,15 +2,11 @@
 use Rattle.std.proofs.lemmas.List.{drop_more}
 use Rattle.blif_reader.specs.declared.cards.Card.{Card}
 use Rattle.std.proofs.Common.{◌≡◌, ◌<◌, ◌+◌, drop, flat_map, get_or, length, ◌++◌, ◌∷◌, [], ℕ, List, Bool, true, false, cond, refl, ap, sym, ◌∙◌, append-nil, append_assoc}
-use Rattle.text_lines.specs.Names.{distinct_by, distinct_from, is_among, last_word}
+use Rattle.names.specs.Names.{distinct_by, distinct_from}
+use Rattle.vrt_model.specs.Lists.{has_name}
 use Rattle.blif_reader.specs.Built.{with_signal, with_signals}
 use Rattle.blif_reader.specs.Models.{names, signals_on}
 use Rattle.blif_reader.specs.declared.signals.Listed.{Listed}
-
-pub last_word_end : (xs : List (List ℕ)) (x : List ℕ) → last_word (xs ++ x ∷ []) ≡ x
-last_word_end [] x = refl
-last_word_end (y ∷ []) x = refl
-last_word_end (y ∷ z ∷ xs) x = last_word_end (z ∷ xs) x
 
 pub signals_append : (found xs ys : List Listed) → with_signals found (xs ++ ys) ≡ with_signals (with_signals found xs) ys
 signals_append found [] ys = refl
@@ -23,7 +19,7 @@ names_append (y ∷ ys) x = ap (λ rest. y.name ∷ rest) (names_append ys x)
 pub signals_are : (found xs : List Listed) → with_signals found xs ≡ found ++ distinct_from (λ (s : Listed). s.name) (names found) xs
 signals_are found [] = sym (append-nil found)
 signals_are found (x ∷ xs) =
-    by_test (is_among (names found) x.name) found x xs (signals_are found xs) (signals_are (found ++ x ∷ []) xs) where
+    by_test (has_name (names found) x.name) found x xs (signals_are found xs) (signals_are (found ++ x ∷ []) xs) where
       by_test : (b : Bool) (found : List Listed) (x : Listed) (xs : List Listed) → with_signals found xs ≡ found ++ distinct_from (λ (s : Listed). s.name) (names found) xs
           → with_signals (found ++ x ∷ []) xs ≡ (found ++ x ∷ []) ++ distinct_from (λ (s : Listed). s.name) (names (found ++ x ∷ [])) xs
           → with_signals (cond b found (found ++ x ∷ [])) xs
@@ -36,11 +32,6 @@ signals_are found (x ∷ xs) =
 -- each signal once, one by one
 pub all_signals : (xs : List Listed) → with_signals [] xs ≡ distinct_by (λ (s : Listed). s.name) xs
 all_signals xs = signals_are [] xs
-
--- the names behind a signal that is there, and behind one that is not
-pub names_with : (b : Bool) (found : List Listed) (x : Listed) → names (cond b found (found ++ x ∷ [])) ≡ cond b (names found) (names found ++ x.name ∷ [])
-names_with true found x = refl
-names_with false found x = names_append found x
 
 -- the signals of one card more
 pub signals_turn : (i : ℕ) (word : List ℕ) (body : List Card) (card other : Card) (old new : List Listed) → i < length body → get_or body i other ≡ card

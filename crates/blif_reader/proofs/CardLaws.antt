@@ -4,16 +4,11 @@ use Rattle.std.proofs.lemmas.List.{drop_all, drop_more}
 use Rattle.std.specs.Prelude.{filter}
 use Rattle.std.specs.List.{enumerate_from}
 use Rattle.text_lines.specs.Lines.{text_lines}
-use Rattle.text_lines.specs.Names.{but_last}
+use Rattle.text_lines.specs.Words.{but_last}
 use Rattle.blif_reader.specs.Cards.{card_of, cards_of, ends_with_backslash, has_words, joined, onto_next, uncommented}
 use Rattle.blif_reader.specs.Opened.{cards_behind, joined_behind, numbered, with_line}
 use Rattle.blif_reader.specs.declared.cards.Card.{Card}
 use Rattle.blif_reader.specs.declared.cards.Open.{Open}
-
-pub but_last_end : {X : Type 0} (xs : List X) (x : X) → but_last (xs ++ x ∷ []) ≡ xs
-but_last_end [] x = refl
-but_last_end (y ∷ []) x = refl
-but_last_end (y ∷ z ∷ xs) x = ap (λ rest. y ∷ rest) (but_last_end (z ∷ xs) x)
 
 pub backslash_end : (xs : List ℕ) (b : ℕ) → ends_with_backslash (xs ++ b ∷ []) ≡ (b == 92)
 backslash_end [] b = refl

@@ -7,8 +7,10 @@ use Rattle.std.proofs.lemmas.List.Elements.{All-append, All-cons, All-nil}
 use Rattle.std.proofs.lemmas.Bool.{eqb-true, leb-false, le-leb, ltb-false}
 use Rattle.text_lines.specs.Faults.{IsClean, fault_at}
 use Rattle.text_lines.specs.Groups.{groups, up_to}
-use Rattle.text_lines.specs.Names.{but_last, is_among, with_name, word_at}
-use Rattle.text_lines.proofs.FaultLaws.{none_at, when_no}
+use Rattle.text_lines.specs.Words.{but_last, word_at}
+use Rattle.vrt_model.specs.Lists.{has_name}
+use Rattle.names.specs.Names.{with_name}
+use Rattle.text_lines.proofs.FaultLaws.{CleanFrom, clean_from, clean_up_to, none_at, when_no}
 use Rattle.vrt_model.specs.FlatModels.{IsRow}
 use Rattle.vrt_model.specs.Inputs.{AllApart, IsBlif, IsCoverLine, IsModel}
 use Rattle.vrt_model.specs.declared.blif.BlifModel.{BlifModel}
@@ -23,34 +25,9 @@ use Rattle.blif_reader.specs.declared.known.OpenCover.{OpenCover}
 use Rattle.blif_reader.specs.declared.latches.LatchEnd.{LatchEnd}
 use Rattle.blif_reader.specs.declared.signals.Listed.{Listed}
 use Rattle.blif_reader.specs.declared.faults.BlifFault.TheVariants.{Limit, ModelTwice, Row, Short}
-use Rattle.blif_reader.proofs.Apart.{AreNew, apart_by, apart_from_new, distinct_apart}
+use Rattle.names.proofs.ApartLaws.{NoRepeat, apart_by}
+use Rattle.names.proofs.NewLaws.{AreNew, distinct_by_apart, new_apart}
 use Rattle.blif_reader.proofs.KnownLaws.{cover_has_dot, known_more}
-
--- ---- cards without a fault, from the front
-
--- behind these cards none of the list has a fault
-abbrev IsCleanFrom : List Card → List Card → Type 0
-IsCleanFrom before [] = Unit {0}
-IsCleanFrom before (card ∷ cards) = (fault_of before card ≡ None) × IsCleanFrom (before ++ card ∷ []) cards
-
-clean_from : (before cards : List Card) → ((i : ℕ) → option_and_then (λ card. fault_of (before ++ take i cards) card) (slice_get cards i) ≡ None) → IsCleanFrom before cards
-clean_from before [] none = tt
-clean_from before (card ∷ cards) none = (
-  ap (λ b. fault_of b card) (sym (append-nil before)) ∙ none 0,
-  clean_from (before ++ card ∷ []) cards
-      (λ i. ap (λ b. option_and_then (λ c. fault_of b c) (slice_get cards i)) (append_assoc before (card ∷ []) (take i cards)) ∙ none (suc i)),
-)
-
-all_clean : (cards : List Card) → IsClean fault_of cards → IsCleanFrom [] cards
-unfolding fault_at
-all_clean cards clean = clean_from [] cards clean
-
-clean_up_to : (ends : Card → Bool) (before cards : List Card) → IsCleanFrom before cards → IsCleanFrom before (up_to ends cards)
-clean_up_to ends before [] clean = tt
-clean_up_to ends before (card ∷ cards) clean = by_test (ends card) (clean_up_to ends (before ++ card ∷ []) cards clean.1) where
-  by_test : (b : Bool) → IsCleanFrom (before ++ card ∷ []) (up_to ends cards) → IsCleanFrom before (cond b [] (card ∷ up_to ends cards))
-  by_test true rest = tt
-  by_test false rest = (clean.0, rest)
 
 -- ---- what a card without a fault is
 
@@ -123,7 +100,7 @@ fits_cover : (o : Option OpenCover) (cover : OpenCover) (card : Card) → o ≡ 
 fits_cover o cover card e h = ap (λ x. fits x card) (sym e) ∙ h
 
 -- the rows of a cover that goes on
-rows_fit : (before cards : List Card) (width : ℕ) (cover : OpenCover) → IsCleanFrom before cards → (known_by before).cover ≡ Some cover → cover.width ≡ width
+rows_fit : (before cards : List Card) (width : ℕ) (cover : OpenCover) → CleanFrom fault_of before cards → (known_by before).cover ≡ Some cover → cover.width ≡ width
     → All (IsRow width) (map row_inputs (up_to is_dotted cards))
 rows_fit before [] width cover clean open_ same = All-nil (IsRow width)
 rows_fit before (card ∷ cards) width cover clean open_ same =
@@ -155,7 +132,7 @@ few_inputs known card none h =
     let no = (or_no (begins_model card && nat_le 4096 (length known.models)) (is_cover card && nat_lt 1000 (length (cover_inputs card))) (within_limit known card none)).1 in
     ltb-false 1000 (length (cover_inputs card)) (and_no (is_cover card) (nat_lt 1000 (length (cover_inputs card))) no h)
 
-covers_fit : (before body : List Card) → IsCleanFrom before body → All IsCoverLine (map cover_of (groups is_cover is_dotted body))
+covers_fit : (before body : List Card) → CleanFrom fault_of before body → All IsCoverLine (map cover_of (groups is_cover is_dotted body))
 covers_fit before [] clean = All-nil IsCoverLine
 covers_fit before (card ∷ body) clean = by_test (is_cover card) refl (covers_fit (before ++ card ∷ []) body clean.1) where
   opened : is_cover card ≡ true → (known_by (before ++ card ∷ [])).cover ≡ Some (record { width = length (cover_inputs card); first = None })
@@ -230,11 +207,11 @@ latches_fit (card ∷ body) = All-append HasInit (latches_in card) (flat_map lat
 as_many : (signals : List Listed) → length (lines signals) ≡ length (names signals)
 as_many signals = length-map signals (λ (s : Listed). s.line) ∙ sym (length-map signals (λ (s : Listed). s.name))
 
-model_fits : (before : List Card) (card : Card) (body : List Card) → IsCleanFrom before body → IsModel (model_of (card, body))
+model_fits : (before : List Card) (card : Card) (body : List Card) → CleanFrom fault_of before body → IsModel (model_of (card, body))
 model_fits before card body clean = record {
-  inputs = distinct_apart (λ (s : Listed). s.name) _;
-  clocks = distinct_apart (λ (s : Listed). s.name) _;
-  outputs = distinct_apart (λ (s : Listed). s.name) _;
+  inputs = distinct_by_apart (λ (s : Listed). s.name) _;
+  clocks = distinct_by_apart (λ (s : Listed). s.name) _;
+  outputs = distinct_by_apart (λ (s : Listed). s.name) _;
   input_lines = as_many (listed (codes ".inputs") body);
   clock_lines = as_many (listed (codes ".clock") body);
   output_lines = as_many (listed (codes ".outputs") body);
@@ -242,12 +219,12 @@ model_fits before card body clean = record {
   latches = latches_fit body;
 }
 
-models_fit : (before cards : List Card) → IsCleanFrom before cards → All IsModel (map model_of (groups begins_model ends_model cards))
+models_fit : (before cards : List Card) → CleanFrom fault_of before cards → All IsModel (map model_of (groups begins_model ends_model cards))
 models_fit before [] clean = All-nil IsModel
 models_fit before (card ∷ cards) clean = by_test (begins_model card) (models_fit (before ++ card ∷ []) cards clean.1) where
   by_test : (b : Bool) → All IsModel (map model_of (groups begins_model ends_model cards))
       → All IsModel (map model_of (cond b ((card, up_to ends_model cards) ∷ groups begins_model ends_model cards) (groups begins_model ends_model cards)))
-  by_test true rest = All-cons IsModel (model_of (card, up_to ends_model cards)) (map model_of (groups begins_model ends_model cards)) (model_fits (before ++ card ∷ []) card (up_to ends_model cards) (clean_up_to ends_model (before ++ card ∷ []) cards clean.1)) rest
+  by_test true rest = All-cons IsModel (model_of (card, up_to ends_model cards)) (map model_of (groups begins_model ends_model cards)) (model_fits (before ++ card ∷ []) card (up_to ends_model cards) (clean_up_to fault_of ends_model (before ++ card ∷ []) cards clean.1)) rest
   by_test false rest = rest
 
 -- ---- the names of models
@@ -266,11 +243,14 @@ two_words true b c true e f h k = cc
 two_words true b c false e f h k = refl
 two_words false b c d e f h k = cc
 
-new_model : (known : Known) (card : Card) → fault_by known card ≡ None → begins_model card ≡ true → is_among known.models (model_name card) ≡ false
+new_model : (known : Known) (card : Card) → fault_by known card ≡ None → begins_model card ≡ true → has_name known.models (model_name card) ≡ false
 new_model known card none h =
     let long = two_words (begins_model card) (is_cover card) (is_sub card) (nat_lt (length card.words) 2) (is_latch card) (nat_lt (length card.words) 3) (not_short known card none) h in
     let le : nat_le 2 (length card.words) ≡ true = le-leb 2 (length card.words) (ltb-false (length card.words) 2 long) in
-    and_no (begins_model card && nat_le 2 (length card.words)) (is_among known.models (model_name card)) (not_twice known card none) (ap₂ (λ a b. a && b) h le)
+    and_no (begins_model card && nat_le 2 (length card.words)) (has_name known.models (model_name card)) (not_twice known card none) (ap₂ (λ a b. a && b) h le)
+
+models_learned : (before : List Card) (card : Card) → begins_model card ≡ true → (known_by (before ++ card ∷ [])).models ≡ with_name (known_by before).models (model_name card)
+models_learned before card h = ap (λ (k : Known). k.models) (known_more before card) ∙ ap (λ b. cond b (with_name (known_by before).models (model_name card)) (known_by before).models) h
 
 models_known : (before : List Card) (card : Card) → fault_of before card ≡ None → begins_model card ≡ true → (known_by (before ++ card ∷ [])).models ≡ (known_by before).models ++ model_name card ∷ []
 models_known before card none h =
@@ -280,17 +260,17 @@ models_known before card none h =
 models_kept : (before : List Card) (card : Card) → begins_model card ≡ false → (known_by (before ++ card ∷ [])).models ≡ (known_by before).models
 models_kept before card h = ap (λ (k : Known). k.models) (known_more before card) ∙ ap (λ b. cond b (with_name (known_by before).models (model_name card)) (known_by before).models) h
 
-models_new : (before cards : List Card) (known : List (List ℕ)) → IsCleanFrom before cards → (known_by before).models ≡ known → AreNew known (map model_name (filter begins_model cards))
+models_new : (before cards : List Card) (known : List (List ℕ)) → CleanFrom fault_of before cards → (known_by before).models ≡ known → AreNew known (map model_name (filter begins_model cards))
 models_new before [] known clean same = tt
 models_new before (card ∷ cards) known clean same = by_test (begins_model card) refl (λ k e. models_new (before ++ card ∷ []) cards k clean.1 e) where
   by_test : (b : Bool) → begins_model card ≡ b → ((k : List (List ℕ)) → (known_by (before ++ card ∷ [])).models ≡ k → AreNew k (map model_name (filter begins_model cards))) → AreNew known (map model_name (cond b (card ∷ filter begins_model cards) (filter begins_model cards)))
   by_test true h rest = (
-    ap (λ k. is_among k (model_name card)) (sym same) ∙ new_model (known_by before) card clean.0 h,
-    rest (known ++ model_name card ∷ []) (models_known before card clean.0 h ∙ ap (λ k. k ++ model_name card ∷ []) same),
+    ap (λ k. has_name k (model_name card)) (sym same) ∙ new_model (known_by before) card clean.0 h,
+    rest (with_name known (model_name card)) (models_learned before card h ∙ ap (λ k. with_name k (model_name card)) same),
   )
   by_test false h rest = rest known (models_kept before card h ∙ same)
 
-models_few : (before cards : List Card) (count : ℕ) → IsCleanFrom before cards → length (known_by before).models ≡ count → count ≤ 4096 → length (filter begins_model cards) + count ≤ 4096
+models_few : (before cards : List Card) (count : ℕ) → CleanFrom fault_of before cards → length (known_by before).models ≡ count → count ≤ 4096 → length (filter begins_model cards) + count ≤ 4096
 models_few before [] count clean same few = omega arith
 models_few before (card ∷ cards) count clean same few = by_test (begins_model card) refl (λ n e le. models_few (before ++ card ∷ []) cards n clean.1 e le) where
   one_more : begins_model card ≡ true → length (known_by (before ++ card ∷ [])).models ≡ count + 1
@@ -311,11 +291,11 @@ models_few before (card ∷ cards) count clean same few = by_test (begins_model 
 pub fits_all : (cards : List Card) → IsClean fault_of cards → IsBlif (blif_of cards)
 unfolding blif_of known_by
 fits_all cards clean =
-    let from = all_clean cards clean in
+    let from = clean_from fault_of cards clean in
     let models : List BlifModel = map model_of (groups begins_model ends_model cards) in
     let few : length (filter begins_model cards) + 0 ≤ 4096 = models_few [] cards 0 from refl (omega arith) in
     record {
       model_limit = omega (arith, ap length (model_names cards), length-map models (λ (m : BlifModel). m.name), length-map (filter begins_model cards) model_name);
-      names = apart_by (λ (m : BlifModel). m.name) models (subst (AllApart bytes_eq) (sym (model_names cards)) (apart_from_new [] (map model_name (filter begins_model cards)) (models_new [] cards [] from refl)));
+      names = apart_by (λ (m : BlifModel). m.name) models (subst NoRepeat (sym (model_names cards)) (new_apart [] (map model_name (filter begins_model cards)) (models_new [] cards [] from refl)));
       models = models_fit [] cards from;
     }

@@ -4,9 +4,10 @@ use Rattle.std.specs.Prelude.{filter}
 use Rattle.std.proofs.lemmas.Slice.Eq.{bytes_eq-Decides}
 use Rattle.text_lines.specs.Bytes.{starts}
 use Rattle.text_lines.specs.Groups.{open_group}
-use Rattle.text_lines.specs.Names.{distinct, with_name, with_names}
-use Rattle.text_lines.proofs.GroupLaws.{open_anew, open_goes_on, open_shuts, with_end}
-use Rattle.text_lines.proofs.NameLaws.{names_once}
+use Rattle.vrt_model.specs.Lists.{distinct}
+use Rattle.names.specs.Names.{with_name}
+use Rattle.text_lines.proofs.GroupLaws.{listed_more, open_anew, open_goes_on, open_shuts, with_end}
+use Rattle.names.proofs.NameLaws.{distinct_more}
 use Rattle.blif_reader.specs.Cards.{first_word, has_first}
 use Rattle.blif_reader.specs.Learned.{cover_behind, inside_behind, learned, models_behind, with_row}
 use Rattle.blif_reader.specs.Models.{begins_model, cover_inputs, ends_model, first_output, is_cover, is_dotted, is_on, model_name}
@@ -17,29 +18,11 @@ use Rattle.blif_reader.specs.declared.known.OpenCover.{OpenCover}
 
 -- ---- the names of models
 
-names_end : (known ns : List (List ℕ)) (n : List ℕ) → with_names known (ns ++ n ∷ []) ≡ with_name (with_names known ns) n
-names_end known [] n = refl
-names_end known (m ∷ ns) n = names_end (with_name known m) ns n
-
--- each name once, with one name more
-pub distinct_more : (ns : List (List ℕ)) (n : List ℕ) → distinct (ns ++ n ∷ []) ≡ with_name (distinct ns) n
-distinct_more ns n = sym (names_once (ns ++ n ∷ [])) ∙ names_end [] ns n ∙ ap (λ known. with_name known n) (names_once ns)
-
--- names of the items that pass, with one item more
-names_more : (test : Card → Bool) (name : Card → List ℕ) (xs : List Card) (x : Card) → map name (filter test (xs ++ x ∷ [])) ≡ map name (filter test xs) ++ map name (filter test (x ∷ []))
-names_more test name [] x = refl
-names_more test name (y ∷ ys) x =
-    chosen (test y) (name y) (filter test ys) (filter test (ys ++ x ∷ [])) y refl (names_more test name ys x) where
-      chosen : (b : Bool) (n : List ℕ) (old new : List Card) (y : Card) → n ≡ name y → map name new ≡ map name old ++ map name (filter test (x ∷ []))
-          → map name (cond b (y ∷ new) new) ≡ map name (cond b (y ∷ old) old) ++ map name (filter test (x ∷ []))
-      chosen true n old new y e h = ap (λ ns. name y ∷ ns) h
-      chosen false n old new y e h = h
-
 models_more : (before : List Card) (card : Card)
     → distinct (map model_name (filter begins_model (before ++ card ∷ []))) ≡ models_behind (distinct (map model_name (filter begins_model before))) card
-models_more before card = ap distinct (names_more begins_model model_name before card) ∙ by_test (begins_model card) (map model_name (filter begins_model before)) card where
+models_more before card = ap distinct (listed_more begins_model model_name before card) ∙ by_test (begins_model card) (map model_name (filter begins_model before)) card where
   by_test : (b : Bool) (ns : List (List ℕ)) (card : Card) → distinct (ns ++ map model_name (cond b (card ∷ []) [])) ≡ cond b (with_name (distinct ns) (model_name card)) (distinct ns)
-  by_test true ns card = distinct_more ns (model_name card)
+  by_test true ns card = distinct_more ns (model_name card ∷ [])
   by_test false ns card = ap distinct (append-nil ns)
 
 -- ---- the open model

@@ -3,5 +3,4 @@ pub mod KnownLaws
 pub mod CheckLaws
 pub mod BuildLaws
 pub mod Examples
-pub mod Apart
 pub mod Fits

@@ -4,7 +4,8 @@ use Rattle.blif_reader.specs.declared.cards.Card.{Card}
 use Rattle.text_lines.specs.Bytes.{is_text, words_of}
 use Rattle.text_lines.specs.Groups.{up_to}
 use Rattle.text_lines.specs.Lines.{lines_of}
-use Rattle.text_lines.specs.Names.{but_last, is_empty, word_at}
+use Rattle.text_lines.specs.Words.{but_last, word_at}
+use Rattle.vrt_model.specs.Lists.{is_empty}
 
 -- `#` begins a comment to the end of the line.
 abbrev pub is_hash : ℕ → Bool

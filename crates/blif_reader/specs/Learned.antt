@@ -1,6 +1,6 @@
 -- What is known behind one card more.
 use Rattle.std.specs.Prelude.{List, ℕ, Bool, true, false, if◌then◌else◌, length, Option, Some, None, option_map, unwrap_or}
-use Rattle.text_lines.specs.Names.{with_name}
+use Rattle.names.specs.Names.{with_name}
 use Rattle.blif_reader.specs.Models.{begins_model, cover_inputs, ends_model, is_cover, is_dotted, is_on, model_name}
 use Rattle.blif_reader.specs.declared.cards.Card.{Card}
 use Rattle.blif_reader.specs.declared.known.Known.{Known}

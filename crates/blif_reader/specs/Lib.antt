@@ -2,6 +2,5 @@ pub mod Cards
 pub mod Opened
 pub mod Models
 pub mod Refused
-pub mod Judged
 pub mod Learned
 pub mod Built

@@ -2,7 +2,8 @@
 use Rattle.std.specs.Prelude.{ℕ, List, [], ◌∷◌, Bool, true, ◌==◌, ◌||◌, ◌-◌, if◌then◌else◌, map, filter, flat_map, codes, bytes_eq, Option, Some, None, option_map, option_to_list, unwrap_or, drop}
 use Rattle.text_lines.specs.Bytes.{starts}
 use Rattle.text_lines.specs.Groups.{groups, up_to}
-use Rattle.text_lines.specs.Names.{behind, but_last, distinct_by, last_word, word_at}
+use Rattle.text_lines.specs.Words.{behind, but_last, last_word, word_at}
+use Rattle.names.specs.Names.{distinct_by}
 use Rattle.blif_reader.specs.Cards.{first_word, has_first}
 use Rattle.blif_reader.specs.declared.cards.Card.{Card}
 use Rattle.blif_reader.specs.declared.latches.LatchEnd.{LatchEnd}

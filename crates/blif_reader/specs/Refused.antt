@@ -3,7 +3,8 @@ use Rattle.std.specs.Prelude.{ℕ, List, [], ◌∷◌, Bool, true, false, not, 
 use Rattle.std.specs.List.{list_all, list_any}
 use Rattle.text_lines.specs.Faults.{first_fault, first_of, when}
 use Rattle.text_lines.specs.Groups.{open_group}
-use Rattle.text_lines.specs.Names.{distinct, is_among, is_empty, word_at}
+use Rattle.vrt_model.specs.Lists.{distinct, has_name, is_empty}
+use Rattle.text_lines.specs.Words.{word_at}
 use Rattle.blif_reader.specs.Cards.{first_word}
 use Rattle.blif_reader.specs.Models.{begins_model, cover_inputs, end_of, ends_model, first_output, is_cover, is_dotted, is_latch, is_on, is_sub, model_name, tie_of}
 use Rattle.blif_reader.specs.declared.cards.Card.{Card}
@@ -35,7 +36,7 @@ known_by before = record {
 -- any other card that begins with `.`
 abbrev pub is_known : Card → Bool
 is_known card =
-    is_among (codes ".model" ∷ codes ".end" ∷ codes ".inputs" ∷ codes ".clock" ∷ codes ".outputs" ∷ codes ".names" ∷ codes ".latch" ∷ codes ".subckt" ∷ []) (first_word card)
+    has_name (codes ".model" ∷ codes ".end" ∷ codes ".inputs" ∷ codes ".clock" ∷ codes ".outputs" ∷ codes ".names" ∷ codes ".latch" ∷ codes ".subckt" ∷ []) (first_word card)
 
 abbrev pub is_other : Card → Bool
 is_other card = is_dotted card && not (is_known card)
@@ -95,7 +96,7 @@ has_bad_tie card = is_sub card && list_any is_bad_tie (drop 2 card.words)
 
 -- a second model of a name
 abbrev pub is_model_twice : Known → Card → Bool
-is_model_twice known card = begins_model card && nat_le 2 (length card.words) && is_among known.models (model_name card)
+is_model_twice known card = begins_model card && nat_le 2 (length card.words) && has_name known.models (model_name card)
 
 -- `.model`, `.names` or `.subckt` without a name, `.latch` with fewer than two
 abbrev pub is_short : Card → Bool

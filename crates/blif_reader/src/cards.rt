@@ -2,12 +2,12 @@
 
 ghost use Rattle.std.specs.Prelude.{ℕ, List, Some, None, ◌≡◌, ◌≤◌, ◌++◌, ◌∷◌, [], length, map, filter, IfOk, IfSome, IfNone, OnOk, ◌==◌, false, true};
 ghost use Rattle.text_lines.specs.Groups.{up_to};
-ghost use Rattle.text_lines.specs.Names.{but_last};
+ghost use Rattle.text_lines.specs.Words.{but_last};
 ghost use Rattle.blif_reader.specs.Cards.{card_of, cards_of, ends_with_backslash, has_words, is_hash, uncommented};
 ghost use Rattle.blif_reader.specs.Opened.{cards_behind, numbered, with_line};
 
 use std::alloc::Global;
-use text_lines::{cut_lines, cut_words, is_text_line};
+use text_lines::{cut_lines, is_text_line, line_words};
 use vrt_model::{NoMemory, Seq, Text};
 
 /// A card: the number of its first line, from 1, whether all its bytes are text, and its words.
@@ -65,29 +65,14 @@ fn before_backslash(bytes: &[u8]) -> Option<&[u8]>
     }
 }
 
-// The texts of words.
-fn texts_of(alloc: Global, words: &[&[u8]]) -> Result<Seq<Text>, NoMemory>
-    ensures { IfOk result (λ s. s ≡ map (λ x. x.now) words.now) }
-{
-    let mut texts = Seq::new(alloc);
-    for word in words {
-        let text = Text::from_bytes(alloc, word)?;
-        if texts.push(text).is_err() {
-            return Err(NoMemory);
-        }
-    }
-    Ok(texts)
-}
-
 // The card of a line, or of several that are joined.
 fn card_of_bytes(alloc: Global, line: u32, bytes: &[u8]) -> Result<Card, NoMemory>
     ensures { IfOk result (λ card. card ≡ card_of (line, bytes.now)) }
 {
-    let words = cut_words(alloc, bytes)?;
     Ok(Card {
         line,
         is_all_text: is_text_line(bytes),
-        words: texts_of(alloc, words.as_slice())?,
+        words: line_words(alloc, bytes)?,
     })
 }
 

@@ -1,9 +1,8 @@
 //! The first fault of cards.
 
 ghost use Rattle.std.specs.Prelude.{◌≡◌, ◌⊎◌, ◌++◌, ◌∷◌, [], OnOk, IfOk, IfErr};
-ghost use Rattle.text_lines.specs.Faults.{IsClean, IsFirst};
+ghost use Rattle.text_lines.specs.Faults.{IsClean, IsFirst, Judges};
 ghost use Rattle.blif_reader.specs.Refused.{fault_by, fault_of};
-ghost use Rattle.blif_reader.specs.Judged.{Judges};
 ghost use Rattle.blif_reader.specs.Learned.{cover_behind, inside_behind, learned, models_behind, with_row};
 
 use crate::BlifFault;
@@ -12,8 +11,8 @@ use crate::covers::{inputs_of, is_on_row};
 use crate::judge::judge;
 use crate::known::{Known, OpenCover};
 use crate::words::{has_dot, is_cover_card, name_of, opens, shuts};
+use names::Names;
 use std::alloc::Global;
-use text_lines::Names;
 use vrt_model::NoMemory;
 
 // Adds the name of a model, if the card begins one.
@@ -85,7 +84,7 @@ fn learn(known: &mut Known, card: &Card) -> Result<(), NoMemory>
 
 // Judges a card, and learns it if it has no fault.
 fn step(alloc: Global, known: &mut Known, card: &Card) -> Result<(), BlifFault>
-    ensures fault { Judges result (fault_by known.old card.now) }
+    ensures fault { Judges BlifFault.NoMemory result (fault_by known.old card.now) }
     ensures next { OnOk result (known.new ≡ learned known.old card.now) }
 {
     judge(alloc, known, card)?;

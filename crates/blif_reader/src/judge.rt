@@ -2,11 +2,11 @@
 
 ghost use Rattle.std.specs.Prelude.{◌≡◌, ◌⊎◌, ℕ, List, [], ◌∷◌, codes, is_none};
 ghost use Rattle.std.specs.List.{list_all, list_any};
-ghost use Rattle.text_lines.specs.Names.{is_among};
+ghost use Rattle.vrt_model.specs.Lists.{has_name};
 ghost use Rattle.blif_reader.specs.Cards.{first_word};
 ghost use Rattle.blif_reader.specs.Models.{model_name};
 ghost use Rattle.blif_reader.specs.Refused.{differs_from, differs_in, fault_by, fits, has_bad_tie, is_as_latch, is_bad_latch, is_bad_row, is_bad_tie, is_input_byte, is_known, is_mixed, is_model_twice, is_other, is_output_word, is_outside, is_row, is_short, passes_limit};
-ghost use Rattle.blif_reader.specs.Judged.{Judges};
+ghost use Rattle.text_lines.specs.Faults.{Judges};
 
 use crate::BlifFault;
 use crate::cards::Card;
@@ -192,7 +192,7 @@ fn model_twice(alloc: Global, card: &Card) -> BlifFault
 /// Refuses a card with its fault, if it has one. Of several it is the one of the lowest number.
 #[tactic(auto, unfolding(crate::specs::Refused::fault_by))]
 pub fn judge(alloc: Global, known: &Known, card: &Card) -> Result<(), BlifFault>
-    ensures { Judges result (fault_by known.now card.now) }
+    ensures { Judges BlifFault.NoMemory result (fault_by known.now card.now) }
 {
     let line = card.line;
     if !card.is_all_text {

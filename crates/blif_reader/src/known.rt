@@ -1,6 +1,6 @@
 //! What the cards so far tell of the next.
 
-use text_lines::Names;
+use names::Names;
 
 /// The names of all models, whether a model is open, and the cover that goes on.
 pub struct Known {

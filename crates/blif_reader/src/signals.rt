@@ -6,8 +6,8 @@ ghost use Rattle.blif_reader.specs.Models.{listed, listed_on, signals_on, names,
 
 use crate::cards::Card;
 use crate::words::{is_first, words_from};
+use names::Names;
 use std::alloc::Global;
-use text_lines::Names;
 use vrt_model::{NoMemory, Seq, Text};
 
 /// A signal, and the line of the card that lists it first.

@@ -2,7 +2,7 @@
 
 ghost use Rattle.std.specs.Prelude.{◌≡◌, drop, codes};
 ghost use Rattle.text_lines.specs.Bytes.{starts};
-ghost use Rattle.text_lines.specs.Names.{behind, but_last, last_word, word_at};
+ghost use Rattle.text_lines.specs.Words.{behind, but_last, last_word, word_at};
 ghost use Rattle.blif_reader.specs.Cards.{first_word, has_first};
 ghost use Rattle.blif_reader.specs.Models.{begins_model, ends_model, is_cover, is_dotted, is_latch, is_sub, model_name};
 

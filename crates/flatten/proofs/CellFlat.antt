@@ -6,21 +6,20 @@ use Rattle.std.specs.Option.{option_or}
 use Rattle.std.proofs.Math.Path.{fun_ext}
 use Rattle.std.proofs.lemmas.List.{length-map, map-append}
 use Rattle.std.proofs.lemmas.Slice.Eq.{bytes_eq-Decides}
-use Rattle.text_lines.specs.Names.{is_among}
+use Rattle.vrt_model.specs.Lists.{At, has_name}
 use Rattle.flatten.proofs.CellNets.{IsLeaf, all_names, cell, global_names, is_plain, named, names_are, own_names, port_names, ports_are, shared_names}
 use Rattle.flatten.proofs.NetNumbers.{number_is}
 use Rattle.flatten.specs.Firsts.{value_in}
 use Rattle.flatten.specs.NetTables.{IsNetTable, Supplies, device_in, names_table, nets_in, nets_named, number_in, of_parts, port_nets_in, port_table}
 use Rattle.flatten.specs.Tables.{AreModels, AreTables, card_kind, declared_by, declared_level, declared_supply, kind_in, level_in, supply_in}
 use Rattle.flatten.specs.declared.firsts.FirstValues.{FirstValues}
-use Rattle.flatten.specs.declared.names.NetTable.{NetTable}
+use Rattle.flatten.specs.declared.net_names.NetTable.{NetTable}
 use Rattle.flatten.specs.declared.rule_tables.Declared.{Declared}
 use Rattle.flatten.specs.declared.rule_tables.ModelTable.{ModelTable}
 use Rattle.flatten.specs.declared.rule_tables.RuleTables.{RuleTables}
 use Rattle.vrt_model.specs.CellRules.{supply_of}
 use Rattle.vrt_model.specs.Comparison.{cell_at}
 use Rattle.vrt_model.specs.FlatCircuit.{Ruled, falls_on, flat_circuit_of, flat_device, flat_devices, flat_hold, flat_holds, flat_instance, flat_instances, flat_nets, is_outermost, kind_by, kind_of, level_of, net_id, own_flat_nets, plain_net, port_nets_of, rule_on, rules_on, supply_flat}
-use Rattle.vrt_model.specs.Lists.{At}
 use Rattle.vrt_model.specs.Unrolled.{Place, Top, all_places, deepest, instances_from, net_at, own_nets, places_in, top_place}
 use Rattle.vrt_model.specs.declared.circuit.Circuit.{Circuit}
 use Rattle.vrt_model.specs.declared.circuit.Device.{Device}
@@ -184,26 +183,26 @@ module _ (design : Design) (rules : Rules) (k : ℕ) (leaf : IsLeaf design k) (r
 
   -- the nets of a card are among those named
   pub record AreNamed (cards : List DeviceCard) (card : DeviceCard) : Type 0 where
-    pub drain : is_among (nets_named cards) card.drain ≡ true
-    pub gate : is_among (nets_named cards) card.gate ≡ true
-    pub source : is_among (nets_named cards) card.source ≡ true
+    pub drain : has_name (nets_named cards) card.drain ≡ true
+    pub gate : has_name (nets_named cards) card.gate ≡ true
+    pub source : has_name (nets_named cards) card.source ≡ true
 
-  later : (c : DeviceCard) (cards : List DeviceCard) (y : List ℕ) → is_among (nets_named cards) y ≡ true → is_among (nets_named (c ∷ cards)) y ≡ true
+  later : (c : DeviceCard) (cards : List DeviceCard) (y : List ℕ) → has_name (nets_named cards) y ≡ true → has_name (nets_named (c ∷ cards)) y ≡ true
   later c cards y e =
-      or_second (bytes_eq y c.drain) (bytes_eq y c.gate || (bytes_eq y c.source || is_among (nets_named cards) y))
-      (or_second (bytes_eq y c.gate) (bytes_eq y c.source || is_among (nets_named cards) y)
-      (or_second (bytes_eq y c.source) (is_among (nets_named cards) y) e))
+      or_second (bytes_eq y c.drain) (bytes_eq y c.gate || (bytes_eq y c.source || has_name (nets_named cards) y))
+      (or_second (bytes_eq y c.gate) (bytes_eq y c.source || has_name (nets_named cards) y)
+      (or_second (bytes_eq y c.source) (has_name (nets_named cards) y) e))
 
   here : (c : DeviceCard) (cards : List DeviceCard) → AreNamed (c ∷ cards) c
   here c cards = record {
-    drain = or_first (bytes_eq c.drain c.drain) (bytes_eq c.drain c.gate || (bytes_eq c.drain c.source || is_among (nets_named cards) c.drain)) (same_bytes c.drain);
+    drain = or_first (bytes_eq c.drain c.drain) (bytes_eq c.drain c.gate || (bytes_eq c.drain c.source || has_name (nets_named cards) c.drain)) (same_bytes c.drain);
     gate =
-        or_second (bytes_eq c.gate c.drain) (bytes_eq c.gate c.gate || (bytes_eq c.gate c.source || is_among (nets_named cards) c.gate))
-        (or_first (bytes_eq c.gate c.gate) (bytes_eq c.gate c.source || is_among (nets_named cards) c.gate) (same_bytes c.gate));
+        or_second (bytes_eq c.gate c.drain) (bytes_eq c.gate c.gate || (bytes_eq c.gate c.source || has_name (nets_named cards) c.gate))
+        (or_first (bytes_eq c.gate c.gate) (bytes_eq c.gate c.source || has_name (nets_named cards) c.gate) (same_bytes c.gate));
     source =
-        or_second (bytes_eq c.source c.drain) (bytes_eq c.source c.gate || (bytes_eq c.source c.source || is_among (nets_named cards) c.source))
-        (or_second (bytes_eq c.source c.gate) (bytes_eq c.source c.source || is_among (nets_named cards) c.source)
-        (or_first (bytes_eq c.source c.source) (is_among (nets_named cards) c.source) (same_bytes c.source)));
+        or_second (bytes_eq c.source c.drain) (bytes_eq c.source c.gate || (bytes_eq c.source c.source || has_name (nets_named cards) c.source))
+        (or_second (bytes_eq c.source c.gate) (bytes_eq c.source c.source || has_name (nets_named cards) c.source)
+        (or_first (bytes_eq c.source c.source) (has_name (nets_named cards) c.source) (same_bytes c.source)));
   }
 
   are_named : (cards : List DeviceCard) (i : ℕ) (card : DeviceCard) → At cards i card → AreNamed cards card

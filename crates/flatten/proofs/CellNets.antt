@@ -3,15 +3,16 @@ use Rattle.std.proofs.Common.{◌≡◌, ◌≤◌, ◌++◌, ◌∷◌, ◌||�
 use Rattle.std.specs.Prelude.{bytes_eq, flat_map, is_none, is_some}
 use Rattle.std.specs.List.{list_any}
 use Rattle.std.proofs.lemmas.List.Folds.{list_any-append}
-use Rattle.text_lines.proofs.ApartLaws.{NoRepeat, apart, distinct_apart}
-use Rattle.text_lines.proofs.NameLaws.{with_names_are}
-use Rattle.text_lines.specs.Names.{is_among, with_name, with_names}
-use Rattle.flatten.proofs.NameLists.{among_filter, filter_same, filter_twice, new_once, once_filter, once_is_all, at_among}
+use Rattle.names.proofs.ApartLaws.{NoRepeat, apart, once_is_all, with_names_apart}
+use Rattle.names.proofs.NameLaws.{once_filter, with_names_are}
+use Rattle.vrt_model.specs.Lists.{At, distinct, has_name}
+use Rattle.names.specs.Names.{with_name, with_names}
+use Rattle.names.proofs.FilterLaws.{has_name_filter, filter_same, filter_twice}
+use Rattle.names.proofs.PlaceLaws.{at_among}
 use Rattle.flatten.specs.NetTables.{Supplies, globals_named, names_table, nets_named, port_table, with_net, with_nets}
 use Rattle.vrt_model.specs.CellRules.{supply_of}
 use Rattle.vrt_model.specs.Comparison.{cell_at}
 use Rattle.vrt_model.specs.Inputs.{AllApart}
-use Rattle.vrt_model.specs.Lists.{At, distinct}
 use Rattle.vrt_model.specs.Unrolled.{cell_named, deepest, global_nets, is_global_in, is_own, mentions, names_global, own_nets}
 use Rattle.vrt_model.specs.declared.design.Cell.{Cell}
 use Rattle.vrt_model.specs.declared.design.Design.{Design}
@@ -36,19 +37,18 @@ module _ (supply : Supplies) where
     by_test (Some value) kept more = kept
 
   abbrev pub is_fresh : List (List ℕ) → List ℕ → Bool
-  is_fresh names name = is_plain name && not (is_among names name)
+  is_fresh names name = is_plain name && not (has_name names name)
 
   -- they stand behind those that were there, each once
   pub with_nets_are : (names xs : List (List ℕ)) → with_nets supply names xs ≡ names ++ distinct (filter (is_fresh names) xs)
   with_nets_are names xs =
       with_nets_names names xs ∙ with_names_are names (filter is_plain xs)
-      ∙ ap (λ (ys : List (List ℕ)). names ++ ys)
-      (new_once names (filter is_plain xs) ∙ ap distinct (filter_twice (λ y. not (is_among names y)) is_plain xs))
+      ∙ ap (λ (ys : List (List ℕ)). names ++ distinct ys) (filter_twice (λ y. not (has_name names y)) is_plain xs)
 
   -- and do not repeat
   pub nets_apart : (names xs : List (List ℕ)) → NoRepeat names → NoRepeat (with_nets supply names xs)
   nets_apart names xs n =
-      subst NoRepeat (sym (with_nets_names names xs ∙ with_names_are names (filter is_plain xs))) (distinct_apart names (filter is_plain xs) n)
+      subst NoRepeat (sym (with_nets_names names xs)) (with_names_apart names (filter is_plain xs) n)
 
   -- more nets, and more behind them
   pub with_nets-append : (names xs ys : List (List ℕ)) → with_nets supply names (xs ++ ys) ≡ with_nets supply (with_nets supply names xs) ys
@@ -103,7 +103,7 @@ module _ (design : Design) (rules : Rules) (k : ℕ) (leaf : IsLeaf design k) wh
   all_names = shared_names ++ own_names
 
   abbrev pub named : List ℕ → Bool
-  named y = is_among (nets_named cell.devices) y
+  named y = has_name (nets_named cell.devices) y
 
   -- ---- which names are global nets and own nets
 
@@ -113,34 +113,34 @@ module _ (design : Design) (rules : Rules) (k : ℕ) (leaf : IsLeaf design k) wh
       ∙ append-nil (nets_named cell.devices)
 
   named_at : (depth : ℕ) (y : List ℕ) → names_global design rules depth cell y ≡ (is_global_in design rules cell y && named y)
-  named_at zero y = ap (λ (names : List (List ℕ)). is_global_in design rules cell y && is_among names y) mentions_are
+  named_at zero y = ap (λ (names : List (List ℕ)). is_global_in design rules cell y && has_name names y) mentions_are
   named_at (suc depth) y =
-      ap (λ (is : List InstanceCard). (is_global_in design rules cell y && is_among (mentions cell) y)
+      ap (λ (is : List InstanceCard). (is_global_in design rules cell y && has_name (mentions cell) y)
       || list_any (λ (i : InstanceCard). names_global design rules depth (cell_at design (cell_named design i.cell)) y) is) leaf.no_instances
-      ∙ or_none (is_global_in design rules cell y && is_among (mentions cell) y)
-      ∙ ap (λ (names : List (List ℕ)). is_global_in design rules cell y && is_among names y) mentions_are
+      ∙ or_none (is_global_in design rules cell y && has_name (mentions cell) y)
+      ∙ ap (λ (names : List (List ℕ)). is_global_in design rules cell y && has_name names y) mentions_are
 
   abbrev pub is_named : List ℕ → Bool
   is_named y = names_global design rules deepest cell y
 
   pub named_is : (y : List ℕ)
-      → is_named y ≡ (((is_among design.globals y && plain_in y) && not (is_among cell.ports y)) && named y)
+      → is_named y ≡ (((has_name design.globals y && plain_in y) && not (has_name cell.ports y)) && named y)
   named_is y =
       named_at deepest y
-      ∙ ap (λ (b : Bool). ((is_among design.globals y && b) && not (is_among cell.ports y)) && named y) (not_some (supply_of rules y))
+      ∙ ap (λ (b : Bool). ((has_name design.globals y && b) && not (has_name cell.ports y)) && named y) (not_some (supply_of rules y))
 
   pub globals_are : global_names ≡ filter is_named design.globals
   unfolding global_nets
   globals_are = refl
 
-  pub among_globals : (y : List ℕ) → is_among global_names y ≡ (is_named y && is_among design.globals y)
-  among_globals y = ap (λ (names : List (List ℕ)). is_among names y) globals_are ∙ among_filter is_named design.globals y
+  pub among_globals : (y : List ℕ) → has_name global_names y ≡ (is_named y && has_name design.globals y)
+  among_globals y = ap (λ (names : List (List ℕ)). has_name names y) globals_are ∙ has_name_filter is_named design.globals y
 
   abbrev pub is_mine : List ℕ → Bool
   is_mine y = is_own design rules cell y
 
-  pub mine_is : (y : List ℕ) → is_mine y ≡ ((plain_in y && not (is_among cell.ports y)) && not (is_among design.globals y))
-  mine_is y = ap (λ (b : Bool). (b && not (is_among cell.ports y)) && not (is_among design.globals y)) (not_some (supply_of rules y))
+  pub mine_is : (y : List ℕ) → is_mine y ≡ ((plain_in y && not (has_name cell.ports y)) && not (has_name design.globals y))
+  mine_is y = ap (λ (b : Bool). (b && not (has_name cell.ports y)) && not (has_name design.globals y)) (not_some (supply_of rules y))
 
   pub owns_are : own_names ≡ distinct (filter is_mine (nets_named cell.devices))
   unfolding own_nets
@@ -155,9 +155,9 @@ module _ (design : Design) (rules : Rules) (k : ℕ) (leaf : IsLeaf design k) wh
       ∙ once_filter plain_in cell.ports ∙ ap (filter plain_in) (once_is_all cell.ports leaf.ports_apart)
 
   -- what is no supply and not among those ports is no port
-  fresh_first : (y : List ℕ) → is_fresh (supply_of rules) port_names y ≡ (plain_in y && not (is_among cell.ports y))
+  fresh_first : (y : List ℕ) → is_fresh (supply_of rules) port_names y ≡ (plain_in y && not (has_name cell.ports y))
   fresh_first y =
-      ap (λ (b : Bool). plain_in y && not b) (among_filter plain_in cell.ports y) ∙ tests (plain_in y) (is_among cell.ports y) where
+      ap (λ (b : Bool). plain_in y && not b) (has_name_filter plain_in cell.ports y) ∙ tests (plain_in y) (has_name cell.ports y) where
         tests : (n p : Bool) → (n && not (n && p)) ≡ (n && not p)
         tests true p = refl
         tests false p = refl
@@ -182,8 +182,8 @@ module _ (design : Design) (rules : Rules) (k : ℕ) (leaf : IsLeaf design k) wh
         same : (i : ℕ) (y : List ℕ) → At design.globals i y → (named y && is_fresh (supply_of rules) port_names y) ≡ is_named y
         same i y e =
             ap (λ (b : Bool). named y && b) (fresh_first y)
-            ∙ turn (named y) (plain_in y) (is_among cell.ports y)
-            ∙ sym (ap (λ (b : Bool). ((b && plain_in y) && not (is_among cell.ports y)) && named y) (at_among design.globals i y e))
+            ∙ turn (named y) (plain_in y) (has_name cell.ports y)
+            ∙ sym (ap (λ (b : Bool). ((b && plain_in y) && not (has_name cell.ports y)) && named y) (at_among design.globals i y e))
             ∙ sym (named_is y)
 
   owns_third : with_nets (supply_of rules) shared_names (nets_named cell.devices) ≡ all_names
@@ -200,18 +200,18 @@ module _ (design : Design) (rules : Rules) (k : ℕ) (leaf : IsLeaf design k) wh
         tests true false false false e = refl
 
         shared : (y : List ℕ) → named y ≡ true
-            → is_among shared_names y
-            ≡ (is_among port_names y || ((((is_among design.globals y && plain_in y) && not (is_among cell.ports y)) && true) && is_among design.globals y))
+            → has_name shared_names y
+            ≡ (has_name port_names y || ((((has_name design.globals y && plain_in y) && not (has_name cell.ports y)) && true) && has_name design.globals y))
         shared y m =
             list_any-append (bytes_eq y) port_names global_names
-            ∙ ap (λ (b : Bool). is_among port_names y || b)
-            (among_globals y ∙ ap (λ (b : Bool). b && is_among design.globals y)
-            (named_is y ∙ ap (λ (b : Bool). ((is_among design.globals y && plain_in y) && not (is_among cell.ports y)) && b) m))
+            ∙ ap (λ (b : Bool). has_name port_names y || b)
+            (among_globals y ∙ ap (λ (b : Bool). b && has_name design.globals y)
+            (named_is y ∙ ap (λ (b : Bool). ((has_name design.globals y && plain_in y) && not (has_name cell.ports y)) && b) m))
 
         same : (i : ℕ) (y : List ℕ) → At (nets_named cell.devices) i y → is_fresh (supply_of rules) shared_names y ≡ is_mine y
         same i y e =
             ap (λ (b : Bool). plain_in y && not b) (shared y (at_among (nets_named cell.devices) i y e))
-            ∙ tests (plain_in y) (is_among port_names y) (is_among cell.ports y) (is_among design.globals y) (fresh_first y)
+            ∙ tests (plain_in y) (has_name port_names y) (has_name cell.ports y) (has_name design.globals y) (fresh_first y)
             ∙ sym (mine_is y)
 
   pub names_are : names_table (supply_of rules) design.globals cell ≡ all_names

@@ -1,18 +1,18 @@
 -- The counts of a cell without instances are those of its flat circuit.
 use Rattle.std.proofs.Common.{◌≡◌, ◌<◌, ◌≤◌, ◌+◌, ◌++◌, ◌||◌, ◌&&◌, [], ℕ, List, Bool, not, filter, length, refl, ap, ap₂, sym, ◌∙◌, arith, length-append, subst}
-use Rattle.text_lines.specs.Names.{is_among}
+use Rattle.vrt_model.specs.Lists.{At, distinct, has_name}
 use Rattle.flatten.proofs.CellFlat.{device_count, instances_are, net_count}
 use Rattle.flatten.proofs.CellNets.{IsLeaf, all_names, cell, global_names, globals_are, is_mine, is_named, mine_is, named_is, own_names, owns_are, port_names, shared_names}
 use Rattle.flatten.proofs.CellTests.{leaf_of}
 use Rattle.flatten.proofs.LastCounts.{counts_are}
-use Rattle.flatten.proofs.NameLists.{at_among, filter_same}
+use Rattle.names.proofs.PlaceLaws.{at_among}
+use Rattle.names.proofs.FilterLaws.{filter_same}
 use Rattle.flatten.specs.NetTables.{nets_named}
 use Rattle.flatten.specs.Sizes.{AreSizes, is_inner_name, is_net_name, is_shared, last_count}
 use Rattle.flatten.specs.declared.sizes_of.FlatSizes.{FlatSizes}
 use Rattle.vrt_model.specs.Comparison.{cell_at}
 use Rattle.vrt_model.specs.FlatCircuit.{flat_devices, flat_instances, flat_nets}
 use Rattle.vrt_model.specs.Inputs.{IsDesign}
-use Rattle.vrt_model.specs.Lists.{At, distinct}
 use Rattle.vrt_model.specs.Unsupported.{carried, top_before}
 use Rattle.vrt_model.specs.declared.circuit.FlatInstance.{FlatInstance}
 use Rattle.vrt_model.specs.declared.design.Cell.{Cell}
@@ -36,7 +36,7 @@ module _ (design : Design) (rules : Rules) (k : ℕ) (leaf : IsLeaf design k) wh
   shared_is = filter_same (is_shared rules c) (is_named design rules k leaf) design.globals same ∙ sym (globals_are design rules k leaf) where
     same : (i : ℕ) (y : List ℕ) → At design.globals i y → is_shared rules c y ≡ is_named design rules k leaf y
     same i y e =
-        sym (ap (λ (b : Bool). ((b && is_net_name rules y) && not (is_among c.ports y)) && is_among (nets_named c.devices) y) (at_among design.globals i y e))
+        sym (ap (λ (b : Bool). ((b && is_net_name rules y) && not (has_name c.ports y)) && has_name (nets_named c.devices) y) (at_among design.globals i y e))
         ∙ sym (named_is design rules k leaf y)
 
   own_is : last_count (is_inner_name design rules c) (nets_named c.devices) ≡ length (own_names design rules k leaf)

@@ -17,7 +17,7 @@ use Rattle.flatten.specs.Tables.{AreModels, AreTables, declared_supply, kind_in,
 use Rattle.flatten.specs.declared.faults.FlatFault.{FlatFault}
 use Rattle.flatten.specs.declared.faults.FlatFault.TheVariants.{DeviceModel, SupplyTie, Limit as LimitFault, NoMemory}
 use Rattle.flatten.specs.declared.firsts.FirstValues.{FirstValues}
-use Rattle.flatten.specs.declared.names.NetTable.{NetTable}
+use Rattle.flatten.specs.declared.net_names.NetTable.{NetTable}
 use Rattle.flatten.specs.declared.rule_tables.ModelTable.{ModelTable}
 use Rattle.flatten.specs.declared.rule_tables.RuleTables.{RuleTables}
 use Rattle.vrt_model.specs.Circuits.{IsCircuit, IsDevice, IsHold, IsNet, IsWhole, IsFlat}

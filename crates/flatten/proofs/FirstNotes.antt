@@ -6,8 +6,9 @@ use Rattle.std.specs.Option.{option_or}
 use Rattle.std.proofs.lemmas.Bool.Decides.{nat_tests}
 use Rattle.std.proofs.lemmas.List.{drop_all, drop_more}
 use Rattle.std.proofs.lemmas.Slice.Eq.{bytes_eq-Decides}
-use Rattle.text_lines.specs.Names.{is_among, with_name}
-use Rattle.flatten.proofs.NameLists.{name_eq-sym}
+use Rattle.vrt_model.specs.Lists.{has_name}
+use Rattle.names.specs.Names.{with_name}
+use Rattle.names.proofs.NameLaws.{bytes_eq-sym}
 use Rattle.flatten.specs.Firsts.{IsEven, first_in, value_in}
 use Rattle.flatten.specs.declared.firsts.FirstValues.{FirstValues}
 
@@ -61,7 +62,7 @@ or_none (Some x) = refl
 -- a name that is new
 pub noted_new : {X : Type 0} (names : List (List ℕ)) (values : List X) (name other : List ℕ) (value : X) → length names ≡ length values
     → first_in (names ++ name ∷ []) (values ++ value ∷ []) other ≡ option_or (first_in names values other) (cond (bytes_eq name other) (Some value) None)
-noted_new [] [] name other value e = ap (λ (b : Bool). cond b (Some value) None) (name_eq-sym other name)
+noted_new [] [] name other value e = ap (λ (b : Bool). cond b (Some value) None) (bytes_eq-sym other name)
 noted_new [] (v ∷ values) name other value e = absurd (omega (arith, e))
 noted_new (x ∷ names) [] name other value e = absurd (omega (arith, e))
 noted_new {X} (x ∷ names) (v ∷ values) name other value e = by_test (bytes_eq other x) (noted_new names values name other value (omega (arith, e))) where
@@ -73,25 +74,25 @@ noted_new {X} (x ∷ names) (v ∷ values) name other value e = by_test (bytes_e
   by_test false rest = rest
 
 -- a name that is there has a value
-kept_or : {X : Type 0} (names : List (List ℕ)) (values : List X) (name : List ℕ) (o : Option X) → length names ≡ length values → is_among names name ≡ true
+kept_or : {X : Type 0} (names : List (List ℕ)) (values : List X) (name : List ℕ) (o : Option X) → length names ≡ length values → has_name names name ≡ true
     → first_in names values name ≡ option_or (first_in names values name) o
 kept_or [] values name o e there = cc
 kept_or (x ∷ names) [] name o e there = absurd (omega (arith, e))
 kept_or {X} (x ∷ names) (v ∷ values) name o e there = by_test (bytes_eq name x) refl (λ h. kept_or names values name o (omega (arith, e)) h) where
   by_test : (b : Bool) → bytes_eq name x ≡ b
-      → (is_among names name ≡ true → first_in names values name ≡ option_or (first_in names values name) o)
+      → (has_name names name ≡ true → first_in names values name ≡ option_or (first_in names values name) o)
       → cond b (Some v) (first_in names values name) ≡ option_or (cond b (Some v) (first_in names values name)) o
   by_test true h more = refl
-  by_test false h more = more (ap (λ (b : Bool). b || is_among names name) (sym h) ∙ there)
+  by_test false h more = more (ap (λ (b : Bool). b || has_name names name) (sym h) ∙ there)
 
 -- a name that was there
-pub noted_old : {X : Type 0} (names : List (List ℕ)) (values : List X) (name other : List ℕ) (value : X) → length names ≡ length values → is_among names name ≡ true
+pub noted_old : {X : Type 0} (names : List (List ℕ)) (values : List X) (name other : List ℕ) (value : X) → length names ≡ length values → has_name names name ≡ true
     → first_in names values other ≡ option_or (first_in names values other) (cond (bytes_eq name other) (Some value) None)
 noted_old {X} names values name other value e there = by_test (bytes_eq name other) refl where
   by_test : (b : Bool) → bytes_eq name other ≡ b → first_in names values other ≡ option_or (first_in names values other) (cond b (Some value) None)
   by_test true h =
       let same : name ≡ other = (bytes_eq-Decides name other).0 h in
-      kept_or names values other (Some value) e (ap (is_among names) (sym same) ∙ there)
+      kept_or names values other (Some value) e (ap (has_name names) (sym same) ∙ there)
   by_test false h = sym (or_none (first_in names values other))
 
 -- ---- a table of the first of many
@@ -139,13 +140,13 @@ starts {X} now rest none n = ap (λ (o : Option X). option_or o (rest n)) (none 
 
 -- a value that is noted under a new name
 pub new_noted : {X : Type 0} (names grown : List (List ℕ)) (values more : List X) (name other : List ℕ) (value : X) → length names ≡ length values
-    → grown ≡ with_name names name → more ≡ values ++ value ∷ [] → false ≡ is_among names name
+    → grown ≡ with_name names name → more ≡ values ++ value ∷ [] → false ≡ has_name names name
     → first_in grown more other ≡ option_or (first_in names values other) (cond (bytes_eq name other) (Some value) None)
 new_noted {X} names grown values more name other value even e v free =
     ap₂ (λ (ns : List (List ℕ)) (vs : List X). first_in ns vs other) (e ∙ ap (λ (b : Bool). cond b names (names ++ name ∷ [])) (sym free)) v
     ∙ noted_new names values name other value even
 
 -- a value that is not noted, since the name has one
-pub old_noted : {X : Type 0} (names : List (List ℕ)) (values : List X) (name other : List ℕ) (value : X) → length names ≡ length values → true ≡ is_among names name
+pub old_noted : {X : Type 0} (names : List (List ℕ)) (values : List X) (name other : List ℕ) (value : X) → length names ≡ length values → true ≡ has_name names name
     → first_in names values other ≡ option_or (first_in names values other) (cond (bytes_eq name other) (Some value) None)
 old_noted names values name other value even there = noted_old names values name other value even (sym there)

@@ -3,9 +3,9 @@ use Rattle.std.proofs.Common.{◌≡◌, ◌<◌, ◌≤◌, ◌+◌, ◌∷◌,
 use Rattle.std.specs.Prelude.{bytes_eq}
 use Rattle.std.specs.List.{list_any}
 use Rattle.std.proofs.lemmas.List.{drop_all, drop_more}
-use Rattle.text_lines.specs.Names.{is_among, with_name}
-use Rattle.flatten.proofs.NameLists.{name_eq-sym}
-use Rattle.flatten.proofs.NetTurns.{or_none, with_front}
+use Rattle.vrt_model.specs.Lists.{has_name}
+use Rattle.names.specs.Names.{with_name}
+use Rattle.names.proofs.NameLaws.{bytes_eq-sym, or_none, with_front}
 use Rattle.flatten.specs.Tables.{is_kept}
 use Rattle.vrt_model.specs.declared.rules.KeeperRule.{KeeperRule}
 
@@ -17,22 +17,22 @@ or_swap false false = refl
 
 -- a keeper of the cell more
 pub keeper_added : (names new : List (List ℕ)) (name device other cell of got : List ℕ) → new ≡ with_name names name → name ≡ device → got ≡ of → true ≡ bytes_eq got cell
-    → is_among new other ≡ (is_among names other || (bytes_eq of cell && bytes_eq device other))
+    → has_name new other ≡ (has_name names other || (bytes_eq of cell && bytes_eq device other))
 keeper_added names new name device other cell of got e is same mine =
-    ap (λ (ns : List (List ℕ)). is_among ns other) (e ∙ ap (with_name names) is) ∙ with_front names device other
-    ∙ or_swap (bytes_eq other device) (is_among names other)
-    ∙ ap₂ (λ (b c : Bool). is_among names other || (b && c)) (mine ∙ ap (λ (n : List ℕ). bytes_eq n cell) same) (name_eq-sym other device)
+    ap (λ (ns : List (List ℕ)). has_name ns other) (e ∙ ap (with_name names) is) ∙ with_front names device other
+    ∙ or_swap (bytes_eq other device) (has_name names other)
+    ∙ ap₂ (λ (b c : Bool). has_name names other || (b && c)) (mine ∙ ap (λ (n : List ℕ). bytes_eq n cell) same) (bytes_eq-sym other device)
 
 -- one rule more
 pub kept_on : (cell : List ℕ) (rules : List KeeperRule) (i : ℕ) (rule : KeeperRule) (old new : List (List ℕ)) → i < length rules → rule ≡ get_or rules i rule
-    → ((n : List ℕ) → is_among new n ≡ (is_among old n || (bytes_eq rule.cell cell && bytes_eq rule.device n)))
-    → ((n : List ℕ) → (is_among old n || is_kept (drop i rules) cell n) ≡ is_kept rules cell n)
-    → (n : List ℕ) → (is_among new n || is_kept (drop (i + 1) rules) cell n) ≡ is_kept rules cell n
+    → ((n : List ℕ) → has_name new n ≡ (has_name old n || (bytes_eq rule.cell cell && bytes_eq rule.device n)))
+    → ((n : List ℕ) → (has_name old n || is_kept (drop i rules) cell n) ≡ is_kept rules cell n)
+    → (n : List ℕ) → (has_name new n || is_kept (drop (i + 1) rules) cell n) ≡ is_kept rules cell n
 kept_on cell rules i rule old new lt here e so_far n =
     ap (λ (b : Bool). b || is_kept (drop (i + 1) rules) cell n) (e n)
-    ∙ turn (is_among old n) (bytes_eq rule.cell cell && bytes_eq rule.device n) (is_kept (drop (i + 1) rules) cell n)
-    ∙ ap (λ (r : KeeperRule). is_among old n || is_kept (r ∷ drop (i + 1) rules) cell n) here
-    ∙ ap (λ (rs : List KeeperRule). is_among old n || is_kept rs cell n) (sym (drop_more rules i rule lt))
+    ∙ turn (has_name old n) (bytes_eq rule.cell cell && bytes_eq rule.device n) (is_kept (drop (i + 1) rules) cell n)
+    ∙ ap (λ (r : KeeperRule). has_name old n || is_kept (r ∷ drop (i + 1) rules) cell n) here
+    ∙ ap (λ (rs : List KeeperRule). has_name old n || is_kept rs cell n) (sym (drop_more rules i rule lt))
     ∙ so_far n where
       turn : (p q r : Bool) → ((p || q) || r) ≡ (p || (q || r))
       turn true q r = refl
@@ -40,7 +40,7 @@ kept_on cell rules i rule old new lt here e so_far n =
 
 -- no rule is left
 pub kept_all : (cell : List ℕ) (rules : List KeeperRule) (i : ℕ) (now : List (List ℕ)) → length rules ≤ i
-    → ((n : List ℕ) → (is_among now n || is_kept (drop i rules) cell n) ≡ is_kept rules cell n)
-    → (n : List ℕ) → is_among now n ≡ is_kept rules cell n
+    → ((n : List ℕ) → (has_name now n || is_kept (drop i rules) cell n) ≡ is_kept rules cell n)
+    → (n : List ℕ) → has_name now n ≡ is_kept rules cell n
 kept_all cell rules i now past so_far n =
-    sym (or_none (is_among now n)) ∙ sym (ap (λ (rs : List KeeperRule). is_among now n || is_kept rs cell n) (drop_all i rules past)) ∙ so_far n
+    sym (or_none (has_name now n)) ∙ sym (ap (λ (rs : List KeeperRule). has_name now n || is_kept rs cell n) (drop_all i rules past)) ∙ so_far n

@@ -4,18 +4,18 @@ use Rattle.std.specs.Prelude.{bytes_eq}
 use Rattle.std.specs.List.{list_any}
 use Rattle.std.proofs.lemmas.List.Folds.{list_any-append}
 use Rattle.std.proofs.lemmas.Slice.Eq.{bytes_eq-Decides}
-use Rattle.text_lines.specs.Names.{is_among}
-use Rattle.flatten.proofs.NameLists.{among_filter, filter_same, filter_twice, name_eq-sym}
+use Rattle.vrt_model.specs.Lists.{distinct, has_name}
+use Rattle.names.proofs.FilterLaws.{has_name_filter, filter_same, filter_twice}
+use Rattle.names.proofs.NameLaws.{bytes_eq-sym}
 use Rattle.flatten.specs.NetTables.{card_nets, nets_named}
 use Rattle.flatten.specs.Sizes.{last_count}
-use Rattle.vrt_model.specs.Lists.{distinct}
 use Rattle.vrt_model.specs.declared.design.DeviceCard.{DeviceCard}
 
 -- some card names a net
-pub any_named : (cards : List DeviceCard) (name : List ℕ) → list_any (λ (card : DeviceCard). is_among (card_nets card) name) cards ≡ is_among (nets_named cards) name
+pub any_named : (cards : List DeviceCard) (name : List ℕ) → list_any (λ (card : DeviceCard). has_name (card_nets card) name) cards ≡ has_name (nets_named cards) name
 any_named [] name = refl
 any_named (card ∷ cards) name =
-    ap (λ (b : Bool). is_among (card_nets card) name || b) (any_named cards name) ∙ sym (list_any-append (bytes_eq name) (card_nets card) (nets_named cards))
+    ap (λ (b : Bool). has_name (card_nets card) name || b) (any_named cards name) ∙ sym (list_any-append (bytes_eq name) (card_nets card) (nets_named cards))
 
 abbrev other_than : List ℕ → List ℕ → Bool
 other_than x y = not (bytes_eq x y)
@@ -55,27 +55,27 @@ other_length true b x z ys e = ap (λ (c : Bool). length (front (not c) z (filte
 
 -- of those that pass a test, each there once, one name is taken away, if it is there
 less_one : (p : List ℕ → Bool) (xs : List (List ℕ)) (x : List ℕ)
-    → length (filter (other_than x) (filter p (distinct xs))) + one_if (p x && is_among xs x) ≡ length (filter p (distinct xs))
+    → length (filter (other_than x) (filter p (distinct xs))) + one_if (p x && has_name xs x) ≡ length (filter p (distinct xs))
 less_one p [] x = ap (λ (b : Bool). 0 + one_if b) (and_none (p x))
 less_one p (z ∷ xs) x =
-    ap (λ (ys : List (List ℕ)). length (filter (other_than x) (front (p z) z ys)) + one_if (p x && (bytes_eq x z || is_among xs x))) twice
+    ap (λ (ys : List (List ℕ)). length (filter (other_than x) (front (p z) z ys)) + one_if (p x && (bytes_eq x z || has_name xs x))) twice
     ∙ by_tests (p z) (bytes_eq x z) refl refl (less_one (λ y. other_than z y && p y) xs x)
     ∙ sym (ap (λ (ys : List (List ℕ)). length (front (p z) z ys)) twice) where
       twice : filter p (filter (other_than z) (distinct xs)) ≡ filter (λ y. other_than z y && p y) (distinct xs)
       twice = filter_twice p (other_than z) (distinct xs)
 
       by_tests : (a b : Bool) → p z ≡ a → bytes_eq x z ≡ b
-          → length (filter (other_than x) (filter (λ y. other_than z y && p y) (distinct xs))) + one_if ((other_than z x && p x) && is_among xs x)
+          → length (filter (other_than x) (filter (λ y. other_than z y && p y) (distinct xs))) + one_if ((other_than z x && p x) && has_name xs x)
           ≡ length (filter (λ y. other_than z y && p y) (distinct xs))
-          → length (filter (other_than x) (front a z (filter (λ y. other_than z y && p y) (distinct xs)))) + one_if (p x && (bytes_eq x z || is_among xs x))
+          → length (filter (other_than x) (front a z (filter (λ y. other_than z y && p y) (distinct xs)))) + one_if (p x && (bytes_eq x z || has_name xs x))
           ≡ length (front a z (filter (λ y. other_than z y && p y) (distinct xs)))
       by_tests a b pa e more =
           let ys = filter (λ y. other_than z y && p y) (distinct xs) in
           let n = length (filter (other_than x) ys) in
-          ap (λ (m : ℕ). m + one_if (p x && (bytes_eq x z || is_among xs x))) (other_length a b x z ys e)
-          ∙ ap (λ (c : Bool). cond (a && not b) (suc n) n + one_if (p x && (c || is_among xs x))) e
-          ∙ one_less a b (p x) (is_among xs x) n (length ys) (λ h. ap p ((bytes_eq-Decides x z).0 (e ∙ h)) ∙ pa)
-          (sym (ap (λ (c : Bool). n + one_if ((not c && p x) && is_among xs x)) (name_eq-sym z x ∙ e)) ∙ more)
+          ap (λ (m : ℕ). m + one_if (p x && (bytes_eq x z || has_name xs x))) (other_length a b x z ys e)
+          ∙ ap (λ (c : Bool). cond (a && not b) (suc n) n + one_if (p x && (c || has_name xs x))) e
+          ∙ one_less a b (p x) (has_name xs x) n (length ys) (λ h. ap p ((bytes_eq-Decides x z).0 (e ∙ h)) ∙ pa)
+          (sym (ap (λ (c : Bool). n + one_if ((not c && p x) && has_name xs x)) (bytes_eq-sym z x ∙ e)) ∙ more)
           ∙ sym (front_length a z ys)
 
 filter_true : (ys : List (List ℕ)) → filter (λ y. true) ys ≡ ys
@@ -91,24 +91,17 @@ pub counts_are : (test : List ℕ → Bool) (xs : List (List ℕ)) → length (d
 counts_are test [] = refl
 counts_are test (x ∷ xs) = by_test (test x) refl (counts_are test xs) where
   by_test : (b : Bool) → test x ≡ b → length (distinct (filter test xs)) ≡ last_count test xs
-      → length (distinct (front b x (filter test xs))) ≡ one_if (b && not (is_among xs x)) + last_count test xs
+      → length (distinct (front b x (filter test xs))) ≡ one_if (b && not (has_name xs x)) + last_count test xs
   by_test false h e = omega (arith, e)
   by_test true h e =
       let F = filter test xs in
       let m = length (filter (other_than x) (distinct F)) in
-      let less : m + one_if (is_among F x) ≡ length (distinct F) =
-      sym (ap (λ (ys : List (List ℕ)). length (filter (other_than x) ys) + one_if (is_among F x)) (filter_true (distinct F)))
+      let less : m + one_if (has_name F x) ≡ length (distinct F) =
+      sym (ap (λ (ys : List (List ℕ)). length (filter (other_than x) ys) + one_if (has_name F x)) (filter_true (distinct F)))
       ∙ less_one (λ y. true) F x ∙ ap (λ (ys : List (List ℕ)). length ys) (filter_true (distinct F)) in
-      let there : is_among F x ≡ is_among xs x = among_filter test xs x ∙ ap (λ (b : Bool). b && is_among xs x) h in
-      one_more (is_among xs x) m (last_count test xs) (sym (ap (λ (b : Bool). m + one_if b) there) ∙ less ∙ e)
+      let there : has_name F x ≡ has_name xs x = has_name_filter test xs x ∙ ap (λ (b : Bool). b && has_name xs x) h in
+      one_more (has_name xs x) m (last_count test xs) (sym (ap (λ (b : Bool). m + one_if b) there) ∙ less ∙ e)
 
 -- the three nets of a card
 pub three_more : (a b c l x y z : ℕ) → a ≡ x → b ≡ y → c ≡ z → a + b + c + l ≡ x + (y + (z + l))
 three_more a b c l x y z d e f = omega (arith, d, e, f)
-
--- one card more
-pub card_counted : (test : List ℕ → Bool) (card : DeviceCard) (behind all left : List DeviceCard) (old more new total : ℕ)
-    → left ≡ card ∷ behind → more + last_count test (nets_named behind) ≡ last_count test (card_nets card ++ nets_named behind)
-    → old + last_count test (nets_named left) ≡ total → new ≡ old + more → new + last_count test (nets_named behind) ≡ total
-card_counted test card behind all left old more new total is e so_far sum =
-    let f = ap (λ (cards : List DeviceCard). last_count test (nets_named cards)) is in omega (arith, f, e, so_far, sum)

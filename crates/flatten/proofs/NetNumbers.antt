@@ -4,13 +4,15 @@ use Rattle.std.specs.Prelude.{bytes_eq, slice_get, is_none, option_map, unwrap_o
 use Rattle.std.specs.List.{position}
 use Rattle.std.specs.Option.{option_or}
 use Rattle.std.proofs.lemmas.List.Quantifiers.{position-Some}
-use Rattle.text_lines.specs.Names.{is_among}
+use Rattle.vrt_model.specs.Lists.{At, has_name}
 use Rattle.flatten.proofs.CellNets.{IsLeaf, all_apart, all_names, among_globals, cell, global_names, is_mine, is_plain, mine_is, named, named_is, own_names, owns_are, plain_in, port_names, shared_names}
-use Rattle.flatten.proofs.NameLists.{among_at, among_filter, among_once, apart_left, apart_right, at_left, at_right, place_is, place_none}
+use Rattle.names.proofs.PlaceLaws.{among_at, place_is, place_none}
+use Rattle.names.proofs.FilterLaws.{has_name_filter}
+use Rattle.names.proofs.NameLaws.{once_has_same}
+use Rattle.flatten.proofs.NameLists.{apart_left, apart_right, at_left, at_right}
 use Rattle.flatten.specs.NetTables.{Supplies, nets_named, number_in, place_in}
 use Rattle.vrt_model.specs.CellRules.{supply_of}
 use Rattle.vrt_model.specs.Comparison.{port_nets_from}
-use Rattle.vrt_model.specs.Lists.{At}
 use Rattle.vrt_model.specs.Unrolled.{Place, Top, first_global, global_net, net_at, own_net, port_net, supply_net, top_place}
 use Rattle.vrt_model.specs.declared.design.Design.{Design}
 use Rattle.vrt_model.specs.declared.pairing.PortRole.{PortRole}
@@ -96,7 +98,7 @@ module _ (design : Design) (rules : Rules) (k : ℕ) (leaf : IsLeaf design k) (r
   placed : (n : ℕ) → At all n name → place_in all name ≡ 2 + n
   placed n e = ap (λ (o : Option ℕ). unwrap_or (option_map (λ (m : ℕ). 2 + m) o) 0) (place_is all n name (all_apart design rules k leaf) e)
 
-  at_port : supply_of rules name ≡ None → is_among ports name ≡ true → place_in all name ≡ net_of
+  at_port : supply_of rules name ≡ None → has_name ports name ≡ true → place_in all name ≡ net_of
   at_port plain among =
       let j = among_at ports name among in
       let n = port_number rules 2 ports j.0 name plain j.1 in
@@ -106,10 +108,10 @@ module _ (design : Design) (rules : Rules) (k : ℕ) (leaf : IsLeaf design k) (r
       let mine : At all n.0 name = at_left (shared_names design rules k leaf) O n.0 name (at_left P G n.0 name n.1) in
       placed n.0 mine ∙ sym (ap (λ (o : Option ℕ). unwrap_or (option_or o (global_net t name)) (own_net t (cell design rules k leaf) at name)) port)
 
-  no_port : is_among ports name ≡ false → port_net (cell design rules k leaf) at name ≡ None
+  no_port : has_name ports name ≡ false → port_net (cell design rules k leaf) at name ≡ None
   no_port e = ap (option_map (λ (n : ℕ). unwrap_or (slice_get (port_nets_from rules 2 ports) n) 0)) (place_none ports name e)
 
-  at_global : is_among ports name ≡ false → is_among G name ≡ true → place_in all name ≡ net_of
+  at_global : has_name ports name ≡ false → has_name G name ≡ true → place_in all name ≡ net_of
   at_global none among =
       let n = among_at G name among in
       let apart = apart_right P G (apart_left (shared_names design rules k leaf) O (all_apart design rules k leaf)) in
@@ -122,19 +124,19 @@ module _ (design : Design) (rules : Rules) (k : ℕ) (leaf : IsLeaf design k) (r
       placed (length P + n.0) mine ∙ same
       ∙ sym (ap₂ (λ (o p : Option ℕ). unwrap_or (option_or o p) (own_net t (cell design rules k leaf) at name)) (no_port none) shared)
 
-  at_own : supply_of rules name ≡ None → is_among ports name ≡ false → is_among G name ≡ false → place_in all name ≡ net_of
+  at_own : supply_of rules name ≡ None → has_name ports name ≡ false → has_name G name ≡ false → place_in all name ≡ net_of
   at_own plain none other =
-      let free : is_among design.globals name ≡ false =
-      tests (is_among design.globals name)
-      (sym (ap₂ (λ (b c : Bool). ((((is_among design.globals name && is_none (supply_of rules name)) && not b) && c) && is_among design.globals name)) none there)
-      ∙ sym (ap (λ (b : Bool). b && is_among design.globals name) (named_is design rules k leaf name)) ∙ sym (among_globals design rules k leaf name) ∙ other) in
+      let free : has_name design.globals name ≡ false =
+      tests (has_name design.globals name)
+      (sym (ap₂ (λ (b c : Bool). ((((has_name design.globals name && is_none (supply_of rules name)) && not b) && c) && has_name design.globals name)) none there)
+      ∙ sym (ap (λ (b : Bool). b && has_name design.globals name) (named_is design rules k leaf name)) ∙ sym (among_globals design rules k leaf name) ∙ other) in
       let mine : is_mine design rules k leaf name ≡ true =
       mine_is design rules k leaf name ∙ ap₂ (λ (b c : Bool). (plain_in design rules k leaf name && not b) && not c) none free
       ∙ ap (λ (o : Option Bool). (is_none o && true) && true) plain in
-      let among : is_among O name ≡ true =
-      ap (λ (names : List (List ℕ)). is_among names name) (owns_are design rules k leaf)
-      ∙ among_once (filter (is_mine design rules k leaf) (nets_named (cell design rules k leaf).devices)) name
-      (among_filter (is_mine design rules k leaf) (nets_named (cell design rules k leaf).devices) name ∙ ap₂ (λ (b c : Bool). b && c) mine there) in
+      let among : has_name O name ≡ true =
+      ap (λ (names : List (List ℕ)). has_name names name) (owns_are design rules k leaf)
+      ∙ once_has_same (filter (is_mine design rules k leaf) (nets_named (cell design rules k leaf).devices)) name
+      ∙ (has_name_filter (is_mine design rules k leaf) (nets_named (cell design rules k leaf).devices) name ∙ ap₂ (λ (b c : Bool). b && c) mine there) in
       let n = among_at O name among in
       let apart = apart_right (shared_names design rules k leaf) O (all_apart design rules k leaf) in
       let last : own_net t (cell design rules k leaf) at name ≡ (first_global t + length G) + n.0 =
@@ -150,14 +152,14 @@ module _ (design : Design) (rules : Rules) (k : ℕ) (leaf : IsLeaf design k) (r
         tests true e = let no : true ≡ false = ap (λ (o : Option Bool). ((is_none o && true) && true) && true) (sym plain) ∙ e in cc
 
   at_plain : supply_of rules name ≡ None → place_in all name ≡ net_of
-  at_plain plain = by_port (is_among ports name) refl where
-    by_global : (b : Bool) → is_among ports name ≡ false → is_among G name ≡ b → place_in all name ≡ net_of
+  at_plain plain = by_port (has_name ports name) refl where
+    by_global : (b : Bool) → has_name ports name ≡ false → has_name G name ≡ b → place_in all name ≡ net_of
     by_global true none e = at_global none e
     by_global false none e = at_own plain none e
 
-    by_port : (b : Bool) → is_among ports name ≡ b → place_in all name ≡ net_of
+    by_port : (b : Bool) → has_name ports name ≡ b → place_in all name ≡ net_of
     by_port true e = at_port plain e
-    by_port false e = by_global (is_among G name) e refl
+    by_port false e = by_global (has_name G name) e refl
 
   -- a name that a card has stands at its net
   pub number_is : number_in (supply_of rules) all name ≡ net_at t at name

@@ -4,9 +4,10 @@ use Rattle.std.specs.Prelude.{bytes_eq}
 use Rattle.std.proofs.lemmas.List.{drop_all, drop_more}
 use Rattle.std.proofs.lemmas.List.Folds.{list_any-append}
 use Rattle.std.proofs.lemmas.Slice.Eq.{bytes_eq-Decides}
-use Rattle.text_lines.proofs.NameLaws.{with_names-append}
-use Rattle.text_lines.specs.Names.{is_among, with_name, with_names}
-use Rattle.flatten.proofs.NameLists.{filter_same}
+use Rattle.names.proofs.NameLaws.{among_names, with_names-append}
+use Rattle.vrt_model.specs.Lists.{has_name}
+use Rattle.names.specs.Names.{with_name, with_names}
+use Rattle.names.proofs.FilterLaws.{filter_same}
 use Rattle.flatten.proofs.CellNets.{with_nets-append}
 use Rattle.flatten.specs.NetTables.{Supplies, card_nets, globals_named, nets_named, with_named, with_net, with_nets}
 use Rattle.vrt_model.specs.declared.design.DeviceCard.{DeviceCard}
@@ -35,64 +36,33 @@ names_on i cards card old new all lt here e so_far =
 
 -- one global net more
 pub named_on : (supply : Supplies) (named globals : List (List ℕ)) (i : ℕ) (name : List ℕ) (old new all : List (List ℕ)) → i < length globals → name ≡ get_or globals i name
-    → new ≡ with_named supply named old name → with_nets supply old (filter (is_among named) (drop i globals)) ≡ all → with_nets supply new (filter (is_among named) (drop (i + 1) globals)) ≡ all
+    → new ≡ with_named supply named old name → with_nets supply old (filter (has_name named) (drop i globals)) ≡ all → with_nets supply new (filter (has_name named) (drop (i + 1) globals)) ≡ all
 named_on supply named globals i name old new all lt here e so_far =
     let rest = drop (i + 1) globals in
-    ap (λ (names : List (List ℕ)). with_nets supply names (filter (is_among named) rest)) e
-    ∙ by_test (is_among named name)
-    ∙ ap (λ (n : List ℕ). with_nets supply old (filter (is_among named) (n ∷ rest))) here
-    ∙ ap (λ (ns : List (List ℕ)). with_nets supply old (filter (is_among named) ns)) (sym (drop_more globals i name lt))
+    ap (λ (names : List (List ℕ)). with_nets supply names (filter (has_name named) rest)) e
+    ∙ by_test (has_name named name)
+    ∙ ap (λ (n : List ℕ). with_nets supply old (filter (has_name named) (n ∷ rest))) here
+    ∙ ap (λ (ns : List (List ℕ)). with_nets supply old (filter (has_name named) ns)) (sym (drop_more globals i name lt))
     ∙ so_far where
-      by_test : (b : Bool) → with_nets supply (cond b (with_net supply old name) old) (filter (is_among named) (drop (i + 1) globals))
-          ≡ with_nets supply old (cond b (name ∷ filter (is_among named) (drop (i + 1) globals)) (filter (is_among named) (drop (i + 1) globals)))
+      by_test : (b : Bool) → with_nets supply (cond b (with_net supply old name) old) (filter (has_name named) (drop (i + 1) globals))
+          ≡ with_nets supply old (cond b (name ∷ filter (has_name named) (drop (i + 1) globals)) (filter (has_name named) (drop (i + 1) globals)))
       by_test true = refl
       by_test false = refl
 
-or_swap : (p q : Bool) → (p || (q || false)) ≡ (q || p)
-or_swap true true = refl
-or_swap true false = refl
-or_swap false true = refl
-or_swap false false = refl
-
-pub or_none : (p : Bool) → (p || false) ≡ p
-or_none true = refl
-or_none false = refl
-
--- a name more, at the end unless it is there, or in front
-pub with_front : (names : List (List ℕ)) (n name : List ℕ) → is_among (with_name names n) name ≡ is_among (n ∷ names) name
-with_front names n name = by_test (is_among names n) refl where
-  there : (b : Bool) → bytes_eq name n ≡ b → is_among names n ≡ true → is_among names name ≡ (b || is_among names name)
-  there true e h = ap (is_among names) ((bytes_eq-Decides name n).0 e) ∙ h
-  there false e h = refl
-
-  by_test : (b : Bool) → is_among names n ≡ b → is_among (cond b names (names ++ n ∷ [])) name ≡ (bytes_eq name n || is_among names name)
-  by_test true h = there (bytes_eq name n) refl h
-  by_test false h = list_any-append (bytes_eq name) names (n ∷ []) ∙ or_swap (is_among names name) (bytes_eq name n)
-
-among_names : (names xs : List (List ℕ)) (name : List ℕ) → is_among (with_names names xs) name ≡ (is_among names name || is_among xs name)
-among_names names [] name = sym (or_none (is_among names name))
-among_names names (x ∷ xs) name =
-    among_names (with_name names x) xs name ∙ ap (λ (b : Bool). b || is_among xs name) (with_front names x name)
-    ∙ turn (bytes_eq name x) (is_among names name) (is_among xs name) where
-      turn : (p q r : Bool) → ((p || q) || r) ≡ (q || (p || r))
-      turn true true r = refl
-      turn true false r = refl
-      turn false q r = refl
-
 -- no global net is left
 pub named_kept : (supply : Supplies) (i : ℕ) (named globals now old : List (List ℕ)) → length globals ≤ i
-    → with_nets supply now (filter (is_among named) (drop i globals)) ≡ with_nets supply old (filter (is_among named) globals)
-    → now ≡ with_nets supply old (filter (is_among named) globals)
+    → with_nets supply now (filter (has_name named) (drop i globals)) ≡ with_nets supply old (filter (has_name named) globals)
+    → now ≡ with_nets supply old (filter (has_name named) globals)
 named_kept supply i named globals now old past so_far =
-    sym (ap (λ (ns : List (List ℕ)). with_nets supply now (filter (is_among named) ns)) (drop_all i globals past)) ∙ so_far
+    sym (ap (λ (ns : List (List ℕ)). with_nets supply now (filter (has_name named) ns)) (drop_all i globals past)) ∙ so_far
 
 -- the global nets that cards name
 pub globals_kept : (supply : Supplies) (named globals old : List (List ℕ)) (cards : List DeviceCard) → named ≡ with_names [] (nets_named cards)
-    → with_nets supply old (filter (is_among named) globals) ≡ with_nets supply old (globals_named cards globals)
+    → with_nets supply old (filter (has_name named) globals) ≡ with_nets supply old (globals_named cards globals)
 globals_kept supply named globals old cards e =
     ap (with_nets supply old)
-    (filter_same (is_among named) (is_among (nets_named cards)) globals
-    (λ i y at. ap (λ (ns : List (List ℕ)). is_among ns y) e ∙ among_names [] (nets_named cards) y))
+    (filter_same (has_name named) (has_name (nets_named cards)) globals
+    (λ i y at. ap (λ (ns : List (List ℕ)). has_name ns y) e ∙ among_names [] (nets_named cards) y))
 
 -- no card is left
 pub cards_kept : (supply : Supplies) (i : ℕ) (cards : List DeviceCard) (now old : List (List ℕ)) → length cards ≤ i

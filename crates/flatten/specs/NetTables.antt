@@ -1,8 +1,9 @@
 -- The names of the nets of a cell without instances, and the nets, devices and circuit that are made of them.
 use Rattle.std.specs.Prelude.{◌≡◌, ℕ, ◌+◌, List, [], ◌∷◌, ◌++◌, map, filter, flat_map, Bool, true, false, cond, drop, length, Option, Some, None, option_map, unwrap_or, slice_get, if◌then◌else◌, position, bytes_eq}
-use Rattle.text_lines.specs.Names.{is_among, with_name}
+use Rattle.vrt_model.specs.Lists.{has_name}
+use Rattle.names.specs.Names.{with_name}
 use Rattle.flatten.specs.Tables.{kind_in, level_in, supply_in}
-use Rattle.flatten.specs.declared.names.NetTable.{NetTable}
+use Rattle.flatten.specs.declared.net_names.NetTable.{NetTable}
 use Rattle.flatten.specs.declared.rule_tables.RuleTables.{RuleTables}
 use Rattle.vrt_model.specs.FlatCircuit.{kind_by, net_id, plain_net, supply_flat}
 use Rattle.vrt_model.specs.declared.circuit.Circuit.{Circuit}
@@ -35,7 +36,7 @@ with_nets supply names (x ∷ xs) = with_nets supply (with_net supply names x) x
 
 -- the same, if the name is among others
 abbrev pub with_named : Supplies → List (List ℕ) → List (List ℕ) → List ℕ → List (List ℕ)
-with_named supply named names name = if is_among named name then with_net supply names name else names
+with_named supply named names name = if has_name named name then with_net supply names name else names
 
 -- the nets that a card names, in order, and those that cards name
 abbrev pub card_nets : DeviceCard → List (List ℕ)
@@ -46,7 +47,7 @@ nets_named cards = flat_map card_nets cards
 
 -- those of some names that cards name
 abbrev pub globals_named : List DeviceCard → List (List ℕ) → List (List ℕ)
-globals_named cards globals = filter (is_among (nets_named cards)) globals
+globals_named cards globals = filter (has_name (nets_named cards)) globals
 
 -- the ports; then the global nets that a card names; then the other nets in the order of first mention
 abbrev pub port_table : Supplies → Cell → List (List ℕ)
@@ -103,7 +104,7 @@ device_in tables names card =
       left = net_id (net card.drain);
       right = net_id (net card.source);
       level = level_in tables card.name card.model;
-      keeper = is_among tables.devices.keepers card.name;
+      keeper = has_name tables.devices.keepers card.name;
     }
 
 -- a circuit of nets and devices alone

@@ -2,7 +2,7 @@
 use Rattle.std.specs.Prelude.{◌≡◌, ℕ, List, [], Bool, false, Option, Some, None, option_map, unwrap_or, find, cond, ◌&&◌, bytes_eq, codes}
 use Rattle.std.specs.List.{list_any}
 use Rattle.std.specs.Option.{option_or}
-use Rattle.text_lines.specs.Names.{is_among}
+use Rattle.vrt_model.specs.Lists.{has_name}
 use Rattle.flatten.specs.Firsts.{IsFresh, value_in}
 use Rattle.flatten.specs.declared.firsts.FirstValues.{FirstValues}
 use Rattle.flatten.specs.declared.rule_tables.Declared.{Declared}
@@ -64,7 +64,7 @@ pub record AreModels (design : Design) (rules : Rules) (table : ModelTable) : Ty
 
 pub record AreOwn (rules : Rules) (cell : List ℕ) (table : DeviceTable) : Type 0 where
   pub strengths_are : (device : List ℕ) → value_in table.strengths device ≡ declared_level rules.strengths cell device
-  pub keepers_are : (device : List ℕ) → is_among table.keepers device ≡ is_kept rules.keepers cell device
+  pub keepers_are : (device : List ℕ) → has_name table.keepers device ≡ is_kept rules.keepers cell device
 
 pub record AreTables (design : Design) (rules : Rules) (cell : List ℕ) (table : RuleTables) : Type 0 where
   pub supplies_are : (name : List ℕ) → value_in table.supplies name ≡ declared_supply rules.supplies name

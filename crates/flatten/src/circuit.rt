@@ -11,7 +11,7 @@ ghost use Rattle.vrt_model.specs.Inputs.{AreRules, IsDesign};
 use crate::cells::cell_of;
 use crate::devices::devices;
 use crate::faults::FlatFault;
-use crate::names::NetTable;
+use crate::net_names::NetTable;
 use crate::nets::nets;
 use crate::rule_tables::RuleTables;
 use crate::structures::test;

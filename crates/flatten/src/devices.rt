@@ -7,10 +7,10 @@ ghost use Rattle.flatten.specs.Tables.{kind_in};
 ghost use Rattle.vrt_model.specs.declared.design.DeviceCard.{DeviceCard as CardValue};
 
 use crate::lists::append;
-use crate::names::net;
+use crate::net_names::net;
 use crate::rule_tables::{ModelTable, RuleTables, kind, level};
+use names::Names;
 use std::alloc::Global;
-use text_lines::Names;
 use vrt_model::{Device, DeviceCard, Kind, NoMemory, Seq, Text};
 
 /// Whether the model of a card has no kind.

@@ -5,8 +5,8 @@ ghost use Rattle.std.specs.Option.{option_copied, option_or};
 ghost use Rattle.flatten.specs.Firsts.{IsEven, IsFresh, value_in};
 
 use crate::lists::append;
+use names::Names;
 use std::alloc::Global;
-use text_lines::Names;
 use vrt_model::{NoMemory, Seq};
 
 /// For each name the value that was noted first under it. A name is found by its hash, in a time that does not grow with

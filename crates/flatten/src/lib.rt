@@ -7,7 +7,7 @@ mod devices;
 mod faults;
 mod firsts;
 mod lists;
-mod names;
+mod net_names;
 mod nets;
 mod rule_tables;
 mod sizes_of;

@@ -10,7 +10,7 @@ ghost use Rattle.vrt_model.specs.declared.rules.SupplyRule.{SupplyRule as RuleVa
 
 use crate::firsts::FirstValues;
 use crate::lists::append;
-use crate::names::NetTable;
+use crate::net_names::NetTable;
 use crate::rule_tables::supply;
 use std::alloc::Global;
 use vrt_model::{FlatNet, NetKind, NoMemory, PortRole, Rules, Seq, SupplyRule, Text};

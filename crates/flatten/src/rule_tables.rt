@@ -2,13 +2,13 @@
 
 ghost use Rattle.std.specs.Prelude.{◌≡◌, [], ℕ, List, Some, None, OnOk, cond, ◌&&◌, ◌||◌, bytes_eq};
 ghost use Rattle.std.specs.Option.{option_or};
-ghost use Rattle.text_lines.specs.Names.{is_among};
+ghost use Rattle.vrt_model.specs.Lists.{has_name};
 ghost use Rattle.flatten.specs.Firsts.{IsEven, IsFresh, value_in};
 ghost use Rattle.flatten.specs.Tables.{AreFreshModels, AreFreshOwn, AreFreshTables, AreModels, AreOwn, card_kind, declared_device, declared_level, declared_supply, is_kept, kind_in, level_in, supply_in};
 
 use crate::firsts::FirstValues;
+use names::Names;
 use std::alloc::Global;
-use text_lines::Names;
 use vrt_model::{
     Design, DeviceRule, KeeperRule, Kind, ModelCard, NoMemory, Rules, StrengthRule, SupplyRule,
 };
@@ -134,7 +134,7 @@ fn note_strengths(
 
 /// Adds the device of a `keeper` rule, if it is of this cell.
 fn add_keeper(names: &mut Names, cell: &[u8], rule: &KeeperRule) -> Result<(), NoMemory>
-    ensures { OnOk result ((other : List ℕ) → is_among names.new other ≡ (is_among names.old other || (bytes_eq rule.now.cell cell.now && bytes_eq rule.now.device other))) }
+    ensures { OnOk result ((other : List ℕ) → has_name names.new other ≡ (has_name names.old other || (bytes_eq rule.now.cell cell.now && bytes_eq rule.now.device other))) }
 {
     if rule.cell.as_bytes() == cell {
         names.number(rule.device.as_bytes())?;
@@ -145,7 +145,7 @@ fn add_keeper(names: &mut Names, cell: &[u8], rule: &KeeperRule) -> Result<(), N
 /// Adds the keepers of a cell, to no names.
 fn add_keepers(names: &mut Names, cell: &[u8], rules: &[KeeperRule]) -> Result<(), NoMemory>
     requires { names.old ≡ [] }
-    ensures { OnOk result ((device : List ℕ) → is_among names.new device ≡ is_kept rules.now cell.now device) }
+    ensures { OnOk result ((device : List ℕ) → has_name names.new device ≡ is_kept rules.now cell.now device) }
 {
     for rule in rules {
         add_keeper(names, cell, rule)?;

@@ -3,7 +3,7 @@
 ghost use Rattle.std.specs.Prelude.{◌≡◌, ◌≤◌, ◌<◌, ◌+◌, ◌++◌, ◌&&◌, ◌||◌, [], bytes_eq, cond, filter, find, length, not};
 ghost use Rattle.std.specs.List.{list_any};
 ghost use Rattle.std.specs.Option.{option_copied};
-ghost use Rattle.text_lines.specs.Names.{is_among};
+ghost use Rattle.vrt_model.specs.Lists.{has_name};
 ghost use Rattle.flatten.specs.NetTables.{card_nets, nets_named};
 ghost use Rattle.flatten.specs.Sizes.{AreSizes, is_inner_name, is_net_name, is_shared, last_count};
 ghost use Rattle.vrt_model.specs.CellRules.{supply_of};
@@ -57,7 +57,7 @@ fn is_net(rules: &Rules, name: &[u8]) -> bool
 
 /// Whether a name is among others.
 fn has_name(names: &[Text], name: &Text) -> bool
-    ensures { result ≡ is_among names.now name.now }
+    ensures { result ≡ has_name names.now name.now }
 {
     names
         .iter()
@@ -73,21 +73,21 @@ fn is_same(name: &Text, other: &Text) -> bool
 
 /// Whether a card names a net.
 fn is_of_card(card: &DeviceCard, name: &Text) -> bool
-    ensures { result ≡ is_among (card_nets card.now) name.now }
+    ensures { result ≡ has_name (card_nets card.now) name.now }
 {
     is_same(name, &card.drain) || (is_same(name, &card.gate) || is_same(name, &card.source))
 }
 
 /// Whether some card names a net.
 fn some_card(cards: &[DeviceCard], name: &Text) -> bool
-    ensures { result ≡ list_any (λ (card : CardValue). is_among (card_nets card) name.now) cards.now }
+    ensures { result ≡ list_any (λ (card : CardValue). has_name (card_nets card) name.now) cards.now }
 {
     cards.iter().any(|card| is_of_card(card, name))
 }
 
 /// Whether a card of some names a net.
 fn is_named(cards: &[DeviceCard], name: &Text) -> bool
-    ensures { result ≡ is_among (nets_named cards.now) name.now }
+    ensures { result ≡ has_name (nets_named cards.now) name.now }
 {
     some_card(cards, name)
 }
@@ -111,7 +111,7 @@ fn ports_of(rules: &Rules, cell: &Cell) -> usize
 
 /// Whether a name is a net of the cell that is no port.
 fn is_inner(rules: &Rules, cell: &Cell, name: &Text) -> bool
-    ensures { result ≡ (is_net_name rules.now name.now && not (is_among cell.now.ports name.now)) }
+    ensures { result ≡ (is_net_name rules.now name.now && not (has_name cell.now.ports name.now)) }
 {
     is_net(rules, name.as_bytes()) && !has_name(cell.ports.as_slice(), name)
 }
@@ -149,7 +149,7 @@ fn is_own_net(design: &Design, rules: &Rules, cell: &Cell, name: &Text) -> bool
 
 /// Whether a name comes again: as the next, or in the cards behind.
 fn is_next(name: &Text, next: &Text, behind: &[DeviceCard]) -> bool
-    ensures { result ≡ (bytes_eq name.now next.now || is_among (nets_named behind.now) name.now) }
+    ensures { result ≡ (bytes_eq name.now next.now || has_name (nets_named behind.now) name.now) }
 {
     is_same(name, next) || is_named(behind, name)
 }
@@ -170,7 +170,7 @@ fn own_source(
     card: &DeviceCard,
     behind: &[DeviceCard],
 ) -> usize
-    ensures value { result ≡ cond (is_inner_name design.now rules.now cell.now card.now.source && not (is_among (nets_named behind.now) card.now.source)) 1 0 }
+    ensures value { result ≡ cond (is_inner_name design.now rules.now cell.now card.now.source && not (has_name (nets_named behind.now) card.now.source)) 1 0 }
     ensures small { result ≤ 1 }
 {
     counted(
@@ -187,7 +187,7 @@ fn own_gate(
     card: &DeviceCard,
     behind: &[DeviceCard],
 ) -> usize
-    ensures value { result ≡ cond (is_inner_name design.now rules.now cell.now card.now.gate && not (bytes_eq card.now.gate card.now.source || is_among (nets_named behind.now) card.now.gate)) 1 0 }
+    ensures value { result ≡ cond (is_inner_name design.now rules.now cell.now card.now.gate && not (bytes_eq card.now.gate card.now.source || has_name (nets_named behind.now) card.now.gate)) 1 0 }
     ensures small { result ≤ 1 }
 {
     counted(
@@ -198,7 +198,7 @@ fn own_gate(
 
 /// Whether the drain of a card comes again.
 fn drain_again(card: &DeviceCard, behind: &[DeviceCard]) -> bool
-    ensures { result ≡ (bytes_eq card.now.drain card.now.gate || (bytes_eq card.now.drain card.now.source || is_among (nets_named behind.now) card.now.drain)) }
+    ensures { result ≡ (bytes_eq card.now.drain card.now.gate || (bytes_eq card.now.drain card.now.source || has_name (nets_named behind.now) card.now.drain)) }
 {
     is_same(&card.drain, &card.gate) || is_next(&card.drain, &card.source, behind)
 }
@@ -211,7 +211,7 @@ fn own_drain(
     card: &DeviceCard,
     behind: &[DeviceCard],
 ) -> usize
-    ensures value { result ≡ cond (is_inner_name design.now rules.now cell.now card.now.drain && not (bytes_eq card.now.drain card.now.gate || (bytes_eq card.now.drain card.now.source || is_among (nets_named behind.now) card.now.drain))) 1 0 }
+    ensures value { result ≡ cond (is_inner_name design.now rules.now cell.now card.now.drain && not (bytes_eq card.now.drain card.now.gate || (bytes_eq card.now.drain card.now.source || has_name (nets_named behind.now) card.now.drain))) 1 0 }
     ensures small { result ≤ 1 }
 {
     counted(

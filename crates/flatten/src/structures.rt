@@ -12,8 +12,8 @@ use crate::devices::without_kind;
 use crate::faults::FlatFault;
 use crate::rule_tables::ModelTable;
 use crate::tables::CellTables;
+use names::Names;
 use std::alloc::Global;
-use text_lines::Names;
 use vrt_model::{Design, DeviceCard, Rules, Text};
 
 /// How many nets there are: the two supplies, and those of the names.

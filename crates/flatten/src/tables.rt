@@ -3,7 +3,7 @@
 ghost use Rattle.std.specs.Prelude.{◌≡◌, OnOk};
 ghost use Rattle.flatten.specs.CellTables.{AreCellTables, AreFreshCellTables, AreNamed};
 
-use crate::names::NetTable;
+use crate::net_names::NetTable;
 use crate::rule_tables::{RuleTables, note_supplies};
 use std::alloc::Global;
 use vrt_model::{Cell, Design, NoMemory, Rules};

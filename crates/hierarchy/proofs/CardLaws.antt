@@ -13,7 +13,7 @@ use Rattle.vrt_model.specs.Unrolled.{cell_named}
 use Rattle.vrt_model.specs.declared.design.Cell.{Cell}
 use Rattle.vrt_model.specs.declared.design.Design.{Design}
 use Rattle.vrt_model.specs.declared.design.InstanceCard.{InstanceCard}
-use Rattle.hierarchy.proofs.NameLaws.{any_placed, placed_within, position_same}
+use Rattle.names.proofs.PlaceLaws.{any_placed, placed_within, position_same}
 use Rattle.hierarchy.specs.Cards.{IsCardFault, card_fault}
 use Rattle.hierarchy.specs.Tables.{AreNames}
 use Rattle.hierarchy.specs.declared.faults.HierFault.{HierFault}
@@ -108,15 +108,6 @@ few_nets design card is e =
     let at = among_flat_map (λ (c : Cell). c.instances) design.cells card (found_among (λ i. not (is_good_card design i)) (flat_map (λ (c : Cell). c.instances) design.cells) card e) in
     let cell : IsCell at.0 = all_among IsCell design.cells at.0 is.cells at.1 in
     all_among (λ (i : InstanceCard). length i.nets < 4294967296) at.0.instances card cell.nets at.2
-
--- and a cell has few ports
-pub few_ports : (design : Design) (n : ℕ) → IsDesign design → length (cell_at design n).ports ≤ 4096
-few_ports design n is = by_place (slice_get design.cells n) refl where
-  by_place : (o : Option Cell) → slice_get design.cells n ≡ o → length (cell_at design n).ports ≤ 4096
-  by_place None e = subst (λ (o : Option Cell). length (unwrap_or o (record { line = 0; name = []; ports = []; devices = []; instances = [] })).ports ≤ 4096) (sym e) (omega arith)
-  by_place (Some cell) e =
-      subst (λ (o : Option Cell). length (unwrap_or o (record { line = 0; name = []; ports = []; devices = []; instances = [] })).ports ≤ 4096) (sym e)
-      (all_among IsCell design.cells cell is.cells (n, e)).port_limit
 
 pub fault_told : (design : Design) (card : InstanceCard) (f : HierFault) → bad_card design ≡ Some card → (f ≡ NoMemory) ⊎ (f ≡ card_fault design card) → (f ≡ NoMemory) ⊎ IsCardFault design f
 fault_told design card f e (inl h) = inl h

@@ -7,9 +7,10 @@ use Rattle.std.proofs.lemmas.List.{get_or-set_other, get_or-set_same, length-set
 use Rattle.std.proofs.lemmas.List.Folds.{list_any-append}
 use Rattle.std.proofs.lemmas.List.Quantifiers.{position-Some}
 use Rattle.std.proofs.lemmas.Slice.Eq.{bytes_eq-Decides}
-use Rattle.text_lines.specs.Names.{is_among, with_name}
+use Rattle.vrt_model.specs.Lists.{has_name}
+use Rattle.names.specs.Names.{with_name}
 use Rattle.vrt_model.specs.declared.rules.HoldRule.{HoldRule}
-use Rattle.hierarchy.proofs.NameLaws.{bytes_eq-sym, with_front}
+use Rattle.names.proofs.NameLaws.{bytes_eq-sym, or_swap, with_front}
 use Rattle.hierarchy.specs.Held.{AreHeld, HasHeld, is_numbered}
 
 abbrev no_set : List (List ℕ)
@@ -19,7 +20,7 @@ count_none : (count : ℕ) → length (replicate count no_set) ≡ count
 count_none zero = refl
 count_none (suc count) = ap suc (count_none count)
 
-none_at : (count n : ℕ) (net : List ℕ) → is_among (get_or (replicate count []) n []) net ≡ false
+none_at : (count n : ℕ) (net : List ℕ) → has_name (get_or (replicate count []) n []) net ≡ false
 none_at zero n net = refl
 none_at (suc count) zero net = refl
 none_at (suc count) (suc n) net = none_at count n net
@@ -28,18 +29,12 @@ none_at (suc count) (suc n) net = none_at count n net
 pub none_held : (cells : List (List ℕ)) (sets : List (List (List ℕ))) → sets ≡ replicate (length cells) [] → AreHeld cells [] sets
 none_held cells sets e = record {
   count = ap length e ∙ count_none (length cells);
-  each = λ n net lt. ap (λ (ss : List (List (List ℕ))). is_among (get_or ss n []) net) e ∙ none_at (length cells) n net;
+  each = λ n net lt. ap (λ (ss : List (List (List ℕ))). has_name (get_or ss n []) net) e ∙ none_at (length cells) n net;
 }
 
 or_false : (p : Bool) → p ≡ (p || (false || false))
 or_false true = refl
 or_false false = refl
-
-or_turn : (p q : Bool) → (p || q) ≡ (q || (p || false))
-or_turn true true = refl
-or_turn true false = refl
-or_turn false true = refl
-or_turn false false = refl
 
 -- one rule more
 pub one_held : (cells : List (List ℕ)) (rules : List HoldRule) (rule : HoldRule) (sets sets' : List (List (List ℕ))) → AreHeld cells rules sets → HasHeld cells rule sets sets' → AreHeld cells (rules ++ rule ∷ []) sets'
@@ -58,18 +53,18 @@ one_held cells rules rule sets sets' are has = by_place (position (bytes_eq rule
       ∙ ap (λ o. list_any (λ (r : HoldRule). is_numbered cells n r.cell && bytes_eq r.net net) rules || ((Test o n && bytes_eq rule.net net) || false)) e
 
   at_place : (k n : ℕ) (net : List ℕ) (t : Bool) → (k == n) ≡ t → n < length sets
-      → is_among (get_or (set sets k (with_name (get_or sets k []) rule.net)) n []) net
+      → has_name (get_or (set sets k (with_name (get_or sets k []) rule.net)) n []) net
       ≡ (list_any (λ (r : HoldRule). is_numbered cells n r.cell && bytes_eq r.net net) rules || ((t && bytes_eq rule.net net) || false))
   at_place k n net true e lt =
       let same : k ≡ n = grind (arith, nat_tests) in
-      ap (λ j. is_among (get_or (set sets j (with_name (get_or sets j []) rule.net)) n []) net) same
-      ∙ ap (λ ns. is_among ns net) (get_or-set_same sets n (with_name (get_or sets n []) rule.net) [] lt)
+      ap (λ j. has_name (get_or (set sets j (with_name (get_or sets j []) rule.net)) n []) net) same
+      ∙ ap (λ ns. has_name ns net) (get_or-set_same sets n (with_name (get_or sets n []) rule.net) [] lt)
       ∙ with_front (get_or sets n []) rule.net net
       ∙ ap₂ (λ p q. p || q) (bytes_eq-sym net rule.net) (are.each n net lt)
-      ∙ or_turn (bytes_eq rule.net net) (list_any (λ (r : HoldRule). is_numbered cells n r.cell && bytes_eq r.net net) rules)
+      ∙ sym (or_swap (list_any (λ (r : HoldRule). is_numbered cells n r.cell && bytes_eq r.net net) rules) (bytes_eq rule.net net))
   at_place k n net false e lt =
       let other : n ≢ k = grind (arith, nat_tests) in
-      ap (λ ns. is_among ns net) (get_or-set_other sets k n (with_name (get_or sets k []) rule.net) [] other) ∙ are.each n net lt
+      ap (λ ns. has_name ns net) (get_or-set_other sets k n (with_name (get_or sets k []) rule.net) [] other) ∙ are.each n net lt
       ∙ or_false (list_any (λ (r : HoldRule). is_numbered cells n r.cell && bytes_eq r.net net) rules)
 
   by_place : (o : Option ℕ) → position (bytes_eq rule.cell) cells ≡ o → AreHeld cells (rules ++ rule ∷ []) sets'
@@ -78,7 +73,7 @@ one_held cells rules rule sets sets' are has = by_place (position (bytes_eq rule
       record {
         count = ap length same ∙ are.count;
         each = λ n net lt.
-            ap (λ (ss : List (List (List ℕ))). is_among (get_or ss n []) net) same ∙ are.each n net (omega (arith, lt, ap length same))
+            ap (λ (ss : List (List (List ℕ))). has_name (get_or ss n []) net) same ∙ are.each n net (omega (arith, lt, ap length same))
             ∙ or_false (list_any (λ (r : HoldRule). is_numbered cells n r.cell && bytes_eq r.net net) rules) ∙ sym (more n net None e);
       }
   by_place (Some k) e =
@@ -87,7 +82,7 @@ one_held cells rules rule sets sets' are has = by_place (position (bytes_eq rule
       record {
         count = size ∙ are.count;
         each = λ n net lt.
-            ap (λ (ss : List (List (List ℕ))). is_among (get_or ss n []) net) same
+            ap (λ (ss : List (List (List ℕ))). has_name (get_or ss n []) net) same
             ∙ at_place k n net (k == n) refl (omega (arith, lt, size)) ∙ sym (more n net (Some k) e);
       }
 
@@ -128,7 +123,7 @@ same_any p q same [] = refl
 same_any p q same (x ∷ xs) = ap₂ (λ a b. a || b) (same x) (same_any p q same xs)
 
 pub held_in : (cells : List (List ℕ)) (rules : List HoldRule) (sets : List (List (List ℕ))) (n : ℕ) (cell net : List ℕ) → AreHeld cells rules sets → position (bytes_eq cell) cells ≡ Some n → n < length sets
-    → is_among (get_or sets n []) net ≡ list_any (λ (r : HoldRule). bytes_eq r.cell cell && bytes_eq r.net net) rules
+    → has_name (get_or sets n []) net ≡ list_any (λ (r : HoldRule). bytes_eq r.cell cell && bytes_eq r.net net) rules
 held_in cells rules sets n cell net are e lt =
     are.each n net lt
     ∙ same_any (λ (r : HoldRule). is_numbered cells n r.cell && bytes_eq r.net net) (λ (r : HoldRule). bytes_eq r.cell cell && bytes_eq r.net net)

@@ -4,7 +4,6 @@ pub mod HeldLaws
 pub mod ListedLaws
 pub mod LookupLaws
 pub mod MissingLaws
-pub mod NameLaws
 pub mod NestedLaws
 pub mod OrderLaws
 pub mod SetLaws

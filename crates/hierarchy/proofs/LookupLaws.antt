@@ -1,10 +1,11 @@
 -- Names looked up in the tables of a netlist.
 use Rattle.std.proofs.Common.{◌≡◌, ◌∷◌, ◌++◌, [], ℕ, zero, suc, ◌<◌, ◌&&◌, List, Bool, true, false, not, cond, map, length, get_or, Option, Some, None, option_map, refl, sym, ap, ap₂, ◌∙◌, arith}
+use Rattle.std.proofs.lemmas.List.{map-append}
 use Rattle.std.specs.Prelude.{bytes_eq, filter_map, find, position, slice_get, unwrap_or, is_some}
 use Rattle.std.specs.List.{cons_option}
 use Rattle.std.specs.Option.{option_or}
 use Rattle.std.proofs.lemmas.List.Folds.{list_any-append}
-use Rattle.text_lines.specs.Names.{distinct, is_among}
+use Rattle.vrt_model.specs.Lists.{distinct, has_name}
 use Rattle.vrt_model.specs.Comparison.{cell_at}
 use Rattle.vrt_model.specs.Expressions.{names_in as expression_names}
 use Rattle.vrt_model.specs.Hierarchy.{Asked, Missing, asked, first_missing, has_hold, is_cell, is_device, is_instance, is_net, is_port, missing_name, missing_names, named_cell}
@@ -29,7 +30,8 @@ use Rattle.vrt_model.specs.declared.rules.StrengthRule.{StrengthRule}
 use Rattle.hierarchy.proofs.CardLaws.{by_name, number_is, place_is}
 use Rattle.hierarchy.proofs.HeldLaws.{held_in}
 use Rattle.hierarchy.proofs.MissingLaws.{first_is}
-use Rattle.hierarchy.proofs.NameLaws.{any_named, any_placed, once_has_same, placed_within}
+use Rattle.names.proofs.PlaceLaws.{any_named, any_placed, placed_within}
+use Rattle.names.proofs.NameLaws.{once_has_same}
 use Rattle.hierarchy.specs.Names.{AreTables, earliest, is_in, missing_assumed, missing_by, missing_cell, missing_held, names_missing, port_asked, sets_of}
 use Rattle.hierarchy.specs.Sets.{names_in}
 use Rattle.hierarchy.specs.declared.lookups.Tables.{Tables}
@@ -66,10 +68,6 @@ same_found : {X : Type 0} (f g : X → Option Missing) → ((x : X) → f x ≡ 
 same_found f g same [] = refl
 same_found f g same (x ∷ xs) = ap₂ cons_option (same x) (same_found f g same xs)
 
-map_append : {X Y : Type 0} (f : X → Y) (xs ys : List X) → map f (xs ++ ys) ≡ map f xs ++ map f ys
-map_append f [] ys = refl
-map_append f (x ∷ xs) ys = ap (λ rest. f x ∷ rest) (map_append f xs ys)
-
 find_first : (xs ys : List Asked) → find (λ (a : Asked). not a.there) (xs ++ ys) ≡ option_or (find (λ (a : Asked). not a.there) xs) (find (λ (a : Asked). not a.there) ys)
 find_first [] ys = refl
 find_first (x ∷ xs) ys = by_test (not x.there) (find_first xs ys) where
@@ -87,7 +85,7 @@ told_or line (Some a) b = refl
 -- the first of two lists of names
 two_asked : {X : Type 0} (line : ℕ) (f : X → Asked) (xs ys : List X) → first_missing line (map f (xs ++ ys)) ≡ option_or (first_missing line (map f xs)) (first_missing line (map f ys))
 two_asked line f xs ys =
-    ap (first_missing line) (map_append f xs ys)
+    ap (first_missing line) (map-append f xs ys)
     ∙ ap (option_map (λ (a : Asked). let one : Missing = record { line = line; name = a.name } in one)) (find_first (map f xs) (map f ys))
     ∙ told_or line (find (λ (a : Asked). not a.there) (map f xs)) (find (λ (a : Asked). not a.there) (map f ys))
 
@@ -101,40 +99,40 @@ right_asked line f xs ys found e g = g ∙ ap (λ o. option_or o (first_missing 
 -- ---- what is there
 
 module _ (design : Design) (rules : Rules) (tables : Tables) (are : AreTables design rules tables) where
-  cell_same : (name : List ℕ) → is_among tables.cells name ≡ is_cell design name
-  cell_same name = ap (λ (ns : List (List ℕ)). is_among ns name) are.cells ∙ any_named (λ (c : Cell). c.name) name design.cells
+  cell_same : (name : List ℕ) → has_name tables.cells name ≡ is_cell design name
+  cell_same name = ap (λ (ns : List (List ℕ)). has_name ns name) are.cells ∙ any_named (λ (c : Cell). c.name) name design.cells
 
   -- a name in the set of a cell that is there
   in_set : (of : Cell → List (List ℕ)) (sets : List (List (List ℕ))) (cell name : List ℕ) → sets ≡ map of design.cells → is_cell design cell ≡ true
-      → is_in tables.cells sets cell name ≡ is_among (of (named_cell design cell)) name
+      → is_in tables.cells sets cell name ≡ has_name (of (named_cell design cell)) name
   in_set of sets cell name same there = by_place (position (by_name cell) design.cells) refl (sym (any_placed (by_name cell) design.cells) ∙ there) where
     At : Option ℕ → Bool
-    At o = elim o [ None ↦ false | Some k ↦ is_among (unwrap_or (slice_get sets k) []) name ]
+    At o = elim o [ None ↦ false | Some k ↦ has_name (unwrap_or (slice_get sets k) []) name ]
 
-    by_place : (o : Option ℕ) → position (by_name cell) design.cells ≡ o → is_some o ≡ true → is_in tables.cells sets cell name ≡ is_among (of (named_cell design cell)) name
+    by_place : (o : Option ℕ) → position (by_name cell) design.cells ≡ o → is_some o ≡ true → is_in tables.cells sets cell name ≡ has_name (of (named_cell design cell)) name
     by_place None e some = cc
     by_place (Some n) e some =
         ap At (place_is design tables.cells cell are.cells ∙ e)
-        ∙ ap (λ (ss : List (List (List ℕ))). is_among (unwrap_or (slice_get ss n) []) name) same
-        ∙ ap (λ (ns : List (List ℕ)). is_among ns name) (set_at of design.cells n (placed_within (by_name cell) design.cells n e))
-        ∙ ap (λ k. is_among (of (cell_at design k)) name) (number_is design tables.cells cell n are.cells (place_is design tables.cells cell are.cells ∙ e))
+        ∙ ap (λ (ss : List (List (List ℕ))). has_name (unwrap_or (slice_get ss n) []) name) same
+        ∙ ap (λ (ns : List (List ℕ)). has_name ns name) (set_at of design.cells n (placed_within (by_name cell) design.cells n e))
+        ∙ ap (λ k. has_name (of (cell_at design k)) name) (number_is design tables.cells cell n are.cells (place_is design tables.cells cell are.cells ∙ e))
 
-  kind_same : (kind : Kind) (cell name : List ℕ) → is_cell design cell ≡ true → is_in tables.cells (sets_of kind tables) cell name ≡ is_among (names_in kind (named_cell design cell)) name
+  kind_same : (kind : Kind) (cell name : List ℕ) → is_cell design cell ≡ true → is_in tables.cells (sets_of kind tables) cell name ≡ has_name (names_in kind (named_cell design cell)) name
   kind_same kind cell name there =
       in_set (λ (c : Cell). distinct (names_in kind c)) (sets_of kind tables) cell name (are.sets kind) there ∙ once_has_same (names_in kind (named_cell design cell)) name
 
   held_same : (cell name : List ℕ) → is_cell design cell ≡ true → is_in tables.cells tables.held.items cell name ≡ has_hold rules cell name
   held_same cell name there = by_place (position (bytes_eq cell) tables.cells) refl (sym (any_placed (bytes_eq cell) tables.cells) ∙ cell_same cell ∙ there) where
     At : Option ℕ → Bool
-    At o = elim o [ None ↦ false | Some k ↦ is_among (unwrap_or (slice_get tables.held.items k) []) name ]
+    At o = elim o [ None ↦ false | Some k ↦ has_name (unwrap_or (slice_get tables.held.items k) []) name ]
 
     by_place : (o : Option ℕ) → position (bytes_eq cell) tables.cells ≡ o → is_some o ≡ true → is_in tables.cells tables.held.items cell name ≡ has_hold rules cell name
     by_place None e some = cc
     by_place (Some n) e some =
-        ap At e ∙ ap (λ (ns : List (List ℕ)). is_among ns name) (read_at tables.held.items n)
+        ap At e ∙ ap (λ (ns : List (List ℕ)). has_name ns name) (read_at tables.held.items n)
         ∙ held_in tables.cells rules.holds tables.held.items n cell name are.held e (let lt = placed_within (bytes_eq cell) tables.cells n e in omega (arith, lt, are.held.count))
 
-  by_cell : (line : ℕ) (cell : List ℕ) (xs ys : List Asked) → (is_cell design cell ≡ true → xs ≡ ys) → first_missing line (asked cell (is_among tables.cells cell) ∷ xs) ≡ first_missing line (asked cell (is_cell design cell) ∷ ys)
+  by_cell : (line : ℕ) (cell : List ℕ) (xs ys : List Asked) → (is_cell design cell ≡ true → xs ≡ ys) → first_missing line (asked cell (has_name tables.cells cell) ∷ xs) ≡ first_missing line (asked cell (is_cell design cell) ∷ ys)
   by_cell line cell xs ys same = ap (λ b. first_missing line (asked cell b ∷ xs)) (cell_same cell) ∙ rest_asked line cell (is_cell design cell) xs ys same
 
   cell_line : (line : ℕ) (cell : List ℕ) → missing_cell tables line cell ≡ first_missing line (asked cell (is_cell design cell) ∷ [])

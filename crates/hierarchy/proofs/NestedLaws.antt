@@ -3,21 +3,21 @@ use Rattle.std.proofs.Common.{◌≡◌, ◌<◌, ◌≤◌, ◌∷◌, inl, inr
 use Rattle.std.specs.Prelude.{◌⊎◌, bytes_eq, position, slice_get, unwrap_or}
 use Rattle.std.proofs.Math.Path.{fun_ext}
 use Rattle.std.proofs.lemmas.Bool.{cases_lt}
-use Rattle.std.proofs.lemmas.List.{length-map}
+use Rattle.std.proofs.lemmas.List.{get_or_past, length-map}
 use Rattle.nesting.specs.Depths.{AreInside, in_list}
 use Rattle.nesting.specs.First.{IsFirstFault, IsFirstItself}
 use Rattle.nesting.specs.declared.first.NestingFault.{NestingFault}
 use Rattle.nesting.specs.declared.first.NestingFault.TheVariants.{Depth as DepthFault}
 use Rattle.vrt_model.specs.Comparison.{cell_at}
 use Rattle.vrt_model.specs.Hierarchy.{cells_in}
-use Rattle.vrt_model.specs.Lists.{At, Among}
+use Rattle.vrt_model.specs.Lists.{Among, At}
 use Rattle.vrt_model.specs.Nesting.{IsRecursion}
 use Rattle.vrt_model.specs.Unrolled.{cell_named}
 use Rattle.vrt_model.specs.declared.design.Cell.{Cell}
 use Rattle.vrt_model.specs.declared.design.Design.{Design}
 use Rattle.vrt_model.specs.declared.design.InstanceCard.{InstanceCard}
 use Rattle.hierarchy.proofs.CardLaws.{by_name, place_is}
-use Rattle.hierarchy.proofs.NameLaws.{placed_within}
+use Rattle.names.proofs.PlaceLaws.{placed_within}
 use Rattle.hierarchy.specs.Nested.{AreInner, AreNested, IsNestingFault, numbers_in}
 use Rattle.hierarchy.specs.Tables.{AreNames}
 use Rattle.hierarchy.specs.declared.faults.HierFault.TheVariants.{Recursion, Depth, NoMemory}
@@ -58,11 +58,6 @@ numbered_card design [] i n e = cc
 numbered_card design (card ∷ is) zero n e = let same : cell_named design card.cell ≡ n = cc in (card, sym same)
 numbered_card design (card ∷ is) (suc i) n e = numbered_card design is i n e
 
-past_all : (xs : List (List ℕ)) (n : ℕ) → length xs ≤ n → get_or xs n [] ≡ []
-past_all [] n le = refl
-past_all (x ∷ xs) zero le = absurd (omega arith)
-past_all (x ∷ xs) (suc n) le = past_all xs n (omega arith)
-
 none_among : (i n : ℕ) → At [] i n → ⊥
 none_among i n e = cc
 
@@ -74,7 +69,7 @@ inside_is design all inner m n among = elim (cases_lt 0 (length design.cells)) [
       let lt : cell_named design from.0.cell < length design.cells = number_within design from.0.cell some in
       omega (arith, count_is design all inner, from.1, lt)
   | inr none ↦
-      let nothing : in_list all m ≡ [] = past_all all m (omega (arith, count_is design all inner)) in
+      let nothing : in_list all m ≡ [] = get_or_past all m [] (omega (arith, count_is design all inner)) in
       let here : Among [] n = subst (λ (xs : List ℕ). Among xs n) nothing among in
       absurd (none_among here.0 n here.1)
 ]

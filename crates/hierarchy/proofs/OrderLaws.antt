@@ -50,10 +50,6 @@ pub names_told : (design : Design) (rules : Rules) (depths : List ℕ) (f : Hier
 names_told design rules depths f has (inl e) = inl e
 names_told design rules depths f has (inr h) = inr (inr (has.cards, has.nested, h))
 
-pub name_told : (design : Design) (rules : Rules) (missing : Missing) (f : HierFault) → missing_name design rules ≡ Some missing → (f ≡ NoMemory) ⊎ (f ≡ name_fault missing) → (f ≡ NoMemory) ⊎ IsNameFault design rules f
-name_told design rules missing f e (inl h) = inl h
-name_told design rules missing f e (inr h) = inr (ap (option_map name_fault) e ∙ ap Some (sym h))
-
 pub ordered : (design : Design) (rules : Rules) (depths given order : List ℕ) → HasDepths design depths → missing_name design rules ≡ None → given ≡ depths → order ≡ flat_map (at_depth given) (numbers 1 32)
     → OrderGives design rules (Ok order)
 ordered design rules depths given order has names same e = (

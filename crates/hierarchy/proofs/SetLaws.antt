@@ -1,8 +1,8 @@
 -- Names that are added to a set, in groups.
 use Rattle.std.proofs.Common.{◌≡◌, ◌<◌, ◌≤◌, ◌+◌, ◌++◌, ℕ, List, map, flat_map, length, drop, get_or, ap, sym, ◌∙◌}
 use Rattle.std.proofs.lemmas.List.{drop_all, drop_more}
-use Rattle.text_lines.proofs.NameLaws.{with_names-append}
-use Rattle.text_lines.specs.Names.{with_names}
+use Rattle.names.proofs.NameLaws.{with_names-append}
+use Rattle.names.specs.Names.{with_names}
 
 -- nothing is left
 pub names_end : {X : Type 0} (name : X → List ℕ) (i : ℕ) (xs : List X) (names all : List (List ℕ)) → length xs ≤ i

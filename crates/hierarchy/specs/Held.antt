@@ -1,7 +1,8 @@
 -- The nets of each cell that a rule declares to keep their charge.
 use Rattle.std.specs.Prelude.{◌≡◌, ◌<◌, ℕ, List, [], Bool, false, ◌&&◌, ◌==◌, length, get_or, set, position, bytes_eq, None, Some}
 use Rattle.std.specs.List.{list_any}
-use Rattle.text_lines.specs.Names.{is_among, with_name}
+use Rattle.vrt_model.specs.Lists.{has_name}
+use Rattle.names.specs.Names.{with_name}
 use Rattle.vrt_model.specs.declared.rules.HoldRule.{HoldRule}
 
 -- whether a name is that of the cell of a number
@@ -17,4 +18,4 @@ pub record AreHeld (cells : List (List ℕ)) (rules : List HoldRule) (sets : Lis
   pub count : length sets ≡ length cells
   pub each :
       (n : ℕ) (net : List ℕ) → n < length sets
-      → is_among (get_or sets n []) net ≡ list_any (λ (r : HoldRule). is_numbered cells n r.cell && bytes_eq r.net net) rules
+      → has_name (get_or sets n []) net ≡ list_any (λ (r : HoldRule). is_numbered cells n r.cell && bytes_eq r.net net) rules

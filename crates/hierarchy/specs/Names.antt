@@ -1,6 +1,6 @@
 -- Names in the rules, looked up in tables.
 use Rattle.std.specs.Prelude.{◌≡◌, ℕ, List, [], ◌∷◌, ◌++◌, Bool, false, ◌&&◌, cond, nat_lt, map, filter_map, bytes_eq, position, slice_get, unwrap_or, Option, Some, None, option_map}
-use Rattle.text_lines.specs.Names.{distinct, is_among}
+use Rattle.vrt_model.specs.Lists.{distinct, has_name}
 use Rattle.vrt_model.specs.Expressions.{names_in as expression_names}
 use Rattle.vrt_model.specs.Hierarchy.{Asked, Missing, asked, first_missing}
 use Rattle.vrt_model.specs.declared.design.Cell.{Cell}
@@ -42,7 +42,7 @@ pub record AreTables (design : Design) (rules : Rules) (tables : Tables) : Type 
 
 -- whether a name is in the set of a cell
 abbrev pub is_in : List (List ℕ) → List (List (List ℕ)) → List ℕ → List ℕ → Bool
-is_in cells sets cell name = elim (position (bytes_eq cell) cells) [ None ↦ false | Some n ↦ is_among (unwrap_or (slice_get sets n) []) name ]
+is_in cells sets cell name = elim (position (bytes_eq cell) cells) [ None ↦ false | Some n ↦ has_name (unwrap_or (slice_get sets n) []) name ]
 
 -- whether a name is that of a net of a cell, and of one that keeps its charge
 abbrev pub is_held : Tables → List ℕ → List ℕ → Bool
@@ -52,22 +52,22 @@ is_held tables cell net = is_in tables.cells tables.nets cell net && is_in table
 
 -- of a cell
 abbrev pub missing_cell : Tables → ℕ → List ℕ → Option Missing
-missing_cell tables line cell = first_missing line (asked cell (is_among tables.cells cell) ∷ [])
+missing_cell tables line cell = first_missing line (asked cell (has_name tables.cells cell) ∷ [])
 
 -- of a cell and a name in it
 abbrev pub missing_by : Tables → Kind → ℕ → List ℕ → List ℕ → Option Missing
-missing_by tables kind line cell name = first_missing line (asked cell (is_among tables.cells cell) ∷ asked name (is_in tables.cells (sets_of kind tables) cell name) ∷ [])
+missing_by tables kind line cell name = first_missing line (asked cell (has_name tables.cells cell) ∷ asked name (is_in tables.cells (sets_of kind tables) cell name) ∷ [])
 
 -- of a cell and a net in it that keeps its charge
 abbrev pub missing_held : Tables → ℕ → List ℕ → List ℕ → Option Missing
-missing_held tables line cell net = first_missing line (asked cell (is_among tables.cells cell) ∷ asked net (is_held tables cell net) ∷ [])
+missing_held tables line cell net = first_missing line (asked cell (has_name tables.cells cell) ∷ asked net (is_held tables cell net) ∷ [])
 
 -- of a cell and the ports in an expression
 abbrev pub port_asked : Tables → List ℕ → List ℕ → Asked
 port_asked tables cell name = asked name (is_in tables.cells tables.ports cell name)
 
 abbrev pub missing_assumed : Tables → ℕ → List ℕ → Expr → Option Missing
-missing_assumed tables line cell e = first_missing line (asked cell (is_among tables.cells cell) ∷ map (port_asked tables cell) (expression_names e))
+missing_assumed tables line cell e = first_missing line (asked cell (has_name tables.cells cell) ∷ map (port_asked tables cell) (expression_names e))
 
 -- ---- the first of all lines
 

@@ -11,8 +11,8 @@ ghost use Rattle.hierarchy.specs.Cards.{CardsGive, card_fault};
 ghost use Rattle.hierarchy.specs.Tables.{AreNames};
 
 use crate::HierFault;
+use names::Names;
 use std::alloc::Global;
-use text_lines::Names;
 use vrt_model::{Cell, Design, InstanceCard, Text};
 
 /// How many ports a cell has, 0 where there is none.

@@ -1,11 +1,11 @@
 //! The nets of each cell that a rule declares to keep their charge.
 
 ghost use Rattle.std.specs.Prelude.{◌≡◌, [], get_or, length, replicate, set, IfOk, OnOk};
-ghost use Rattle.text_lines.specs.Names.{with_name};
+ghost use Rattle.names.specs.Names.{with_name};
 ghost use Rattle.hierarchy.specs.Held.{AreHeld, HasHeld};
 
+use names::Names;
 use std::alloc::Global;
-use text_lines::Names;
 use vrt_model::{HoldRule, NoMemory};
 
 /// So many empty sets.

@@ -11,7 +11,7 @@ mod lines;
 mod listing;
 mod lists;
 mod lookups;
-mod names;
+mod missing_names;
 mod nested;
 mod ordered;
 mod sets;
@@ -19,5 +19,5 @@ mod tables;
 
 pub use faults::HierFault;
 pub use lookups::MissingName;
-pub use names::missing_name;
+pub use missing_names::missing_name;
 pub use ordered::order;

@@ -9,8 +9,8 @@ ghost use Rattle.hierarchy.specs.Names.{AreTables, is_held, is_in, missing_assum
 use crate::held::held_nets;
 use crate::sets::{Kind, all_names};
 use crate::tables::cell_names;
+use names::Names;
 use std::alloc::Global;
-use text_lines::Names;
 use vrt_model::{Design, Expr, NoMemory, Rules, Seq};
 
 /// A name on a line of the rules that is not there.

@@ -10,9 +10,9 @@ ghost use Rattle.hierarchy.specs.Tables.{AreNames};
 
 use crate::HierFault;
 use crate::chain::chain_of;
+use names::Names;
 use nesting::{NestingFault, first_fault};
 use std::alloc::Global;
-use text_lines::Names;
 use vrt_model::{Cell, Design, NoMemory, Seq};
 
 /// The number of a name, 0 where it has none.

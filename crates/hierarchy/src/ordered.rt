@@ -9,7 +9,7 @@ use crate::HierFault;
 use crate::cards::check_cards;
 use crate::listing::by_depth;
 use crate::lookups::MissingName;
-use crate::names::missing_name;
+use crate::missing_names::missing_name;
 use crate::nested::{check_nesting, inner_cells};
 use crate::tables::cell_names;
 use nesting::whole_depths;

@@ -1,13 +1,14 @@
 //! The names of the things in each cell.
 
 ghost use Rattle.std.specs.Prelude.{◌≡◌, flat_map, map, IfOk, OnOk};
-ghost use Rattle.text_lines.specs.Names.{distinct, with_names};
+ghost use Rattle.vrt_model.specs.Lists.{distinct};
+ghost use Rattle.names.specs.Names.{with_names};
 ghost use Rattle.vrt_model.specs.declared.design.DeviceCard.{DeviceCard as DeviceValue};
 ghost use Rattle.vrt_model.specs.declared.design.InstanceCard.{InstanceCard as CardValue};
 ghost use Rattle.hierarchy.specs.Sets.{device_nets, names_in};
 
+use names::Names;
 use std::alloc::Global;
-use text_lines::Names;
 use vrt_model::{Cell, DeviceCard, InstanceCard, NoMemory, Seq};
 
 /// What has a name in a cell.

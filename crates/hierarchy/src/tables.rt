@@ -1,12 +1,12 @@
 //! What is looked up by name in a netlist.
 
 ghost use Rattle.std.specs.Prelude.{◌≡◌, map, IfOk};
-ghost use Rattle.text_lines.specs.Names.{distinct};
+ghost use Rattle.vrt_model.specs.Lists.{distinct};
 ghost use Rattle.vrt_model.specs.Inputs.{IsDesign};
 ghost use Rattle.hierarchy.specs.Tables.{AreNames};
 
+use names::Names;
 use std::alloc::Global;
-use text_lines::Names;
 use vrt_model::{Cell, Design, NoMemory};
 
 /// The names of cells, each once.

@@ -5,7 +5,7 @@ use Rattle.std.specs.List.{cons_option}
 use Rattle.std.proofs.Math.Bool.{or_assoc}
 use Rattle.std.proofs.lemmas.List.Elements.{filter-append, filter_map-append}
 use Rattle.std.proofs.lemmas.List.Folds.{list_any-append}
-use Rattle.text_lines.specs.Names.{is_among}
+use Rattle.vrt_model.specs.Lists.{has_name}
 use Rattle.vrt_model.specs.PairedPorts.{clocked_by_name}
 use Rattle.vrt_model.specs.declared.flat_model.FlatModel.{FlatModel}
 use Rattle.vrt_model.specs.declared.pairing.ClockedSignal.{ClockedSignal}
@@ -23,8 +23,8 @@ chosen list true x ys = append_assoc list (x ∷ []) ys
 chosen list false x ys = ap (λ l. l ++ ys) (append-nil list)
 
 -- names that are added, and more
-pub names_joined : (a b : List (List ℕ)) (name : List ℕ) (p q r : Bool) → q ≡ (p || is_among a name) → r ≡ (q || is_among b name) → r ≡ (p || is_among (a ++ b) name)
-names_joined a b name p q r e f = f ∙ ap (λ x. x || is_among b name) e ∙ or_assoc p (is_among a name) (is_among b name) ∙ ap (λ x. p || x) (sym (list_any-append (bytes_eq name) a b))
+pub names_joined : (a b : List (List ℕ)) (name : List ℕ) (p q r : Bool) → q ≡ (p || has_name a name) → r ≡ (q || has_name b name) → r ≡ (p || has_name (a ++ b) name)
+names_joined a b name p q r e f = f ∙ ap (λ x. x || has_name b name) e ∙ or_assoc p (has_name a name) (has_name b name) ∙ ap (λ x. p || x) (sym (list_any-append (bytes_eq name) a b))
 
 -- the clocks of signals without port, list by list
 without_port_joined : (flat : FlatModel) (rules : Rules) (test : ℕ → Bool) (xs ys : List ℕ)

@@ -5,11 +5,10 @@ use Rattle.std.specs.List.{list_any}
 use Rattle.std.specs.Option.{option_or}
 use Rattle.std.specs.Str.{str_to_ascii_lowercase}
 use mathlib.Core.Path.{fun_ext}
-use Rattle.text_lines.specs.Names.{is_among}
+use Rattle.vrt_model.specs.Lists.{has_name}
 use Rattle.vrt_model.specs.CellRules.{clock_of_port, supply_of}
 use Rattle.vrt_model.specs.Elements.{signal_name}
 use Rattle.vrt_model.specs.Expressions.{names_in}
-use Rattle.vrt_model.specs.Lists.{has_name}
 use Rattle.vrt_model.specs.PairedPorts.{interface, is_assumed, port_rule, signal_by, signal_of_port, signals_like}
 use Rattle.vrt_model.specs.declared.flat_model.FlatModel.{FlatModel}
 use Rattle.vrt_model.specs.declared.rules.AssumeRule.{AssumeRule}
@@ -71,7 +70,7 @@ pub lookups_are : (flat : FlatModel) (rules : Rules) (cell : List ℕ) (signals 
     → signals ≡ interface flat → supplies ≡ rules.supplies → clockports ≡ rules.clockports → ports ≡ rules.ports → assumes ≡ rules.assumes
     → IsTable (map (by_lower_name flat) signals) l.signals → IsTable (map supply_named supplies) l.supplies → IsTable (filter_map (clock_named cell) clockports) l.clocks
     → IsTable (filter_map (signal_ruled (signal_at flat) cell) ports) l.ruled
-    → ((m : List ℕ) → is_among l.assumed m ≡ list_any (λ (r : AssumeRule). bytes_eq r.cell cell && has_name (names_in r.expression) m) assumes) → AreLookups flat rules cell l
+    → ((m : List ℕ) → has_name l.assumed m ≡ list_any (λ (r : AssumeRule). bytes_eq r.cell cell && has_name (names_in r.expression) m) assumes) → AreLookups flat rules cell l
 lookups_are flat rules cell signals supplies clockports ports assumes l e s c p a by_low by_supply by_clock by_rule by_assume = record {
   signals = subst (λ (xs : List ℕ). IsTable (map (by_lower_name flat) xs) l.signals) e by_low;
   supplies = subst (λ (xs : List SupplyRule). IsTable (map supply_named xs) l.supplies) s by_supply;

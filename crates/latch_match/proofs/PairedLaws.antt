@@ -32,9 +32,6 @@ use Rattle.latch_match.proofs.TableLaws.{place_cons}
 
 -- ---- what is made of the ports
 
-pub interface_is : (flat : FlatModel) (inputs : NumberSet) → IsSetOf (flat.inputs ++ flat.clocks) inputs → interface_by flat (has_in inputs) ≡ interface flat
-interface_is flat inputs is = ap (λ (test : ℕ → Bool). interface_by flat test) (fun_ext is)
-
 pub facts_all : (flat : FlatModel) (rules : Rules) (cell : Cell) (l : Lookups) (name : List ℕ) (ports : List (List ℕ)) (facts : List PortFacts) → name ≡ cell.name → ports ≡ cell.ports → AreLookups flat rules name l
     → facts ≡ map (facts_in l) ports → facts ≡ all_facts flat rules cell
 facts_all flat rules cell l name ports facts n p are e =

@@ -9,37 +9,12 @@ use Rattle.std.proofs.lemmas.List.Elements.{filter_map-append}
 use Rattle.std.proofs.lemmas.Option.{get_or_from_slice_get, slice_get_within}
 use Rattle.std.proofs.lemmas.List.Folds.{list_any-append}
 use Rattle.std.proofs.lemmas.Slice.Eq.{bytes_eq-Decides}
-use Rattle.text_lines.specs.Names.{is_among, with_name}
+use Rattle.vrt_model.specs.Lists.{has_name}
+use Rattle.names.specs.Names.{with_name}
+use Rattle.names.proofs.NameLaws.{bytes_eq-sym, with_front}
 use Rattle.latch_match.specs.Looked.{Grows}
 use Rattle.latch_match.specs.Tables.{HasEntries, IsTable, Named, first_in, first_of, named, values_of}
 use Rattle.latch_match.specs.declared.table.Table.{Table}
-
-same_tests : (r s : Bool) → (r ≡ true → s ≡ true) → (s ≡ true → r ≡ true) → r ≡ s
-same_tests true true f g = refl
-same_tests true false f g = let h = f refl in cc
-same_tests false true f g = let h = g refl in cc
-same_tests false false f g = refl
-
-pub bytes_eq-sym : (a b : List ℕ) → bytes_eq a b ≡ bytes_eq b a
-bytes_eq-sym a b =
-    same_tests (bytes_eq a b) (bytes_eq b a) (λ e. (bytes_eq-Decides b a).1 (sym ((bytes_eq-Decides a b).0 e))) (λ e. (bytes_eq-Decides a b).1 (sym ((bytes_eq-Decides b a).0 e)))
-
-or_swap : (p q : Bool) → (p || (q || false)) ≡ (q || p)
-or_swap true true = refl
-or_swap true false = refl
-or_swap false true = refl
-or_swap false false = refl
-
--- one name more
-pub with_front : (names : List (List ℕ)) (n name : List ℕ) → is_among (with_name names n) name ≡ (bytes_eq name n || is_among names name)
-with_front names n name = by_test (is_among names n) refl where
-  there : (b : Bool) → bytes_eq name n ≡ b → is_among names n ≡ true → is_among names name ≡ (b || is_among names name)
-  there true e h = ap (is_among names) ((bytes_eq-Decides name n).0 e) ∙ h
-  there false e h = refl
-
-  by_test : (b : Bool) → is_among names n ≡ b → is_among (cond b names (names ++ n ∷ [])) name ≡ (bytes_eq name n || is_among names name)
-  by_test true h = there (bytes_eq name n) refl h
-  by_test false h = list_any-append (bytes_eq name) names (n ∷ []) ∙ or_swap (is_among names name) (bytes_eq name n)
 
 -- ---- places
 
@@ -86,7 +61,7 @@ beside_more {V} (m ∷ ns) (f ∷ fs) n v name e =
       by_test true l o = refl
       by_test false l o = refl
 
-beside_among : {V : Type 0} (ns : List (List ℕ)) (fs : List V) (name : List ℕ) → length fs ≡ length ns → is_some (beside ns fs name) ≡ is_among ns name
+beside_among : {V : Type 0} (ns : List (List ℕ)) (fs : List V) (name : List ℕ) → length fs ≡ length ns → is_some (beside ns fs name) ≡ has_name ns name
 beside_among [] fs name e = refl
 beside_among (n ∷ ns) [] name e = absurd (omega arith)
 beside_among {V} (n ∷ ns) (f ∷ fs) name e =
@@ -103,14 +78,14 @@ value_more {V} entries n v name = filter_map-append (λ (e : Named V). cond (byt
 
 -- a name has a value exactly where it is there
 pub has_value : {V : Type 0} (entries : List (Named V)) (names : List (List ℕ)) (firsts : List V) (seconds : List (List ℕ)) (name : List ℕ) → HasEntries entries names firsts seconds
-    → is_some (slice_get (values_of entries name) 0) ≡ is_among names name
+    → is_some (slice_get (values_of entries name) 0) ≡ has_name names name
 has_value entries names firsts seconds name t =
     ap is_some (sym (t.first name) ∙ beside_is names firsts name t.count) ∙ beside_among names firsts name t.count
 
 -- so too where the name is another that is the same
 same_value : {V : Type 0} (entries : List (Named V)) (names : List (List ℕ)) (firsts : List V) (seconds : List (List ℕ)) (n name : List ℕ) (b : Bool) → HasEntries entries names firsts seconds
-    → is_among names n ≡ b → bytes_eq n name ≡ true → is_some (slice_get (values_of entries name) 0) ≡ b
-same_value entries names firsts seconds n name b t h e = has_value entries names firsts seconds name t ∙ ap (is_among names) (sym ((bytes_eq-Decides n name).0 e)) ∙ h
+    → has_name names n ≡ b → bytes_eq n name ≡ true → is_some (slice_get (values_of entries name) 0) ≡ b
+same_value entries names firsts seconds n name b t h e = has_value entries names firsts seconds name t ∙ ap (has_name names) (sym ((bytes_eq-Decides n name).0 e)) ∙ h
 
 head_kept : {V : Type 0} (vs : List V) (b : Bool) (v : V) → (b ≡ true → is_some (slice_get vs 0) ≡ true) → slice_get vs 0 ≡ slice_get (vs ++ cons_option (cond b (Some v) None) []) 0
 head_kept (x ∷ vs) b v h = refl
@@ -126,7 +101,7 @@ second_kept [] true v h = let e = h refl in cc
 second_kept (x ∷ vs) true v h = two_there x v vs
 
 -- a value under a name that is there
-pub kept : {V : Type 0} (entries : List (Named V)) (names : List (List ℕ)) (firsts : List V) (seconds : List (List ℕ)) (n : List ℕ) (v : V) → is_among names n ≡ true → HasEntries entries names firsts seconds
+pub kept : {V : Type 0} (entries : List (Named V)) (names : List (List ℕ)) (firsts : List V) (seconds : List (List ℕ)) (n : List ℕ) (v : V) → has_name names n ≡ true → HasEntries entries names firsts seconds
     → HasEntries (entries ++ named n v ∷ []) names firsts (with_name seconds n)
 kept {V} entries names firsts seconds n v h t = record {
   count = t.count;
@@ -148,7 +123,7 @@ second_more [] true v h = refl
 second_more (x ∷ vs) true v h = let e = h refl in cc
 
 -- a value under a name that is not there
-pub added : {V : Type 0} (entries : List (Named V)) (names : List (List ℕ)) (firsts : List V) (seconds : List (List ℕ)) (n : List ℕ) (v : V) → is_among names n ≡ false → HasEntries entries names firsts seconds
+pub added : {V : Type 0} (entries : List (Named V)) (names : List (List ℕ)) (firsts : List V) (seconds : List (List ℕ)) (n : List ℕ) (v : V) → has_name names n ≡ false → HasEntries entries names firsts seconds
     → HasEntries (entries ++ named n v ∷ []) (with_name names n) (firsts ++ v ∷ []) seconds
 added {V} entries names firsts seconds n v h t =
     subst (λ (ns : List (List ℕ)). HasEntries (entries ++ named n v ∷ []) ns (firsts ++ v ∷ []) seconds) (ap (λ (b : Bool). cond b names (names ++ n ∷ [])) (sym h)) record {
@@ -235,7 +210,7 @@ first_rule test key value xs t name is = is.first name ∙ first_ruled test key 
 
 -- whether there is a second item
 pub second_item : {X : Type 0} (key : X → List ℕ) (xs : List X) (t : Table X) (name : List ℕ) → IsTable (map (λ x. named (key x) x) xs) t
-    → is_among t.seconds name ≡ nat_lt 1 (length (filter (λ x. bytes_eq (key x) name) xs))
+    → has_name t.seconds name ≡ nat_lt 1 (length (filter (λ x. bytes_eq (key x) name) xs))
 second_item {X} key xs t name is = is.second name ∙ ap (λ (vs : List X). nat_lt 1 (length vs)) (count_named key xs name)
 
 pub first_kept : {X : Type 0} (key : X → List ℕ) (xs : List X) (t : Table X) (name : List ℕ) → IsTable (map (λ x. named (key x) x) xs) t

@@ -2,7 +2,7 @@
 use Rattle.std.specs.Prelude.{◌≡◌, ℕ, Bool, false, cond, ◌++◌, ◌∷◌, [], List, map, filter_map, find, Option, Some, None, unwrap_or, is_some, bytes_eq, codes}
 use Rattle.std.specs.Option.{option_or}
 use Rattle.std.specs.Str.{str_to_ascii_lowercase}
-use Rattle.text_lines.specs.Names.{is_among}
+use Rattle.vrt_model.specs.Lists.{has_name}
 use Rattle.vrt_model.specs.Elements.{signal_name}
 use Rattle.vrt_model.specs.PairedPorts.{interface, is_assumed}
 use Rattle.vrt_model.specs.declared.flat_model.FlatModel.{FlatModel}
@@ -57,7 +57,7 @@ pub record AreLookups (flat : FlatModel) (rules : Rules) (cell : List ℕ) (l : 
   pub supplies : IsTable (map supply_named rules.supplies) l.supplies
   pub clocks : IsTable (filter_map (clock_named cell) rules.clockports) l.clocks
   pub ruled : IsTable (filter_map (signal_ruled (signal_at flat) cell) rules.ports) l.ruled
-  pub assumed : (port : List ℕ) → is_among l.assumed port ≡ is_assumed rules cell port
+  pub assumed : (port : List ℕ) → has_name l.assumed port ≡ is_assumed rules cell port
 
 -- what they say of a port
 abbrev pub facts_in : Lookups → List ℕ → PortFacts
@@ -66,6 +66,6 @@ facts_in l port = record {
   clock = first_in l.clocks port;
   is_ruled = is_some (first_in l.ruled port);
   signal = unwrap_or (first_in l.ruled port) (first_in l.signals port);
-  fits_again = is_among l.signals.seconds port;
-  is_assumed = is_among l.assumed port;
+  fits_again = has_name l.signals.seconds port;
+  is_assumed = has_name l.assumed port;
 }

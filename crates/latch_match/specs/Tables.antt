@@ -1,6 +1,6 @@
 -- Tables of values by name.
 use Rattle.std.specs.Prelude.{◌≡◌, ℕ, cond, nat_lt, List, length, filter_map, Option, Some, None, option_and_then, slice_get, position, bytes_eq}
-use Rattle.text_lines.specs.Names.{is_among}
+use Rattle.vrt_model.specs.Lists.{has_name}
 use Rattle.latch_match.specs.declared.table.Table.{Table}
 
 -- a value under a name
@@ -26,7 +26,7 @@ first_in table name = first_of table.names table.firsts name
 pub record HasEntries {V : Type 0} (entries : List (Named V)) (names : List (List ℕ)) (firsts : List V) (seconds : List (List ℕ)) : Type 0 where
   pub count : length firsts ≡ length names
   pub first : (name : List ℕ) → first_of names firsts name ≡ slice_get (values_of entries name) 0
-  pub second : (name : List ℕ) → is_among seconds name ≡ nat_lt 1 (length (values_of entries name))
+  pub second : (name : List ℕ) → has_name seconds name ≡ nat_lt 1 (length (values_of entries name))
 
 abbrev pub IsTable : {V : Type 0} → List (Named V) → Table V → Type 0
 IsTable entries table = HasEntries entries table.names table.firsts table.seconds

@@ -2,10 +2,9 @@
 
 ghost use Rattle.std.specs.Prelude.{◌≡◌, ◌++◌, ◌∷◌, ◌||◌, ◌&&◌, [], ℕ, List, map, filter_map, bytes_eq, OnOk};
 ghost use Rattle.std.specs.Str.{str_to_ascii_lowercase};
-ghost use Rattle.text_lines.specs.Names.{is_among};
+ghost use Rattle.vrt_model.specs.Lists.{has_name};
 ghost use Rattle.vrt_model.specs.Elements.{signal_name};
 ghost use Rattle.vrt_model.specs.Expressions.{names_in};
-ghost use Rattle.vrt_model.specs.Lists.{has_name};
 ghost use Rattle.vrt_model.specs.PairedPorts.{interface, is_assumed};
 ghost use Rattle.latch_match.specs.Looked.{AreEmpty, AreLookups, Grows, by_lower_name, by_name, clock_named, facts_in, signal_at, signal_ruled, supply_named};
 ghost use Rattle.latch_match.specs.Tables.{IsTable, Named, first_in};
@@ -13,10 +12,10 @@ ghost use Rattle.vrt_model.specs.declared.rules.AssumeRule.{AssumeRule as Assume
 ghost use Rattle.std.specs.List.{list_any};
 
 use crate::facts::PortFacts;
-use crate::names::{lowered_name, signal_name};
+use crate::lower_names::{lowered_name, signal_name};
 use crate::table::Table;
+use names::Names;
 use std::alloc::Global;
-use text_lines::Names;
 use vrt_model::{
     AssumeRule, ClockRef, ClockportRule, Expr, FlatModel, NoMemory, PortRule, Rules, SupplyRule,
     Text,
@@ -202,7 +201,7 @@ fn add_ruled(
 /// Adds the names of an expression.
 #[tactic(auto, using(crate::proofs::ListLaws::names_joined))]
 fn add_names(names: &mut Names, expression: &Expr) -> Result<(), NoMemory>
-    ensures { OnOk result ((m : List ℕ) → is_among names.new m ≡ (is_among names.old m || has_name (names_in expression.now) m)) }
+    ensures { OnOk result ((m : List ℕ) → has_name names.new m ≡ (has_name names.old m || has_name (names_in expression.now) m)) }
 {
     match expression {
         Expr::Port(name) => {
@@ -230,7 +229,7 @@ fn add_names(names: &mut Names, expression: &Expr) -> Result<(), NoMemory>
 
 /// Adds the names of an assumption, if it is for this cell.
 fn add_assumed(names: &mut Names, cell: &[u8], rule: &AssumeRule) -> Result<(), NoMemory>
-    ensures { OnOk result ((m : List ℕ) → is_among names.new m ≡ (is_among names.old m || (bytes_eq rule.now.cell cell.now && has_name (names_in rule.now.expression) m))) }
+    ensures { OnOk result ((m : List ℕ) → has_name names.new m ≡ (has_name names.old m || (bytes_eq rule.now.cell cell.now && has_name (names_in rule.now.expression) m))) }
 {
     if is_same(&rule.cell, cell) {
         add_names(names, &rule.expression)?;
@@ -242,7 +241,7 @@ fn add_assumed(names: &mut Names, cell: &[u8], rule: &AssumeRule) -> Result<(), 
 /// Adds the names that the assumptions of a cell name.
 fn add_all_assumed(names: &mut Names, cell: &[u8], rules: &[AssumeRule]) -> Result<(), NoMemory>
     requires { names.old ≡ [] }
-    ensures { OnOk result ((m : List ℕ) → is_among names.new m ≡ list_any (λ (r : AssumeValue). bytes_eq r.cell cell.now && has_name (names_in r.expression) m) rules.now) }
+    ensures { OnOk result ((m : List ℕ) → has_name names.new m ≡ list_any (λ (r : AssumeValue). bytes_eq r.cell cell.now && has_name (names_in r.expression) m) rules.now) }
 {
     for rule in rules {
         add_assumed(names, cell, rule)?;

@@ -9,7 +9,7 @@ ghost use Rattle.vrt_model.specs.declared.blif.Blif.{Blif as BlifValue};
 ghost use Rattle.vrt_model.specs.declared.blif.BlifModel.{BlifModel as ModelValue};
 ghost use Rattle.vrt_model.specs.declared.rules.PairRule.{PairRule as RuleValue};
 
-use crate::names::is_lowered;
+use crate::lower_names::is_lowered;
 use vrt_model::{Blif, BlifModel, Design, PairRule, Rules};
 
 /// Whether the name of a model in lower case is this one.

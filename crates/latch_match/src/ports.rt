@@ -12,7 +12,7 @@ ghost use Rattle.latch_match.specs.declared.faults.PairFault.TheVariants.{NoMemo
 
 use crate::facts::PortFacts;
 use crate::faults::PairFault;
-use crate::names::signal_name;
+use crate::lower_names::signal_name;
 use crate::numbers::NumberSet;
 use crate::signals::{Paired, add_some, paired_of};
 use std::alloc::Global;

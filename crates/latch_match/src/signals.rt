@@ -12,7 +12,7 @@ ghost use Rattle.latch_match.specs.Paired.{ArePaired, IsBlank, IsSetOf, carriers
 use crate::counts::{Counts, count_all};
 use crate::facts::PortFacts;
 use crate::lookups::{Lookups, facts_of};
-use crate::names::signal_name;
+use crate::lower_names::signal_name;
 use crate::numbers::NumberSet;
 use std::alloc::Global;
 use vrt_model::{Cell, ClockRef, ClockedSignal, FlatModel, NoMemory, Rules, Seq, Text};

@@ -1,11 +1,12 @@
 //! Tables of values by name.
 
 ghost use Rattle.std.specs.Prelude.{◌≡◌, ◌++◌, ◌∷◌, [], List, true, false, OnOk};
-ghost use Rattle.text_lines.specs.Names.{is_among, with_name};
+ghost use Rattle.vrt_model.specs.Lists.{has_name};
+ghost use Rattle.names.specs.Names.{with_name};
 ghost use Rattle.latch_match.specs.Tables.{HasEntries, IsTable, Named, first_in, named};
 
+use names::Names;
 use std::alloc::Global;
-use text_lines::Names;
 use vrt_model::{NoMemory, Seq};
 
 /// Values by name: under each name the first of its values, and whether there is a second. A name is found by its hash,
@@ -51,7 +52,7 @@ impl<V: Copy> Table<V> {
 
     /// Whether there is a second value under a name.
     pub(crate) fn has_second(&self, name: &[u8]) -> bool
-        ensures { result ≡ is_among self.now.seconds name.now }
+        ensures { result ≡ has_name self.now.seconds name.now }
     {
         self.seconds.contains(name)
     }

@@ -1,9 +1,9 @@
 -- Levels and sizes of lines are in their ranges.
 use Rattle.std.proofs.Common.{◌≡◌, ◌∷◌, ◌≤◌, ◌+◌, ◌-◌, ◌&&◌, ◌||◌, nat_le, not, [], ℕ, List, Bool, true, false, cond, map, Option, Some, None, option_map, codes, bytes_eq, refl, arith}
 use Rattle.std.specs.List.{list_all}
-use Rattle.std.proofs.lemmas.Bool.{leb-true}
+use Rattle.std.proofs.lemmas.Bool.{and_parts, leb-true}
 use Rattle.text_lines.specs.Bytes.{lowered}
-use Rattle.text_lines.specs.Names.{is_empty}
+use Rattle.vrt_model.specs.Lists.{is_empty}
 use Rattle.rules_lines.specs.Lines.{assume_entry, clock_entry, clocked_entry, clockport_entry, defaultclock_entry, device_by, device_entry, enter_entry, entry_by, entry_of, has_equals, hold_entry, keeper_entry, match_by, match_entry, observe_entry, pair_entry, phase_entry, port_entry, strength_entry, supply_entry}
 use Rattle.rules_lines.specs.Words.{bit_of, cut_first, kind_of, level_of, size_of}
 use Rattle.rules_lines.specs.declared.entry.Entry.{Entry}
@@ -24,16 +24,12 @@ abbrev pub Said : Option Entry → Type 0
 Said None = Unit {0}
 Said (Some entry) = Ranged entry
 
-and_both : (a b : Bool) → (a && b) ≡ true → (a ≡ true) × (b ≡ true)
-and_both true b e = (refl, e)
-and_both false b e = cc
-
 digit_range : (least greatest b : ℕ) → InRange least greatest (cond (nat_le (48 + least) b && nat_le b (48 + greatest)) (Some (b - 48)) None)
 digit_range least greatest b = by_test (nat_le (48 + least) b && nat_le b (48 + greatest)) refl where
   by_test : (t : Bool) → (nat_le (48 + least) b && nat_le b (48 + greatest)) ≡ t → InRange least greatest (cond t (Some (b - 48)) None)
   by_test false e = tt
   by_test true e =
-      let both = and_both (nat_le (48 + least) b) (nat_le b (48 + greatest)) e in
+      let both = and_parts (nat_le (48 + least) b) (nat_le b (48 + greatest)) e in
       let low : 48 + least ≤ b = leb-true (48 + least) b both.0 in
       let high : b ≤ 48 + greatest = leb-true b (48 + greatest) both.1 in
       (omega (arith, low), omega (arith, high))

@@ -2,7 +2,7 @@
 use Rattle.std.specs.Prelude.{ℕ, List, [], ◌∷◌, Bool, not, ◌==◌, ◌||◌, if◌then◌else◌, map, codes, bytes_eq, Option, Some, None, option_map}
 use Rattle.std.specs.List.{list_all, list_any}
 use Rattle.text_lines.specs.Bytes.{lowered}
-use Rattle.text_lines.specs.Names.{is_empty}
+use Rattle.vrt_model.specs.Lists.{is_empty}
 use Rattle.rules_expression.specs.Tokens.{tokens_of}
 use Rattle.rules_lines.specs.Words.{bit_of, cut_first, kind_of, level_of, signed, size_of}
 use Rattle.rules_lines.specs.declared.entry.ClockBit.{ClockBit}

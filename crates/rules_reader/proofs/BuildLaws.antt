@@ -6,8 +6,7 @@ use Rattle.std.proofs.lemmas.List.{take_all, take_more}
 use Rattle.std.proofs.lemmas.Option.{get_or_from_slice_get}
 use Rattle.rules_reader.specs.Built.{Adds, AreSoFar}
 use Rattle.rules_reader.specs.Refused.{known_by}
-use Rattle.rules_reader.specs.Tables.{AreRulesOf, all_from, clocks_of, on_card, phases_in, table}
-use Rattle.rules_reader.specs.Tables.{supplies_in, devices_in, strengths_in, clockports_in, defaultclocks_in, pairs_in, ports_in, holds_in, keepers_in, matches_in, instance_matches_in, enters_in, observes_in, assumes_in}
+use Rattle.rules_reader.specs.Tables.{AreRulesOf, all_from, clocks_of, on_card, phases_in, table, supplies_in, devices_in, strengths_in, clockports_in, defaultclocks_in, pairs_in, ports_in, holds_in, keepers_in, matches_in, instance_matches_in, enters_in, observes_in, assumes_in}
 use Rattle.rules_reader.specs.declared.cards.Card.{Card}
 use Rattle.rules_lines.specs.declared.entry.Entry.{Entry}
 use Rattle.rules_reader.specs.declared.known.Known.{Known}

@@ -1,8 +1,9 @@
 -- Lines without a fault.
 use Rattle.std.proofs.Common.{◌≡◌, ◌++◌, ◌∷◌, [], ℕ, List, Bool, true, false, cond, length, map, Option, Some, None, option_map, refl, ap, sym, subst, ◌∙◌}
-use Rattle.text_lines.specs.Names.{is_among, with_name, with_names}
+use Rattle.vrt_model.specs.Lists.{has_name}
+use Rattle.names.specs.Names.{with_name, with_names}
 use Rattle.text_lines.proofs.FaultLaws.{CleanFrom, none_at, when_no}
-use Rattle.text_lines.proofs.ApartLaws.{NoRepeat}
+use Rattle.names.proofs.ApartLaws.{NoRepeat}
 use Rattle.rules_reader.specs.Keys.{Key, keys_of, repeated, text}
 use Rattle.rules_reader.specs.Learned.{learned_by, learned_from}
 use Rattle.rules_reader.specs.Refused.{clocks_named, entry_fault, entry_faults, fault_of, first_missing, has_bad_expression, has_bad_number, is_misplaced, key_texts, known_by, known_from, passes_limit, phases_named, saying_fault}
@@ -12,7 +13,7 @@ use Rattle.rules_lines.specs.declared.entry.Entry.{Entry}
 use Rattle.rules_reader.specs.declared.faults.RulesFault.TheVariants.{NotText, Word, Number, Expr, Twice, UnknownPhase, UnknownClock, Limit}
 use Rattle.rules_reader.specs.declared.known.Known.{Known}
 use Rattle.rules_reader.proofs.KnownLaws.{known_more}
-use Rattle.rules_reader.proofs.Within.{AreNew, new_append, new_apart}
+use Rattle.names.proofs.NewLaws.{AreNew, new_append, new_apart}
 
 -- no condition of a fault holds
 pub record Fine (count : ℕ) (known : Known) (entry : Entry) : Type 0 where
@@ -82,10 +83,10 @@ told_here f count known card s = by_entry_ card.line card.entry s.is where
 
 keys_new : (known : List (List ℕ)) (ks : List Key) → repeated known ks ≡ None → AreNew known (map text ks)
 keys_new known [] e = tt
-keys_new known (k ∷ ks) e = by_test (is_among known (text k)) refl e (keys_new (with_name known (text k)) ks) where
-  by_test : (b : Bool) → is_among known (text k) ≡ b → cond b (Some k.last) (repeated (with_name known (text k)) ks) ≡ None
+keys_new known (k ∷ ks) e = by_test (has_name known (text k)) refl e (keys_new (with_name known (text k)) ks) where
+  by_test : (b : Bool) → has_name known (text k) ≡ b → cond b (Some k.last) (repeated (with_name known (text k)) ks) ≡ None
       → (repeated (with_name known (text k)) ks ≡ None → AreNew (with_name known (text k)) (map text ks))
-      → (is_among known (text k) ≡ false) × AreNew (with_name known (text k)) (map text ks)
+      → (has_name known (text k) ≡ false) × AreNew (with_name known (text k)) (map text ks)
   by_test true h e rest = cc
   by_test false h e rest = (h, rest e)
 

@@ -1,14 +1,14 @@
 -- Lines without a fault are rules as later calls ask for them.
 use Rattle.std.proofs.Common.{◌≡◌, ◌++◌, ◌∷◌, ◌≤◌, ◌<◌, ◌==◌, ◌&&◌, ◌||◌, [], ℕ, List, Bool, true, false, cond, length, map, Option, Some, None, is_none, option_map, unwrap_or, codes, refl, ap, ap₂, sym, subst, ◌∙◌, arith}
 use Rattle.std.specs.Prelude.{All, bytes_eq}
-use Rattle.std.proofs.lemmas.Bool.{eqb-true}
+use Rattle.std.proofs.lemmas.Bool.{and_parts, eqb-true, or_parts}
 use Rattle.std.proofs.lemmas.List.{length-map}
 use Rattle.std.proofs.lemmas.List.Elements.{All-cons, All-head, All-nil, All-tail}
-use Rattle.std.proofs.lemmas.List.Folds.{list_any-append}
 use Rattle.std.proofs.lemmas.Slice.Eq.{bytes_eq-Decides}
 use Rattle.text_lines.specs.Faults.{IsClean}
-use Rattle.text_lines.specs.Names.{distinct, distinct_from, is_among, word_at}
-use Rattle.text_lines.proofs.ApartLaws.{NoRepeat, apart, distinct_apart}
+use Rattle.vrt_model.specs.Lists.{distinct, has_name}
+use Rattle.text_lines.specs.Words.{word_at}
+use Rattle.names.proofs.ApartLaws.{NoRepeat, apart, once_apart, once_is_all}
 use Rattle.text_lines.proofs.FaultLaws.{CleanFrom, clean_from}
 use Rattle.rules_reader.specs.Entries.{cards_of}
 use Rattle.rules_expression.specs.Grammar.{seen}
@@ -26,7 +26,7 @@ use Rattle.rules_lines.proofs.Ranged.{InRange, Ranged}
 use Rattle.rules_reader.proofs.Ranged.{ranged}
 use Rattle.rules_reader.proofs.Settled.{Settled, clocks_are_few, phases_are_few, settled}
 use Rattle.rules_reader.proofs.Tabled.{both_say, known_one, map_join, name_back, number_small, number_within, table_all, table_within}
-use Rattle.rules_reader.proofs.Within.{and_both, apart_by_key, no_repeat_within, same_names, two_same}
+use Rattle.rules_reader.proofs.Within.{apart_by_key, no_repeat_within, same_names, two_same}
 use Rattle.vrt_model.specs.Expressions.{operators_in}
 use Rattle.vrt_model.specs.Inputs.{AllApart, AreRules, IsLevel, IsPhaseOf}
 use Rattle.vrt_model.specs.declared.rules.AssumeRule.{AssumeRule}
@@ -162,7 +162,7 @@ assumes_few clocks phases line e g = All-nil HasFew
 
 names_back : (clocks phases : List (List ℕ)) (e : Entry) → Good clocks phases e → NamesBack phases e
 names_back clocks phases (EnterLine cell phase net bit) g = by_phases phases (known_one (known_from phases) phase g.0.phases_are) where
-  by_phases : (ps : List (List ℕ)) → is_among (known_from ps) phase ≡ true → word_at (known_from ps) (number_in ps phase) ≡ phase
+  by_phases : (ps : List (List ℕ)) → has_name (known_from ps) phase ≡ true → word_at (known_from ps) (number_in ps phase) ≡ phase
   by_phases (p ∷ ps) e = name_back (p ∷ ps) phase e
   by_phases [] e = all_named (bytes_eq phase (codes "all")) refl e where
     all_named : (b : Bool) → bytes_eq phase (codes "all") ≡ b → (b || false) ≡ true → codes "all" ≡ phase
@@ -182,13 +182,13 @@ all_more P Q more (x ∷ xs) all = All-cons Q x xs (more x (All-head P x xs all)
 
 three_same : (a b : List ℕ) (m n : ℕ) (c d : List ℕ) → (bytes_eq a b && (m == n) && bytes_eq c d) ≡ true → (a ≡ b) × (m ≡ n) × (c ≡ d)
 three_same a b m n c d e =
-    let last = and_both (bytes_eq a b && (m == n)) (bytes_eq c d) e in
-    let first = and_both (bytes_eq a b) (m == n) last.0 in
+    let last = and_parts (bytes_eq a b && (m == n)) (bytes_eq c d) e in
+    let first = and_parts (bytes_eq a b) (m == n) last.0 in
     (same_names a b first.0, eqb-true m n first.1, same_names c d last.1)
 
 three_names : (a b c d e f : List ℕ) → (bytes_eq a b && bytes_eq c d && bytes_eq e f) ≡ true → (a ≡ b) × (c ≡ d) × (e ≡ f)
 three_names a b c d e f h =
-    let last = and_both (bytes_eq a b && bytes_eq c d) (bytes_eq e f) h in
+    let last = and_parts (bytes_eq a b && bytes_eq c d) (bytes_eq e f) h in
     let first = two_same a b c d last.0 in
     (first.0, first.1, same_names e f last.1)
 
@@ -205,7 +205,7 @@ inner_key table {a} {b} {c} {d} {e} {f} x y z = ap₂ (λ cell word. within_cell
 one_key : (rs : List DefaultclockRule) → NoRepeat (map defaultclock_key rs) → length rs ≤ 1
 one_key [] n = omega arith
 one_key (r ∷ []) n = omega arith
-one_key (r ∷ s ∷ rs) n = absurd (clash (is_among (map defaultclock_key rs) (codes "defaultclock")) n.0) where
+one_key (r ∷ s ∷ rs) n = absurd (clash (has_name (map defaultclock_key rs) (codes "defaultclock")) n.0) where
   clash : (b : Bool) → (bytes_eq (codes "defaultclock") (codes "defaultclock") || b) ≡ false → ⊥
   clash b e = let same : bytes_eq (codes "defaultclock") (codes "defaultclock") ≡ true = (bytes_eq-Decides (codes "defaultclock") (codes "defaultclock")).1 refl in no b (sym (ap (λ x. x || b) same) ∙ e) where
     no : (b : Bool) → (true || b) ≡ false → ⊥
@@ -228,10 +228,6 @@ phase_names clocks (card ∷ cards) =
       by_said None = refl
       by_said (Some e) = named_on clocks card.line e
 
-or_no : (a b : Bool) → (a || b) ≡ false → (a ≡ false) × (b ≡ false)
-or_no true b e = cc
-or_no false b e = (refl, e)
-
 no_or : (a b : Bool) → a ≡ false → b ≡ false → (a || b) ≡ false
 no_or true b h e = cc
 no_or false b h e = e
@@ -247,48 +243,22 @@ not_same a b e same = clash (sym ((bytes_eq-Decides a b).1 same) ∙ e) where
   clash : true ≡ false → ⊥
   clash e = cc
 
-among_front : (ps : List Phase) (z : List ℕ) → is_among (map phase_key ps) (codes "phase " ++ z) ≡ false → is_among (map name_of ps) z ≡ false
+among_front : (ps : List Phase) (z : List ℕ) → has_name (map phase_key ps) (codes "phase " ++ z) ≡ false → has_name (map name_of ps) z ≡ false
 among_front [] z e = refl
 among_front (p ∷ ps) z e =
-    let both = or_no (bytes_eq (codes "phase " ++ z) (phase_key p)) (is_among (map phase_key ps) (codes "phase " ++ z)) e in
-    no_or (bytes_eq z p.name) (is_among (map name_of ps) z)
+    let both = or_parts (bytes_eq (codes "phase " ++ z) (phase_key p)) (has_name (map phase_key ps) (codes "phase " ++ z)) e in
+    no_or (bytes_eq z p.name) (has_name (map name_of ps) z)
     (differs z p.name (λ same. not_same (codes "phase " ++ z) (phase_key p) both.0 (ap (λ n. codes "phase " ++ n) same))) (among_front ps z both.1)
 
 names_apart : (ps : List Phase) → NoRepeat (map phase_key ps) → NoRepeat (map name_of ps)
 names_apart [] n = tt
 names_apart (p ∷ ps) n = (among_front ps p.name n.0, names_apart ps n.1)
 
-NoneAmong : List (List ℕ) → List (List ℕ) → Type 0
-NoneAmong known [] = Unit {0}
-NoneAmong known (x ∷ xs) = (is_among known x ≡ false) × NoneAmong known xs
-
-none_more : (known : List (List ℕ)) (x : List ℕ) (ys : List (List ℕ)) → NoneAmong known ys → is_among ys x ≡ false → NoneAmong (known ++ x ∷ []) ys
-unfolding NoneAmong
-none_more known x [] n e = tt
-none_more known x (y ∷ ys) n e =
-    let both = or_no (bytes_eq x y) (is_among ys x) e in (
-      list_any-append (bytes_eq y) known (x ∷ []) ∙ no_or (is_among known y) (bytes_eq y x || false) n.0
-          (no_or (bytes_eq y x) false (differs y x (λ same. not_same x y both.0 (sym same))) refl),
-      none_more known x ys n.1 both.1,
-    )
-
-distinct_same : (known xs : List (List ℕ)) → NoneAmong known xs → NoRepeat xs → distinct_from (λ name. name) known xs ≡ xs
-unfolding NoneAmong
-distinct_same known [] none n = refl
-distinct_same known (x ∷ xs) none n =
-    ap (λ b. cond b (distinct_from (λ name. name) known xs) (x ∷ distinct_from (λ name. name) (known ++ x ∷ []) xs)) none.0
-    ∙ ap (λ rest. x ∷ rest) (distinct_same (known ++ x ∷ []) xs (none_more known x xs none.1 n.0) n.1)
-
-none_first : (xs : List (List ℕ)) → NoneAmong [] xs
-unfolding NoneAmong
-none_first [] = tt
-none_first (x ∷ xs) = (refl, none_first xs)
-
 count_names : (clocks : List (List ℕ)) (cards : List Card) → NoRepeat (map phase_key (table (phases_in clocks) cards)) → length (phase_names_of cards) ≡ length (table (phases_in clocks) cards)
 unfolding phase_names_of
 count_names clocks cards n =
     let apart_ : NoRepeat (told phase_names_in cards) = subst NoRepeat (phase_names clocks cards) (names_apart (table (phases_in clocks) cards) n) in
-    ap length (distinct_same [] (told phase_names_in cards) (none_first (told phase_names_in cards)) apart_)
+    ap length (once_is_all (told phase_names_in cards) (apart (told phase_names_in cards) apart_))
     ∙ ap length (sym (phase_names clocks cards)) ∙ length-map (table (phases_in clocks) cards) name_of
 
 some_phase : (clocks : List (List ℕ)) (ps : List Phase) → (0 < length (all_from clocks ps)) × (length ps ≤ length (all_from clocks ps))
@@ -361,7 +331,7 @@ same_observes a b = bytes_eq a.cell b.cell && bytes_eq a.port b.port
 
 clocks_apart : (cards : List Card) → AllApart bytes_eq (clocks_of cards)
 unfolding clocks_of
-clocks_apart cards = apart (distinct (told clocks_in cards)) (distinct_apart [] (told clocks_in cards) tt)
+clocks_apart cards = apart (distinct (told clocks_in cards)) (once_apart (told clocks_in cards))
 
 -- ---- the rules of lines without a fault
 

@@ -1,6 +1,6 @@
 -- The keys of rules, table by table.
 use Rattle.std.proofs.Common.{◌≡◌, ◌++◌, ◌∷◌, [], ℕ, List, map, codes, refl, sym, subst}
-use Rattle.text_lines.specs.Names.{word_at}
+use Rattle.text_lines.specs.Words.{word_at}
 use Rattle.rules_reader.specs.Keys.{clocks_on, key, spaced, text}
 use Rattle.rules_reader.specs.Refused.{key_texts, known_from}
 use Rattle.rules_reader.specs.Tables.{clockports_in, defaultclocks_in, devices_in, enters_in, holds_in, instance_matches_in, keeper_rule, keepers_in, matches_in, number_in, observes_in, pairs_in, phases_in, ports_in, strengths_in, supplies_in, supply_rule}

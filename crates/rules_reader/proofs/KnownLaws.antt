@@ -1,8 +1,9 @@
 -- What one line more changes of what is known.
 use Rattle.std.proofs.Common.{◌≡◌, ◌++◌, ◌∷◌, ◌||◌, not, [], ℕ, List, Bool, true, false, Option, Some, None, refl, ap, ap₂, sym, ◌∙◌, append-nil}
 use Rattle.std.proofs.lemmas.Grind.{flat_map-append}
-use Rattle.text_lines.specs.Names.{distinct, is_empty, with_names}
-use Rattle.text_lines.proofs.NameLaws.{names_once, with_names-append}
+use Rattle.vrt_model.specs.Lists.{distinct, is_empty}
+use Rattle.names.specs.Names.{with_names}
+use Rattle.names.proofs.NameLaws.{distinct_more, with_names-append}
 use Rattle.rules_reader.specs.Learned.{learned, learned_from}
 use Rattle.rules_reader.specs.Refused.{key_texts, known_by, phases_named}
 use Rattle.rules_reader.specs.Tables.{clocks_in, clocks_of, phase_names_in, phase_names_of, told, told_on}
@@ -12,9 +13,6 @@ use Rattle.rules_reader.specs.declared.known.Known.{Known}
 
 told_more : {X : Type 0} (f : Entry → List X) (before : List Card) (card : Card) → told f (before ++ card ∷ []) ≡ told f before ++ told_on f card
 told_more f before card = flat_map-append (told_on f) before (card ∷ []) ∙ ap (λ xs. told f before ++ xs) (append-nil (told_on f card))
-
-pub distinct_more : (xs ys : List (List ℕ)) → distinct (xs ++ ys) ≡ with_names (distinct xs) ys
-distinct_more xs ys = sym (names_once (xs ++ ys)) ∙ with_names-append [] xs ys ∙ ap (λ ns. with_names ns ys) (names_once xs)
 
 empty_more : (xs ys : List (List ℕ)) → not (is_empty (xs ++ ys)) ≡ (not (is_empty xs) || not (is_empty ys))
 empty_more [] ys = refl

@@ -1,9 +1,10 @@
 -- What lines without a fault say, by what all lines tell.
 use Rattle.std.proofs.Common.{◌≡◌, ◌++◌, ◌∷◌, ◌≤◌, ◌<◌, ◌+◌, ◌||◌, nat_le, nat_lt, not, [], ℕ, List, Bool, true, false, cond, length, length-append, Some, None, refl, ap, ap₂, sym, subst, ◌∙◌, append-nil, append_assoc, arith}
 use Rattle.std.specs.List.{list_any}
-use Rattle.std.proofs.lemmas.Bool.{leb-false, ltb-false}
+use Rattle.std.proofs.lemmas.Bool.{leb-false, ltb-false, or_parts}
 use Rattle.std.proofs.lemmas.Grind.{flat_map-append}
-use Rattle.text_lines.specs.Names.{distinct, is_among, is_empty, with_name, with_names}
+use Rattle.vrt_model.specs.Lists.{distinct, has_name, is_empty}
+use Rattle.names.specs.Names.{with_name, with_names}
 use Rattle.text_lines.proofs.FaultLaws.{CleanFrom}
 use Rattle.rules_reader.specs.Refused.{clocks_named, fault_of, first_missing, has_bad_expression, has_bad_number, is_misplaced, known_by, lacks_bit, known_from, passes_own_limit, phases_named}
 use Rattle.rules_reader.specs.Tables.{clocks_in, clocks_of, phase_names_in, phase_names_of, told, told_on}
@@ -13,8 +14,8 @@ use Rattle.rules_lines.specs.declared.entry.Entry.{Entry}
 use Rattle.rules_lines.specs.declared.entry.Entry.TheVariants.{ClockLine, PhaseLine, AssumeLine}
 use Rattle.rules_reader.specs.declared.known.Known.{Known}
 use Rattle.rules_reader.proofs.Fine.{AllSay, Fine, Says, here, known_next, says, told_here}
-use Rattle.rules_reader.proofs.KnownLaws.{distinct_more}
-use Rattle.rules_reader.proofs.Within.{among_more}
+use Rattle.names.proofs.NameLaws.{distinct_more}
+use Rattle.names.proofs.NewLaws.{among_more}
 
 -- ---- more lines tell more
 
@@ -26,11 +27,11 @@ phases_then : (before cards : List Card) → (known_by (before ++ cards)).phases
 unfolding known_by phase_names_of
 phases_then before cards = ap distinct (flat_map-append (told_on phase_names_in) before cards) ∙ distinct_more (told phase_names_in before) (told phase_names_in cards)
 
-missing_less : (a b : List (List ℕ)) → ((z : List ℕ) → is_among a z ≡ true → is_among b z ≡ true) → (xs : List (List ℕ)) → first_missing a xs ≡ None → first_missing b xs ≡ None
+missing_less : (a b : List (List ℕ)) → ((z : List ℕ) → has_name a z ≡ true → has_name b z ≡ true) → (xs : List (List ℕ)) → first_missing a xs ≡ None → first_missing b xs ≡ None
 missing_less a b more [] e = refl
-missing_less a b more (x ∷ xs) e = by_test (is_among a x) refl e (missing_less a b more xs) where
-  by_test : (c : Bool) → is_among a x ≡ c → cond c (first_missing a xs) (Some x) ≡ None → (first_missing a xs ≡ None → first_missing b xs ≡ None)
-      → cond (is_among b x) (first_missing b xs) (Some x) ≡ None
+missing_less a b more (x ∷ xs) e = by_test (has_name a x) refl e (missing_less a b more xs) where
+  by_test : (c : Bool) → has_name a x ≡ c → cond c (first_missing a xs) (Some x) ≡ None → (first_missing a xs ≡ None → first_missing b xs ≡ None)
+      → cond (has_name b x) (first_missing b xs) (Some x) ≡ None
   by_test true h e rest = ap (λ c. cond c (first_missing b xs) (Some x)) (more x h) ∙ rest e
   by_test false h e rest = cc
 
@@ -63,21 +64,17 @@ no_later_phase before (card ∷ cards) clean named =
 
 -- ---- limits
 
-or_no : (a b : Bool) → (a || b) ≡ false → (a ≡ false) × (b ≡ false)
-or_no true b e = cc
-or_no false b e = (refl, e)
-
 -- an `assume` line has few operators
 abbrev pub FewOperators : Entry → Type 0
 FewOperators (AssumeLine cell phase tokens) = operator_count tokens ≤ 1000
 FewOperators entry = Unit {0}
 
 few_operators : (clocks phases : List (List ℕ)) (entry : Entry) → passes_own_limit clocks phases entry ≡ false → FewOperators entry
-few_operators clocks phases (AssumeLine cell phase tokens) e = ltb-false 1000 (operator_count tokens) (or_no (nests_deeper 64 0 tokens) (nat_lt 1000 (operator_count tokens)) e).1
+few_operators clocks phases (AssumeLine cell phase tokens) e = ltb-false 1000 (operator_count tokens) (or_parts (nests_deeper 64 0 tokens) (nat_lt 1000 (operator_count tokens)) e).1
 few_operators clocks phases entry e = tt
 
 length_name : (known : List (List ℕ)) (n : List ℕ) → length (with_name known n) ≤ length known + 1
-length_name known n = by_test (is_among known n) where
+length_name known n = by_test (has_name known n) where
   by_test : (b : Bool) → length (cond b known (known ++ n ∷ [])) ≤ length known + 1
   by_test true = omega arith
   by_test false = omega (arith, length-append known (n ∷ []))
@@ -95,7 +92,7 @@ few_phases clocks phases (PhaseLine name bits) few e = let least : length phases
 few_phases clocks phases entry few e = few
 
 own_limit : (count : ℕ) (known : Known) (entry : Entry) → Fine count known entry → passes_own_limit known.clocks known.phases entry ≡ false
-own_limit count known entry fine = (or_no (nat_le 100000 count) (passes_own_limit known.clocks known.phases entry) fine.limit).1
+own_limit count known entry fine = (or_parts (nat_le 100000 count) (passes_own_limit known.clocks known.phases entry) fine.limit).1
 
 record Few (known : Known) : Type 0 where
   clocks : length known.clocks ≤ 16
@@ -156,7 +153,7 @@ settled_clocks : (before : List Card) (card : Card) (cards : List Card) (s : Say
     → first_missing (known_by (before ++ card ∷ cards)).clocks (clocks_named s.entry) ≡ None
 settled_clocks before card cards s =
     missing_less (known_by before).clocks (known_by (before ++ card ∷ cards)).clocks
-    (λ z h. ap (λ cs. is_among cs z) (clocks_then before (card ∷ cards)) ∙ among_more (known_by before).clocks (told clocks_in (card ∷ cards)) z h)
+    (λ z h. ap (λ cs. has_name cs z) (clocks_then before (card ∷ cards)) ∙ among_more (known_by before).clocks (told clocks_in (card ∷ cards)) z h)
     (clocks_named s.entry) s.fine.clocks
 
 all_settled : (final before cards : List Card) → before ++ cards ≡ final → CleanFrom fault_of before cards → AllSay (Settled (known_by final).clocks (known_by final).phases) cards

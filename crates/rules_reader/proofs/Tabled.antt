@@ -5,7 +5,8 @@ use Rattle.std.specs.List.{list_any, position_or_len}
 use Rattle.std.proofs.lemmas.Bool.{lt-ltb, ltb-true}
 use Rattle.std.proofs.lemmas.List.Elements.{All-append, All-nil}
 use Rattle.std.proofs.lemmas.Slice.Eq.{bytes_eq-Decides}
-use Rattle.text_lines.specs.Names.{is_among, word_at}
+use Rattle.vrt_model.specs.Lists.{has_name}
+use Rattle.text_lines.specs.Words.{word_at}
 use Rattle.rules_reader.specs.Refused.{first_missing, key_texts}
 use Rattle.rules_reader.specs.Tables.{by_entry, number_in, on_card, table, told}
 use Rattle.rules_reader.specs.declared.cards.Card.{Card}
@@ -71,10 +72,10 @@ number_is ps name lt =
     ap (λ b. unwrap_or (cond b (Some (position_or_len (bytes_eq name) ps)) None) 0) (lt-ltb (position_or_len (bytes_eq name) ps) (length ps) lt)
 
 -- the number of a name that is there
-pub number_within : (ps : List (List ℕ)) (name : List ℕ) → is_among ps name ≡ true → number_in ps name < length ps
+pub number_within : (ps : List (List ℕ)) (name : List ℕ) → has_name ps name ≡ true → number_in ps name < length ps
 number_within ps name e = let f = at_place (bytes_eq name) ps e in omega (arith, number_is ps name f.within, f.within)
 
-pub name_back : (ps : List (List ℕ)) (name : List ℕ) → is_among ps name ≡ true → word_at ps (number_in ps name) ≡ name
+pub name_back : (ps : List (List ℕ)) (name : List ℕ) → has_name ps name ≡ true → word_at ps (number_in ps name) ≡ name
 name_back ps name e =
     let f = at_place (bytes_eq name) ps e in
     ap (λ n. word_at ps n) (number_is ps name f.within) ∙ ap (λ o. unwrap_or o []) f.stands ∙ sym ((bytes_eq-Decides name f.name).0 f.passes)
@@ -87,8 +88,8 @@ number_small ps name m some le = by_test (nat_lt (position_or_len (bytes_eq name
   by_test false h = some
 
 -- a known name
-pub known_one : (known : List (List ℕ)) (name : List ℕ) → first_missing known (name ∷ []) ≡ None → is_among known name ≡ true
-known_one known name e = by_test (is_among known name) refl e where
-  by_test : (b : Bool) → is_among known name ≡ b → cond b None (Some name) ≡ None → is_among known name ≡ true
+pub known_one : (known : List (List ℕ)) (name : List ℕ) → first_missing known (name ∷ []) ≡ None → has_name known name ≡ true
+known_one known name e = by_test (has_name known name) refl e where
+  by_test : (b : Bool) → has_name known name ≡ b → cond b None (Some name) ≡ None → has_name known name ≡ true
   by_test true h e = h
   by_test false h e = cc

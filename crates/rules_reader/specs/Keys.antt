@@ -1,6 +1,7 @@
 -- The keys of a line that may not repeat.
 use Rattle.std.specs.Prelude.{ℕ, List, [], ◌∷◌, ◌++◌, if◌then◌else◌, map, codes, Option, Some, None}
-use Rattle.text_lines.specs.Names.{is_among, with_name}
+use Rattle.vrt_model.specs.Lists.{has_name}
+use Rattle.names.specs.Names.{with_name}
 use Rattle.rules_lines.specs.declared.entry.ClockBit.{ClockBit}
 use Rattle.rules_lines.specs.declared.entry.Entry.{Entry}
 use Rattle.rules_lines.specs.declared.entry.Entry.TheVariants.{SupplyLine, DeviceLine, StrengthLine, ClockLine, PhaseLine, ClockportLine, DefaultclockLine, PairLine, PortLine, HoldLine, KeeperLine, MatchLine, InstanceMatchLine, EnterLine, ObserveLine, AssumeLine}
@@ -44,4 +45,4 @@ keys_of (AssumeLine cell phase tokens) = []
 -- The last word of the first key that is there before, or before on the same line.
 abbrev pub repeated : List (List ℕ) → List Key → Option (List ℕ)
 repeated known [] = None
-repeated known (k ∷ ks) = if is_among known (text k) then Some k.last else repeated (with_name known (text k)) ks
+repeated known (k ∷ ks) = if has_name known (text k) then Some k.last else repeated (with_name known (text k)) ks

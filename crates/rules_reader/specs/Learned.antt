@@ -1,6 +1,7 @@
 -- What is known behind one line more.
 use Rattle.std.specs.Prelude.{not, ◌||◌, Option, Some, None}
-use Rattle.text_lines.specs.Names.{is_empty, with_names}
+use Rattle.vrt_model.specs.Lists.{is_empty}
+use Rattle.names.specs.Names.{with_names}
 use Rattle.rules_reader.specs.Refused.{key_texts, phases_named}
 use Rattle.rules_reader.specs.Tables.{clocks_in, phase_names_in}
 use Rattle.rules_reader.specs.declared.cards.Card.{Card}

@@ -3,6 +3,5 @@ pub mod Keys
 pub mod Tables
 pub mod Refused
 pub mod Claimed
-pub mod Judged
 pub mod Learned
 pub mod Built

@@ -2,7 +2,8 @@
 use Rattle.std.specs.Prelude.{ℕ, List, [], ◌∷◌, ◌+◌, Bool, false, not, ◌||◌, nat_lt, nat_le, length, map, codes, bytes_eq, if◌then◌else◌, is_none, Option, Some, None, option_map}
 use Rattle.std.specs.List.{list_any}
 use Rattle.text_lines.specs.Faults.{first_fault, first_of, when}
-use Rattle.text_lines.specs.Names.{is_among, is_empty, with_names}
+use Rattle.vrt_model.specs.Lists.{has_name, is_empty}
+use Rattle.names.specs.Names.{with_names}
 use Rattle.rules_reader.specs.Keys.{clocks_on, keys_of, repeated, text}
 use Rattle.rules_expression.specs.Readings.{formula_of}
 use Rattle.rules_reader.specs.Tables.{clocks_of, phase_names_of, told}
@@ -77,7 +78,7 @@ is_misplaced known entry = false
 -- the first that is not known
 abbrev pub first_missing : List (List ℕ) → List (List ℕ) → Option (List ℕ)
 first_missing known [] = None
-first_missing known (name ∷ names) = if is_among known name then first_missing known names else Some name
+first_missing known (name ∷ names) = if has_name known name then first_missing known names else Some name
 
 -- the clocks that a line names
 abbrev pub clocks_named : Entry → List (List ℕ)

@@ -1,7 +1,7 @@
 -- The rules that lines give, table by table.
 use Rattle.std.specs.Prelude.{◌≡◌, ℕ, List, [], ◌∷◌, Bool, false, if◌then◌else◌, map, flat_map, codes, bytes_eq, Option, Some, None, option_map, unwrap_or}
 use Rattle.std.specs.List.{position}
-use Rattle.text_lines.specs.Names.{distinct}
+use Rattle.vrt_model.specs.Lists.{distinct}
 use Rattle.rules_expression.specs.Grammar.{Formula, seen}
 use Rattle.rules_expression.specs.Grammar.Formula.{a_port}
 use Rattle.rules_expression.specs.Readings.{formula_of}

@@ -9,8 +9,8 @@ use crate::cards::Card;
 use crate::entry_rules::add_entry;
 use crate::known::Known;
 use crate::texts::append;
+use names::Names;
 use std::alloc::Global;
-use text_lines::Names;
 use vrt_model::{NoMemory, Phase, Rules, Seq, Text};
 
 // No rules but the clocks.

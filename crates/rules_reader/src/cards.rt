@@ -1,13 +1,13 @@
 //! The lines of a text that are not passed over.
 
 ghost use Rattle.std.specs.Prelude.{◌≡◌, ◌≤◌, ◌++◌, length, map, IfOk, OnOk};
-ghost use Rattle.text_lines.specs.Bytes.{is_blank_line, starts, without_blanks, words_of};
+ghost use Rattle.text_lines.specs.Bytes.{is_blank_line, starts, without_blanks};
 ghost use Rattle.rules_reader.specs.Entries.{card_of, cards_of, cards_on, is_passed_over};
 
 use crate::texts::append;
 use rules_lines::{Entry, read_entry};
 use std::alloc::Global;
-use text_lines::{cut_words, is_blank_byte, is_text_line, numbered_lines};
+use text_lines::{is_blank_byte, is_text_line, line_words, numbered_lines};
 use vrt_model::{NoMemory, Seq, Text};
 
 /// A line: its number, from 1, whether all its bytes are text, and what it says, none where it does not fit.
@@ -67,31 +67,11 @@ fn begins(sign: u8, bytes: &[u8]) -> bool
     }
 }
 
-// The texts of words.
-fn texts_of(alloc: Global, words: &[&[u8]]) -> Result<Seq<Text>, NoMemory>
-    ensures { IfOk result (λ s. s ≡ map (λ x. x.now) words.now) }
-{
-    let mut texts = Seq::new(alloc);
-    for word in words {
-        let text = Text::from_bytes(alloc, word)?;
-        append(&mut texts, text)?;
-    }
-    Ok(texts)
-}
-
-// The words of a line, as texts.
-fn texts_on(alloc: Global, bytes: &[u8]) -> Result<Seq<Text>, NoMemory>
-    ensures { IfOk result (λ texts. texts ≡ words_of bytes.now) }
-{
-    let words = cut_words(alloc, bytes)?;
-    texts_of(alloc, words.as_slice())
-}
-
 // The card of a line.
 fn read_card(alloc: Global, line: u32, bytes: &[u8]) -> Result<Card, NoMemory>
     ensures { IfOk result (λ card. card ≡ card_of (line, bytes.now)) }
 {
-    let texts = texts_on(alloc, bytes)?;
+    let texts = line_words(alloc, bytes)?;
     let entry = read_entry(alloc, texts.as_slice())?;
     Ok(Card {
         line,

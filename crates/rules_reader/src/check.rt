@@ -8,8 +8,8 @@ use crate::cards::Card;
 use crate::faults::RulesFault;
 use crate::judge::judge;
 use crate::known::Known;
+use names::Names;
 use std::alloc::Global;
-use text_lines::Names;
 
 /// What lines without a fault tell; else the first fault.
 pub fn check_cards(alloc: Global, cards: &[Card]) -> Result<Known, RulesFault>

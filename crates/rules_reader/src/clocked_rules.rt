@@ -7,10 +7,10 @@ ghost use Rattle.rules_expression.specs.Readings.{formula_of};
 ghost use Rattle.rules_reader.specs.Tables.{assumed, bit_for, clock_ref, number_in};
 
 use crate::texts::{append, copy, copy_two};
+use names::Names;
 use rules_expression::{Token, read_expression};
 use rules_lines::{ClockBit, Signed};
 use std::alloc::Global;
-use text_lines::Names;
 use vrt_model::{
     AssumeRule, ClockRef, ClockportRule, DefaultclockRule, EnterRule, Expr, NoMemory, ObserveRule,
     Phase, Seq, Text,

@@ -2,16 +2,16 @@
 
 ghost use Rattle.std.specs.Prelude.{◌≡◌, [], ◌∷◌, ◌||◌, IfOk};
 ghost use Rattle.std.specs.List.{list_any};
-ghost use Rattle.text_lines.specs.Names.{is_among};
+ghost use Rattle.vrt_model.specs.Lists.{has_name};
 ghost use Rattle.rules_reader.specs.Keys.{clocks_on};
 ghost use Rattle.rules_reader.specs.Refused.{clocks_named, first_missing, has_bad_expression, has_bad_number, is_bad_bit, is_bit_of, is_misplaced, known_from, lacks_bit, passes_limit, passes_own_limit, phases_named};
 
 use crate::known::Known;
 use crate::texts::copy;
+use names::Names;
 use rules_expression::{count_operators, is_form, is_too_deep};
 use rules_lines::{ClockBit, Entry};
 use std::alloc::Global;
-use text_lines::Names;
 use vrt_model::{NoMemory, Text};
 
 fn is_of_clock(clock: &[u8], b: &ClockBit) -> bool
@@ -114,7 +114,7 @@ pub fn is_expression_bad(entry: &Entry) -> bool
 
 // Whether a phase is known.
 fn has_phase(phases: &Names, name: &[u8]) -> bool
-    ensures { result ≡ is_among (known_from phases.now) name.now }
+    ensures { result ≡ has_name (known_from phases.now) name.now }
 {
     if phases.is_empty() {
         return name == b"all".as_slice();

@@ -10,9 +10,9 @@ use crate::circuit_rules::{
 use crate::clocked_rules::{
     add_assume, add_clockport, add_defaultclock, add_enter, add_observe, add_phase,
 };
+use names::Names;
 use rules_lines::Entry;
 use std::alloc::Global;
-use text_lines::Names;
 use vrt_model::{NoMemory, Rules, Text};
 
 /// Adds the rules of a line on supplies or devices, and none of any other.

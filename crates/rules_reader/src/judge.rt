@@ -1,8 +1,9 @@
 //! The fault of a line, by what the lines before it tell.
 
 ghost use Rattle.std.specs.Prelude.{◌≡◌, ◌||◌, not, OnOk};
-ghost use Rattle.text_lines.specs.Names.{is_empty, with_names};
-ghost use Rattle.rules_reader.specs.Judged.{Judges};
+ghost use Rattle.vrt_model.specs.Lists.{is_empty};
+ghost use Rattle.names.specs.Names.{with_names};
+ghost use Rattle.text_lines.specs.Faults.{Judges};
 ghost use Rattle.rules_reader.specs.Learned.{learned, learned_by};
 ghost use Rattle.rules_reader.specs.Refused.{entry_fault, fault_by, phases_named};
 ghost use Rattle.rules_reader.specs.Tables.{clocks_in, phase_names_in};
@@ -15,9 +16,9 @@ use crate::conditions::{
 use crate::faults::RulesFault;
 use crate::keys::claim_keys;
 use crate::known::Known;
+use names::Names;
 use rules_lines::Entry;
 use std::alloc::Global;
-use text_lines::Names;
 use vrt_model::NoMemory;
 
 // Adds the clocks of a line.
@@ -65,7 +66,7 @@ fn judge_entry(
     line: u32,
     entry: &Entry,
 ) -> Result<(), RulesFault>
-    ensures fault { Judges result (entry_fault count known.old line entry.now) }
+    ensures fault { Judges RulesFault.NoMemory result (entry_fault count known.old line entry.now) }
     ensures next { OnOk result (known.new ≡ learned_by known.old entry.now) }
 {
     let Ok(misplaced) = is_line_misplaced(alloc, known, entry) else {
@@ -113,7 +114,7 @@ fn judge_entry(
 
 /// Judges a line, and learns it if it has no fault. So many lines stand before it.
 pub fn judge(alloc: Global, count: usize, known: &mut Known, card: &Card) -> Result<(), RulesFault>
-    ensures fault { Judges result (fault_by count known.old card.now) }
+    ensures fault { Judges RulesFault.NoMemory result (fault_by count known.old card.now) }
     ensures next { OnOk result (known.new ≡ learned known.old card.now) }
 {
     let line = card.line;

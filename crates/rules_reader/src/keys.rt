@@ -5,9 +5,9 @@ ghost use Rattle.rules_reader.specs.Claimed.{Claims, ClaimsOne};
 ghost use Rattle.rules_reader.specs.Keys.{clocks_on, key, keys_of, spaced};
 
 use crate::texts::copy;
+use names::Names;
 use rules_lines::{ClockBit, Entry};
 use std::alloc::Global;
-use text_lines::Names;
 use vrt_model::{NoMemory, Text};
 
 // Words with one more and a blank.

@@ -1,6 +1,6 @@
 //! What the lines so far tell of the next.
 
-use text_lines::Names;
+use names::Names;
 
 /// The clocks and phases so far, the keys so far, and whether a line names a phase.
 pub struct Known {

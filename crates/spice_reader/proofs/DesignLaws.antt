@@ -5,17 +5,19 @@ use Rattle.std.specs.Option.{option_map_or}
 use Rattle.std.proofs.lemmas.List.{length-append, length-map}
 use Rattle.std.proofs.lemmas.List.Elements.{All-append, All-cons, All-filter, All-head, All-map, All-nil, All-tail, All-weaker}
 use Rattle.std.proofs.lemmas.List.Folds.{list_any-append}
-use Rattle.text_lines.proofs.ApartLaws.{NoRepeat, apart, apart_by, distinct_apart, no_repeat_end, no_repeat_within}
+use Rattle.names.proofs.ApartLaws.{NoRepeat, apart, apart_by, no_repeat_end, no_repeat_within, once_apart}
 use Rattle.text_lines.proofs.FaultLaws.{CleanFrom, clean_from, none_at, when_no}
-use Rattle.text_lines.proofs.GroupLaws.{goes_on, groups_behind, open_first, open_goes_on, open_shuts, opens, passes, shut_last, shuts, with_end}
+use Rattle.text_lines.proofs.GroupLaws.{goes_on, groups_behind, listed_more, open_first, open_goes_on, open_shuts, opens, passes, shut_last, shuts, with_end}
 use Rattle.text_lines.specs.Bytes.{starts}
 use Rattle.text_lines.specs.Groups.{groups, up_to}
-use Rattle.text_lines.specs.Names.{behind, but_last, distinct, first_again, is_among, last_word}
+use Rattle.text_lines.specs.Words.{behind, but_last, last_word}
+use Rattle.vrt_model.specs.Lists.{distinct, has_name}
+use Rattle.names.specs.Names.{first_again}
 use Rattle.spice_reader.specs.Cards.{cards_of, first_word}
 use Rattle.spice_reader.proofs.SizeLaws.{Fits, cards_fit}
 use Rattle.spice_reader.specs.Netlist.{begins_cell, cell_name, cell_of, cell_ports, design_of, device_of, ends_cell, globals_in, instance_of, is_device, is_element, is_instance, is_parameter, plain_words}
 use Rattle.spice_reader.specs.Refused.{begun, element_names, fault_by, fault_of, faults_on, is_cell_twice, is_element_twice, is_inside, IsNetlist, known_by, open_cell, passes_limit, port_twice}
-use Rattle.spice_reader.proofs.KnownLaws.{begins_no_end, names_more, not_nested, was_open}
+use Rattle.spice_reader.proofs.KnownLaws.{begins_no_end, not_nested, was_open}
 use Rattle.spice_reader.specs.declared.card.Card.{Card}
 use Rattle.spice_reader.specs.declared.known.Known.{Known}
 use Rattle.spice_reader.specs.declared.faults.SpiceFault.TheVariants.{CellTwice, ElementTwice, Limit, PortTwice}
@@ -51,12 +53,12 @@ limit_kept : (known : Known) (card : Card) → fault_by known card ≡ None → 
 unfolding fault_by
 limit_kept known card none = when_no (passes_limit known card) (Limit card.line) (none_at (faults_on known card) none 10)
 
-cell_is_new : (known : Known) (card : Card) → fault_by known card ≡ None → begins_cell card ≡ true → is_among known.cells (cell_name card) ≡ false
+cell_is_new : (known : Known) (card : Card) → fault_by known card ≡ None → begins_cell card ≡ true → has_name known.cells (cell_name card) ≡ false
 unfolding fault_by
 cell_is_new known card none h =
     second_no (begins_cell card) _ (when_no (is_cell_twice known card) (CellTwice card.line (cell_name card)) (none_at (faults_on known card) none 7)) h
 
-element_is_new : (known : Known) (card : Card) → fault_by known card ≡ None → is_inside known ≡ true → is_element card ≡ true → is_among known.elements (first_word card) ≡ false
+element_is_new : (known : Known) (card : Card) → fault_by known card ≡ None → is_inside known ≡ true → is_element card ≡ true → has_name known.elements (first_word card) ≡ false
 unfolding fault_by
 element_is_new known card none hi he =
     third_no false (is_inside known) (is_element card) _ (when_no (is_element_twice known card) (ElementTwice card.line (first_word card)) (none_at (faults_on known card) none 8)) hi he
@@ -78,9 +80,9 @@ element_has_room known card none hi he =
 again_none : (before names : List (List ℕ)) → NoRepeat before → first_again bytes_eq before names ≡ None → NoRepeat (before ++ names)
 again_none before [] n e = rw (append-nil before) n
 again_none before (x ∷ xs) n e =
-    by_test (is_among before x) refl e (λ h later. again_none (before ++ x ∷ []) xs (no_repeat_end before x n h) later) where
-      by_test : (b : Bool) → is_among before x ≡ b → cond b (Some x) (first_again bytes_eq (before ++ x ∷ []) xs) ≡ None
-          → (is_among before x ≡ false → first_again bytes_eq (before ++ x ∷ []) xs ≡ None → NoRepeat ((before ++ x ∷ []) ++ xs)) → NoRepeat (before ++ x ∷ xs)
+    by_test (has_name before x) refl e (λ h later. again_none (before ++ x ∷ []) xs (no_repeat_end before x n h) later) where
+      by_test : (b : Bool) → has_name before x ≡ b → cond b (Some x) (first_again bytes_eq (before ++ x ∷ []) xs) ≡ None
+          → (has_name before x ≡ false → first_again bytes_eq (before ++ x ∷ []) xs ≡ None → NoRepeat ((before ++ x ∷ []) ++ xs)) → NoRepeat (before ++ x ∷ xs)
       by_test true h e more = cc
       by_test false h e more = rw (sym (append_assoc before (x ∷ []) xs)) (more h e)
 
@@ -102,7 +104,7 @@ record CellNames (names : List (List ℕ)) : Type 0 where
 
 one_cell_more : (before : List Card) (c : Card) (b : Bool) → begins_cell c ≡ b → fault_by (known_by before) c ≡ None → CellNames (heads before) → CellNames (map cell_name (filter begins_cell before) ++ map cell_name (cond b (c ∷ []) []))
 one_cell_more before c true h none k =
-    let new = ap (λ names. is_among names (cell_name c)) (sym (cells_so_far before)) ∙ cell_is_new (known_by before) c none h in
+    let new = ap (λ names. has_name names (cell_name c)) (sym (cells_so_far before)) ∙ cell_is_new (known_by before) c none h in
     let room = (cell_has_room (known_by before) c none h).0 in
     record {
       apart = no_repeat_end (heads before) (cell_name c) k.apart new;
@@ -113,7 +115,7 @@ one_cell_more before c false h none k = rw (append-nil (heads before)) k
 cells_named : (before cards : List Card) → CellNames (heads before) → CleanFrom fault_of before cards → CellNames (heads (before ++ cards))
 cells_named before [] k clean = rw (append-nil before) k
 cells_named before (c ∷ cs) k clean =
-    let now : CellNames (heads (before ++ c ∷ [])) = rw (names_more begins_cell cell_name before c) (one_cell_more before c (begins_cell c) refl clean.0 k) in
+    let now : CellNames (heads (before ++ c ∷ [])) = rw (listed_more begins_cell cell_name before c) (one_cell_more before c (begins_cell c) refl clean.0 k) in
     rw (sym (append_assoc before (c ∷ []) cs)) (cells_named (before ++ c ∷ []) cs now clean.1)
 
 group_names : (cards : List Card) → map (λ (c : Cell). c.name) (map cell_of (groups begins_cell ends_cell cards)) ≡ map cell_name (filter begins_cell cards)
@@ -156,7 +158,7 @@ one_element_more : (before : List Card) (g : Card × List Card) (c : Card) (b : 
     → NoRepeat (element_names g ++ map first_word (cond b (c ∷ []) [])) × (length (element_names g ++ map first_word (cond b (c ∷ []) [])) ≤ 40000)
 one_element_more before g c true h is none n limit =
     let here = elements_so_far before g is in
-    let new = ap (λ names. is_among names (first_word c)) (sym here.0) ∙ element_is_new (known_by before) c none here.1 h in
+    let new = ap (λ names. has_name names (first_word c)) (sym here.0) ∙ element_is_new (known_by before) c none here.1 h in
     let room = element_has_room (known_by before) c none here.1 h in
     (no_repeat_end (element_names g) (first_word c) n new, omega (arith, length-append (element_names g) (first_word c ∷ []), ap length here.0, room))
 one_element_more before g c false h is none n limit = (rw (append-nil (element_names g)) n, rw (append-nil (element_names g)) limit)
@@ -167,8 +169,8 @@ kept_on before g c is none fits k =
     record {
       port_limit = k.port_limit;
       ports = k.ports;
-      card_limit = rw (names_more is_element first_word g.1 c) more.1;
-      elements = rw (names_more is_element first_word g.1 c) more.0;
+      card_limit = rw (listed_more is_element first_word g.1 c) more.1;
+      elements = rw (listed_more is_element first_word g.1 c) more.0;
       words = All-append Fits g.1 (c ∷ []) k.words (All-cons Fits c [] fits (All-nil Fits));
     }
 
@@ -222,8 +224,8 @@ abbrev Apart : Bool → Bool → Type 0
 Apart d i = d ≡ true → i ≡ false
 
 among_step : (d i : Bool) (c : Card) (n : List ℕ) (es ds is : List Card) → Apart d i
-    → is_among (map first_word es) n ≡ (is_among (map first_word ds) n || is_among (map first_word is) n)
-    → is_among (map first_word (cond (d || i) (c ∷ es) es)) n ≡ (is_among (map first_word (cond d (c ∷ ds) ds)) n || is_among (map first_word (cond i (c ∷ is) is)) n)
+    → has_name (map first_word es) n ≡ (has_name (map first_word ds) n || has_name (map first_word is) n)
+    → has_name (map first_word (cond (d || i) (c ∷ es) es)) n ≡ (has_name (map first_word (cond d (c ∷ ds) ds)) n || has_name (map first_word (cond i (c ∷ is) is)) n)
 among_step true true c n es ds is off e = absurd (no (off refl)) where
   no : true ≡ false → ⊥
   no h = cc
@@ -240,7 +242,7 @@ among_step false false c n es ds is off e = e
 
 -- a name is among the elements where it is among the transistors or the instances
 among_parts : (cards : List Card) (n : List ℕ)
-    → is_among (map first_word (filter is_element cards)) n ≡ (is_among (map first_word (filter is_device cards)) n || is_among (map first_word (filter is_instance cards)) n)
+    → has_name (map first_word (filter is_element cards)) n ≡ (has_name (map first_word (filter is_device cards)) n || has_name (map first_word (filter is_instance cards)) n)
 among_parts [] n = refl
 among_parts (c ∷ cs) n =
     among_step (is_device c) (is_instance c) c n (filter is_element cs) (filter is_device cs) (filter is_instance cs) (disjoint (first_word c)) (among_parts cs n)
@@ -249,7 +251,7 @@ abbrev Names : List Card → List (List ℕ)
 Names cards = map first_word cards
 
 part_step : (d i : Bool) (c : Card) (es ds is : List Card) → Apart d i
-    → is_among (Names es) (first_word c) ≡ (is_among (Names ds) (first_word c) || is_among (Names is) (first_word c))
+    → has_name (Names es) (first_word c) ≡ (has_name (Names ds) (first_word c) || has_name (Names is) (first_word c))
     → (NoRepeat (Names es) → NoRepeat (Names ds ++ Names is))
     → NoRepeat (Names (cond (d || i) (c ∷ es) es)) → NoRepeat (Names (cond d (c ∷ ds) ds) ++ Names (cond i (c ∷ is) is))
 part_step true true c es ds is off e more n = absurd (no (off refl)) where
@@ -347,7 +349,7 @@ design_kept cards netlist fits =
       cell_limit = omega (arith, length-map (map cell_of gs) (λ (c : Cell). c.name), ap length (group_names cards), named.limit);
       names = apart_by (λ (c : Cell). c.name) (map cell_of gs) (rw (group_names cards) named.apart);
       cells = All-map IsCell cell_of gs (All-weaker Kept (λ group. IsCell (cell_of group)) kept_cell gs (groups_kept [] cards None refl tt clean fits));
-      globals = apart (distinct (flat_map globals_in cards)) (distinct_apart [] (flat_map globals_in cards) tt);
+      globals = apart (distinct (flat_map globals_in cards)) (once_apart (flat_map globals_in cards));
     }
 
 -- the same of a text within the limit

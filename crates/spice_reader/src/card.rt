@@ -6,7 +6,7 @@ ghost use Rattle.spice_reader.specs.Cards.{joined_at_equals, trimmed, card_words
 
 use crate::line::{add_lowered, without_end, without_front};
 use std::alloc::Global;
-use text_lines::{cut_words, is_text_line};
+use text_lines::{is_text_line, line_words};
 use vrt_model::{NoMemory, Seq, Text};
 
 /// A card: the number of its first line, whether it continues nothing, whether its bytes are text, and its words.
@@ -83,20 +83,6 @@ fn add_joined(out: &mut Text, text: &[u8]) -> Result<(), NoMemory>
     out.extend(without_blanks_around(rest))
 }
 
-// The texts of words.
-fn texts_of(alloc: Global, words: &[&[u8]]) -> Result<Seq<Text>, NoMemory>
-    ensures { IfOk result (λ s. s ≡ map (λ x. x.now) words.now) }
-{
-    let mut texts = Seq::new(alloc);
-    for word in words {
-        let text = Text::from_bytes(alloc, word)?;
-        if texts.push(text).is_err() {
-            return Err(NoMemory);
-        }
-    }
-    Ok(texts)
-}
-
 // The words of the bytes of a card.
 #[tactic(auto, unfolding(crate::specs::Cards::card_words))]
 fn words_of_card(alloc: Global, bytes: &[u8]) -> Result<Seq<Text>, NoMemory>
@@ -106,8 +92,7 @@ fn words_of_card(alloc: Global, bytes: &[u8]) -> Result<Seq<Text>, NoMemory>
     add_lowered(&mut lower, bytes)?;
     let mut joined = Text::new(alloc);
     add_joined(&mut joined, lower.as_bytes())?;
-    let words = cut_words(alloc, joined.as_bytes())?;
-    texts_of(alloc, words.as_slice())
+    line_words(alloc, joined.as_bytes())
 }
 
 /// The card of a line, from the bytes of all its lines.

@@ -2,19 +2,19 @@
 
 ghost use Rattle.std.specs.Prelude.{◌≡◌, ◌⊎◌, [], None, OnOk, IfOk, IfErr};
 ghost use Rattle.spice_reader.specs.Refused.{IsNetlist, IsFaultOf, fault_by};
-ghost use Rattle.spice_reader.specs.Judged.{Judges};
+ghost use Rattle.text_lines.specs.Faults.{Judges};
 ghost use Rattle.spice_reader.specs.Learned.{learned};
 
 use crate::SpiceFault;
 use crate::card::Card;
 use crate::judge::judge;
 use crate::known::{Known, learn};
+use names::Names;
 use std::alloc::Global;
-use text_lines::Names;
 
 // Judges a card, and learns it if it has no fault.
 fn step(alloc: Global, known: &mut Known, card: &Card) -> Result<(), SpiceFault>
-    ensures fault { Judges result (fault_by known.old card.now) }
+    ensures fault { Judges SpiceFault.NoMemory result (fault_by known.old card.now) }
     ensures next { OnOk result (known.new ≡ learned known.old card.now) }
 {
     judge(alloc, known, card)?;

@@ -1,7 +1,7 @@
 //! The transistors and instances of a cell.
 
 ghost use Rattle.std.specs.Prelude.{◌≡◌, ◌++◌, ◌∷◌, [], map, filter, OnOk, IfOk};
-ghost use Rattle.text_lines.specs.Names.{but_last, last_word};
+ghost use Rattle.text_lines.specs.Words.{but_last, last_word};
 ghost use Rattle.spice_reader.specs.Netlist.{is_device, is_instance, device_of, instance_of, without_slash, tied_words};
 
 use crate::card::Card;

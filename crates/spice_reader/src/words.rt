@@ -3,7 +3,8 @@
 ghost use Rattle.std.specs.Prelude.{◌≡◌, ◌∷◌, [], length, drop, IfOk, codes, nat_lt, ◌==◌};
 ghost use Rattle.std.specs.List.{list_any};
 ghost use Rattle.text_lines.specs.Bytes.{starts};
-ghost use Rattle.text_lines.specs.Names.{word_at, behind, is_empty};
+ghost use Rattle.text_lines.specs.Words.{behind, word_at};
+ghost use Rattle.vrt_model.specs.Lists.{is_empty};
 ghost use Rattle.spice_reader.specs.Cards.{first_word, has_first};
 ghost use Rattle.spice_reader.specs.Netlist.{begins_cell, ends_cell, is_model, is_element, is_parameter, plain_words, head_words, cell_name, cell_ports};
 

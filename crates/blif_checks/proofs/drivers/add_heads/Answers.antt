@@ -1,5 +1,5 @@
 use Rattle.std.proofs.Common.{[], ap, ◌∙◌}
-use Rattle.text_lines.specs.Names.{with_names}
+use Rattle.names.specs.Names.{with_names}
 use Rattle.blif_checks.specs.Mentions.{numbered}
 use Rattle.blif_checks.proofs.DriverLaws.{clock_count, heads_are}
 use Rattle.blif_checks.proofs.drivers.add_heads.Goals as goal

@@ -1,5 +1,5 @@
 use Rattle.std.proofs.Common.{◌&&◌, ◌∙◌, ap, ap₂, get_or, [], List, ℕ, not}
-use Rattle.text_lines.specs.Names.{is_among}
+use Rattle.vrt_model.specs.Lists.{has_name}
 use Rattle.blif_checks.proofs.DriverLaws.{driving_is}
 use Rattle.blif_checks.proofs.roles.is_driving.Goals as goal
 
@@ -7,6 +7,6 @@ pub returns : goal.returns
 returns c =
     c.is_first_alone.ensures
     ∙ ap₂ (λ a b. a && not b)
-    (c.has_at-known.ensures ∙ ap (λ (xs : List (List (List ℕ))). is_among (get_or xs c.number_of-number.result []) c.as_bytes-formal.result.now) c.as_slice.ensures) c.has_at-read.ensures
+    (c.has_at-known.ensures ∙ ap (λ (xs : List (List (List ℕ))). has_name (get_or xs c.number_of-number.result []) c.as_bytes-formal.result.now) c.as_slice.ensures) c.has_at-read.ensures
     ∙ driving_is c.args.blif.now c.args.tables.now c.args.reads.now c.args.sub.now c.args.tie.now c.as_bytes.result.now c.as_bytes-formal.result.now c.number_of-number.result c.requires.tables c.requires.reads
     c.as_bytes.ensures c.as_bytes-formal.ensures c.number_of-number.ensures

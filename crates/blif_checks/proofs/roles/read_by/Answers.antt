@@ -1,6 +1,6 @@
 use Rattle.std.proofs.Common.{[], ap, ap₂, ◌∙◌, ◌++◌}
-use Rattle.text_lines.specs.Names.{with_names}
-use Rattle.text_lines.proofs.NameLaws.{names_once}
+use Rattle.names.specs.Names.{with_names}
+use Rattle.names.proofs.NameLaws.{names_once}
 use Rattle.blif_checks.proofs.MentionLaws.{names_joined}
 use Rattle.blif_checks.proofs.roles.read_by.Goals as goal
 

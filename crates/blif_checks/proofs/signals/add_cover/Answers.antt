@@ -1,5 +1,5 @@
 use Rattle.std.proofs.Common.{[], ◌∷◌, ap, ◌∙◌, List, ℕ}
-use Rattle.text_lines.specs.Names.{with_names}
+use Rattle.names.specs.Names.{with_names}
 use Rattle.blif_checks.proofs.MentionLaws.{names_joined}
 use Rattle.blif_checks.proofs.signals.add_cover.Goals as goal
 

@@ -1,5 +1,5 @@
 use Rattle.std.proofs.Common.{arith, refl, ap, ◌∙◌, List, map}
-use Rattle.text_lines.specs.Names.{with_names}
+use Rattle.names.specs.Names.{with_names}
 use Rattle.vrt_model.specs.declared.blif.Tie.{Tie}
 use Rattle.std.proofs.lemmas.Option.{slice_get_read}
 use Rattle.vrt_model.specs.FlatBlif.{sub_signals}

@@ -1,5 +1,5 @@
 use Rattle.std.proofs.Common.{◌≡◌, flat_map, take}
-use Rattle.text_lines.specs.Names.{with_names}
+use Rattle.names.specs.Names.{with_names}
 use Rattle.vrt_model.specs.FlatBlif.{sub_signals}
 use Rattle.blif_checks.proofs.signals.add_subs.Given as goal
 

@@ -1,6 +1,6 @@
 use Rattle.std.proofs.Common.{arith, refl, ap, [], ◌∷◌, ◌∙◌, List, ℕ}
 use Rattle.std.proofs.lemmas.Option.{slice_get_read}
-use Rattle.text_lines.specs.Names.{with_names}
+use Rattle.names.specs.Names.{with_names}
 use Rattle.vrt_model.specs.declared.blif.Tie.{Tie}
 use Rattle.blif_checks.proofs.MentionLaws.{names_more_one}
 use Rattle.blif_checks.proofs.signals.add_ties.Goals as goal

@@ -1,10 +1,9 @@
-use Rattle.std.proofs.Common.{ap, ◌∙◌, flat_map}
-use Rattle.text_lines.specs.Names.{with_names}
+use Rattle.std.proofs.Common.{ap, ◌∙◌, flat_map, List}
+use Rattle.names.specs.Names.{with_names}
 use Rattle.vrt_model.specs.FlatBlif.{cover_signals, latch_signals, sub_signals}
 use Rattle.vrt_model.specs.declared.blif.CoverLine.{CoverLine}
 use Rattle.vrt_model.specs.declared.blif.LatchLine.{LatchLine}
 use Rattle.vrt_model.specs.declared.blif.SubLine.{SubLine}
-use Rattle.std.proofs.Common.{List}
 use Rattle.blif_checks.proofs.MentionLaws.{signals_are}
 use Rattle.blif_checks.proofs.signals.signals_of.Goals as goal
 

@@ -1,5 +1,5 @@
 use Rattle.std.proofs.Common.{◌≡◌, [], ℕ, List, drop, map, take}
-use Rattle.text_lines.specs.Names.{is_among}
+use Rattle.vrt_model.specs.Lists.{has_name}
 use Rattle.vrt_model.specs.Models.{bad_formal_after}
 use Rattle.vrt_model.specs.declared.blif.Tie.{Tie}
 use Rattle.blif_checks.proofs.subs.take_formals.Given as goal
@@ -8,4 +8,4 @@ use Rattle.blif_checks.proofs.subs.take_formals.Given as goal
 abbrev pub invariant-loop-tie : goal.invariant-loop-tie
 invariant-loop-tie l =
     (bad_formal_after l.interface l.seen (map (λ (t : Tie). t.formal) (drop l.tie-index l.ties)) ≡ bad_formal_after l.interface [] (map (λ (t : Tie). t.formal) l.ties))
-    × ((name : List ℕ) → is_among l.seen name ≡ is_among (map (λ (t : Tie). t.formal) (take l.tie-index l.ties)) name)
+    × ((name : List ℕ) → has_name l.seen name ≡ has_name (map (λ (t : Tie). t.formal) (take l.tie-index l.ties)) name)

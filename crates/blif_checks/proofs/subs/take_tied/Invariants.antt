@@ -1,5 +1,5 @@
 use Rattle.std.proofs.Common.{◌≡◌, drop}
-use Rattle.text_lines.specs.Names.{first_missing}
+use Rattle.names.specs.Names.{first_missing}
 use Rattle.blif_checks.proofs.subs.take_tied.Given as goal
 
 -- each signal so far is tied

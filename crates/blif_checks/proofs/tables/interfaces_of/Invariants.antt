@@ -1,5 +1,5 @@
 use Rattle.std.proofs.Common.{◌≡◌, map, take}
-use Rattle.text_lines.specs.Names.{distinct}
+use Rattle.vrt_model.specs.Lists.{distinct}
 use Rattle.vrt_model.specs.Models.{interface_of}
 use Rattle.vrt_model.specs.declared.blif.BlifModel.{BlifModel}
 use Rattle.blif_checks.proofs.tables.interfaces_of.Given as goal

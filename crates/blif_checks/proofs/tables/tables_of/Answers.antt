@@ -1,8 +1,8 @@
 use Rattle.std.proofs.Common.{ap, ◌∙◌, map}
-use Rattle.text_lines.specs.Names.{distinct}
+use Rattle.vrt_model.specs.Lists.{distinct}
 use Rattle.vrt_model.specs.Models.{interface_of}
 use Rattle.vrt_model.specs.declared.blif.BlifModel.{BlifModel}
-use Rattle.blif_checks.proofs.NameLaws.{names_apart, once_is_all}
+use Rattle.names.proofs.ApartLaws.{names_apart, once_is_all}
 use Rattle.blif_checks.proofs.tables.tables_of.Goals as goal
 
 pub returns : goal.returns

@@ -1,5 +1,5 @@
 use Rattle.std.proofs.Common.{◌∙◌, [], ap, map}
-use Rattle.text_lines.specs.Names.{with_names}
+use Rattle.names.specs.Names.{with_names}
 use Rattle.blif_flat.specs.Places.{number_in}
 use Rattle.blif_flat.proofs.PlaceLaws.{clocks_are}
 use Rattle.blif_flat.proofs.flat.interface_of.Goals as goal

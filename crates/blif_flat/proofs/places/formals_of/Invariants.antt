@@ -1,5 +1,5 @@
 use Rattle.std.proofs.Common.{◌≡◌, [], map, take}
-use Rattle.text_lines.specs.Names.{with_names}
+use Rattle.names.specs.Names.{with_names}
 use Rattle.vrt_model.specs.declared.blif.Tie.{Tie}
 use Rattle.blif_flat.proofs.places.formals_of.Given as goal
 

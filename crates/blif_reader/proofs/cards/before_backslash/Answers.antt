@@ -1,7 +1,8 @@
 use Rattle.std.proofs.Common.{ap, sym, ◌∙◌, tests, rules}
-use Rattle.text_lines.specs.Names.{but_last}
+use Rattle.text_lines.specs.Words.{but_last}
 use Rattle.blif_reader.specs.Cards.{ends_with_backslash}
-use Rattle.blif_reader.proofs.CardLaws.{backslash_end, but_last_end}
+use Rattle.blif_reader.proofs.CardLaws.{backslash_end}
+use Rattle.text_lines.proofs.WordLaws.{but_last_end}
 use Rattle.blif_reader.proofs.cards.before_backslash.Goals as goal
 
 pub returns-then-last-eq92-clause-joins : goal.returns-then-last-eq92-clause-joins

@@ -1,6 +1,6 @@
 use Rattle.blif_reader.proofs.CardLaws.{front_on, last_on}
 use Rattle.std.proofs.Common.{ap, sym, ◌∙◌}
-use Rattle.text_lines.specs.Names.{but_last}
+use Rattle.text_lines.specs.Words.{but_last}
 use Rattle.blif_reader.specs.Cards.{ends_with_backslash}
 use Rattle.blif_reader.proofs.cards.take_line.Goals as goal
 

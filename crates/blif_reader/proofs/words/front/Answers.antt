@@ -1,6 +1,6 @@
 use Rattle.std.proofs.Common.{sym, ap, ◌∙◌}
-use Rattle.text_lines.specs.Names.{but_last}
-use Rattle.blif_reader.proofs.CardLaws.{but_last_end}
+use Rattle.text_lines.specs.Words.{but_last}
+use Rattle.text_lines.proofs.WordLaws.{but_last_end}
 use Rattle.blif_reader.proofs.words.front.Goals as goal
 
 pub returns-in-Some : goal.returns-in-Some

@@ -1,5 +1,5 @@
 use Rattle.std.proofs.Common.{◌≡◌, drop, flat_map}
-use Rattle.text_lines.specs.Names.{with_names}
+use Rattle.names.specs.Names.{with_names}
 use Rattle.hierarchy.specs.Sets.{device_nets}
 use Rattle.hierarchy.proofs.sets.add_driven.Given as goal
 

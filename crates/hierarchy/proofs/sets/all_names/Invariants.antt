@@ -1,5 +1,5 @@
 use Rattle.std.proofs.Common.{◌≡◌, map, take}
-use Rattle.text_lines.specs.Names.{distinct}
+use Rattle.vrt_model.specs.Lists.{distinct}
 use Rattle.vrt_model.specs.declared.design.Cell.{Cell}
 use Rattle.hierarchy.specs.Sets.{names_in}
 use Rattle.hierarchy.proofs.sets.all_names.Given as goal

@@ -1,6 +1,6 @@
 use Rattle.std.proofs.Common.{ap, ◌∙◌}
-use Rattle.text_lines.proofs.NameLaws.{names_once}
-use Rattle.text_lines.specs.Names.{with_names}
+use Rattle.names.proofs.NameLaws.{names_once}
+use Rattle.names.specs.Names.{with_names}
 use Rattle.hierarchy.specs.Sets.{names_in}
 use Rattle.hierarchy.proofs.sets.names_in.Goals as goal
 

@@ -1,7 +1,7 @@
 use Rattle.std.proofs.Common.{ap, ◌∙◌, map}
-use Rattle.text_lines.specs.Names.{distinct}
+use Rattle.vrt_model.specs.Lists.{distinct}
 use Rattle.vrt_model.specs.declared.design.Cell.{Cell}
-use Rattle.hierarchy.proofs.NameLaws.{names_apart, once_is_all}
+use Rattle.names.proofs.ApartLaws.{names_apart, once_is_all}
 use Rattle.hierarchy.proofs.tables.cell_names.Goals as goal
 
 pub returns : goal.returns

@@ -1,6 +1,6 @@
 use Rattle.std.proofs.Common.{arith}
 use Rattle.vrt_model.specs.declared.design.Cell.{Cell}
-use Rattle.hierarchy.proofs.NameLaws.{names_exit}
+use Rattle.names.proofs.NameLaws.{names_exit}
 use Rattle.hierarchy.proofs.tables.names_of.Goals as goal
 
 pub returns : goal.returns

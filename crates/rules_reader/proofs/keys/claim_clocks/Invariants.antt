@@ -1,5 +1,5 @@
 use Rattle.std.proofs.Common.{◌≡◌, ◌≤◌, ◌-◌, length, drop, map}
-use Rattle.text_lines.specs.Names.{with_names}
+use Rattle.names.specs.Names.{with_names}
 use Rattle.rules_reader.specs.Keys.{clocks_on, key, repeated, text}
 use Rattle.rules_reader.proofs.keys.claim_clocks.Given as goal
 

@@ -1,5 +1,5 @@
 use Rattle.std.proofs.Common.{◌≡◌, [], drop, flat_map}
-use Rattle.text_lines.specs.Names.{with_names}
+use Rattle.names.specs.Names.{with_names}
 use Rattle.spice_reader.specs.Netlist.{globals_in}
 use Rattle.spice_reader.proofs.build.globals_of.Given as goal
 

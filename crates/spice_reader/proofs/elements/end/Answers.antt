@@ -1,6 +1,6 @@
 use Rattle.std.proofs.Common.{sym, ap, ◌∙◌}
-use Rattle.text_lines.specs.Names.{last_word}
-use Rattle.spice_reader.proofs.BuildLaws.{last_word_end}
+use Rattle.text_lines.specs.Words.{last_word}
+use Rattle.text_lines.proofs.WordLaws.{last_word_end}
 use Rattle.spice_reader.proofs.elements.end.Goals as goal
 
 pub returns-in-Some : goal.returns-in-Some

@@ -1,5 +1,5 @@
 use Rattle.std.proofs.Common.{◌++◌, ◌∷◌, [], sym, ◌∙◌}
-use Rattle.text_lines.specs.Names.{with_name}
+use Rattle.names.specs.Names.{with_name}
 use Rattle.latch_match.specs.Tables.{named}
 use Rattle.latch_match.proofs.TableLaws.{added, kept, moved}
 use Rattle.latch_match.proofs.table.Table.add.Goals as goal

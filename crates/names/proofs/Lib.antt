@@ -1,0 +1,6 @@
+pub mod KeyLaws
+pub mod FilterLaws
+pub mod NameLaws
+pub mod NewLaws
+pub mod ApartLaws
+pub mod PlaceLaws

@@ -1,0 +1,32 @@
+-- Cards that are judged from the front, each by what those before it tell, which is learned card by card.
+use Rattle.std.proofs.Common.{◌≡◌, ◌<◌, ◌≤◌, ◌+◌, ◌++◌, ◌∷◌, [], ℕ, List, Option, Some, None, length, take, ap, sym, ◌∙◌, below_more}
+use Rattle.std.specs.Prelude.{slice_get}
+use Rattle.std.proofs.lemmas.List.{take_all, take_more}
+use Rattle.std.proofs.lemmas.Option.{get_or_from_slice_get}
+use Rattle.text_lines.specs.Faults.{IsClean, IsFirst, fault_at}
+use Rattle.text_lines.proofs.FaultLaws.{clean_to_end, fault_here}
+
+-- no card so far has a fault, and what is known is what these cards tell
+abbrev pub ReadsBy : {C K F : Type 0} → (List C → K) → (List C → C → Option F) → ℕ → List C → K → Type 0
+ReadsBy known_by fault_of i cards known = (known ≡ known_by (take i cards)) × ((j : ℕ) → j < i → fault_at fault_of cards j ≡ None)
+
+module _ {C K F : Type 0} (known_by : List C → K) (fault_of : List C → C → Option F) (i : ℕ) (cards : List C) where
+  -- a card without a fault is learned
+  pub reads_more : (known next : K) (card : C) → i < length cards → ReadsBy known_by fault_of i cards known → slice_get cards i ≡ Some card
+      → fault_of (take i cards) card ≡ None → next ≡ known_by (take i cards ++ card ∷ []) → ReadsBy known_by fault_of (i + 1) cards next
+  reads_more known next card lt r here none e = (
+    e ∙ ap known_by (ap (λ c. take i cards ++ c ∷ []) (sym (get_or_from_slice_get cards i card card here)) ∙ sym (take_more cards i card lt)),
+    below_more _ _ r.1 (fault_here fault_of cards i card here ∙ none),
+  )
+
+  -- a fault on a card is the first
+  pub first_here : (known : K) (card : C) (f : F) → ReadsBy known_by fault_of i cards known → slice_get cards i ≡ Some card → fault_of (take i cards) card ≡ Some f → IsFirst fault_of cards f
+  first_here known card f r here e = record { place = i; stands = fault_here fault_of cards i card here ∙ e; first = r.1 }
+
+  -- at the end no card has a fault
+  pub all_clean : (known : K) → length cards ≤ i → ReadsBy known_by fault_of i cards known → IsClean fault_of cards
+  all_clean known past r = clean_to_end fault_of cards i past r.1
+
+  -- and what is known is what all cards tell
+  pub all_known : (known : K) → length cards ≤ i → ReadsBy known_by fault_of i cards known → known ≡ known_by cards
+  all_known known past r = r.0 ∙ ap known_by (take_all i cards past)
