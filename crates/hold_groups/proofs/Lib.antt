@@ -1,2 +1,12 @@
+pub mod GivenGroups
+pub mod GroupLaws
+pub mod GroupingLaws
+pub mod KeyLaws
+pub mod LeaderLaws
+pub mod LineLaws
 pub mod ListLaws
+pub mod MarkLaws
+pub mod NetOrder
+pub mod PlacedLaws
 pub mod SourceLaws
+pub mod TableLaws

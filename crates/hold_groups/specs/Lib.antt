@@ -1,2 +1,5 @@
+pub mod Elements
 pub mod Given
+pub mod Grouped
 pub mod Sources
+pub mod Steps

@@ -17,7 +17,7 @@ fn value_in(enters: &[Enter], phase: u32) -> Option<bool>
 }
 
 /// The constant that an `enter` line gives a hold for a phase.
-pub(crate) fn enter_of(circuit: &Circuit, phase: u32, hold: u32) -> Option<bool>
+pub fn enter_of(circuit: &Circuit, phase: u32, hold: u32) -> Option<bool>
     ensures { result ≡ enter_of circuit.now phase hold }
 {
     match circuit.holds.get(hold as usize) {

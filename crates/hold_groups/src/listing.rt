@@ -5,6 +5,7 @@ ghost use Rattle.vrt_model.specs.Elements.{element_names};
 ghost use Rattle.hold_groups.specs.Given.{AreFilled, VariablesGive};
 
 use crate::faults::VarsFault;
+use crate::lists::small;
 use crate::names::{add_element_names, add_names};
 use crate::sources::add_sources;
 use std::alloc::Global;
@@ -12,16 +13,6 @@ use vrt_model::{Circuit, FlatModel, Group, NoMemory, Seq, Text, Vars};
 
 /// The most variables that a cell may have in a phase.
 const MOST_VARIABLES: u32 = 1000;
-
-/// A count as one of 32 bits. Where it needs more, it is refused as want of memory.
-fn count_of(len: usize) -> Result<u32, NoMemory>
-    ensures { IfOk result (λ n. n ≡ len) }
-{
-    match u32::try_from(len) {
-        Ok(count) => Ok(count),
-        Err(_) => Err(NoMemory),
-    }
-}
 
 /// Lists the variables, where none is listed yet, by the names of the elements. The answer is how many they are; the
 /// names are added only where they are not too many.
@@ -38,7 +29,7 @@ fn fill_by(
     ensures { IfOk result (AreFilled circuit.now elements.now groups.now phase vars.new) }
 {
     add_sources(&mut vars.sources, circuit, elements, groups, phase)?;
-    let count = count_of(vars.sources.len())?;
+    let count = small(vars.sources.len())?;
     if count > MOST_VARIABLES {
         return Ok(count);
     }

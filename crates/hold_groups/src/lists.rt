@@ -60,3 +60,13 @@ pub(crate) fn next(number: u32) -> Result<u32, NoMemory>
         None => Err(NoMemory),
     }
 }
+
+/// A number as one of 32 bits. Where it needs more, it is refused as want of memory.
+pub(crate) fn small(number: usize) -> Result<u32, NoMemory>
+    ensures { IfOk result (λ n. n ≡ number) }
+{
+    match u32::try_from(number) {
+        Ok(number) => Ok(number),
+        Err(_) => Err(NoMemory),
+    }
+}

@@ -1,0 +1,65 @@
+-- Names and the set of them.
+use Rattle.std.proofs.Common.{◌≡◌, ℕ, suc, ◌+◌, ◌≤◌, ◌++◌, ◌∷◌, ◌||◌, [], List, Bool, true, false, cond, length, length-append, append_assoc, append-nil, arith, refl, ap, sym, ◌∙◌}
+use Rattle.std.specs.Prelude.{bytes_eq, position}
+use Rattle.std.proofs.lemmas.List.Folds.{list_any-append}
+use Rattle.std.proofs.lemmas.Slice.Eq.{bytes_eq-Decides}
+use Rattle.names.specs.Names.{with_name, with_names}
+use Rattle.vrt_model.specs.Lists.{has_name}
+
+or_swap : (p q : Bool) → (p || (q || false)) ≡ (q || p)
+or_swap true true = refl
+or_swap true false = refl
+or_swap false true = refl
+or_swap false false = refl
+
+or_none : (p : Bool) → (p || false) ≡ p
+or_none true = refl
+or_none false = refl
+
+-- one name more has that name, and those that were there
+with_front : (names : List (List ℕ)) (n name : List ℕ) → has_name (with_name names n) name ≡ (bytes_eq name n || has_name names name)
+with_front names n name = by_test (has_name names n) refl where
+  there : (b : Bool) → bytes_eq name n ≡ b → has_name names n ≡ true → has_name names name ≡ (b || has_name names name)
+  there true e h = ap (has_name names) ((bytes_eq-Decides name n).0 e) ∙ h
+  there false e h = refl
+
+  by_test : (b : Bool) → has_name names n ≡ b → has_name (cond b names (names ++ n ∷ [])) name ≡ (bytes_eq name n || has_name names name)
+  by_test true h = there (bytes_eq name n) refl h
+  by_test false h = list_any-append (bytes_eq name) names (n ∷ []) ∙ or_swap (has_name names name) (bytes_eq name n)
+
+among_names : (names xs : List (List ℕ)) (name : List ℕ) → has_name (with_names names xs) name ≡ (has_name names name || has_name xs name)
+among_names names [] name = sym (or_none (has_name names name))
+among_names names (x ∷ xs) name =
+    among_names (with_name names x) xs name ∙ ap (λ (b : Bool). b || has_name xs name) (with_front names x name) ∙ turn (bytes_eq name x) (has_name names name) (has_name xs name) where
+      turn : (p q r : Bool) → ((p || q) || r) ≡ (q || (p || r))
+      turn true true r = refl
+      turn true false r = refl
+      turn false q r = refl
+
+-- the set has the names of the list
+pub has_same : (list names : List (List ℕ)) (name : List ℕ) → names ≡ with_names [] list → has_name names name ≡ has_name list name
+has_same list names name e = ap (λ (ns : List (List ℕ)). has_name ns name) e ∙ among_names [] list name
+
+few : (names xs : List (List ℕ)) → length (with_names names xs) ≤ length names + length xs
+few names [] = omega arith
+few names (x ∷ xs) = by_test (has_name names x) (few (with_name names x) xs)
+  where
+    by_test : (b : Bool) → length (with_names (cond b names (names ++ x ∷ [])) xs) ≤ length (cond b names (names ++ x ∷ [])) + length xs
+        → length (with_names (cond b names (names ++ x ∷ [])) xs) ≤ length names + suc (length xs)
+    by_test true h = omega (arith, h)
+    by_test false h = let len = length-append names (x ∷ []) in omega (arith, h, len)
+
+-- as many names as there are in the list are the list
+all_new : (names xs : List (List ℕ)) → length (with_names names xs) ≡ length names + length xs → with_names names xs ≡ names ++ xs
+all_new names [] e = sym (append-nil names)
+all_new names (x ∷ xs) e = by_test (has_name names x) (all_new (names ++ x ∷ []) xs) e
+  where
+    by_test : (b : Bool)
+        → (length (with_names (names ++ x ∷ []) xs) ≡ length (names ++ x ∷ []) + length xs → with_names (names ++ x ∷ []) xs ≡ (names ++ x ∷ []) ++ xs)
+        → length (with_names (cond b names (names ++ x ∷ [])) xs) ≡ length names + suc (length xs)
+        → with_names (cond b names (names ++ x ∷ [])) xs ≡ names ++ x ∷ xs
+    by_test true rest e = let h = few names xs in absurd (omega (arith, h, e))
+    by_test false rest e = let len = length-append names (x ∷ []) in rest (omega (arith, e, len)) ∙ append_assoc names (x ∷ []) xs
+
+pub place_same : (list names : List (List ℕ)) (name : List ℕ) → names ≡ with_names [] list → length names ≡ length list → position (bytes_eq name) names ≡ position (bytes_eq name) list
+place_same list names name e len = ap (λ (ns : List (List ℕ)). position (bytes_eq name) ns) (e ∙ all_new [] list (let same : length (with_names [] list) ≡ length names = ap (λ (ns : List (List ℕ)). length ns) (sym e) in omega (arith, same, len)))
