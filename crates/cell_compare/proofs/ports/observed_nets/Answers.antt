@@ -1,7 +1,7 @@
 use Rattle.std.proofs.Common.{◌||◌, Bool, List, ap, sym, ◌∙◌}
 use Rattle.std.specs.Prelude.{◌==◌}
 use Rattle.std.specs.List.{list_any}
-use Rattle.known_nets.proofs.IncidenceLaws.{none_set}
+use Rattle.vrt_model.proofs.Lists.{none_marked}
 use Rattle.cell_compare.proofs.ObservedLaws.{observed_is}
 use Rattle.cell_compare.specs.Compared.{comparison_in}
 use Rattle.cell_compare.specs.declared.outputs.Output.{Output}
@@ -16,6 +16,6 @@ returns-clause-is c n =
     c.mark_outputs.ensures.is n
     ∙ (ap (λ (b : Bool). b || on_outputs)
     (c.mark_gates.ensures.is n
-    ∙ (ap (λ (b : Bool). b || on_gates c.as_slice.result.now) (ap (λ (ms : List Bool). mark_at ms n) c.in_ok-marks.ensures ∙ none_set c.len.result n)
+    ∙ (ap (λ (b : Bool). b || on_gates c.as_slice.result.now) (ap (λ (ms : List Bool). mark_at ms n) c.in_ok-marks.ensures ∙ none_marked c.len.result n)
     ∙ ap on_gates c.as_slice.ensures))
     ∙ sym (observed_is (comparison_in c.args.compared) c.args.phase n c.args.outputs.now c.requires.plain c.requires.outputs))
