@@ -1,6 +1,7 @@
 -- How much stands in models once their sub-models are unrolled.
 use Rattle.std.specs.Prelude.{◌≡◌, ℕ, zero, suc, ◌+◌, ◌-◌, List, [], map, length, sum_by, None, get_or, position, unwrap_or, bytes_eq}
-use Rattle.vrt_model.specs.FlatBlif.{all_models, flat_model_of, formals, inner_signals, model_at, model_numbered}
+use Rattle.blif_checks.specs.Tables.{AreTables}
+use Rattle.vrt_model.specs.FlatBlif.{all_models, flat_model_of, formals, inner_signals, model_at, model_numbered, signals_of}
 use Rattle.vrt_model.specs.Lists.{At}
 use Rattle.vrt_model.specs.Models.{bad_formal_after, interface_of}
 use Rattle.vrt_model.specs.Unsupported.{carried}
@@ -13,6 +14,8 @@ use Rattle.blif_flat.specs.declared.counts.Counted.{Counted}
 use Rattle.blif_flat.specs.declared.counts.Counted.TheVariants.{Signals, Rows, Subs}
 use Rattle.blif_flat.specs.declared.counts.Counts.{Counts}
 use Rattle.blif_flat.specs.declared.counts.Inside.{Inside}
+use Rattle.blif_flat.specs.declared.counts.Sums.{Sums}
+use Rattle.blif_flat.specs.declared.tables.ModelTables.{ModelTables}
 
 -- ---- by the definition
 
@@ -71,3 +74,18 @@ below all kind (suc depth) m = sum_by (λ (i : Inside). weight kind i + below al
 
 abbrev pub AreSums : List (List Inside) → Counted → ℕ → List ℕ → Type 0
 AreSums all kind depth sums = (m : ℕ) → get_or sums m 0 ≡ carried (below all kind depth m)
+
+-- ---- the tables of a file
+
+-- what models have of their own, and what stands below each
+pub record AreSumsOf (names : List (List ℕ)) (signals : List (List (List ℕ))) (models : List BlifModel) (s : Sums) : Type 0 where
+  pub rows_are : s.rows ≡ map rows_in models
+  pub signals_are : AreSums (map (inside_in names signals s.rows) models) Signals 32 s.signals_below
+  pub below_are : AreSums (map (inside_in names signals s.rows) models) Rows 32 s.rows_below
+  pub subs_are : AreSums (map (inside_in names signals s.rows) models) Subs 32 s.subs_below
+
+-- of models their names, interfaces, signals and sums
+pub record AreModelTables (blif : Blif) (t : ModelTables) : Type 0 where
+  pub tables_are : AreTables blif t.tables
+  pub lists_are : t.signals ≡ map signals_of blif.models
+  pub sums_are : AreSumsOf t.tables.names t.signals blif.models t.sums

@@ -1,16 +1,17 @@
 //! How much stands in models once their sub-models are unrolled, counted model by model.
 
-ghost use Rattle.std.specs.Prelude.{◌≡◌, ◌+◌, ℕ, [], None, List, map, length, get_or, sum_by, IfOk};
+ghost use Rattle.std.specs.Prelude.{◌≡◌, ◌+◌, ℕ, [], None, List, map, length, get_or, sum_by, IfOk, OnOk};
 ghost use Rattle.vrt_model.specs.FlatBlif.{signals_of};
 ghost use Rattle.vrt_model.specs.Models.{bad_sub};
 ghost use Rattle.vrt_model.specs.Unsupported.{carried};
-ghost use Rattle.blif_flat.specs.Counts.{AreCounts, AreSums, below, inside_in, rows_in, sub_inside, sum_over, weight};
-ghost use Rattle.blif_checks.specs.Tables.{AreTables};
+ghost use Rattle.blif_flat.specs.Counts.{AreCounts, AreModelTables, AreSums, AreSumsOf, inside_in, rows_in, sub_inside, sum_over, weight};
+ghost use Rattle.vrt_model.specs.declared.blif.Blif.{Blif as BlifValue};
 
-use blif_checks::{Tables, number_of, signals_of};
+use crate::tables::ModelTables;
+use blif_checks::{number_of, signals_of};
 use names::Names;
 use std::alloc::Global;
-use vrt_model::{Blif, BlifModel, NoMemory, Seq, SubLine, Text};
+use vrt_model::{BlifModel, NoMemory, Seq, SubLine, Text};
 
 /// What is counted: signals, rows of covers, and sub-models.
 #[derive(Clone, Copy, Debug)]
@@ -209,41 +210,87 @@ fn all_insides(
     Ok(all)
 }
 
-// A count of a model with what stands below it.
-fn with_below(
-    alloc: Global,
-    kind: Counted,
-    all: &[Seq<Inside>],
-    model: usize,
-    own: u64,
-) -> Result<u64, NoMemory>
-    ensures { IfOk result (λ count. count ≡ carried (own + carried (below all.now kind 32 model))) }
-{
-    let sums = sums_of(alloc, kind, all)?;
-    Ok(own.saturating_add(number_at(sums.as_slice(), model)))
+/// What models have of their own and what stands below each, for all models of a file.
+pub(crate) struct Sums {
+    pub rows: Seq<u64>,
+    pub signals_below: Seq<u64>,
+    pub rows_below: Seq<u64>,
+    pub subs_below: Seq<u64>,
 }
 
-/// The counts of a model. It takes time in proportion to the cards of all models.
-pub(crate) fn counts_of(
+/// By hand, so that letting go of one is a call.
+impl Drop for Sums {
+    fn drop(self) {
+        let Sums {
+            rows: _rows,
+            signals_below: _signals_below,
+            rows_below: _rows_below,
+            subs_below: _subs_below,
+        } = self;
+    }
+}
+
+impl Sums {
+    // With nothing counted. It takes no memory.
+    fn new(alloc: Global) -> Self {
+        Sums {
+            rows: Seq::new(alloc),
+            signals_below: Seq::new(alloc),
+            rows_below: Seq::new(alloc),
+            subs_below: Seq::new(alloc),
+        }
+    }
+
+    // Counts the models of a file.
+    fn fill(
+        &mut self,
+        alloc: Global,
+        names: &Names,
+        signals: &[Seq<Text>],
+        models: &[BlifModel],
+    ) -> Result<(), NoMemory>
+        ensures { OnOk result (AreSumsOf names.now signals.now models.now self.new) }
+    {
+        self.rows = all_rows(alloc, models)?;
+        let all = all_insides(alloc, names, signals, self.rows.as_slice(), models)?;
+        self.signals_below = sums_of(alloc, Counted::Signals, all.as_slice())?;
+        self.rows_below = sums_of(alloc, Counted::Rows, all.as_slice())?;
+        self.subs_below = sums_of(alloc, Counted::Subs, all.as_slice())?;
+        Ok(())
+    }
+}
+
+/// The sums of all models of a file, by their names and signals. It takes time in proportion to the cards of all models.
+pub(crate) fn sums_by(
     alloc: Global,
-    blif: &Blif,
-    tables: &Tables,
+    names: &Names,
     signals: &[Seq<Text>],
-    model: usize,
-) -> Result<Counts, NoMemory>
-    requires tables { AreTables blif.now tables.now }
-    requires lists { signals.now ≡ map signals_of blif.now.models }
-    requires subs { bad_sub blif.now ≡ None }
-    ensures { IfOk result (λ counts. AreCounts blif.now model counts) }
+    models: &[BlifModel],
+) -> Result<Sums, NoMemory>
+    ensures { IfOk result (AreSumsOf names.now signals.now models.now) }
 {
-    let models = blif.models.as_slice();
-    let rows = all_rows(alloc, models)?;
-    let all = all_insides(alloc, &tables.names, signals, rows.as_slice(), models)?;
-    let own_signals = size_at(signals, model);
-    let own_rows = number_at(rows.as_slice(), model);
-    Ok(Counts {
-        signals: with_below(alloc, Counted::Signals, all.as_slice(), model, own_signals)?,
-        rows: with_below(alloc, Counted::Rows, all.as_slice(), model, own_rows)?,
-        subs: with_below(alloc, Counted::Subs, all.as_slice(), model, 0)?,
-    })
+    let mut sums = Sums::new(alloc);
+    sums.fill(alloc, names, signals, models)?;
+    Ok(sums)
+}
+
+// A count of a model with what stands below it.
+fn with_below(sums: &Seq<u64>, model: usize, own: u64) -> u64
+    ensures { result ≡ carried (own + get_or sums.now model 0) }
+{
+    own.saturating_add(number_at(sums.as_slice(), model))
+}
+
+/// The counts of a model, by the sums of all models.
+pub(crate) fn counts_of(tables: &ModelTables, model: usize) -> Counts
+    ensures { (blif : BlifValue) → AreModelTables blif tables.now → bad_sub blif ≡ None → AreCounts blif model result }
+{
+    let sums = &tables.sums;
+    let own_signals = size_at(tables.signals.as_slice(), model);
+    let own_rows = number_at(sums.rows.as_slice(), model);
+    Counts {
+        signals: with_below(&sums.signals_below, model, own_signals),
+        rows: with_below(&sums.rows_below, model, own_rows),
+        subs: with_below(&sums.subs_below, model, 0),
+    }
 }

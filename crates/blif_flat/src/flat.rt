@@ -7,35 +7,28 @@ ghost use Rattle.vrt_model.specs.FlatBlif.{flat_model_of, model_at, signals_of};
 ghost use Rattle.vrt_model.specs.Inputs.{IsBlif};
 ghost use Rattle.vrt_model.specs.Models.{AreModels, bad_sub};
 ghost use Rattle.vrt_model.specs.Unsupported.{model_limits, too_large};
+ghost use Rattle.blif_flat.specs.Counts.{AreModelTables};
 ghost use Rattle.blif_flat.specs.Flat.{FlatGives};
 ghost use Rattle.blif_flat.specs.Places.{HasRoom, IsInterface, number_in};
 ghost use Rattle.blif_checks.specs.Tables.{AreTables};
+ghost use Rattle.vrt_model.specs.declared.blif.Blif.{Blif as BlifValue};
 
 use crate::FlatModelFault;
-use crate::counts::{all_signals, counts_of};
+use crate::counts::counts_of;
 use crate::limits::first_above;
 use crate::places::{Place, number_at, top_place};
+use crate::tables::{ModelTables, model_tables};
 use crate::unroll::{Parts, numbers_of, unroll};
-use blif_checks::{Tables, tables_of};
+use blif_checks::Tables;
 use names::Names;
 use std::alloc::Global;
 use vrt_model::{Blif, BlifModel, FlatModel, NoMemory, Seq, Text};
 
 // The first count of a model that passes its limit, if any does.
-fn count_above(
-    alloc: Global,
-    blif: &Blif,
-    tables: &Tables,
-    signals: &[Seq<Text>],
-    model: usize,
-) -> Result<Option<u64>, NoMemory>
-    requires tables { AreTables blif.now tables.now }
-    requires lists { signals.now ≡ map signals_of blif.now.models }
-    requires subs { bad_sub blif.now ≡ None }
-    ensures { IfOk result (λ above. above ≡ too_large (model_limits blif.now model)) }
+fn count_above(tables: &ModelTables, model: usize) -> Option<u64>
+    ensures { (blif : BlifValue) → AreModelTables blif tables.now → bad_sub blif ≡ None → result ≡ too_large (model_limits blif model) }
 {
-    let counts = counts_of(alloc, blif, tables, signals, model)?;
-    Ok(first_above(counts))
+    first_above(counts_of(tables, model))
 }
 
 // The names of a list.
@@ -151,15 +144,48 @@ fn unrolled(
     })
 }
 
-// The tables of models, and the signals of each.
-fn all_tables(alloc: Global, blif: &Blif) -> Result<(Tables, Seq<Seq<Text>>), NoMemory>
-    requires { IsBlif blif.now }
-    ensures tables { IfOk result (λ t. AreTables blif.now t.0) }
-    ensures lists { IfOk result (λ t. t.1 ≡ map signals_of blif.now.models) }
+// A model with its sub-models unrolled, or the first count that passes its limit.
+#[tactic(auto, using(crate::proofs::FlatLaws::signals_within, crate::proofs::OneDriverLaws::is_flat))]
+fn unrolled_within(
+    alloc: Global,
+    tables: &ModelTables,
+    blif: &Blif,
+    model: usize,
+) -> Result<FlatModel, FlatModelFault>
+    requires tables { AreModelTables blif.now tables.now }
+    requires blif { IsBlif blif.now }
+    requires models { AreModels blif.now }
+    ensures { FlatGives blif.now model result }
 {
-    let tables = tables_of(alloc, blif)?;
-    let signals = all_signals(alloc, blif.models.as_slice())?;
-    Ok((tables, signals))
+    if let Some(count) = count_above(tables, model) {
+        return Err(FlatModelFault::Limit { count });
+    }
+    match unrolled(
+        alloc,
+        blif,
+        &tables.tables,
+        tables.signals.as_slice(),
+        model,
+    ) {
+        Ok(flat) => Ok(flat),
+        Err(_) => Err(FlatModelFault::NoMemory),
+    }
+}
+
+/// A model by its number with its sub-models unrolled, by the tables of the file's models, which `model_tables` makes: the
+/// same as `flat_model`, without time or memory for the tables.
+pub fn flat_model_with(
+    alloc: Global,
+    tables: &ModelTables,
+    blif: &Blif,
+    model: u32,
+) -> Result<FlatModel, FlatModelFault>
+    requires tables { AreModelTables blif.now tables.now }
+    requires blif { IsBlif blif.now }
+    requires models { AreModels blif.now }
+    ensures { FlatGives blif.now model result }
+{
+    unrolled_within(alloc, tables, blif, model as usize)
 }
 
 /// A model by its number with its sub-models unrolled, as in Berkeley BLIF's `.subckt`. The flat signals are the model's
@@ -168,23 +194,13 @@ fn all_tables(alloc: Global, blif: &Blif) -> Result<(Tables, Seq<Seq<Text>>), No
 /// 0 on, as in `2/q`. Each flat signal has exactly one driver: an input or clock of the model, a cover or a latch. A number
 /// that no model has gives an empty flat model. `Limit` comes exactly where signals, rows of
 /// covers or sub-models pass their limit, and is found before anything is unrolled, in time in proportion to the cards.
-#[tactic(auto, using(crate::proofs::FlatLaws::signals_within, crate::proofs::OneDriverLaws::is_flat))]
 pub fn flat_model(alloc: Global, blif: &Blif, model: u32) -> Result<FlatModel, FlatModelFault>
     requires blif { IsBlif blif.now }
     requires models { AreModels blif.now }
     ensures { FlatGives blif.now model result }
 {
-    let Ok((tables, signals)) = all_tables(alloc, blif) else {
-        return Err(FlatModelFault::NoMemory);
-    };
-    let Ok(above) = count_above(alloc, blif, &tables, signals.as_slice(), model as usize) else {
-        return Err(FlatModelFault::NoMemory);
-    };
-    if let Some(count) = above {
-        return Err(FlatModelFault::Limit { count });
-    }
-    match unrolled(alloc, blif, &tables, signals.as_slice(), model as usize) {
-        Ok(flat) => Ok(flat),
+    match model_tables(alloc, blif) {
+        Ok(tables) => flat_model_with(alloc, &tables, blif, model),
         Err(_) => Err(FlatModelFault::NoMemory),
     }
 }

@@ -6,6 +6,7 @@ mod faults;
 mod flat;
 mod limits;
 mod places;
+mod tables;
 mod unroll;
 
 pub use blif_checks::{
@@ -13,4 +14,5 @@ pub use blif_checks::{
     tables_of,
 };
 pub use faults::FlatModelFault;
-pub use flat::flat_model;
+pub use flat::{flat_model, flat_model_with};
+pub use tables::{ModelTables, model_tables};

@@ -1,11 +1,17 @@
-use Rattle.std.proofs.Common.{◌∙◌, sym}
+use Rattle.std.proofs.Common.{◌+◌, ◌∙◌, [], ℕ, List, ap, get_or, length, refl}
+use Rattle.vrt_model.specs.Unsupported.{carried}
 use Rattle.blif_flat.proofs.CountLaws.{counts_made, insides_are}
 use Rattle.blif_flat.proofs.counts.counts_of.Goals as goal
 
 pub returns : goal.returns
-returns c =
-    counts_made c.args.blif.now c.args.model c.in_ok-all.all c.args.tables.now.names c.args.signals.now c.as_slice.result.now c.as_slice-2.result.now c.as_slice-3.result.now c.as_slice-4.result.now c.as_slice-5.result.now _
-    c.size_at-own_signals.result c.number_at-own_rows.result
-    (insides_are c.args.blif.now c.args.tables.now c.as_slice-models.result.now c.in_ok-all.all c.args.signals.now c.as_slice.result.now c.in_ok-rows.rows c.requires.tables c.as_slice-models.ensures c.requires.lists c.in_ok-rows.ensures
-    c.as_slice.ensures c.requires.subs c.in_ok-all.ensures)
-    (c.as_slice-2.ensures ∙ sym c.as_slice.ensures) c.as_slice-3.ensures c.as_slice-4.ensures c.as_slice-5.ensures c.size_at-own_signals.ensures c.number_at-own_rows.ensures c.in_ok-with_below.ensures c.in_ok-with_below-2.ensures c.in_ok-with_below-3.ensures
+returns c blif are none =
+    let t = c.args.tables.now in
+    let sums = are.sums_are in
+    counts_made blif c.args.model _ t.tables.names t.signals t.sums.rows t.sums.rows _ _ _ _ c.size_at-own_signals.result c.number_at-own_rows.result
+    (insides_are blif t.tables blif.models _ t.signals t.sums.rows t.sums.rows are.tables_are refl are.lists_are sums.rows_are refl none refl)
+    refl refl refl refl
+    (c.size_at-own_signals.ensures ∙ ap (λ (ls : List (List (List ℕ))). length (get_or ls c.args.model [])) c.as_slice.ensures)
+    (c.number_at-own_rows.ensures ∙ ap (λ (ns : List ℕ). get_or ns c.args.model 0) c.as_slice-2.ensures)
+    (c.with_below.ensures ∙ ap (λ (n : ℕ). carried (c.size_at-own_signals.result + n)) (sums.signals_are c.args.model))
+    (c.with_below-2.ensures ∙ ap (λ (n : ℕ). carried (c.number_at-own_rows.result + n)) (sums.below_are c.args.model))
+    (c.with_below-3.ensures ∙ ap (λ (n : ℕ). carried (0 + n)) (sums.subs_are c.args.model))
