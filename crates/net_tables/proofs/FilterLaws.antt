@@ -1,0 +1,59 @@
+-- Lists that are filtered, and the names that are left.
+use Rattle.std.proofs.Common.{◌≡◌, ◌∷◌, ◌||◌, ◌&&◌, [], ℕ, suc, not, List, Bool, true, false, cond, filter, refl, ap, ap₂, sym, ◌∙◌}
+use Rattle.std.specs.Prelude.{bytes_eq}
+use Rattle.std.proofs.lemmas.Slice.Eq.{bytes_eq-Decides}
+use Rattle.vrt_model.specs.Lists.{At, has_name}
+
+-- two tests that agree on the items
+pub filter_same : {X : Type 0} (p q : X → Bool) (xs : List X) → ((i : ℕ) (x : X) → At xs i x → p x ≡ q x) → filter p xs ≡ filter q xs
+filter_same p q [] h = refl
+filter_same {X} p q (x ∷ xs) h =
+    ap₂ (λ (b : Bool) (rest : List X). cond b (x ∷ rest) rest) (h 0 x refl) (filter_same p q xs (λ i y e. h (suc i) y e))
+
+-- a test that all items pass
+pub filter_all : {X : Type 0} (p : X → Bool) (xs : List X) → ((i : ℕ) (x : X) → At xs i x → p x ≡ true) → filter p xs ≡ xs
+filter_all p [] h = refl
+filter_all {X} p (x ∷ xs) h =
+    ap₂ (λ (b : Bool) (rest : List X). cond b (x ∷ rest) rest) (h 0 x refl) (filter_all p xs (λ i y e. h (suc i) y e))
+
+pub filter_twice : {X : Type 0} (p q : X → Bool) (xs : List X) → filter p (filter q xs) ≡ filter (λ x. q x && p x) xs
+filter_twice p q [] = refl
+filter_twice {X} p q (x ∷ xs) = by_test (q x) (filter_twice p q xs) where
+  by_test : (b : Bool) → filter p (filter q xs) ≡ filter (λ x. q x && p x) xs
+      → filter p (cond b (x ∷ filter q xs) (filter q xs)) ≡ cond (b && p x) (x ∷ filter (λ x. q x && p x) xs) (filter (λ x. q x && p x) xs)
+  by_test true e = ap (λ (rest : List X). cond (p x) (x ∷ rest) rest) e
+  by_test false e = e
+
+and_swap : (a b : Bool) → (a && b) ≡ (b && a)
+and_swap true true = refl
+and_swap true false = refl
+and_swap false true = refl
+and_swap false false = refl
+
+pub filter_swap : {X : Type 0} (p q : X → Bool) (xs : List X) → filter p (filter q xs) ≡ filter q (filter p xs)
+filter_swap p q xs =
+    filter_twice p q xs ∙ filter_same (λ x. q x && p x) (λ x. p x && q x) xs (λ i x e. and_swap (q x) (p x)) ∙ sym (filter_twice q p xs)
+
+-- a name is among the filtered names where it passes and is among the names
+pub has_name_filter : (p : List ℕ → Bool) (xs : List (List ℕ)) (name : List ℕ) → has_name (filter p xs) name ≡ (p name && has_name xs name)
+has_name_filter p [] name = none (p name) where
+  none : (b : Bool) → false ≡ (b && false)
+  none true = refl
+  none false = refl
+has_name_filter p (x ∷ xs) name = by_test (p x) (bytes_eq name x) refl refl (has_name_filter p xs name) where
+  by_test : (b same : Bool) → p x ≡ b → bytes_eq name x ≡ same → has_name (filter p xs) name ≡ (p name && has_name xs name)
+      → has_name (cond b (x ∷ filter p xs) (filter p xs)) name ≡ (p name && (bytes_eq name x || has_name xs name))
+  by_test true true h s e =
+      let is : p name ≡ true = ap p ((bytes_eq-Decides name x).0 s) ∙ h in
+      ap (λ (b : Bool). b || has_name (filter p xs) name) s ∙ sym (ap₂ (λ (b c : Bool). b && (c || has_name xs name)) is s)
+  by_test true false h s e =
+      ap (λ (b : Bool). b || has_name (filter p xs) name) s ∙ e ∙ sym (ap (λ (c : Bool). p name && (c || has_name xs name)) s)
+  by_test false true h s e =
+      let is : p name ≡ false = ap p ((bytes_eq-Decides name x).0 s) ∙ h in
+      e ∙ ap (λ (b : Bool). b && has_name xs name) is ∙ sym (ap (λ (b : Bool). b && (bytes_eq name x || has_name xs name)) is)
+  by_test false false h s e = e ∙ sym (ap (λ (c : Bool). p name && (c || has_name xs name)) s)
+
+-- the names that are not among none are all
+pub filter_new : (xs : List (List ℕ)) → filter (λ y. not (has_name [] y)) xs ≡ xs
+filter_new [] = refl
+filter_new (x ∷ xs) = ap (λ rest. x ∷ rest) (filter_new xs)

@@ -1,0 +1,9 @@
+pub mod FilterLaws
+pub mod NameLaws
+pub mod ApartLaws
+pub mod PlaceLaws
+pub mod SupplyLaws
+pub mod OwnLaws
+pub mod NetLaws
+pub mod TableLaws
+pub mod PlaceNetLaws

@@ -1,0 +1,5 @@
+pub mod Supplies
+pub mod Nets
+pub mod Names
+pub mod Tables
+pub mod Places
