@@ -5,13 +5,13 @@
 //! | `lines` | of the text that was begun last: how many lines it has, and its last line |
 //! | `read` | what its reader answers |
 //! | `fronts N` | how many of its fronts its reader answers, where no front has more than N cells, models or supplies |
-//! | `names WHAT NAMES` | of a set of names (`names`) |
+//! | `names WHAT NAMES` | of a set of names (`name_sets`) |
 //! | `part N` | how many parts the model of this number has |
 //! | `rule WHAT` | of the rules (`rules`) |
 //! | `check WHAT,..` | what these checks of the models answer (`checks`) |
 //! | `unroll`, `signals` | what the first model is unrolled to, and how many signals that has |
 
-use crate::{checks, lines, models, names, netlists, rules, unrollings};
+use crate::{checks, lines, models, name_sets, netlists, rules, unrollings};
 use anyhow::{Result, bail};
 use row_script::{Part, Script, number};
 use std::alloc::Global;
@@ -30,7 +30,7 @@ fn told(alloc: Global, script: &Script, asked: &str) -> Result<String> {
     let (word, rest) = asked.split_once(' ').unwrap_or((asked, ""));
     match word {
         "lines" => lines::told(alloc, script.text()),
-        "names" => names::told(alloc, rest),
+        "names" => name_sets::told(alloc, rest),
         "read" => read(alloc, script.part, script.text()),
         "fronts" => fronts(alloc, script, number(rest)?),
         "part" => models::part_told(alloc, script.models.as_slice(), number(rest)?),

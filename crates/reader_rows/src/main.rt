@@ -3,7 +3,7 @@
 //!
 //! | module | of what |
 //! |---|---|
-//! | `lines`, `names` | the lines and words of a text, sets of names |
+//! | `lines`, `name_sets` | the lines and words of a text, sets of names |
 //! | `netlists`, `models`, `rules` | what the three readers answer of a text, and of each front of it |
 //! | `checks` | each fault of models, which stand in one another up to 32 deep |
 //! | `unrollings` | models with their sub-models unrolled, and the limits of these |
@@ -13,7 +13,7 @@ mod checks;
 mod desk;
 mod lines;
 mod models;
-mod names;
+mod name_sets;
 mod netlists;
 mod rules;
 mod unrollings;

@@ -99,7 +99,7 @@ impl Script {
     }
 
     /// Takes a line that gives text, and says whether it was one.
-    fn give(&mut self, alloc: Global, word: &str, rest: &str) -> Result<bool> {
+    pub fn give(&mut self, alloc: Global, word: &str, rest: &str) -> Result<bool> {
         match word {
             "" => {}
             "#" => {}

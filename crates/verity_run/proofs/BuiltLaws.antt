@@ -3,7 +3,7 @@ use Rattle.std.proofs.Common.{◌≡◌, ◌∷◌, ◌++◌, [], ℕ, zero, suc
 use Rattle.std.specs.Prelude.{All, find, flat_map, slice_get, unwrap_or}
 use Rattle.std.specs.List.{reduce}
 use Rattle.std.proofs.lemmas.List.Elements.{All-cons, All-head, All-nil, All-tail}
-use Rattle.text_lines.specs.Names.{is_empty}
+use Rattle.vrt_model.specs.Lists.{is_empty}
 use Rattle.cell_compare.specs.Compared.{IsBuilt}
 use Rattle.verity_run.specs.Unbuilt.{AreBuilt, has_latch, instance_line, latch_line, lesser, rule_line}
 use Rattle.vrt_model.specs.declared.blif.Blif.{Blif}

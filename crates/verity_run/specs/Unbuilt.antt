@@ -2,7 +2,7 @@
 use Rattle.std.specs.Prelude.{◌≡◌, ℕ, List, [], ◌∷◌, ◌++◌, Bool, not, map, flat_map, find, min, slice_get, All, Option, Some, None, option_map}
 use Rattle.std.specs.List.{reduce}
 use Rattle.text_lines.specs.Faults.{first_of}
-use Rattle.text_lines.specs.Names.{is_empty}
+use Rattle.vrt_model.specs.Lists.{is_empty}
 use Rattle.verity_run.specs.Given.{ByFile}
 use Rattle.verity_run.specs.Messages.{unbuilt_line}
 use Rattle.verity_run.specs.declared.unbuilt.Unbuilt.{Unbuilt}

@@ -17,9 +17,9 @@ pub const RULES: &str = "supply 1 vdd\nsupply 0 gnd\ndevice n n\ndevice p p\n";
 fn shown_of(alloc: Global, name: &str, netlist: &str, models: &str) -> Result<String> {
     let row = Row {
         words: THREE_FILES,
-        netlist,
-        models,
-        rules: RULES,
+        netlist: netlist.as_bytes(),
+        models: models.as_bytes(),
+        rules: RULES.as_bytes(),
     };
     shown(alloc, name, row)
 }

@@ -10,7 +10,7 @@ mod script;
 mod told;
 
 use anyhow::Result;
-use script::Script;
+use script::Runs;
 
 /// Prints what was made, where memory sufficed.
 fn show(rt: HostRuntime, made: Result<String>) -> Result<()> {
@@ -20,9 +20,9 @@ fn show(rt: HostRuntime, made: Result<String>) -> Result<()> {
 }
 
 fn main(rt: HostRuntime) -> Result<()> {
-    let mut script = Script::new(rt.alloc());
+    let mut runs = Runs::new(rt.alloc());
     for line in rt.lines(rt.alloc()) {
-        show(rt, script.take(rt.alloc(), line?.as_str()))?;
+        show(rt, runs.take(rt.alloc(), line?.as_str()))?;
     }
     show(rt, made::nested(rt.alloc(), 32))?;
     show(rt, made::nested(rt.alloc(), 33))?;

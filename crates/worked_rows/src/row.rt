@@ -11,11 +11,11 @@ pub struct Row<'a> {
     /// The words behind the name of the program, with a space between two.
     pub words: &'a str,
     /// The netlist, in the file `c.sp`.
-    pub netlist: &'a str,
+    pub netlist: &'a [u8],
     /// The models, in the file `m.blif`.
-    pub models: &'a str,
+    pub models: &'a [u8],
     /// The rules, in the file `r.txt`.
-    pub rules: &'a str,
+    pub rules: &'a [u8],
 }
 
 /// Which calls of a run fail.
@@ -68,9 +68,9 @@ pub fn sufficed(answer: std::result::Result<(), NoMemory>) -> Result<()> {
 /// The files of a row, which never fail.
 fn sure_files(alloc: Global, row: Row<'_>) -> Result<SureFiles> {
     let mut files = SureFiles::new(alloc);
-    sufficed(files.add("c.sp", row.netlist.as_bytes()))?;
-    sufficed(files.add("m.blif", row.models.as_bytes()))?;
-    sufficed(files.add("r.txt", row.rules.as_bytes()))?;
+    sufficed(files.add("c.sp", row.netlist))?;
+    sufficed(files.add("m.blif", row.models))?;
+    sufficed(files.add("r.txt", row.rules))?;
     Ok(files)
 }
 
@@ -85,11 +85,11 @@ pub fn shown(alloc: Global, name: &str, row: Row<'_>) -> Result<String> {
 }
 
 /// Adds a file that is there.
-fn add_present(files: &mut MemFiles, name: &str, text: &str, is_absent: bool) -> Result<()> {
+fn add_present(files: &mut MemFiles, name: &str, text: &[u8], is_absent: bool) -> Result<()> {
     if is_absent {
         return Ok(());
     }
-    sufficed(files.add(name, text.as_bytes()))
+    sufficed(files.add(name, text))
 }
 
 /// The files of a row, of which one may not be there and one load may fail.

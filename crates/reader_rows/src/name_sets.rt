@@ -1,8 +1,8 @@
 //! Sets of names.
 
 use anyhow::{Result, bail};
+use names::Names;
 use std::alloc::Global;
-use text_lines::Names;
 
 /// What is told of a set to which names are added, with a comma between two.
 ///
