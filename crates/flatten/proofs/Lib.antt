@@ -1,11 +1,9 @@
 pub mod CellFlat
 pub mod CellNets
-pub mod CellSizes
 pub mod CellTests
 pub mod CircuitParts
 pub mod FirstNotes
 pub mod KeeperNotes
-pub mod LastCounts
 pub mod NameLists
 pub mod NetNumbers
 pub mod NetTurns

@@ -2,6 +2,5 @@ pub mod CellTables
 pub mod Circuits
 pub mod Firsts
 pub mod NetTables
-pub mod Sizes
 pub mod Structures
 pub mod Tables

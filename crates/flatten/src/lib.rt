@@ -10,12 +10,11 @@ mod lists;
 mod net_names;
 mod nets;
 mod rule_tables;
-mod sizes_of;
 mod structures;
 mod tables;
 
 pub use cells::{has_no_hold, is_leaf};
 pub use circuit::flat;
 pub use faults::FlatFault;
-pub use sizes_of::{FlatSizes, sizes};
+pub use flat_sizes::{FlatSizes, sizes};
 pub use structures::structure;

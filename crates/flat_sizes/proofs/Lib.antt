@@ -1,0 +1,7 @@
+pub mod CardLaws
+pub mod Carried
+pub mod CountLaws
+pub mod LastCounts
+pub mod NameLaws
+pub mod PlaceLaws
+pub mod TotalLaws

@@ -1,0 +1,14 @@
+use Rattle.std.proofs.Common.{arith, ◌-◌, ◌+◌}
+use Rattle.flat_sizes.proofs.TotalLaws.{level_down, level_first, level_last, zeros_none}
+use Rattle.flat_sizes.proofs.totals.cells_inside.Goals as goal
+
+pub loop-round-init : goal.loop-round-init
+loop-round-init c = level_first c.args.design.now 4096 c.args.cell c.no_cells-all.result c.no_cells-level.result c.no_cells-all.ensures c.no_cells-level.ensures (omega (arith, c.requires.few, c.requires.there))
+
+pub loop-round-preserved : goal.loop-round-preserved
+loop-round-preserved c =
+    level_down c.args.design.now c.args.cell (32 - c.loop-round.round) (32 - (c.loop-round.round + 1)) c.loop-round.all _ c.loop-round.level c.no_cells-next.result _
+    (omega arith) (zeros_none 4096 c.no_cells-next.result c.no_cells-next.ensures) c.add_level.ensures.next c.add_level.ensures.all c.loop-round.invariant
+
+pub returns : goal.returns
+returns c = level_last c.args.design.now c.args.cell (32 - c.loop-round.round) c.loop-round.all c.loop-round.level (omega (arith, c.loop-round-test.false)) c.loop-round.invariant

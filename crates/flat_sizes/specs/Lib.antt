@@ -1,0 +1,3 @@
+pub mod Mentions
+pub mod Sizes
+pub mod Totals

@@ -1,0 +1,207 @@
+//! The counts of a flat circuit.
+
+ghost use Rattle.std.specs.Prelude.{◌≡◌, ◌<◌, ◌+◌, ◌*◌, filter, is_none, length, nat_lt};
+ghost use Rattle.flat_sizes.specs.Sizes.{AreSizes};
+ghost use Rattle.flat_sizes.specs.Totals.{AreInside, global_weight, inside, names_inside, weighed, weight_of};
+ghost use Rattle.vrt_model.specs.CellRules.{supply_of};
+ghost use Rattle.vrt_model.specs.Comparison.{cell_at};
+ghost use Rattle.vrt_model.specs.FlatCircuit.{flat_devices, flat_nets};
+ghost use Rattle.vrt_model.specs.Inputs.{IsDesign};
+ghost use Rattle.vrt_model.specs.Unrolled.{own_nets};
+ghost use Rattle.vrt_model.specs.Unsupported.{carried, top_before};
+
+use crate::names::{names_global, net_count};
+use crate::own::own_count;
+use crate::totals::cells_inside;
+use vrt_model::{Design, Rules, Text};
+
+/// How many nets, devices and instances a flat circuit has; a count past the greatest number is that number.
+#[derive(Clone, Copy, Debug, PartialEq, Eq)]
+pub struct FlatSizes {
+    /// The nets, the two supplies among them. With more than 20,000 the cell is not checked.
+    pub nets: u64,
+    /// The transistors. With more than 40,000 the cell is not checked.
+    pub devices: u64,
+    /// The instances at all depths. With more than 40,000 the cell is not checked.
+    pub instances: u64,
+}
+
+/// What is counted of a cell.
+#[derive(Clone, Copy)]
+pub(crate) enum Counted {
+    /// The nets of its own.
+    Nets,
+    /// Its transistors.
+    Devices,
+    /// The cell itself.
+    Instances,
+}
+
+/// How many nets a cell has of its own, none where there is no cell.
+fn nets_of(design: &Design, rules: &Rules, cell: usize) -> u64
+    ensures { result ≡ carried (length (own_nets design.now rules.now (cell_at design.now cell))) }
+{
+    match design.cells.get(cell) {
+        Some(found) => own_count(design, rules, found),
+        None => 0,
+    }
+}
+
+/// How many transistors a cell has, none where there is no cell.
+fn devices_of(design: &Design, cell: usize) -> u64
+    ensures { result ≡ carried (length (cell_at design.now cell).devices) }
+{
+    match design.cells.get(cell) {
+        Some(found) => found.devices.len() as u64,
+        None => 0,
+    }
+}
+
+/// What a cell counts of its own.
+fn own_weight(design: &Design, rules: &Rules, cell: usize, counted: Counted) -> u64
+    ensures { result ≡ carried (weight_of counted design.now rules.now cell) }
+{
+    match counted {
+        Counted::Nets => nets_of(design, rules, cell),
+        Counted::Devices => devices_of(design, cell),
+        Counted::Instances => 1,
+    }
+}
+
+/// What a cell counts that stands so often. One that stands nowhere is not looked at.
+fn weight_at(design: &Design, rules: &Rules, cell: usize, counted: Counted, count: u64) -> u64
+    ensures { result ≡ carried (count * weight_of counted design.now rules.now cell) }
+{
+    if count == 0 {
+        return 0;
+    }
+    own_weight(design, rules, cell, counted).saturating_mul(count)
+}
+
+/// What cells count that stand so often.
+fn sum_of(design: &Design, rules: &Rules, counted: Counted, counts: &[u64; 4096]) -> u64
+    ensures { result ≡ carried (weighed (weight_of counted design.now rules.now) 0 counts.now) }
+{
+    let mut sum = 0u64;
+    for cell in 0..4096usize {
+        sum = sum.saturating_add(weight_at(design, rules, cell, counted, counts[cell]));
+    }
+    sum
+}
+
+/// What the cells in a cell count.
+fn inner_count(
+    design: &Design,
+    rules: &Rules,
+    cell: usize,
+    counted: Counted,
+    counts: &[u64; 4096],
+) -> u64
+    requires { AreInside design.now cell counts.now }
+    ensures { result ≡ carried (inside design.now (weight_of counted design.now rules.now) cell) }
+{
+    sum_of(design, rules, counted, counts)
+}
+
+/// Whether a card of a cell names a global net.
+fn is_global_at(design: &Design, rules: &Rules, cell: usize, name: &Text) -> bool
+    ensures { result ≡ nat_lt 0 (global_weight design.now rules.now name.now cell) }
+{
+    match design.cells.get(cell) {
+        Some(found) => names_global(design, rules, found, name),
+        None => false,
+    }
+}
+
+/// Whether a card of a cell that stands so often names a global net. One that stands nowhere is not looked at.
+fn is_named_at(design: &Design, rules: &Rules, cell: usize, count: u64, name: &Text) -> bool
+    ensures { result ≡ nat_lt 0 (count * global_weight design.now rules.now name.now cell) }
+{
+    if count == 0 {
+        return false;
+    }
+    is_global_at(design, rules, cell, name)
+}
+
+/// Whether a card of a cell that stands somewhere names a global net.
+fn is_named(design: &Design, rules: &Rules, counts: &[u64; 4096], name: &Text) -> bool
+    ensures { result ≡ nat_lt 0 (weighed (global_weight design.now rules.now name.now) 0 counts.now) }
+{
+    for cell in 0..4096usize {
+        if is_named_at(design, rules, cell, counts[cell], name) {
+            return true;
+        }
+    }
+    false
+}
+
+/// Whether a card of a cell, or of a cell in it, names a global net.
+fn is_global(design: &Design, rules: &Rules, cell: usize, counts: &[u64; 4096], name: &Text) -> bool
+    requires { AreInside design.now cell counts.now }
+    ensures { result ≡ names_inside design.now rules.now cell name.now }
+{
+    is_global_at(design, rules, cell, name) || is_named(design, rules, counts, name)
+}
+
+/// How many global nets a cell has.
+fn global_count(design: &Design, rules: &Rules, cell: usize, counts: &[u64; 4096]) -> usize
+    requires { AreInside design.now cell counts.now }
+    ensures { result ≡ length (filter (names_inside design.now rules.now cell) design.now.globals) }
+{
+    design
+        .globals
+        .as_slice()
+        .iter()
+        .filter(|name| is_global(design, rules, cell, counts, name))
+        .count()
+}
+
+/// How many ports of a cell are no supplies.
+fn port_count(design: &Design, rules: &Rules, cell: usize) -> usize
+    requires { cell < length design.now.cells }
+    ensures { result ≡ length (filter (λ name. is_none (supply_of rules.now name)) (cell_at design.now cell).ports) }
+{
+    net_count(rules, design.cells.as_slice()[cell].ports.as_slice())
+}
+
+/// How many nets a cell has.
+fn all_nets(design: &Design, rules: &Rules, cell: usize, counts: &[u64; 4096]) -> u64
+    requires there { cell < length design.now.cells }
+    requires counts { AreInside design.now cell counts.now }
+    ensures { result ≡ carried (length (flat_nets (top_before design.now rules.now cell))) }
+{
+    let ports = port_count(design, rules, cell) as u64;
+    let globals = global_count(design, rules, cell, counts) as u64;
+    let own = nets_of(design, rules, cell);
+    let inner = inner_count(design, rules, cell, Counted::Nets, counts);
+    ports
+        .saturating_add(globals)
+        .saturating_add(own)
+        .saturating_add(inner)
+        .saturating_add(2)
+}
+
+/// How many devices a cell has.
+fn all_devices(design: &Design, rules: &Rules, cell: usize, counts: &[u64; 4096]) -> u64
+    requires { AreInside design.now cell counts.now }
+    ensures { result ≡ carried (length (flat_devices (top_before design.now rules.now cell))) }
+{
+    let inner = inner_count(design, rules, cell, Counted::Devices, counts);
+    devices_of(design, cell).saturating_add(inner)
+}
+
+/// How many nets, devices and instances the flat circuit of a cell has. It takes no memory and unrolls no instance; its
+/// time grows with the square of what the cards of a cell name, and with the count of cells times that of cards.
+pub fn sizes(design: &Design, rules: &Rules, cell: u32) -> FlatSizes
+    requires netlist { IsDesign design.now }
+    requires there { cell < length design.now.cells }
+    ensures { AreSizes (top_before design.now rules.now cell) result }
+{
+    let cell = cell as usize;
+    let counts = cells_inside(design, cell);
+    FlatSizes {
+        nets: all_nets(design, rules, cell, &counts),
+        devices: all_devices(design, rules, cell, &counts),
+        instances: inner_count(design, rules, cell, Counted::Instances, &counts),
+    }
+}

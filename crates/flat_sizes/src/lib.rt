@@ -1,0 +1,9 @@
+//! How large the flat circuit of a cell is, counted without memory: no instance is unrolled.
+#![tactic(auto)]
+
+mod counts;
+mod names;
+mod own;
+mod totals;
+
+pub use counts::{FlatSizes, sizes};

@@ -1,0 +1,103 @@
+//! How often each cell stands in another, level by level: no instance is unrolled.
+
+ghost use Rattle.std.specs.Prelude.{◌≡◌, ◌<◌, ◌≤◌, ℕ, bytes_eq, length, position, replicate};
+ghost use Rattle.flat_sizes.specs.Totals.{Adds, AddsAll, AddsOne, AreInside};
+ghost use Rattle.vrt_model.specs.Comparison.{cell_at};
+ghost use Rattle.vrt_model.specs.Unrolled.{cell_named};
+ghost use Rattle.vrt_model.specs.declared.design.Cell.{Cell as CellValue};
+
+use vrt_model::{Cell, Design, InstanceCard, Text};
+
+/// The number of the first cell of a name.
+fn place_of(cells: &[Cell], name: &[u8]) -> Option<usize>
+    ensures { result ≡ position (λ (c : CellValue). bytes_eq c.name name.now) cells.now }
+{
+    cells.iter().position(|cell| cell.name.as_bytes() == name)
+}
+
+/// The number of a cell by its name, 0 where there is none.
+fn cell_number(design: &Design, name: &Text) -> usize
+    ensures { result ≡ cell_named design.now name.now }
+{
+    place_of(design.cells.as_slice(), name.as_bytes()).unwrap_or(0)
+}
+
+/// One cell stands so often more.
+fn add_cell(table: &mut [u64; 4096], cell: usize, count: u64)
+    requires { cell < 4096 }
+    ensures { AddsOne cell count table.old table.new }
+{
+    table[cell] = table[cell].saturating_add(count);
+}
+
+/// The cells of instances stand so often more, in a level and in all.
+fn add_cards(
+    design: &Design,
+    cards: &[InstanceCard],
+    count: u64,
+    level: &mut [u64; 4096],
+    all: &mut [u64; 4096],
+)
+    requires { length design.now.cells ≤ 4096 }
+    ensures level { Adds design.now cards.now count level.old level.new }
+    ensures all { Adds design.now cards.now count all.old all.new }
+{
+    for card in cards {
+        let cell = cell_number(design, &card.cell);
+        add_cell(level, cell, count);
+        add_cell(all, cell, count);
+    }
+}
+
+/// The same for the instances of a cell that stands so often.
+fn add_inner(
+    design: &Design,
+    cell: usize,
+    count: u64,
+    level: &mut [u64; 4096],
+    all: &mut [u64; 4096],
+)
+    requires { length design.now.cells ≤ 4096 }
+    ensures level { Adds design.now (cell_at design.now cell).instances count level.old level.new }
+    ensures all { Adds design.now (cell_at design.now cell).instances count all.old all.new }
+{
+    if count > 0 && cell < design.cells.len() {
+        let found = &design.cells.as_slice()[cell];
+        add_cards(design, found.instances.as_slice(), count, level, all);
+    }
+}
+
+/// The same for the cells of a level.
+fn add_level(design: &Design, level: &[u64; 4096], next: &mut [u64; 4096], all: &mut [u64; 4096])
+    requires { length design.now.cells ≤ 4096 }
+    ensures next { AddsAll design.now level.now next.old next.new }
+    ensures all { AddsAll design.now level.now all.old all.new }
+{
+    for cell in 0..4096usize {
+        add_inner(design, cell, level[cell], next, all);
+    }
+}
+
+/// No cell stands anywhere.
+fn no_cells() -> [u64; 4096]
+    ensures { result ≡ replicate 4096 0 }
+{
+    [0u64; 4096]
+}
+
+/// How often each cell stands in a cell, at any depth up to 32. A count past the greatest number is that number.
+pub(crate) fn cells_inside(design: &Design, cell: usize) -> [u64; 4096]
+    requires few { length design.now.cells ≤ 4096 }
+    requires there { cell < length design.now.cells }
+    ensures { AreInside design.now cell result }
+{
+    let mut all = no_cells();
+    let mut level = no_cells();
+    level[cell] = 1;
+    for round in 0..32u32 {
+        let mut next = no_cells();
+        add_level(design, &level, &mut next, &mut all);
+        level = next;
+    }
+    all
+}
