@@ -43,7 +43,7 @@ use Rattle.vrt_model.specs.declared.rules.StrengthRule.{StrengthRule}
 
 -- ---- a cell of a netlist
 
-cell_there : (cells : List Cell) (k : ℕ) (d : Cell) → All IsCell cells → k < length cells → IsCell (unwrap_or (slice_get cells k) d)
+pub cell_there : (cells : List Cell) (k : ℕ) (d : Cell) → All IsCell cells → k < length cells → IsCell (unwrap_or (slice_get cells k) d)
 cell_there cells k d all lt = by_place cells k (λ i lt. all i d lt) lt where
   by_place : (xs : List Cell) (k : ℕ) → ((i : ℕ) → i < length xs → IsCell (get_or xs i d)) → k < length xs → IsCell (unwrap_or (slice_get xs k) d)
   by_place [] k all lt = absurd (omega (arith, lt))
@@ -136,7 +136,7 @@ well_formed nets devices few less all = record {
 
 -- ---- the tests
 
-find_same : {X : Type 0} (p q : X → Bool) (xs : List X) → ((x : X) → p x ≡ q x) → find p xs ≡ find q xs
+pub find_same : {X : Type 0} (p q : X → Bool) (xs : List X) → ((x : X) → p x ≡ q x) → find p xs ≡ find q xs
 find_same {X} p q xs h = ap (λ (f : X → Bool). find f xs) (fun_ext h)
 
 module _ (design : Design) (rules : Rules) (k : ℕ) (leaf : IsLeaf design k) where

@@ -7,3 +7,5 @@ pub mod KeeperNotes
 pub mod NameLists
 pub mod NetNumbers
 pub mod NetTurns
+pub mod StructureLaws
+pub mod WalkLaws

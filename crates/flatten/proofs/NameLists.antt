@@ -1,6 +1,9 @@
--- Places in lists that are joined.
-use Rattle.std.proofs.Common.{◌≡◌, ◌+◌, ◌++◌, ◌∷◌, [], ℕ, zero, suc, List, length, subst, arith}
+-- Places in lists that are joined, and names that do not repeat.
+use Rattle.std.proofs.Common.{◌≡◌, ◌+◌, ◌++◌, ◌∷◌, [], ℕ, zero, suc, List, length, subst, arith, ◌∙◌}
 use Rattle.std.specs.Prelude.{bytes_eq}
+use Rattle.names.proofs.ApartLaws.{once_is_all}
+use Rattle.names.proofs.NameLaws.{names_once}
+use Rattle.names.specs.Names.{with_names}
 use Rattle.vrt_model.specs.Inputs.{AllApart}
 use Rattle.vrt_model.specs.Lists.{At}
 
@@ -20,3 +23,7 @@ apart_left xs ys apart i j x y a b e = apart i j x y (at_left xs ys i x a) (at_l
 pub apart_right : (xs ys : List (List ℕ)) → AllApart bytes_eq (xs ++ ys) → AllApart bytes_eq ys
 apart_right xs ys apart i j x y a b e =
     let h : length xs + i ≡ length xs + j = apart (length xs + i) (length xs + j) x y (at_right xs ys i x a) (at_right xs ys j y b) e in omega (arith, h)
+
+-- names that do not repeat are a table of themselves
+pub apart_all : (xs : List (List ℕ)) → AllApart bytes_eq xs → with_names [] xs ≡ xs
+apart_all xs apart = names_once xs ∙ once_is_all xs apart

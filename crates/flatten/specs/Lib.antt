@@ -4,3 +4,4 @@ pub mod Firsts
 pub mod NetTables
 pub mod Structures
 pub mod Tables
+pub mod Walks

@@ -1,5 +1,5 @@
 -- What stands in the way of a flat circuit.
-use Rattle.std.specs.Prelude.{◌≡◌, ◌≤◌, ◌<◌, ℕ, List, Result, Ok, Err, Option, Some, None, option_map, find, is_none}
+use Rattle.std.specs.Prelude.{◌≡◌, ◌≤◌, ◌<◌, ℕ, List, Result, Ok, Err, Option, Some, None, option_map, find, is_none, cond, nat_lt}
 use Rattle.flatten.specs.Tables.{kind_in}
 use Rattle.flatten.specs.declared.faults.FlatFault.{FlatFault}
 use Rattle.flatten.specs.declared.faults.FlatFault.TheVariants.{DeviceModel, SupplyTie, Limit, NoMemory}
@@ -25,6 +25,24 @@ IsFault t NoMemory = Unit {0}
 abbrev pub StructureGives : {X : Type 0} → Top → Result X FlatFault → Type 0
 StructureGives t (Ok x) = IsStructured t
 StructureGives t (Err fault) = IsFault t fault
+
+-- ---- causes in their order
+
+-- the first count that passes its limit
+abbrev pub large_in : ℕ → ℕ → ℕ → Option ℕ
+large_in nets devices instances =
+    cond (nat_lt 20000 nets) (Some nets) (cond (nat_lt 40000 devices) (Some devices) (cond (nat_lt 40000 instances) (Some instances) None))
+
+abbrev pub IsFirstCause : Option ℕ → Option (List ℕ) → Option (List ℕ) → FlatFault → Type 0
+IsFirstCause large kind tie (Limit count) = large ≡ Some count
+IsFirstCause large kind tie (DeviceModel model) = (large ≡ None) × (kind ≡ Some model)
+IsFirstCause large kind tie (SupplyTie path) = (large ≡ None) × (kind ≡ None) × (tie ≡ Some path)
+IsFirstCause large kind tie NoMemory = Unit {0}
+
+-- a count, the model of a device, a tied supply: the first of these that there is
+abbrev pub CausesGive : {X : Type 0} → Option ℕ → Option (List ℕ) → Option (List ℕ) → Result X FlatFault → Type 0
+CausesGive large kind tie (Ok x) = (large ≡ None) × (kind ≡ None) × (tie ≡ None)
+CausesGive large kind tie (Err fault) = IsFirstCause large kind tie fault
 
 -- ---- the tests of a cell without instances
 
