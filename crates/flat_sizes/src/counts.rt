@@ -10,7 +10,7 @@ ghost use Rattle.vrt_model.specs.Inputs.{IsDesign};
 ghost use Rattle.vrt_model.specs.Unrolled.{own_nets};
 ghost use Rattle.vrt_model.specs.Unsupported.{carried, top_before};
 
-use crate::names::{names_global, net_count};
+use crate::mentions::{names_global, net_count};
 use crate::own::own_count;
 use crate::totals::cells_inside;
 use vrt_model::{Design, Rules, Text};

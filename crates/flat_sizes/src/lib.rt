@@ -2,7 +2,7 @@
 #![tactic(auto)]
 
 mod counts;
-mod names;
+mod mentions;
 mod own;
 mod totals;
 

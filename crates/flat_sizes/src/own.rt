@@ -6,7 +6,7 @@ ghost use Rattle.vrt_model.specs.Lists.{has_name as is_among};
 ghost use Rattle.vrt_model.specs.Unrolled.{is_own, mentions, own_nets};
 ghost use Rattle.vrt_model.specs.Unsupported.{carried};
 
-use crate::names::{has_name, is_mentioned, is_own_net, is_same, is_tied};
+use crate::mentions::{has_name, is_mentioned, is_own_net, is_same, is_tied};
 use vrt_model::{Cell, Design, DeviceCard, InstanceCard, Rules, Text};
 
 /// One where a net is the cell's own and does not come again, else none.

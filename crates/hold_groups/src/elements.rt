@@ -7,7 +7,7 @@ ghost use Rattle.vrt_model.specs.Lists.{has_name, place_of};
 ghost use Rattle.hold_groups.specs.Elements.{IsTable};
 ghost use Rattle.hold_groups.specs.Grouped.{element_in};
 
-use crate::names::add_element_names;
+use crate::variable_names::add_element_names;
 use std::alloc::Global;
 use names::Names;
 use vrt_model::{FlatModel, HoldEnd, NoMemory, Seq, Text};

@@ -11,9 +11,9 @@ mod grouping;
 mod listing;
 mod lists;
 mod matching;
-mod names;
 mod sources;
 mod unmatched;
+mod variable_names;
 
 pub use entered::{enter_of, entered_bit};
 pub use faults::{MatchFault, VarsFault};

@@ -6,7 +6,7 @@ ghost use Rattle.hold_groups.specs.Given.{AreFilled, VariablesGive};
 
 use crate::faults::VarsFault;
 use crate::lists::small;
-use crate::names::{add_element_names, add_names};
+use crate::variable_names::{add_element_names, add_names};
 use crate::sources::add_sources;
 use std::alloc::Global;
 use vrt_model::{Circuit, FlatModel, Group, NoMemory, Seq, Text, Vars};

@@ -1,6 +1,6 @@
 use Rattle.std.proofs.Common.{◌≡◌, map, take}
 use Rattle.hold_groups.specs.Sources.{name_in}
-use Rattle.hold_groups.proofs.names.add_names.Given as goal
+use Rattle.hold_groups.proofs.variable_names.add_names.Given as goal
 
 -- the names so far
 abbrev pub invariant-loop-source : goal.invariant-loop-source

@@ -1,6 +1,6 @@
 use Rattle.std.proofs.Common.{◌≡◌, ◌++◌, length}
 use Rattle.hold_groups.specs.Sources.{elements_of}
-use Rattle.hold_groups.proofs.names.add_latches.Given as goal
+use Rattle.hold_groups.proofs.variable_names.add_latches.Given as goal
 
 -- the names so far, and those that are left
 abbrev pub invariant-latches : goal.invariant-latches
