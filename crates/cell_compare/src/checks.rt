@@ -5,8 +5,8 @@ ghost use Rattle.cell_compare.specs.Compared.{comparison_in};
 ghost use Rattle.cell_compare.specs.Phases.{input_count};
 ghost use Rattle.cell_compare.specs.Steps.{ArePlans, IsChecked, IsComparable, IsTold};
 
-use crate::early::too_many_inputs;
 use crate::flattened::{Comparison, PhaseFound, PhasePlan};
+use crate::flattening::too_many_inputs;
 use crate::phase::check_phase;
 use crate::plans::plans;
 use crate::unchecked::Unchecked;

@@ -36,7 +36,7 @@ fn first_handle(known: Option<bool>, root: u32) -> u32
 }
 
 /// Writes the handle with which each net begins.
-fn open(store: &mut Store, known: &[Option<bool>], roots: Span, gates: Span)
+fn write_first_handles(store: &mut Store, known: &[Option<bool>], roots: Span, gates: Span)
     requires roots { IsSpan store.old roots × IsFilled store.old roots }
     requires gates { IsSpan store.old gates }
     requires len { (length known.now ≡ gates.len) × (roots.len ≡ gates.len) }
@@ -97,7 +97,7 @@ pub fn circuit_fault(
     ensures spent { HasOneHold circuit.now → IfErr result (IsUsedUp store.old store.new) }
 {
     store.sound();
-    open(store, parts.known.as_slice(), roots, gates);
+    write_first_handles(store, parts.known.as_slice(), roots, gates);
     for part in parts.list.as_slice() {
         let words = words_of(part, out);
         let found = match check_part(store, circuit, part, observed, care, roots, gates, words) {

@@ -9,8 +9,8 @@ ghost use Rattle.vrt_model.specs.PairedPorts.{Model, paired_model};
 ghost use Rattle.vrt_model.specs.Verdicts.{IsVerdict};
 
 use crate::checks::check_cell;
-use crate::early::flatten_cell;
 use crate::flattened::{Comparison, Flattened};
+use crate::flattening::flatten_cell;
 use crate::known_facts::{facts_of, no_facts};
 use crate::unchecked::Unchecked;
 use latch_match::{is_skipped, model_of};

@@ -4,8 +4,8 @@
 mod checks;
 mod circuit;
 mod compared;
-mod early;
 mod flattened;
+mod flattening;
 mod known_facts;
 mod least;
 mod net;
@@ -18,7 +18,7 @@ mod ports;
 mod roots;
 mod scan;
 mod solve;
-mod tell;
+mod told_faults;
 mod unchecked;
 
 pub use circuit::circuit_fault;

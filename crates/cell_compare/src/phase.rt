@@ -15,7 +15,7 @@ use crate::outputs::{Output, output_fault};
 use crate::phase_words::{PhaseWords, input_nets, take_words, word_count};
 use crate::ports::{observed_nets, open_inputs, seen_outputs};
 use crate::roots::open_roots;
-use crate::tell::{told_circuit_fault, told_difference};
+use crate::told_faults::{told_circuit_fault, told_difference};
 use bdd_core::{ONE, Store};
 use blif_eval::eval_model;
 use std::alloc::Global;

@@ -50,27 +50,10 @@ same_part c phase least n m are pn pm e =
     together_further c phase true n (slice_index least n) m (are n pn).together
     (subst (λ (x : ℕ). IsTogether c phase true x m) (sym e) (together_back c phase true m (slice_index least m) (are m pm).together))
 
--- and nets of one part have one least net
-pub same_least : (c : Circuit) (phase : Phase) (least : List ℕ) (n m : ℕ) → AreLeast c phase least → IsTogether c phase true n m → slice_index least n ≡ slice_index least m
-same_least c phase least n m are t =
-    let pn = together_first c phase true n m t in
-    let pm = together_plain c phase true n m t in
-    let le = (are n pn).lowest (slice_index least m) (together_further c phase true n m (slice_index least m) t (are m pm).together) in
-    let ge = (are m pm).lowest (slice_index least n) (together_further c phase true m n (slice_index least n) (together_back c phase true n m t) (are n pn).together) in
-    omega (arith, le, ge)
-
 -- ---- arcs
 
 pub unknown_gate : (c : Circuit) (phase : Phase) (known : List (Option Bool)) (n : ℕ) → IsKnownTable c phase (known_at known) → known_at known n ≡ None → IsUnknown c phase n
 unknown_gate c phase known n table e v k = none-some v (sym e ∙ (table n v).1 k)
-
--- from a gate that is not known an arc leads to each net of the part of a plain net at the device
-pub gate_has_arc : (c : Circuit) (phase : Phase) (known : List (Option Bool)) (d : Device) (l m n : ℕ) → IsKnownTable c phase (known_at known) → Among c.devices d → is_in true d ≡ true → known_at known d.gate.0 ≡ None
-    → Joins d l m → IsTogether c phase true n m → HasArc c phase d.gate.0 n
-gate_has_arc c phase known d l m n table there bare none j t =
-    let may : may_conduct (conduction_of known d) ≡ true = ap (λ (o : Option Bool). may_conduct (option_map (conducts_at d.kind) o)) none in
-    let channel = may_channel c phase known true d table there bare may in
-    inl (d, (m, l, t, channel, turned d l m j), refl, unknown_gate c phase known d.gate.0 table none)
 
 -- ---- one device
 

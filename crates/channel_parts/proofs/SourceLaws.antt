@@ -32,14 +32,6 @@ use Rattle.vrt_model.specs.declared.rules.Phase.{Phase}
 
 -- ---- the table of sources
 
-pub none_joined : (c : Circuit) (known : List (Option Bool)) (least : List ℕ) (d : Device) (table : List (List ℕ)) → device_source c known least d ≡ None → HasJoined c known least d table table
-none_joined c known least d table none = record {
-  count = refl;
-  only = λ k q row a m. inl (row, a, m);
-  stays = λ k q before row a m b. subst (λ (r : List ℕ). Among r q) (same_Some before row (sym a ∙ b)) m;
-  joined = λ k q row between a. absurd (none-some q (sym none ∙ between.0));
-}
-
 pub placed_joined : (c : Circuit) (known : List (Option Bool)) (least : List ℕ) (d : Device) (source : ℕ) (old new : List (List ℕ)) → device_source c known least d ≡ Some source
     → IsPlaced (device_owner c known least true d) source old new → HasJoined c known least d old new
 placed_joined c known least d source old new is placed = record {
@@ -69,13 +61,6 @@ placed_joined c known least d source old new is placed = record {
     the_source : (q : ℕ) → Among (source ∷ []) q → source ≡ q
     the_source q (zero, e) = same_Some source q e
     the_source q (suc i, e) = absurd (none-some q e)
-
-pub first_sources : (c : Circuit) (known : List (Option Bool)) (least : List ℕ) (table : List (List ℕ)) → length table ≡ length least → ((k : ℕ) (row : List ℕ) → At table k row → row ≡ []) → AreSources c known least 0 table
-first_sources c known least table len empty = record {
-  count = len;
-  only = λ k q row a m. absurd (none-some q (subst (λ (r : List ℕ). At r m.0 q) (empty k row a) m.1));
-  all = λ i d lt at k q row between a. absurd (omega (arith, lt));
-}
 
 at_there : {X : Type 0} (xs : List X) (i : ℕ) → i < length xs → (x : X) × At xs i x
 at_there [] i lt = absurd (omega (arith, lt))

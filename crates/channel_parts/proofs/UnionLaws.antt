@@ -124,17 +124,6 @@ shorter_own t u at w below own n lt =
 
 -- ---- two sets that are joined
 
-pub linked_same : (t u : List ℕ) (low high : ℕ) → IsWritten high low t u → high < length t → slice_index t high ≡ high → (f : ℕ → ℕ) → Respects u f
-    → Respects t f × (f low ≡ f high)
-linked_same t u low high w inside own f respects = (
-  λ n lt.
-      elim (same_or_not n high) [
-        | inl e ↦ ap f (subst (λ (x : ℕ). slice_index t x ≡ x) (sym e) own)
-        | inr ne ↦ ap f (sym (w.others n ne)) ∙ respects n (subst (λ (x : ℕ). n < x) (sym w.size) lt)
-      ],
-  sym (ap f w.there) ∙ respects high (subst (λ (x : ℕ). high < x) (sym w.size) inside),
-)
-
 -- the least numbers of two sets are of one part, where a number of each is of one part with one of the other
 pub least_together : (c : Circuit) (phase : Phase) (bare : Bool) (left right one other : ℕ) → IsTogether c phase bare left right → (IsPlain c left → IsTogether c phase bare left one)
     → (IsPlain c right → IsTogether c phase bare right other) → IsTogether c phase bare one other

@@ -16,7 +16,7 @@ use crate::least::least_nets;
 use crate::listing::in_order;
 use crate::part::{Part, PartFault, Parts};
 use crate::ranking::ranked;
-use known_nets::{known_nets, small};
+use known_nets::{known_nets, short_number};
 use std::alloc::Global;
 use vrt_model::{Circuit, Dev, Net, NoMemory, Phase, Seq};
 
@@ -94,7 +94,7 @@ fn part_of(
     requires devices { head.1 < length devices.now }
     ensures { IfOk result (λ part. IsMade nets.now devices.now head part) }
 {
-    let rank = small(head.0.0)?;
+    let rank = short_number(head.0.0)?;
     let joined = nets_of(alloc, nets[head.1].as_slice())?;
     let joining = devices_of(alloc, devices[head.1].as_slice())?;
     Ok(Part {

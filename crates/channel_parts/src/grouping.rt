@@ -5,7 +5,7 @@ ghost use Rattle.channel_parts.specs.Groups.{AreGroups, device_owner, device_own
 ghost use Rattle.vrt_model.specs.Circuits.{IsFlat};
 
 use crate::least::{is_in, may_conduct};
-use known_nets::{conduction, is_plain, no_groups, place, small};
+use known_nets::{conduction, is_plain, no_groups, place, short_number};
 use std::alloc::Global;
 use vrt_model::{Circuit, Device, NoMemory, Seq};
 
@@ -57,7 +57,7 @@ pub(crate) fn nets_by_part(
 {
     let mut groups = no_groups(alloc, least.len())?;
     for net in 0..least.len() {
-        let number = small(net)?;
+        let number = short_number(net)?;
         let owner = net_owner(circuit, least, net);
         place(&mut groups, owner, number)?;
     }
@@ -79,7 +79,7 @@ pub(crate) fn devices_by_part(
 {
     let mut groups = no_groups(alloc, least.len())?;
     for (at, device) in circuit.devices.as_slice().iter().enumerate() {
-        let number = small(at)?;
+        let number = short_number(at)?;
         let owner = device_owner(circuit, known, least, bare, device);
         place(&mut groups, owner, number)?;
     }

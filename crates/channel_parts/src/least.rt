@@ -46,7 +46,7 @@ fn joins_plain(circuit: &Circuit, known: &[Option<bool>], bare: bool, device: &D
 }
 
 /// Joins the nets at the channel of a device, where it joins plain nets.
-fn visit(
+fn join_ends(
     circuit: &Circuit,
     known: &[Option<bool>],
     bare: bool,
@@ -76,12 +76,12 @@ fn join_all(circuit: &Circuit, known: &[Option<bool>], bare: bool, parents: &mut
     ensures sound { (phase : PhaseValue) → IsKnownTable circuit.now phase (known_at known.now) → AreOfParts circuit.now phase bare parents.old → AreOfParts circuit.now phase bare parents.new }
 {
     for device in circuit.devices.as_slice() {
-        visit(circuit, known, bare, device, parents);
+        join_ends(circuit, known, bare, device, parents);
     }
 }
 
 /// Gives each plain net the least net of its part, where each net has itself.
-fn settle(circuit: &Circuit, known: &[Option<bool>], bare: bool, labels: &mut [usize])
+fn label_parts(circuit: &Circuit, known: &[Option<bool>], bare: bool, labels: &mut [usize])
     requires flat { IsFlat circuit.now }
     requires len { length labels.old ≡ length circuit.now.nets }
     requires own { (n : ℕ) → n < length labels.old → slice_index labels.old n ≡ n }
@@ -120,6 +120,6 @@ pub fn least_nets(
     ensures least { IfOk result (λ t. (phase : PhaseValue) → IsKnownTable circuit.now phase (known_at known.now) → (n : ℕ) → IsPlain circuit.now n → IsLeastTogether circuit.now phase bare n (slice_index t.items n)) }
 {
     let mut labels = numbers(alloc, circuit.nets.len())?;
-    settle(circuit, known, bare, &mut labels);
+    label_parts(circuit, known, bare, &mut labels);
     Ok(labels)
 }

@@ -8,7 +8,7 @@ ghost use Rattle.vrt_model.specs.Circuits.{IsFlat};
 
 use crate::grouping::{device_owner, net_owner};
 use crate::ranking::has_unknown_gate;
-use known_nets::{no_groups, place, small};
+use known_nets::{no_groups, place, short_number};
 use std::alloc::Global;
 use vrt_model::{Circuit, Device, NoMemory, Seq};
 
@@ -45,7 +45,7 @@ fn join(
     let Some(source) = device_source(circuit, known, least, device) else {
         return Ok(());
     };
-    let number = small(source)?;
+    let number = short_number(source)?;
     let owner = device_owner(circuit, known, least, true, device);
     place(sources, owner, number)
 }

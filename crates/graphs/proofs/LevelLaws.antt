@@ -249,35 +249,6 @@ other_set xs i k x y ne a =
     let inside = slice_get_within (set xs i x) k y a in
     slice_get-get_or xs k y (omega (arith, size, inside)) ∙ ap Some (sym (get_or-set_other xs i k x y ne) ∙ get_or_from_slice_get (set xs i x) k y y a)
 
-pub waiting_set : (at : ℕ) (waiter : Waiter) (old : List (List Waiter)) (row : List Waiter) → At old at row → IsWaitingAt at waiter old (set old at (row ++ waiter ∷ []))
-waiting_set at waiter old row here =
-    let lt = slice_get_within old at row here in record {
-      count = set_size old at (row ++ waiter ∷ []);
-      there = (row ++ waiter ∷ [], set_same old at (row ++ waiter ∷ []) lt, among_right row (waiter ∷ []) waiter (zero, refl));
-      stays = λ k r w a m. elim (cases_eq k at) [
-        | inl e ↦
-            let same : r ≡ row = same_Some r row (sym a ∙ subst (λ (i : ℕ). At old i row) (sym e) here) in (
-              row ++ waiter ∷ [],
-              subst (λ (i : ℕ). At (set old at (row ++ waiter ∷ [])) i (row ++ waiter ∷ [])) (sym e) (set_same old at (row ++ waiter ∷ []) lt),
-              among_left row (waiter ∷ []) w (subst (λ (x : List Waiter). Among x w) same m),
-            )
-        | inr ne ↦ (r, set_other old at k (row ++ waiter ∷ []) r ne a, m)
-      ];
-      each = λ k r w a m. elim (cases_eq k at) [
-        | inl e ↦
-            let same : r ≡ row ++ waiter ∷ [] = same_Some r (row ++ waiter ∷ []) (sym (subst (λ (i : ℕ). At (set old at (row ++ waiter ∷ [])) i r) e a) ∙ set_same old at (row ++ waiter ∷ []) lt) in
-            elim (among_either row (waiter ∷ []) w (subst (λ (x : List Waiter). Among x w) same m)) [
-              | inl first ↦ inr (row, subst (λ (i : ℕ). At old i row) (sym e) here, first)
-              | inr last ↦ inl (the_last w last)
-            ]
-        | inr ne ↦ inr (r, other_set old at k (row ++ waiter ∷ []) r ne a, m)
-      ];
-    }
-  where
-    the_last : (w : Waiter) → Among (waiter ∷ []) w → w ≡ waiter
-    the_last w (zero, e) = sym (same_Some waiter w e)
-    the_last w (suc i, e) = absurd (none-some w e)
-
 abbrev count_without : ℕ → ℕ
 count_without level = cond (level == 0) 1 0
 

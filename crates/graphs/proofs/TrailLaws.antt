@@ -291,18 +291,6 @@ way_step sources met place (suc k) (node ∷ rest) e leads some way at =
       },
     )
 
-pub way_around : (sources : List (List ℕ)) (first : ℕ) (places : List ℕ) (met : List Met) (nodes : List ℕ) → IsTrail sources first places met → 0 < place_at places first
-    → IsWay sources met (place_at places first) 0 nodes → IsAround (ArcIn sources) first nodes
-way_around sources first places met [] t some way = absurd (omega (arith, some, way))
-way_around sources first places met (node ∷ rest) t some way =
-    let q = t.entry first some in
-    let same : node ≡ first =
-    sym way.0.2 ∙ (ap (λ (x : Met). x.node) (one_at met (place_at places first) way.0.0 q.0 way.0.1 q.1) ∙ q.2) in
-    let end = t.start way.1.end way.1.at in (
-      (rest, ap (λ n. n ∷ rest) same),
-      (way.1.last, way.1.walk, subst (λ n. ArcIn sources way.1.last n) (end ∙ sym same) way.1.arc),
-    )
-
 -- ---- the least number on any cycle
 
 pub first_of_all : (sources : List (List ℕ)) (first : ℕ) (nodes : List ℕ) → ((m : ℕ) → m < first → (others : List ℕ) → ¬ IsCycle (ArcIn sources) (m ∷ others))

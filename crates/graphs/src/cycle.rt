@@ -6,7 +6,7 @@ ghost use Rattle.graphs.specs.Graphs.{ArcIn, AreInside};
 ghost use Rattle.graphs.specs.Groups.{HasCycles, is_marked};
 ghost use Rattle.graphs.specs.Trails.{IsAround};
 
-use crate::graph::small;
+use crate::graph::short_number;
 use crate::marks::marks_of;
 use crate::trail::cycle_at;
 use std::alloc::Global;
@@ -53,7 +53,7 @@ pub fn first_cycle(alloc: Global, sources: &[Seq<u32>]) -> Result<Option<Seq<u32
     let table = marks_of(alloc, sources)?;
     let marks = table.as_slice();
     for number in 0..sources.len() {
-        let first = small(number)?;
+        let first = short_number(number)?;
         let found = marked_cycle(alloc, sources, marks, first)?;
         if found.is_some() {
             return Ok(found);

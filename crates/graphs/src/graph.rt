@@ -27,7 +27,7 @@ pub(crate) fn sources_at(sources: &[Seq<u32>], n: u32) -> &[u32]
 }
 
 /// A number as one of 32 bits. Where it needs more, as one behind the first 2^32, it is refused as want of memory.
-pub(crate) fn small(number: usize) -> Result<u32, NoMemory>
+pub(crate) fn short_number(number: usize) -> Result<u32, NoMemory>
     ensures { IfOk result (λ n. n ≡ number) }
 {
     match u32::try_from(number) {

@@ -65,7 +65,7 @@ fn reach(walk: &mut Walk, node: u32, entry: usize) {
 }
 
 /// Looks at a source of a number.
-fn look(walk: &mut Walk, node: u32, source: u32) -> Result<(), NoMemory> {
+fn look_at_source(walk: &mut Walk, node: u32, source: u32) -> Result<(), NoMemory> {
     let entry = at(&walk.entered, source);
     if entry == 0 {
         return enter(walk, source);
@@ -120,7 +120,7 @@ fn step(walk: &mut Walk, sources: &[Seq<u32>]) -> Result<bool, NoMemory> {
         let Ok(()) = walk.way.push(next) else {
             return Err(NoMemory);
         };
-        look(walk, stop.node, numbers[stop.place])?;
+        look_at_source(walk, stop.node, numbers[stop.place])?;
     } else {
         leave(walk, stop.node)?;
     }
@@ -162,7 +162,7 @@ pub(crate) fn groups_of(alloc: Global, sources: &[Seq<u32>]) -> Result<Vec<usize
         count: 0,
     };
     for number in 0..count {
-        let node = crate::graph::small(number)?;
+        let node = crate::graph::short_number(number)?;
         walk_from(&mut walk, sources, node)?;
     }
     Ok(walk.groups)

@@ -9,7 +9,7 @@ ghost use Rattle.std.specs.List.{list_all};
 ghost use Rattle.vrt_model.specs.Lists.{At, Among};
 ghost use Rattle.graphs.specs.declared.levels.Waiter.{Waiter as WaiterValue};
 
-use crate::graph::{append, small, sources_at};
+use crate::graph::{append, short_number, sources_at};
 use std::alloc::Global;
 use vrt_model::{NoMemory, Seq};
 
@@ -137,7 +137,7 @@ fn put(levels: &mut Vec<usize>, n: u32, level: usize)
 }
 
 /// Gives a number the level above its sources.
-fn level(sources: &[Seq<u32>], levels: &mut Vec<usize>, n: u32) -> Result<(), NoMemory>
+fn give_level(sources: &[Seq<u32>], levels: &mut Vec<usize>, n: u32) -> Result<(), NoMemory>
     requires there { n < length levels.old.items }
     requires none { slice_index levels.old.items n ≡ 0 }
     requires some { (q : ℕ) → Among (sources_at sources.now n) q → 0 < slice_index levels.old.items q }
@@ -155,7 +155,7 @@ fn level(sources: &[Seq<u32>], levels: &mut Vec<usize>, n: u32) -> Result<(), No
 
 /// Looks at the waiter at a place of the queue: it has a level, or waits for the next source without one, or gets its
 /// level and a place in the order, so that what waited for it is to be looked at. Says whether it got a level.
-fn visit(
+fn level_waiter(
     sources: &[Seq<u32>],
     levels: &mut Vec<usize>,
     steps: &mut Seq<u32>,
@@ -192,7 +192,7 @@ fn visit(
             Ok(false)
         }
         None => {
-            level(sources, levels, waiter.node)?;
+            give_level(sources, levels, waiter.node)?;
             append(steps, waiter.node)?;
             release(waiting.as_slice(), queue, waiter.node)?;
             Ok(true)
@@ -201,7 +201,7 @@ fn visit(
 }
 
 /// Looks at the waiters from a place of the queue on, until one gets a level.
-fn turn(
+fn level_next(
     sources: &[Seq<u32>],
     levels: &mut Vec<usize>,
     steps: &mut Seq<u32>,
@@ -218,7 +218,7 @@ fn turn(
     ensures fewer { IfOk result (λ settled. settled ≡ true → without_level levels.new.items < without_level levels.old.items) }
 {
     'on: while *at < queue.len() {
-        let settled = visit(sources, levels, steps, waiting, queue, *at)?;
+        let settled = level_waiter(sources, levels, steps, waiting, queue, *at)?;
         *at += 1;
         if settled {
             return Ok(true);
@@ -228,7 +228,7 @@ fn turn(
 }
 
 /// Gives levels until no number gets one any more.
-fn settle(
+fn level_rest(
     sources: &[Seq<u32>],
     levels: &mut Vec<usize>,
     steps: &mut Seq<u32>,
@@ -245,7 +245,7 @@ fn settle(
 {
     let mut at = 0;
     'turns: loop {
-        let settled = turn(sources, levels, steps, waiting, queue, &mut at)?;
+        let settled = level_next(sources, levels, steps, waiting, queue, &mut at)?;
         if !settled {
             return Ok(());
         }
@@ -283,7 +283,7 @@ fn all_listed(alloc: Global, count: usize) -> Result<Seq<Waiter>, NoMemory>
 {
     let mut queue = Seq::new(alloc);
     for number in 0..count {
-        let node = small(number)?;
+        let node = short_number(number)?;
         add(&mut queue, Waiter { node, from: 0 })?;
     }
     Ok(queue)
@@ -302,7 +302,7 @@ pub(crate) fn placing_of(alloc: Global, sources: &[Seq<u32>]) -> Result<Placing,
     let mut steps = Seq::new(alloc);
     let mut waiting = none_waiting(alloc, count)?;
     let mut queue = all_listed(alloc, count)?;
-    settle(sources, &mut levels, &mut steps, &mut waiting, &mut queue)?;
+    level_rest(sources, &mut levels, &mut steps, &mut waiting, &mut queue)?;
     Ok(Placing { levels, steps })
 }
 

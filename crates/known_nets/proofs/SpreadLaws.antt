@@ -6,6 +6,7 @@ use Rattle.std.proofs.lemmas.List.{get_or-set_other, get_or-set_same, get_or_pas
 use Rattle.std.proofs.lemmas.List.Sums.{sum_by-set}
 use Rattle.std.proofs.lemmas.Option.{none-some, same_Some, slice_get-get_or, slice_get_past, slice_get_within}
 use Rattle.graphs.specs.Graphs.{sources_at}
+use Rattle.known_nets.proofs.NetKinds.{turned}
 use Rattle.known_nets.proofs.PlaceLaws.{at_last, below_or_at}
 use Rattle.known_nets.specs.Conduction.{conduction_of, is_plain_at, is_plain_kind}
 use Rattle.known_nets.specs.Incidence.{HasEnds, IsOtherEnd}
@@ -16,10 +17,6 @@ use Rattle.vrt_model.specs.Path.{Joins}
 use Rattle.vrt_model.specs.declared.circuit.Circuit.{Circuit}
 use Rattle.vrt_model.specs.declared.circuit.Device.{Device}
 use Rattle.vrt_model.specs.declared.circuit.FlatNet.{FlatNet}
-
-turned : (d : Device) (m n : ℕ) → Joins d m n → Joins d n m
-turned d m n (inl j) = inr j
-turned d m n (inr j) = inl j
 
 -- ---- lists
 

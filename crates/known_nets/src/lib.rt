@@ -16,4 +16,4 @@ mod waiting;
 
 pub use conducting::{conduction, is_plain, known_bit};
 pub use known::known_nets;
-pub use placing::{lead, no_groups, place, small};
+pub use placing::{lead, no_groups, place, short_number};

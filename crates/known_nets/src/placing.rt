@@ -9,7 +9,7 @@ use vrt_model::{NoMemory, Seq};
 
 /// A number as one of 32 bits. Where it needs more, as the number of a net or a device behind the first 2^32, it is
 /// refused as want of memory.
-pub fn small(number: usize) -> Result<u32, NoMemory>
+pub fn short_number(number: usize) -> Result<u32, NoMemory>
     ensures { IfOk result (λ n. n ≡ number) }
 {
     match u32::try_from(number) {
@@ -60,7 +60,7 @@ pub fn no_groups(alloc: Global, count: usize) -> Result<Vec<Seq<u32>>, NoMemory>
 pub fn lead(graph: &mut Vec<Seq<u32>>, from: usize, to: usize) -> Result<(), NoMemory>
     ensures { OnOk result (Adds (IsArc from to) graph.old.items graph.new.items) }
 {
-    let number = small(from)?;
+    let number = short_number(from)?;
     place(graph, Some(to), number)?;
     Ok(())
 }

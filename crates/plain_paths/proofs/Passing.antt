@@ -12,7 +12,7 @@ use Rattle.vrt_model.specs.Reading.{conducts, is_in}
 use Rattle.vrt_model.specs.State.{State, network_of}
 use Rattle.vrt_model.specs.declared.circuit.Circuit.{Circuit}
 use Rattle.vrt_model.specs.declared.circuit.Device.{Device}
-use Rattle.plain_paths.specs.Channels.{HasChannels, IsOver, IsWithin, channel_of, channels_of, is_on}
+use Rattle.plain_paths.specs.Channels.{HasChannels, IsOver, IsInRange, channel_of, channels_of, is_on}
 use Rattle.plain_paths.specs.declared.channels.Channel.{Channel}
 
 among_image : {X Y : Type 0} (f : X → Y) (xs : List X) (x : X) → Among xs x → Among (map f xs) (f x)
@@ -27,12 +27,12 @@ channel_from c bare reading ch m =
     (from.0, kept.0, kept.1, from.2)
 
 -- the nets of the channels are nets of the circuit
-pub channels_within : (c : Circuit) (bare : Bool) (reading : ℕ → Bool) → IsFlat c → All (IsWithin (length c.nets)) (channels_of bare reading c)
+pub channels_within : (c : Circuit) (bare : Bool) (reading : ℕ → Bool) → IsFlat c → All (IsInRange (length c.nets)) (channels_of bare reading c)
 channels_within c bare reading good k d lt =
     let ch : Channel = slice_index_or (channels_of bare reading c) k d in
     let from = channel_from c bare reading ch (k, slice_get-get_or (channels_of bare reading c) k d lt) in
     let is = all_among (IsDevice c) c.devices from.0 good.devices from.1 in
-    subst (λ (x : Channel). IsWithin (length c.nets) x) from.3 (is.left, is.right)
+    subst (λ (x : Channel). IsInRange (length c.nets) x) from.3 (is.left, is.right)
 
 pub network_channels : (c : Circuit) (bare : Bool) (held : ℕ → Bool) (s : State) → HasChannels (network_of c bare held s) (channels_of bare s.reading c)
 network_channels c bare held s = record {

@@ -18,8 +18,8 @@ abbrev pub channels_of : Bool → (ℕ → Bool) → Circuit → List Channel
 channels_of bare reading c = map channel_of (filter (is_on bare reading) c.devices)
 
 -- the nets of a channel are below a count
-abbrev pub IsWithin : ℕ → Channel → Type 0
-IsWithin count ch = (ch.left < count) × (ch.right < count)
+abbrev pub IsInRange : ℕ → Channel → Type 0
+IsInRange count ch = (ch.left < count) × (ch.right < count)
 
 -- the channel joins two nets, in either direction
 abbrev pub Connects : Channel → ℕ → ℕ → Type 0

@@ -1,7 +1,7 @@
 //! Which nets a value reaches.
 
 ghost use Rattle.std.specs.Prelude.{◌≡◌, ℕ, ◌<◌, ◌⊎◌, ◌↔◌, Bool, false, true, length, slice_index, replicate, IfOk, All};
-ghost use Rattle.plain_paths.specs.Channels.{Connects, HasChannels, IsOver, IsWithin, channel_of};
+ghost use Rattle.plain_paths.specs.Channels.{Connects, HasChannels, IsOver, IsInRange, channel_of};
 ghost use Rattle.vrt_model.specs.Circuits.{IsFlat};
 ghost use Rattle.plain_paths.specs.Marks.{ChannelFits, Marked, MarksPass};
 ghost use Rattle.plain_paths.specs.declared.channels.Channel.{Channel as ChannelValue};
@@ -42,7 +42,7 @@ fn spread(marks: &mut [bool], from: usize, to: usize, fits: bool) -> bool
 /// the lesser of its net's strength and the channel's level is the strength of the net beyond: else a stronger one
 /// blocks it there.
 fn spread_both(channel: &Channel, strengths: &[u8], marks: &mut [bool]) -> bool
-    requires fits { IsWithin (length marks.old) channel.now }
+    requires fits { IsInRange (length marks.old) channel.now }
     requires len { length strengths.now ≡ length marks.old }
     ensures grown { MarksGrow marks.old marks.new }
     ensures spread { MarksPass strengths.now channel.now marks.old marks.new }
@@ -59,8 +59,8 @@ fn spread_both(channel: &Channel, strengths: &[u8], marks: &mut [bool]) -> bool
 }
 
 /// Goes over the channels once, in place, and says whether anything changed.
-fn round(channels: &[Channel], strengths: &[u8], marks: &mut [bool]) -> bool
-    requires fits { All (IsWithin (length marks.old)) channels.now }
+fn spread_round(channels: &[Channel], strengths: &[u8], marks: &mut [bool]) -> bool
+    requires fits { All (IsInRange (length marks.old)) channels.now }
     requires len { length strengths.now ≡ length marks.old }
     ensures grown { MarksGrow marks.old marks.new }
     ensures spread { (ch : ChannelValue) → Among channels.now ch → MarksPass strengths.now ch marks.old marks.new }
@@ -147,13 +147,13 @@ fn mark_holds(circuit: &Circuit, held: &[bool], strengths: &[u8], value: bool, m
 }
 
 /// Spreads the marks in rounds until none changes, in at most as many rounds as there are nets.
-fn settle(channels: &[Channel], strengths: &[u8], value: bool, marks: &mut [bool])
-    requires fits { All (IsWithin (length marks.old)) channels.now }
+fn spread_all(channels: &[Channel], strengths: &[u8], value: bool, marks: &mut [bool])
+    requires fits { All (IsInRange (length marks.old)) channels.now }
     requires len { length strengths.now ≡ length marks.old }
     ensures { (w : Network) → HasBound w (length marks.old) → HasChannels w channels.now → ((n : ℕ) → IsStrength w n (slice_index strengths.now n)) → HasRootMarks w (RootFits (slice_index strengths.now) value) (HopFits (slice_index strengths.now)) (mark_at marks.old) → Marked w strengths.now value marks.old → (n : ℕ) → (mark_at marks.new n ≡ true) ↔ Reaches w n value }
 {
     'rounds: for _count in 0..marks.len() {
-        if !round(channels, strengths, marks) {
+        if !spread_round(channels, strengths, marks) {
             return;
         }
     }
@@ -170,7 +170,7 @@ fn no_marks(alloc: Global, count: usize) -> Result<Vec<bool>, NoMemory>
 }
 
 /// Marks what the value reaches, where nothing is marked yet.
-fn fill(
+fn mark_reached(
     circuit: &Circuit,
     channels: &[Channel],
     reading: &[bool],
@@ -180,14 +180,14 @@ fn fill(
     marks: &mut [bool],
 )
     requires circuit { IsFlat circuit.now }
-    requires fits { All (IsWithin (length circuit.now.nets)) channels.now }
+    requires fits { All (IsInRange (length circuit.now.nets)) channels.now }
     requires len { length strengths.now ≡ length circuit.now.nets }
     requires none { marks.old ≡ replicate (length circuit.now.nets) false }
     ensures { (w : Network) → IsOver circuit.now w → w.given ≡ bit_at reading.now → w.held ≡ bit_at held.now → HasBound w (length circuit.now.nets) → HasChannels w channels.now → ((n : ℕ) → IsStrength w n (slice_index strengths.now n)) → (n : ℕ) → (mark_at marks.new n ≡ true) ↔ Reaches w n value }
 {
     mark_given(circuit, reading, strengths, value, marks);
     mark_holds(circuit, held, strengths, value, marks);
-    settle(channels, strengths, value, marks);
+    spread_all(channels, strengths, value, marks);
 }
 
 /// At which nets a clear path from a root of the value ends, in a circuit where these are the channels of the
@@ -202,13 +202,13 @@ pub(crate) fn reached(
     value: bool,
 ) -> Result<Vec<bool>, NoMemory>
     requires circuit { IsFlat circuit.now }
-    requires fits { All (IsWithin (length circuit.now.nets)) channels.now }
+    requires fits { All (IsInRange (length circuit.now.nets)) channels.now }
     requires len { length strengths.now ≡ length circuit.now.nets }
     ensures len { IfOk result (λ t. length t.items ≡ length circuit.now.nets) }
     ensures reached { IfOk result (λ t. (w : Network) → IsOver circuit.now w → w.given ≡ bit_at reading.now → w.held ≡ bit_at held.now → HasBound w (length circuit.now.nets) → HasChannels w channels.now → ((n : ℕ) → IsStrength w n (slice_index strengths.now n)) → (n : ℕ) → (mark_at t.items n ≡ true) ↔ Reaches w n value) }
 {
     let mut marks = no_marks(alloc, circuit.nets.len())?;
-    fill(
+    mark_reached(
         circuit, channels, reading, held, strengths, value, &mut marks,
     );
     Ok(marks)

@@ -1,7 +1,7 @@
 //! The strength of each net.
 
 ghost use Rattle.std.specs.Prelude.{◌≡◌, ℕ, ◌<◌, ◌≤◌, ◌⊎◌, min, false, cond, map, length, slice_index, IfOk, All};
-ghost use Rattle.plain_paths.specs.Channels.{Connects, HasChannels, IsOver, IsWithin, channel_of};
+ghost use Rattle.plain_paths.specs.Channels.{Connects, HasChannels, IsOver, IsInRange, channel_of};
 ghost use Rattle.vrt_model.specs.Circuits.{IsFlat};
 ghost use Rattle.plain_paths.specs.Tables.{HasGrown, HasHolds, HasPassed, HasRoots, IsAttained, level_of_net};
 ghost use Rattle.plain_paths.specs.declared.channels.Channel.{Channel as ChannelValue};
@@ -21,7 +21,7 @@ pub(crate) const SOURCE_LEVEL: u8 = 8;
 
 /// Takes the level that passes from one net to another over a device, where it is greater: the lesser of the net's
 /// level and the device's.
-fn pass(table: &mut [u8], from: usize, to: usize, level: u8) -> bool
+fn pass_level(table: &mut [u8], from: usize, to: usize, level: u8) -> bool
     requires from { from < length table.old }
     requires to { to < length table.old }
     ensures grown { HasGrown table.old table.new }
@@ -40,7 +40,7 @@ fn pass(table: &mut [u8], from: usize, to: usize, level: u8) -> bool
 
 /// Takes what passes over a channel, in both directions, and says whether anything changed.
 fn pass_both(channel: &Channel, table: &mut [u8]) -> bool
-    requires fits { IsWithin (length table.old) channel.now }
+    requires fits { IsInRange (length table.old) channel.now }
     ensures grown { HasGrown table.old table.new }
     ensures passed { HasPassed channel.now table.old table.new }
     ensures attained { (w : Network) (d : Device) → IsOn w d → channel_of d ≡ channel.now → IsAttained w table.old → IsAttained w table.new }
@@ -48,14 +48,14 @@ fn pass_both(channel: &Channel, table: &mut [u8]) -> bool
 {
     let left = channel.left as usize;
     let right = channel.right as usize;
-    let forth = pass(table, left, right, channel.level);
-    let back = pass(table, right, left, channel.level);
+    let forth = pass_level(table, left, right, channel.level);
+    let back = pass_level(table, right, left, channel.level);
     forth | back
 }
 
 /// Goes over the channels once, in place, and says whether anything changed.
-fn round(channels: &[Channel], table: &mut [u8]) -> bool
-    requires fits { All (IsWithin (length table.old)) channels.now }
+fn pass_round(channels: &[Channel], table: &mut [u8]) -> bool
+    requires fits { All (IsInRange (length table.old)) channels.now }
     ensures grown { HasGrown table.old table.new }
     ensures passed { (ch : ChannelValue) → Among channels.now ch → HasPassed ch table.old table.new }
     ensures attained { (w : Network) → HasChannels w channels.now → IsAttained w table.old → IsAttained w table.new }
@@ -70,12 +70,12 @@ fn round(channels: &[Channel], table: &mut [u8]) -> bool
 }
 
 /// Raises the levels in rounds until none changes, in at most as many rounds as there are nets.
-fn settle(channels: &[Channel], table: &mut [u8])
-    requires fits { All (IsWithin (length table.old)) channels.now }
+fn pass_all(channels: &[Channel], table: &mut [u8])
+    requires fits { All (IsInRange (length table.old)) channels.now }
     ensures { (w : Network) → HasBound w (length table.old) → HasChannels w channels.now → HasRoots w table.old → IsAttained w table.old → (n : ℕ) → IsStrength w n (slice_index table.new n) }
 {
     'rounds: for _count in 0..table.len() {
-        if !round(channels, table) {
+        if !pass_round(channels, table) {
             return;
         }
     }
@@ -128,14 +128,14 @@ fn add_holds(circuit: &Circuit, table: &mut [u8])
 }
 
 /// Makes the strengths out of the levels that the nets have by their kinds.
-fn fill(circuit: &Circuit, channels: &[Channel], table: &mut [u8])
+fn raise_strengths(circuit: &Circuit, channels: &[Channel], table: &mut [u8])
     requires circuit { IsFlat circuit.now }
-    requires fits { All (IsWithin (length circuit.now.nets)) channels.now }
+    requires fits { All (IsInRange (length circuit.now.nets)) channels.now }
     requires given { table.old ≡ map level_of_net circuit.now.nets }
     ensures { (w : Network) → IsOver circuit.now w → HasBound w (length circuit.now.nets) → HasChannels w channels.now → (n : ℕ) → IsStrength w n (slice_index table.new n) }
 {
     add_holds(circuit, table);
-    settle(channels, table);
+    pass_all(channels, table);
 }
 
 /// The strength of each net of a circuit where these are the channels of the conducting devices.
@@ -145,11 +145,11 @@ pub(crate) fn strengths(
     channels: &[Channel],
 ) -> Result<Vec<u8>, NoMemory>
     requires circuit { IsFlat circuit.now }
-    requires fits { All (IsWithin (length circuit.now.nets)) channels.now }
+    requires fits { All (IsInRange (length circuit.now.nets)) channels.now }
     ensures len { IfOk result (λ t. length t.items ≡ length circuit.now.nets) }
     ensures strength { IfOk result (λ t. (w : Network) → IsOver circuit.now w → HasBound w (length circuit.now.nets) → HasChannels w channels.now → (n : ℕ) → IsStrength w n (slice_index t.items n)) }
 {
     let mut table = given_levels(alloc, circuit)?;
-    fill(circuit, channels, &mut table);
+    raise_strengths(circuit, channels, &mut table);
     Ok(table)
 }

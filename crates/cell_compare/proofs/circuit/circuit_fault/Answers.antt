@@ -23,18 +23,18 @@ use Rattle.cell_compare.proofs.circuit.circuit_fault.Goals as goal
 
 pub loop-part-init : goal.loop-part-init
 loop-part-init c = record {
-  writes = two_first c.args.gates c.args.out c.args.store.now c.open.new.store c.open.ensures.writes;
-  live = c.open.ensures.writes.live;
+  writes = two_first c.args.gates c.args.out c.args.store.now c.write_first_handles.new.store c.write_first_handles.ensures.writes;
+  live = c.write_first_handles.ensures.writes.live;
   solved = λ phase are fixed.
       solved_none c.args.circuit.now phase (mark_at c.args.observed.now) c.args.parts.now.known c.args.parts.now.list c.args.care c.args.roots c.args.gates c.requires.circuit c.requires.observed are
-      c.requires.spans.roots_len c.requires.spans.gates_len c.args.store.now c.open.new.store c.requires.spans.roots_live c.open.ensures.writes fixed
-      (subst (λ (known : List (Option Bool)). (n : ℕ) → n < c.args.gates.len → word_at c.open.new.store c.args.gates n ≡ first_word (known_at known n) (word_at c.args.store.now c.args.roots n)) c.as_slice.ensures c.open.ensures.first);
+      c.requires.spans.roots_len c.requires.spans.gates_len c.args.store.now c.write_first_handles.new.store c.requires.spans.roots_live c.write_first_handles.ensures.writes fixed
+      (subst (λ (known : List (Option Bool)). (n : ℕ) → n < c.args.gates.len → word_at c.write_first_handles.new.store c.args.gates n ≡ first_word (known_at known n) (word_at c.args.store.now c.args.roots n)) c.as_slice.ensures c.write_first_handles.ensures.first);
   counted = λ one u care roots.
-      let rest = c.open.ensures.rest in
-      let nodes : c.open.new.store.nodes ≡ c.args.store.now.nodes = ap (λ (d : Diagrams). d.nodes) rest in (
-        counted_same u c.args.store.now c.open.new.store (ap (λ (d : Diagrams). d.budget) rest) nodes,
-        opened_within u c.args.roots c.args.gates (known_at c.args.parts.now.known) c.args.store.now c.open.new.store (c.requires.spans.gates_len ∙ sym c.requires.spans.roots_len) nodes
-            (subst (λ (known : List (Option Bool)). (n : ℕ) → n < c.args.gates.len → word_at c.open.new.store c.args.gates n ≡ first_word (known_at known n) (word_at c.args.store.now c.args.roots n)) c.as_slice.ensures c.open.ensures.first)
+      let rest = c.write_first_handles.ensures.rest in
+      let nodes : c.write_first_handles.new.store.nodes ≡ c.args.store.now.nodes = ap (λ (d : Diagrams). d.nodes) rest in (
+        counted_same u c.args.store.now c.write_first_handles.new.store (ap (λ (d : Diagrams). d.budget) rest) nodes,
+        opened_within u c.args.roots c.args.gates (known_at c.args.parts.now.known) c.args.store.now c.write_first_handles.new.store (c.requires.spans.gates_len ∙ sym c.requires.spans.roots_len) nodes
+            (subst (λ (known : List (Option Bool)). (n : ℕ) → n < c.args.gates.len → word_at c.write_first_handles.new.store c.args.gates n ≡ first_word (known_at known n) (word_at c.args.store.now c.args.roots n)) c.as_slice.ensures c.write_first_handles.ensures.first)
             roots,
       );
 }
@@ -133,8 +133,8 @@ returns-clause-gives c phase rank listed ranks fixed =
     c.args.store.now c.loop-part.store fixed
     (subst (λ (k : ℕ). IsSolvedBefore circuit phase observed parts c.args.care c.args.roots c.args.gates k c.args.store.now c.loop-part.store) end (c.loop-part.invariant.solved phase are fixed))
 
-pub open-requires-clause-len : goal.open-requires-clause-len
-open-requires-clause-len c =
+pub write_first_handles-requires-clause-len : goal.write_first_handles-requires-clause-len
+write_first_handles-requires-clause-len c =
     let list = c.requires.parts.1 in
     let known : length c.as_slice.result.now ≡ length c.args.parts.now.known = ap (λ (xs : List (Option Bool)). length xs) c.as_slice.ensures in
     (known ∙ list.1.count ∙ sym c.requires.spans.gates_len, c.requires.spans.roots_len ∙ sym c.requires.spans.gates_len)

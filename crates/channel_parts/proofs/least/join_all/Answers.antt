@@ -13,16 +13,16 @@ loop-device-preserved c =
     let known = c.args.known.now in
     let bare = c.args.bare in
     let at = c.loop-device.device-index in
-    let u = c.visit.new.parents in
+    let u = c.join_ends.new.parents in
     let d = c.device-item.result in
     let there : At circuit.devices at d = item_at circuit.devices c.as_slice-device-items.result.now at d c.as_slice-device-items.ensures c.loop-device-test.true c.device-item.is in
     let P : ℕ → Type 0 = λ k. (x : Device) → At circuit.devices k x → joins_plain_nets circuit known bare x ≡ true → (f : ℕ → ℕ) → Respects u f → f x.left.0 ≡ f x.right.0 in
     record {
-      below = c.visit.ensures.below;
+      below = c.join_ends.ensures.below;
       joined = below_more P at
-          (λ k lt x e j f r. c.loop-device.invariant.joined k lt x e j f (c.visit.ensures.same f r))
-          (λ x e. subst (λ (y : Device). joins_plain_nets circuit known bare y ≡ true → (f : ℕ → ℕ) → Respects u f → f y.left.0 ≡ f y.right.0) (same_Some d x (sym there ∙ e)) c.visit.ensures.joined);
-      sound = λ phase table of. c.visit.ensures.sound phase table (at, there) (c.loop-device.invariant.sound phase table of);
+          (λ k lt x e j f r. c.loop-device.invariant.joined k lt x e j f (c.join_ends.ensures.same f r))
+          (λ x e. subst (λ (y : Device). joins_plain_nets circuit known bare y ≡ true → (f : ℕ → ℕ) → Respects u f → f y.left.0 ≡ f y.right.0) (same_Some d x (sym there ∙ e)) c.join_ends.ensures.joined);
+      sound = λ phase table of. c.join_ends.ensures.sound phase table (at, there) (c.loop-device.invariant.sound phase table of);
     }
 
 pub returns-clause-joined : goal.returns-clause-joined

@@ -6,11 +6,11 @@ use Rattle.channel_parts.proofs.least.least_nets.Goals as goal
 pub returns-clause-least : goal.returns-clause-least
 returns-clause-least c phase table n plain =
     subst (λ (t : List ℕ). IsLeastTogether c.args.circuit.now phase c.args.bare n (slice_index t n))
-    (sym (take_at c.settle.new.labels (drop (length c.settle.new.labels) c.in_ok-labels.labels.items) c.in_ok-labels.labels.len (omega arith)))
-    (c.settle.ensures.least phase table n plain)
+    (sym (take_at c.label_parts.new.labels (drop (length c.label_parts.new.labels) c.in_ok-labels.labels.items) c.in_ok-labels.labels.len (omega arith)))
+    (c.label_parts.ensures.least phase table n plain)
 
 pub returns-clause-below : goal.returns-clause-below
 returns-clause-below c n =
     subst (λ (t : List ℕ). slice_index t n ≤ n)
-    (sym (take_at c.settle.new.labels (drop (length c.settle.new.labels) c.in_ok-labels.labels.items) c.in_ok-labels.labels.len (omega arith)))
-    (c.settle.ensures.below n)
+    (sym (take_at c.label_parts.new.labels (drop (length c.label_parts.new.labels) c.in_ok-labels.labels.items) c.in_ok-labels.labels.len (omega arith)))
+    (c.label_parts.ensures.below n)

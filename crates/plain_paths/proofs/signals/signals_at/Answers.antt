@@ -1,7 +1,7 @@
 use Rattle.std.proofs.Common.{ℕ, List, true, false, length, slice_index, refl, subst, sym, ◌∙◌}
 use Rattle.std.specs.Prelude.{All}
 use Rattle.plain_paths.proofs.Passing.{bits_mean, channels_within, network_channels, network_over}
-use Rattle.plain_paths.specs.Channels.{HasChannels, IsWithin}
+use Rattle.plain_paths.specs.Channels.{HasChannels, IsInRange}
 use Rattle.vrt_model.proofs.Networks.{network_bound, flat_ranges}
 use Rattle.vrt_model.specs.Lists.{bit_at}
 use Rattle.vrt_model.specs.Path.{Network}
@@ -12,17 +12,17 @@ use Rattle.plain_paths.proofs.signals.signals_at.Goals as goal
 pub strengths-requires-clause-fits : goal.strengths-requires-clause-fits
 strengths-requires-clause-fits c =
     let circuit = c.args.circuit.now in
-    subst (All (IsWithin (length circuit.nets))) (sym (c.as_slice-passing.ensures.value ∙ c.in_ok-passing.ensures)) (channels_within circuit c.args.bare (bit_at c.args.reading.now) c.requires)
+    subst (All (IsInRange (length circuit.nets))) (sym (c.as_slice-passing.ensures.value ∙ c.in_ok-passing.ensures)) (channels_within circuit c.args.bare (bit_at c.args.reading.now) c.requires)
 
 pub reached-requires-clause-fits : goal.reached-requires-clause-fits
 reached-requires-clause-fits c =
     let circuit = c.args.circuit.now in
-    subst (All (IsWithin (length circuit.nets))) (sym (c.as_slice-passing.ensures.value ∙ c.in_ok-passing.ensures)) (channels_within circuit c.args.bare (bit_at c.args.reading.now) c.requires)
+    subst (All (IsInRange (length circuit.nets))) (sym (c.as_slice-passing.ensures.value ∙ c.in_ok-passing.ensures)) (channels_within circuit c.args.bare (bit_at c.args.reading.now) c.requires)
 
 pub reached-requires-2-clause-fits : goal.reached-requires-2-clause-fits
 reached-requires-2-clause-fits c =
     let circuit = c.args.circuit.now in
-    subst (All (IsWithin (length circuit.nets))) (sym (c.as_slice-passing.ensures.value ∙ c.in_ok-passing.ensures)) (channels_within circuit c.args.bare (bit_at c.args.reading.now) c.requires)
+    subst (All (IsInRange (length circuit.nets))) (sym (c.as_slice-passing.ensures.value ∙ c.in_ok-passing.ensures)) (channels_within circuit c.args.bare (bit_at c.args.reading.now) c.requires)
 
 pub returns-clause-signals : goal.returns-clause-signals
 returns-clause-signals c driven =

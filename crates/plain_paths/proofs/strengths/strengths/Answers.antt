@@ -6,5 +6,5 @@ use Rattle.plain_paths.proofs.strengths.strengths.Goals as goal
 pub returns-clause-strength : goal.returns-clause-strength
 returns-clause-strength c w over bounded has n =
     subst (λ (t : List ℕ). IsStrength w n (slice_index t n))
-    (sym (take_at c.fill.new.table (drop (length c.fill.new.table) c.in_ok-table.table.items) c.in_ok-table.table.len (omega arith)))
-    (c.fill.ensures w over bounded has n)
+    (sym (take_at c.raise_strengths.new.table (drop (length c.raise_strengths.new.table) c.in_ok-table.table.items) c.in_ok-table.table.len (omega arith)))
+    (c.raise_strengths.ensures w over bounded has n)
