@@ -56,7 +56,7 @@ fn bit_by(store: &mut Store, place: Option<usize>) -> Result<H, Spent>
     ensures gives { Gives store.old store.new (bit_by place) result }
     ensures counts { (u : ℕ) → IfSome place (λ at. at < u) → Counts u 1 store.old store.new result }
 {
-    let _ends = store.node_count();
+    store.sound();
     let _vars = store.vars();
     match place {
         Some(at) => store.bit(Var(at as u32)),
@@ -84,7 +84,7 @@ pub fn group_bit(
     ensures gives { Gives store.old store.new (λ v. group_bit_at sources.now (bits_at sources.now v) number element entered) result }
     ensures counts { (u : ℕ) → length sources.now ≤ u → Counts u 1 store.old store.new result }
 {
-    let _ends = store.node_count();
+    store.sound();
     match element {
         Some(element) => bit_by(store, element_place(sources, element)),
         None => match entered {
@@ -100,6 +100,6 @@ pub fn held_bit(store: &mut Store, bit: H, inverted: bool) -> Result<H, Spent>
     ensures gives { Gives store.old store.new (λ v. differ inverted (function_of store.old bit v)) result }
     ensures counts { (u : ℕ) → IsWithin u (function_of store.old bit) → Counts u 1 store.old store.new result }
 {
-    let _ends = store.node_count();
+    store.sound();
     if inverted { not(store, bit) } else { Ok(bit) }
 }

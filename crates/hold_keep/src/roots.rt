@@ -32,7 +32,7 @@ fn clear(store: &mut Store, circuit: &Circuit, words: Span)
     ensures nodes { store.new.nodes ≡ store.old.nodes }
     ensures zero { AreRoots circuit.now words store.new (λ (place : ℕ) (v : Valuation). false) }
 {
-    let _ends = store.node_count();
+    store.sound();
     for hold in circuit.holds.as_slice() {
         store.write(words, hold.net.0, 0);
     }
@@ -52,7 +52,7 @@ fn write_member(
     ensures writes { WritesHolds circuit.now words store.old store.new }
     ensures held { (vars : ℕ) → IsWithin vars (function_of store.old bit) → Rewrites circuit.now words vars 1 (with_hold member (function_of store.old bit)) store.old store.new result }
 {
-    let _ends = store.node_count();
+    store.sound();
     let Some(hold) = circuit.holds.get(member.hold as usize) else {
         return Ok(());
     };
@@ -77,7 +77,7 @@ fn write_members(
     requires bit { IsLive store.old bit }
     ensures { (vars : ℕ) → IsWithin vars (function_of store.old bit) → Rewrites circuit.now words vars (length members.now) (with_holds members.now (function_of store.old bit)) store.old store.new result }
 {
-    let _ends = store.node_count();
+    store.sound();
     let mut at = members.len();
     'back: while at > 0 {
         at -= 1;
@@ -101,7 +101,7 @@ fn write_group(
     requires vars { length roots.sources.now ≤ store.old.vars }
     ensures { Rewrites roots.entry.circuit.now roots.entry.words (length roots.entry.sources.now) (2 * length group.now.members) (with_holds group.now.members (group_function roots.entry.circuit.now roots.entry.phase roots.entry.sources.now number group.now)) store.old store.new result }
 {
-    let _ends = store.node_count();
+    store.sound();
     if group.members.is_empty() {
         return Ok(());
     }
@@ -122,7 +122,7 @@ fn write_groups(store: &mut Store, roots: Roots<'_>, groups: &[Group]) -> Result
     requires vars { length roots.sources.now ≤ store.old.vars }
     ensures { Rewrites roots.entry.circuit.now roots.entry.words (length roots.entry.sources.now) (2 * members_in groups.now) (with_groups roots.entry.circuit.now roots.entry.phase roots.entry.sources.now 0 groups.now) store.old store.new result }
 {
-    let _ends = store.node_count();
+    store.sound();
     let mut at = groups.len();
     'back: while at > 0 {
         at -= 1;

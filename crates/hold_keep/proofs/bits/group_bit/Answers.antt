@@ -8,8 +8,8 @@ returns-in-Some-clause-gives c =
 
 pub returns-in-Some-entered-clause-gives : goal.returns-in-Some-entered-clause-gives
 returns-in-Some-entered-clause-gives c =
-    entered_given c.args.sources.now c.args.number c.args.store.now c.constant.result c.in-Some-entered.bit c.args.element c.args.entered c.node_count-ends.ensures.sound
-    c.node_count-ends.ensures.within c.constant.ensures c.in-None.is c.in-Some-entered.is
+    entered_given c.args.sources.now c.args.number c.args.store.now c.constant.result c.in-Some-entered.bit c.args.element c.args.entered c.sound.ensures.sound
+    c.sound.ensures.within c.constant.ensures c.in-None.is c.in-Some-entered.is
 
 pub returns-in-None-entered-clause-gives : goal.returns-in-None-entered-clause-gives
 returns-in-None-entered-clause-gives c =

@@ -10,7 +10,7 @@ loop-hold-preserved c =
     let words = c.args.words in
     let there = item_at circuit.holds c.as_slice-hold-items.result.now c.loop-hold.hold-index c.hold-item.result c.as_slice-hold-items.ensures c.loop-hold-test.true c.hold-item.is in
     record {
-      writes = clear_next circuit words c.args.store.now c.loop-hold.store c.write.new.self c.loop-hold.hold-index c.hold-item.result there c.requires.own c.requires.span c.node_count-ends.ensures.sound
+      writes = clear_next circuit words c.args.store.now c.loop-hold.store c.write.new.self c.loop-hold.hold-index c.hold-item.result there c.requires.own c.requires.span c.sound.ensures.sound
           c.loop-hold.invariant.writes c.write.ensures;
       nodes = ap (λ (d : Diagrams). d.nodes) c.write.ensures ∙ c.loop-hold.invariant.nodes;
       zero = zero_next circuit words c.args.store.now c.loop-hold.store c.write.new.self c.loop-hold.hold-index c.hold-item.result there c.requires.own c.requires.span c.loop-hold.invariant.writes
@@ -19,7 +19,7 @@ loop-hold-preserved c =
 
 pub returns-clause-zero : goal.returns-clause-zero
 returns-clause-zero c =
-    zero_roots c.args.circuit.now c.args.words c.args.store.now c.loop-hold.store c.node_count-ends.ensures.sound c.loop-hold.invariant.writes
+    zero_roots c.args.circuit.now c.args.words c.args.store.now c.loop-hold.store c.sound.ensures.sound c.loop-hold.invariant.writes
     (λ p h e.
     c.loop-hold.invariant.zero p h e
     (let low = slice_get_within c.args.circuit.now.holds p h e in
