@@ -9,7 +9,7 @@ use Rattle.bdd_core.specs.Diagram.{Function, IsReduced, IsSame, IsWithin, Valuat
 use Rattle.bdd_core.specs.Store.{Diagrams, Gives}
 use Rattle.bdd_core.specs.declared.handle.H.{H}
 use Rattle.bdd_core.specs.declared.handle.Spent.{Spent}
-use Rattle.bdd_core.proofs.Frames.{gives_none}
+use Rattle.bdd_core.proofs.Frames.{gives_none, gives_same}
 use Rattle.node_pool.specs.declared.region.Node.{Node}
 use Rattle.vrt_model.specs.Held.{bit_of, group_bit_at, is_element, is_group}
 use Rattle.vrt_model.specs.Variables.{places}
@@ -40,15 +40,7 @@ place_low is sources count (Some at) e few =
 -- ---- functions that are the same
 
 pub gives_as : (a b : Diagrams) (f g : Function) (r : Result H Spent) → Gives a b f r → IsSame f g → Gives a b g r
-gives_as a b f g (Ok r) x same = record {
-  rest = x.rest;
-  sound = x.sound;
-  within = x.within;
-  kept = x.kept;
-  ok = record { live = x.ok.live; same = λ v. x.ok.same v ∙ same v };
-  spent = tt;
-}
-gives_as a b f g (Err s) x same = record { rest = x.rest; sound = x.sound; within = x.within; kept = x.kept; ok = tt; spent = x.spent }
+gives_as a b f g r x same = gives_same a b f g r same x
 
 pub wider : (f : Function) (low high : ℕ) → low ≤ high → IsWithin low f → IsWithin high f
 wider f low high le reads v w same = reads v w (λ y lt. same y (omega (arith, lt, le)))

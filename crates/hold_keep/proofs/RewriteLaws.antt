@@ -70,16 +70,14 @@ holds_then c roots x y z f s =
 -- operations that give a function write no word
 pub holds_given : (c : Circuit) (roots : Span) (old new : Diagrams) (f : Function) (r : Result H Spent) → IsReduced old.vars old.nodes → Gives old new f r → WritesHolds c roots old new
 holds_given c roots old new f r reduced g =
-    let words : new.words ≡ old.words = ap (λ (d : Diagrams). d.words) g.rest in
+    let words : new.words ≡ old.words = ap (λ (d : Diagrams). d.words) g.adds.rest in
     let build : List ℕ → Diagrams = λ ws. record old { nodes = new.nodes; words = ws } in
-    let ends = reduced.ends in
-    let last = (g.kept (record { 0 = length old.nodes - 1 }) (omega (arith, ends))).0 in
     record {
-      rest = g.rest ∙ ap build (sym words);
-      sound = g.sound;
-      within = g.within;
-      longer = omega (arith, last, ends);
-      kept = λ h lt v. (g.kept (record { 0 = h }) lt).1 v;
+      rest = g.adds.rest ∙ ap build (sym words);
+      sound = g.adds.sound;
+      within = g.adds.within;
+      longer = g.adds.longer;
+      kept = g.adds.kept;
       len = ap (λ (ws : List ℕ). length ws) words;
       others = λ j apart. ap (λ (ws : List ℕ). slice_index ws j) words;
     }
@@ -145,7 +143,7 @@ pub member_frame : (c : Circuit) (roots : Span) (x y z : Diagrams) (member : Mem
     → Gives x y f (Ok held) → z ≡ record y { words = slice_set y.words (roots.start + hold.net.0) held.0 } → WritesHolds c roots x z
 member_frame c roots x y z member hold held f there own span sound gives is =
     holds_then c roots x y z (holds_given c roots x y f (Ok held) sound gives)
-    (holds_written c roots y z member.hold held.0 hold there own (subst (λ (d : Diagrams). IsSpan d roots) (sym gives.rest) span) is gives.sound gives.within)
+    (holds_written c roots y z member.hold held.0 hold there own (subst (λ (d : Diagrams). IsSpan d roots) (sym gives.adds.rest) span) is gives.adds.sound gives.adds.within)
 
 -- ---- steps
 
@@ -193,7 +191,7 @@ module _ (c : Circuit) (roots : Span) (vars : ℕ) where
       → Rewrites c roots vars a (λ f. f) x y (Ok o)
   rewrites_given a g x y h o sound gives counts = record {
     writes = holds_given c roots x y g (Ok h) sound gives;
-    rooted = λ f are. roots_kept c roots x y f (holds_given c roots x y g (Ok h) sound gives) (ap (λ (d : Diagrams). d.words) gives.rest) are;
+    rooted = λ f are. roots_kept c roots x y f (holds_given c roots x y g (Ok h) sound gives) (ap (λ (d : Diagrams). d.words) gives.adds.rest) are;
     spent = tt;
     counts = λ u most. counts_value u a x y h o (counts u most);
   }
@@ -247,7 +245,7 @@ module _ (c : Circuit) (roots : Span) (vars : ℕ) where
   member_written x y z member hold bit held o there own span sound gives counts is =
       rewrites_then 1 0 (λ f. f) (λ f. λ p. λ v. cond (member.hold == p) (differ member.inverted (function_of x bit v)) (f p v)) (with_hold member (function_of x bit)) x y z o (Ok o)
       (rewrites_given 1 (λ v. differ member.inverted (function_of x bit v)) x y held o sound gives counts)
-      (rewrites_word y z member.hold held.0 hold (λ v. differ member.inverted (function_of x bit v)) o there own (subst (λ (d : Diagrams). IsSpan d roots) (sym gives.rest) span) is gives.sound gives.within
+      (rewrites_word y z member.hold held.0 hold (λ v. differ member.inverted (function_of x bit v)) o there own (subst (λ (d : Diagrams). IsSpan d roots) (sym gives.adds.rest) span) is gives.adds.sound gives.adds.within
       gives.ok.live gives.ok.same)
       (λ f p v. refl)
 

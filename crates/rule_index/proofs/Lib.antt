@@ -1,0 +1,4 @@
+pub mod CellLaws
+pub mod FirstNotes
+pub mod NameLaws
+pub mod PlaceLaws

@@ -1,0 +1,3 @@
+pub mod Firsts
+pub mod Lines
+pub mod Tables

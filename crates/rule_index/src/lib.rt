@@ -1,0 +1,19 @@
+//! What rules and `.model` cards say, looked up by names in tables that are made once for a netlist and its rules.
+#![tactic(auto)]
+
+mod by_cell;
+mod cells;
+mod firsts;
+mod index;
+mod lines;
+mod models;
+mod of_cell;
+mod supplies;
+
+pub use by_cell::ByCell;
+pub use firsts::FirstValues;
+pub use index::{RuleIndex, index_of};
+pub use lines::{ChargeLines, DeviceLines, PortLines, RuleLines};
+pub use models::{Declared, ModelTable};
+pub use of_cell::OfCell;
+pub use supplies::supply;
