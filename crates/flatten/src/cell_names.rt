@@ -6,8 +6,8 @@ ghost use Rattle.names.specs.Names.{with_names};
 ghost use Rattle.vrt_model.specs.Inputs.{IsDesign};
 ghost use Rattle.vrt_model.specs.declared.design.Cell.{Cell as CellValue};
 
-use std::alloc::Global;
 use names::Names;
+use std::alloc::Global;
 use vrt_model::{Cell, Design, NoMemory};
 
 /// The names of cells, each once.

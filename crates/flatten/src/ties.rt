@@ -12,8 +12,8 @@ use crate::cells::cell_of;
 use crate::firsts::FirstValues;
 use crate::lists::append;
 use crate::rule_tables::supply;
-use std::alloc::Global;
 use names::Names;
+use std::alloc::Global;
 use vrt_model::{Cell, Design, InstanceCard, NoMemory, Seq, Text};
 
 /// A cell in an unrolled netlist, by the supplies that its ports are tied to.

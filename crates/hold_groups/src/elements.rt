@@ -8,8 +8,8 @@ ghost use Rattle.hold_groups.specs.Elements.{IsTable};
 ghost use Rattle.hold_groups.specs.Grouped.{element_in};
 
 use crate::variable_names::add_element_names;
-use std::alloc::Global;
 use names::Names;
+use std::alloc::Global;
 use vrt_model::{FlatModel, HoldEnd, NoMemory, Seq, Text};
 
 /// The names of the latch elements of a model: in order, and as a set.

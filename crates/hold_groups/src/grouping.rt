@@ -13,8 +13,8 @@ use crate::by_net::add_by_net;
 use crate::elements::ElementTable;
 use crate::ends::key_of;
 use crate::lists::small;
-use std::alloc::Global;
 use names::Names;
+use std::alloc::Global;
 use vrt_model::{Circuit, Group, Hold, HoldEnd, Member, NoMemory, Seq};
 
 /// The number of the element of the checked cell's model that an end is.

@@ -6,8 +6,8 @@ ghost use Rattle.hold_groups.specs.Given.{AreFilled, VariablesGive};
 
 use crate::faults::VarsFault;
 use crate::lists::small;
-use crate::variable_names::{add_element_names, add_names};
 use crate::sources::add_sources;
+use crate::variable_names::{add_element_names, add_names};
 use std::alloc::Global;
 use vrt_model::{Circuit, FlatModel, Group, NoMemory, Seq, Text, Vars};
 

@@ -7,8 +7,8 @@ ghost use Rattle.vrt_model.specs.Lists.{distinct};
 
 use crate::supplies::Supplies;
 use crate::types::CellNet;
-use std::alloc::Global;
 use names::Names;
+use std::alloc::Global;
 use vrt_model::{Cell, Design, NoMemory, Rules};
 
 /// The names that are the same in every cell.

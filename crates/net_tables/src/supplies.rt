@@ -4,8 +4,8 @@ ghost use Rattle.std.specs.Prelude.{◌≡◌, ℕ, List, [], Some, None, OnOk, 
 ghost use Rattle.std.specs.Option.{option_or};
 ghost use Rattle.net_tables.specs.Supplies.{IsFresh, declared_by, declared_in, supply_in};
 
-use std::alloc::Global;
 use names::Names;
+use std::alloc::Global;
 use vrt_model::{NoMemory, SupplyRule};
 
 /// The names that rules declare as supplies, by their values.

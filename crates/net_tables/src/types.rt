@@ -2,8 +2,8 @@
 
 ghost use Rattle.std.specs.Prelude.{◌≡◌, []};
 
-use std::alloc::Global;
 use names::Names;
+use std::alloc::Global;
 use vrt_model::Seq;
 
 /// What a name in a cell is.

@@ -4,8 +4,8 @@ ghost use Rattle.std.specs.Prelude.{◌≡◌, ◌<◌, ◌++◌, ◌∷◌, [],
 ghost use Rattle.rule_index.specs.Lines.{IsBlank, IsIndex, IsPaired, places_in};
 
 use crate::of_cell::OfCell;
-use std::alloc::Global;
 use names::Names;
+use std::alloc::Global;
 use vrt_model::{NoMemory, Seq};
 
 /// For each cell that a rule is of the places of its rules, by the name of the cell. A name is found by its hash, in a

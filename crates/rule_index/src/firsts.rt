@@ -4,8 +4,8 @@ ghost use Rattle.std.specs.Prelude.{◌≡◌, ℕ, List, Some, None, OnOk, byte
 ghost use Rattle.std.specs.Option.{option_copied, option_or};
 ghost use Rattle.rule_index.specs.Firsts.{IsEven, IsFresh, value_in};
 
-use std::alloc::Global;
 use names::Names;
+use std::alloc::Global;
 use vrt_model::{NoMemory, Seq};
 
 /// For each name the value that was noted first under it. A name is found by its hash, in a time that does not grow with

@@ -150,15 +150,18 @@ seen = refl
 
 -- at d = 0, e = 1, q = 0 the net l takes 0, and the match line wants the opposite of the new bit of q
 wanted : WantsValue cell 0 (solution cell in_range gates bits meets model assigns) model Next 4 4 (Some true)
-wanted = (refl, (
-  0,
-  record { members = record { hold = 0; inverted = true } ∷ []; element = Some 0 },
-  record { hold = 0; inverted = true },
-  0,
-  record { stands = (the_hold, refl, refl); grouped = (0, refl); joined = ((0, refl), refl) },
+wanted = (
   refl,
-  refl,
-))
+  (
+    0,
+    record { members = record { hold = 0; inverted = true } ∷ []; element = Some 0 },
+    record { hold = 0; inverted = true },
+    0,
+    record { stands = (the_hold, refl, refl); grouped = (0, refl); joined = ((0, refl), refl) },
+    refl,
+    refl,
+  ),
+)
 
 pub stands : IsFinding cell (found 0 Next 4 bits)
 stands =
