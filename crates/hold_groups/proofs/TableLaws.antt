@@ -3,38 +3,9 @@ use Rattle.std.proofs.Common.{◌≡◌, ℕ, suc, ◌+◌, ◌≤◌, ◌++◌,
 use Rattle.std.specs.Prelude.{bytes_eq, position}
 use Rattle.std.proofs.lemmas.List.Folds.{list_any-append}
 use Rattle.std.proofs.lemmas.Slice.Eq.{bytes_eq-Decides}
+use Rattle.names.proofs.NameLaws.{among_names}
 use Rattle.names.specs.Names.{with_name, with_names}
 use Rattle.vrt_model.specs.Lists.{has_name}
-
-or_swap : (p q : Bool) → (p || (q || false)) ≡ (q || p)
-or_swap true true = refl
-or_swap true false = refl
-or_swap false true = refl
-or_swap false false = refl
-
-or_none : (p : Bool) → (p || false) ≡ p
-or_none true = refl
-or_none false = refl
-
--- one name more has that name, and those that were there
-with_front : (names : List (List ℕ)) (n name : List ℕ) → has_name (with_name names n) name ≡ (bytes_eq name n || has_name names name)
-with_front names n name = by_test (has_name names n) refl where
-  there : (b : Bool) → bytes_eq name n ≡ b → has_name names n ≡ true → has_name names name ≡ (b || has_name names name)
-  there true e h = ap (has_name names) ((bytes_eq-Decides name n).0 e) ∙ h
-  there false e h = refl
-
-  by_test : (b : Bool) → has_name names n ≡ b → has_name (cond b names (names ++ n ∷ [])) name ≡ (bytes_eq name n || has_name names name)
-  by_test true h = there (bytes_eq name n) refl h
-  by_test false h = list_any-append (bytes_eq name) names (n ∷ []) ∙ or_swap (has_name names name) (bytes_eq name n)
-
-among_names : (names xs : List (List ℕ)) (name : List ℕ) → has_name (with_names names xs) name ≡ (has_name names name || has_name xs name)
-among_names names [] name = sym (or_none (has_name names name))
-among_names names (x ∷ xs) name =
-    among_names (with_name names x) xs name ∙ ap (λ (b : Bool). b || has_name xs name) (with_front names x name) ∙ turn (bytes_eq name x) (has_name names name) (has_name xs name) where
-      turn : (p q r : Bool) → ((p || q) || r) ≡ (q || (p || r))
-      turn true true r = refl
-      turn true false r = refl
-      turn false q r = refl
 
 -- the set has the names of the list
 pub has_same : (list names : List (List ℕ)) (name : List ℕ) → names ≡ with_names [] list → has_name names name ≡ has_name list name

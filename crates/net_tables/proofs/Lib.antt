@@ -1,7 +1,3 @@
-pub mod FilterLaws
-pub mod NameLaws
-pub mod ApartLaws
-pub mod PlaceLaws
 pub mod SupplyLaws
 pub mod OwnLaws
 pub mod NetLaws

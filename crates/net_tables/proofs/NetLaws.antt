@@ -4,11 +4,11 @@ use Rattle.std.specs.Prelude.{All, bytes_eq, is_none, is_some, option_map, unwra
 use Rattle.std.specs.Option.{option_or}
 use Rattle.std.proofs.Math.Path.{fun_ext}
 use Rattle.std.proofs.lemmas.Bool.{and_parts}
-use Rattle.net_tables.proofs.ApartLaws.{once_is_all}
-use Rattle.net_tables.proofs.FilterLaws.{filter_same, has_name_filter}
-use Rattle.net_tables.proofs.NameLaws.{names_once, once_has_same}
+use Rattle.names.proofs.ApartLaws.{once_is_all}
+use Rattle.names.proofs.FilterLaws.{filter_same, has_name_filter}
+use Rattle.names.proofs.NameLaws.{names_once, once_has_same}
 use Rattle.net_tables.proofs.OwnLaws.{owns_are}
-use Rattle.net_tables.proofs.PlaceLaws.{any_placed, position_same}
+use Rattle.names.proofs.PlaceLaws.{any_placed, position_same}
 use Rattle.net_tables.specs.Names.{AreShared, cell_in, names_by, net_by, nets_by, shared_in, with_owns}
 use Rattle.net_tables.specs.Nets.{net_in, nets_in, shared_net}
 use Rattle.net_tables.specs.declared.shared.SharedNames.{SharedNames}

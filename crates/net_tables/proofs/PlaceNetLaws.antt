@@ -7,9 +7,9 @@ use Rattle.std.proofs.lemmas.Bool.{and_parts, or_cases, or_left, or_right}
 use Rattle.std.proofs.lemmas.List.Quantifiers.{position-Some}
 use Rattle.std.proofs.lemmas.Option.{none-some, same_Some, slice_get-map, unwrap_or-slice_get}
 use Rattle.std.proofs.lemmas.Slice.Eq.{bytes_eq-Decides}
-use Rattle.net_tables.proofs.FilterLaws.{has_name_filter}
+use Rattle.names.proofs.FilterLaws.{has_name_filter}
 use Rattle.net_tables.proofs.NetLaws.{own_alone}
-use Rattle.net_tables.proofs.PlaceLaws.{any_placed, place_none}
+use Rattle.names.proofs.PlaceLaws.{any_placed, place_none}
 use Rattle.net_tables.specs.Nets.{net_in}
 use Rattle.net_tables.specs.Places.{ArePlaceNets, IsNamedAt, global_place, net_or_first, place_net}
 use Rattle.net_tables.specs.declared.types.CellNet.{CellNet}

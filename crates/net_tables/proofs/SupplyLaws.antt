@@ -5,7 +5,7 @@ use Rattle.std.specs.Option.{option_or}
 use Rattle.std.proofs.lemmas.List.{drop_all, drop_more}
 use Rattle.std.proofs.lemmas.Slice.Eq.{bytes_eq-Decides}
 use Rattle.names.specs.Names.{with_name}
-use Rattle.net_tables.proofs.NameLaws.{bytes_eq-sym, with_front}
+use Rattle.names.proofs.NameLaws.{bytes_eq-sym, with_front}
 use Rattle.net_tables.specs.Supplies.{IsFresh, declared_by, declared_in}
 use Rattle.net_tables.specs.declared.supplies.Supplies.{Supplies}
 use Rattle.vrt_model.specs.Lists.{has_name}

@@ -7,7 +7,8 @@ use Rattle.std.proofs.lemmas.List.{drop_all, drop_more}
 use Rattle.std.proofs.lemmas.Slice.Eq.{bytes_eq-Decides}
 use Rattle.names.specs.Names.{with_name}
 use Rattle.vrt_model.specs.Lists.{has_name}
-use Rattle.rule_index.proofs.NameLaws.{bytes_eq-sym, place_cons}
+use Rattle.names.proofs.NameLaws.{bytes_eq-sym}
+use Rattle.rule_index.proofs.NameLaws.{place_cons}
 use Rattle.rule_index.specs.Firsts.{IsEven, first_in, value_in}
 use Rattle.rule_index.specs.declared.firsts.FirstValues.{FirstValues}
 

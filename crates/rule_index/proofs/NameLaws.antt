@@ -1,4 +1,4 @@
--- Names that are equal, and the places of names.
+-- The places of names.
 use Rattle.std.proofs.Common.{◌≡◌, ◌<◌, ◌++◌, ◌∷◌, ◌||◌, ◌+◌, [], ℕ, suc, not, nat_lt, List, Bool, true, false, cond, length, Option, Some, None, option_map, refl, ap, sym, subst, ◌∙◌, arith}
 use Rattle.std.specs.Prelude.{bytes_eq, get_or}
 use Rattle.std.specs.List.{position, position_or_len}
@@ -7,18 +7,6 @@ use Rattle.std.proofs.lemmas.List.Quantifiers.{position-Some}
 use Rattle.std.proofs.lemmas.Option.{none-some}
 use Rattle.std.proofs.lemmas.Slice.Eq.{bytes_eq-Decides}
 use Rattle.vrt_model.specs.Lists.{has_name}
-
--- ---- names that are equal
-
-same_tests : (r s : Bool) → (r ≡ true → s ≡ true) → (s ≡ true → r ≡ true) → r ≡ s
-same_tests true true f g = refl
-same_tests true false f g = let h = f refl in cc
-same_tests false true f g = let h = g refl in cc
-same_tests false false f g = refl
-
-pub bytes_eq-sym : (a b : List ℕ) → bytes_eq a b ≡ bytes_eq b a
-bytes_eq-sym a b =
-    same_tests (bytes_eq a b) (bytes_eq b a) (λ e. (bytes_eq-Decides b a).1 (sym ((bytes_eq-Decides a b).0 e))) (λ e. (bytes_eq-Decides a b).1 (sym ((bytes_eq-Decides b a).0 e)))
 
 -- ---- places
 

@@ -1,6 +1,6 @@
 use Rattle.std.proofs.Common.{arith}
 use Rattle.vrt_model.specs.declared.design.Cell.{Cell}
-use Rattle.net_tables.proofs.NameLaws.{names_exit}
+use Rattle.names.proofs.NameLaws.{names_exit}
 use Rattle.net_tables.proofs.shared.add_cells.Goals as goal
 
 pub returns : goal.returns

@@ -2,8 +2,8 @@ use Rattle.std.proofs.Common.{ap, ap₂, ◌∙◌, Some, None, Option, Bool, fa
 use Rattle.std.specs.Prelude.{codes}
 use Rattle.std.specs.Option.{option_or}
 use Rattle.names.specs.Names.{with_names}
-use Rattle.net_tables.proofs.ApartLaws.{names_apart, once_is_all}
-use Rattle.net_tables.proofs.NameLaws.{names_once}
+use Rattle.names.proofs.ApartLaws.{names_apart, once_is_all}
+use Rattle.names.proofs.NameLaws.{names_once}
 use Rattle.net_tables.specs.Supplies.{declared_by}
 use Rattle.vrt_model.specs.Lists.{distinct}
 use Rattle.vrt_model.specs.declared.design.Cell.{Cell}
