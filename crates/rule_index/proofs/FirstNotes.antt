@@ -1,5 +1,5 @@
 -- The value that was noted first under a name.
-use Rattle.std.proofs.Common.{◌≡◌, ◌<◌, ◌≤◌, ◌+◌, ◌++◌, ◌∷◌, ◌||◌, [], ℕ, zero, suc, not, List, Bool, true, false, cond, nat_lt, length, get_or, drop, Option, Some, None, refl, ap, ap₂, sym, subst, ◌∙◌, arith}
+use Rattle.std.proofs.Common.{◌≡◌, ◌<◌, ◌≤◌, ◌+◌, ◌++◌, ◌∷◌, ◌||◌, [], ℕ, suc, List, Bool, true, false, cond, length, get_or, drop, Option, Some, None, refl, ap, ap₂, sym, ◌∙◌, arith}
 use Rattle.std.specs.Prelude.{bytes_eq, slice_get, option_map, option_and_then, find}
 use Rattle.std.specs.List.{position}
 use Rattle.std.specs.Option.{option_or}

@@ -1,5 +1,5 @@
 -- The places of rules by the cells that they are of.
-use Rattle.std.specs.Prelude.{◌≡◌, ℕ, List, [], map, filter, length, Option, Some, slice_get, unwrap_or, bytes_eq}
+use Rattle.std.specs.Prelude.{◌≡◌, ℕ, List, [], map, filter, length, Some, slice_get, unwrap_or, bytes_eq}
 use Rattle.rule_index.specs.Firsts.{first_in}
 use Rattle.rule_index.specs.declared.by_cell.ByCell.{ByCell}
 use Rattle.rule_index.specs.declared.lines.ChargeLines.{ChargeLines}

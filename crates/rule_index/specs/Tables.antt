@@ -51,12 +51,16 @@ pub record AreModels (design : Design) (rules : Rules) (table : ModelTable) : Ty
   pub rules_are : (model : List ℕ) → value_in table.rules model ≡ declared_device rules.devices model
   pub cards_are : (model : List ℕ) → value_in table.cards model ≡ card_kind design.models model
 
--- for each name the number of its cell, its supply and its device model, and for each cell the places of its rules of each kind
+-- what rules say of supplies, and for each cell the places of its rules of each kind
+pub record AreRuleTables (rules : Rules) (index : RuleIndex) : Type 0 where
+  pub supplies_are : (name : List ℕ) → value_in index.supplies name ≡ declared_supply rules.supplies name
+  pub lines_are : AreLines rules index.lines
+
+-- the same, with the numbers of cells and what is said of device models
 pub record AreIndexed (design : Design) (rules : Rules) (index : RuleIndex) : Type 0 where
   pub cells_are : (name : List ℕ) → value_in index.cells name ≡ cell_numbered design.cells name
-  pub supplies_are : (name : List ℕ) → value_in index.supplies name ≡ declared_supply rules.supplies name
   pub models_are : AreModels design rules index.models
-  pub lines_are : AreLines rules index.lines
+  pub rules_are : AreRuleTables rules index
 
 -- ---- what is found in tables
 

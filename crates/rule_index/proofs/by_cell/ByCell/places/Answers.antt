@@ -1,4 +1,4 @@
-use Rattle.std.proofs.Common.{◌≡◌, ℕ, List, [], get_or, ap, sym, ◌∙◌}
+use Rattle.std.proofs.Common.{ℕ, List, [], get_or, ap, sym, ◌∙◌}
 use Rattle.rule_index.proofs.PlaceLaws.{under_at, under_none}
 use Rattle.rule_index.proofs.by_cell.ByCell.places.Goals as goal
 
