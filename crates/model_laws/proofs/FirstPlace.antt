@@ -181,9 +181,6 @@ it_solves n v seen =
 abbrev ones : Assignment
 ones = record { signal = λ s. true; next = λ e. true }
 
-the_cover : Cover
-the_cover = record { inputs = []; output = 0; on = true; rows = [] ∷ [] }
-
 it_assigns : Assigns cell 0 setting ones
 it_assigns = record {
   clocks = λ c m. absurd (none-some c m.1);

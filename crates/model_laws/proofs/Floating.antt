@@ -1,35 +1,15 @@
 -- A net that nothing reaches: a gate of two inputs without one of its p-devices.
-use Rattle.std.proofs.Common.{◌≡◌, ℕ, zero, suc, true, false, List, [], ◌∷◌, sym, subst, refl, inl, inr}
+use Rattle.std.proofs.Common.{◌≡◌, zero, suc, true, List, [], ◌∷◌, sym, subst, refl, inl, inr}
 use Rattle.std.proofs.lemmas.Bool.{false≢true}
 use Rattle.std.proofs.lemmas.Option.{same_Some, none-some}
 use Rattle.model_laws.proofs.PathValues.{no_root_at}
-use Rattle.vrt_model.specs.Lists.{Among, bit_at}
-use Rattle.vrt_model.specs.Path.{Hop, IsPath, Joins, Network, Root, end_of}
+use Rattle.model_laws.specs.FloatingGate.{device, gate}
+use Rattle.vrt_model.specs.Lists.{Among}
+use Rattle.vrt_model.specs.Path.{Hop, IsPath, Joins, Root, end_of}
 use Rattle.vrt_model.specs.Reading.{conducts}
 use Rattle.vrt_model.specs.Response.{Float, IsResponse}
 use Rattle.vrt_model.specs.declared.circuit.Device.{Device}
-use Rattle.vrt_model.specs.declared.circuit.NetKind.TheVariants.{Supply, Input, Plain}
-use Rattle.vrt_model.specs.declared.design.Kind.{Kind}
-use Rattle.vrt_model.specs.declared.design.Kind.TheVariants.{N, P}
-
-abbrev device : Kind → ℕ → ℕ → ℕ → Device
-device kind left gate right = record { name = []; kind = kind; gate = record { 0 = gate }; left = record { 0 = left }; right = record { 0 = right }; level = 6; keeper = false }
-
--- nets gnd, vdd, a, b, y, m
-abbrev gate : Network
-gate = record {
-  nets =
-      record { name = []; kind = Supply false } ∷ record { name = []; kind = Supply true } ∷ record { name = []; kind = Input } ∷ record { name = []; kind = Input }
-      ∷ record { name = []; kind = Plain } ∷ record { name = []; kind = Plain } ∷ [];
-  holds = [];
-  outputs = [];
-  devices = device P 4 2 1 ∷ device N 4 2 5 ∷ device N 5 3 0 ∷ [];
-  source = 8;
-  reading = bit_at (false ∷ true ∷ true ∷ false ∷ []);
-  given = bit_at (false ∷ true ∷ true ∷ false ∷ []);
-  held = λ place. false;
-  driven = λ place. false;
-}
+use Rattle.vrt_model.specs.declared.design.Kind.TheVariants.{N}
 
 -- at a = 1 and b = 0 the one device that conducts joins y and m
 the_one_on : (d : Device) → Among gate.devices d → conducts gate.reading d ≡ true → device N 4 2 5 ≡ d
@@ -48,5 +28,5 @@ nothing_there root (hop ∷ hops) p =
       | inr here ↦ absurd ((nothing_there root hops p.0).1 (sym here.1))
     ]
 
-y_floats : IsResponse gate 4 Float
+pub y_floats : IsResponse gate 4 Float
 y_floats = (λ r. (nothing_there r.0 r.1 r.2).0 r.4, λ r. (nothing_there r.0 r.1 r.2).0 r.4)

@@ -2,11 +2,11 @@
 -- no weaker.
 use Rattle.std.proofs.Common.{ℕ, ◌⊎◌, List, [], ◌∷◌, arith, sym, subst, refl, inl, inr}
 use Rattle.std.proofs.lemmas.Bool.{cases_eq}
-use Rattle.model_laws.specs.Walks.{IsWalk, PathTo}
+use Rattle.model_laws.specs.Walks.{IsDeviceWalk, PathTo}
 use Rattle.vrt_model.specs.Path.{Network, Root, Hop, Joins, IsPath, Avoids, end_of, level_of}
 
 -- a path is a walk
-pub path_walk : (w : Network) (root : Root) (hops : List Hop) → IsPath w root hops → IsWalk w root hops
+pub path_walk : (w : Network) (root : Root) (hops : List Hop) → IsPath w root hops → IsDeviceWalk w root hops
 path_walk w root [] p = p
 path_walk w root (hop ∷ hops) p = (path_walk w root hops p.0, p.1, p.2)
 
@@ -24,7 +24,7 @@ prefix_or_avoids w root (hop ∷ hops) n p =
     weaker q = record { hops = q.hops; path = q.path; ends = q.ends; level = (let le = q.level in omega (arith, le)) }
 
 -- a walk can be shortened to a path that is no weaker
-pub walk_shortened : (w : Network) (root : Root) (hops : List Hop) → IsWalk w root hops → PathTo w root (end_of root hops) (level_of root hops)
+pub walk_shortened : (w : Network) (root : Root) (hops : List Hop) → IsDeviceWalk w root hops → PathTo w root (end_of root hops) (level_of root hops)
 walk_shortened w root [] p = record { hops = []; path = p; ends = refl; level = omega arith }
 walk_shortened w root (hop ∷ hops) p =
     extended (walk_shortened w root hops p.0)

@@ -1,5 +1,7 @@
 pub mod Cells
 pub mod FirstFinding
+pub mod FloatingGate
+pub mod HeldInput
 pub mod Logic
 pub mod NoWhole
 pub mod OneCell

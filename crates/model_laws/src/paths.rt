@@ -1,7 +1,7 @@
 //! Laws of paths, strengths and responses, of every network.
 
 ghost use Rattle.std.specs.Prelude.{◌≡◌, ℕ, ◌≤◌, ◌++◌, List};
-ghost use Rattle.model_laws.specs.Walks.{IsWalk, PathTo};
+ghost use Rattle.model_laws.specs.Walks.{IsDeviceWalk, PathTo};
 ghost use Rattle.vrt_model.specs.Networks.{IsFinite, HasLevels, IsSource};
 ghost use Rattle.vrt_model.specs.Path.{Hop, IsPath, Network, Root, end_of, level_of};
 ghost use Rattle.vrt_model.specs.Response.{IsClear, IsResponse, IsStrength, Response};
@@ -10,8 +10,8 @@ ghost use Rattle.vrt_model.specs.Response.{IsClear, IsResponse, IsStrength, Resp
 /// and each path is a walk.
 #[tactic(auto, using(crate::proofs::WalkLaws::walk_shortened, crate::proofs::WalkLaws::path_walk))]
 pub fn walks()
-    ensures shortened { (w : Network) (root : Root) (hops : List Hop) → IsWalk w root hops → PathTo w root (end_of root hops) (level_of root hops) }
-    ensures paths { (w : Network) (root : Root) (hops : List Hop) → IsPath w root hops → IsWalk w root hops }
+    ensures shortened { (w : Network) (root : Root) (hops : List Hop) → IsDeviceWalk w root hops → PathTo w root (end_of root hops) (level_of root hops) }
+    ensures paths { (w : Network) (root : Root) (hops : List Hop) → IsPath w root hops → IsDeviceWalk w root hops }
 {}
 
 /// What is left of a clear path, where its last devices are taken off, is clear; and a clear path has the strength of the

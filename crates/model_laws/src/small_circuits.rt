@@ -2,6 +2,8 @@
 //! at which nets 0 and 1 arrive by clear paths.
 
 ghost use Rattle.std.specs.Prelude.{true, false, [], ◌∷◌};
+ghost use Rattle.model_laws.specs.FloatingGate.{gate};
+ghost use Rattle.model_laws.specs.HeldInput.{held_input};
 ghost use Rattle.model_laws.specs.SmallCircuits.{load_at, bridge_at, opposed, least, charge_at, shared, through_input, ring, dynamic_as, whole_output};
 ghost use Rattle.vrt_model.specs.Response.{Fight, Float, IsResponse, Shows};
 ghost use Rattle.vrt_model.specs.Signals.{AreSignals};
@@ -61,4 +63,12 @@ pub fn keepers()
 pub fn whole_outputs()
     ensures soft { AreSignals (whole_output Soft) (8 ∷ 8 ∷ 8 ∷ []) (true ∷ false ∷ false ∷ []) (false ∷ true ∷ true ∷ []) }
     ensures level { AreSignals (whole_output (Level 6)) (8 ∷ 8 ∷ 6 ∷ []) (true ∷ false ∷ true ∷ []) (false ∷ true ∷ true ∷ []) }
+{}
+
+/// The output of a gate of two inputs without one of its p-devices floats where no path leads to it. An input with a hold
+/// shows its bit, whatever the hold keeps.
+#[tactic(auto, using(crate::proofs::Floating::y_floats, crate::proofs::HeldInput::input_shows))]
+pub fn missing_device_and_held_input()
+    ensures floats { IsResponse gate 4 Float }
+    ensures shows { IsResponse held_input 0 (Shows false) }
 {}
