@@ -108,9 +108,9 @@ module _ (t : Top) (inner : Place) (name : List ℕ) where
   named_in_top limit depth le m has =
       deepened t.design t.rules name (limit - depth) depth limit (top_cell t) (omega (arith, le)) (named_below depth (top_place t) m has)
 
-  pub has_name : (depth : ℕ) → depth ≤ deepest → Among (places_in t depth (top_place t)) inner → HasGlobal → has_name (globals_of t) name ≡ true
+  pub global_among : (depth : ℕ) → depth ≤ deepest → Among (places_in t depth (top_place t)) inner → HasGlobal → has_name (globals_of t) name ≡ true
   unfolding global_nets
-  has_name depth le m has =
+  global_among depth le m has =
       has_name_filter (names_global t.design t.rules deepest (top_cell t)) t.design.globals name
       ∙ both (names_global t.design t.rules deepest (top_cell t) name) (has_name t.design.globals name) (named_in_top deepest depth le m has)
       (and_parts (has_name t.design.globals name) (not (is_some (supply_of t.rules name)))
@@ -181,7 +181,7 @@ module _ (t : Top) (at : Place) (name : List ℕ) where
         let there : is_global_in t.design t.rules here name ≡ true =
         ap (λ (b : Bool). (b && not (is_some (supply_of t.rules name))) && not (has_name here.ports name)) (any_placed (bytes_eq name) t.design.globals ∙ ap is_some eg)
         ∙ ap₂ (λ (s : Option Bool) (b : Bool). not (is_some s) && not b) es (any_placed (bytes_eq name) here.ports ∙ ap is_some ep) in
-        let k = placed (globals_of t) name (has_name t at name named.0 named.1 named.2 (there, named.3)) in
+        let k = placed (globals_of t) name (global_among t at name named.0 named.1 named.2 (there, named.3)) in
         (k.0, ap (place_of (globals_of t)) (place_found t.design.globals name j (eg ∙ ap Some same)) ∙ k.1)
 
 -- ---- the net of a net of the cell

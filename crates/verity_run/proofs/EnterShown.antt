@@ -138,6 +138,6 @@ stands =
     finding cell in_range gates bits meets model assigns Enter 2 (
       2,
       Some true,
-      (0, the_hold, refl, refl, refl, refl, true, refl),
+      (refl, (0, the_hold, refl, refl, refl, true, refl)),
       λ e. false≢true (same_Some false true (sym (has cell in_range gates bits meets model assigns 2 false seen n_is_low) ∙ e)),
     )
