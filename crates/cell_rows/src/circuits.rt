@@ -73,13 +73,19 @@ fn drawn(alloc: Global, circuit: &Circuit) -> Result<String> {
     Ok(told)
 }
 
+/// A fault, and the name that it has.
+fn named(alloc: Global, fault: &FlatFault, name: &[u8]) -> Result<String> {
+    let name = shown(name);
+    Ok(format!(in alloc; "{fault}: {name}")?)
+}
+
 /// Why a cell has no circuit.
 fn refused(alloc: Global, fault: &FlatFault) -> Result<String> {
-    if let FlatFault::DeviceModel { model } = fault {
-        let name = shown(model.as_bytes());
-        return Ok(format!(in alloc; "{fault}: {name}")?);
+    match fault {
+        FlatFault::DeviceModel { model } => named(alloc, fault, model.as_bytes()),
+        FlatFault::SupplyTie { path } => named(alloc, fault, path.as_bytes()),
+        _ => Ok(format!(in alloc; "{fault}")?),
     }
-    Ok(format!(in alloc; "{fault}")?)
 }
 
 /// The role of a port: `input=SIGNAL`, `output=SIGNAL` or `supply=BIT`.
@@ -136,8 +142,8 @@ fn with_roles(alloc: Global, design: &Design, rules: &Rules, words: &str) -> Res
 fn structure_told(alloc: Global, design: &Design, rules: &Rules) -> Result<String>
     requires { IsDesign design.now }
 {
-    if !is_leaf(design, 0) {
-        bail!("instances");
+    if design.cells.is_empty() {
+        bail!("no cell");
     }
     match structure(alloc, design, rules, 0) {
         Ok(()) => Ok(String::from_str(alloc, "taken")?),
@@ -149,8 +155,8 @@ fn structure_told(alloc: Global, design: &Design, rules: &Rules) -> Result<Strin
 fn sizes_told(alloc: Global, design: &Design, rules: &Rules) -> Result<String>
     requires { IsDesign design.now }
 {
-    if !is_leaf(design, 0) {
-        bail!("instances");
+    if design.cells.is_empty() {
+        bail!("no cell");
     }
     let counts = sizes(design, rules, 0);
     let (nets, devices, instances) = (counts.nets, counts.devices, counts.instances);
