@@ -4,5 +4,6 @@ pub mod EvaluateLaws
 pub mod HandleLaws
 pub mod ObligationLaws
 pub mod ObligedLaws
+pub mod OrderedLaws
 pub mod StepLaws
 pub mod TestLaws
