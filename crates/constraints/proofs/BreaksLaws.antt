@@ -28,9 +28,8 @@ use Rattle.vrt_model.specs.declared.rules.Expr.{Expr}
 use Rattle.vrt_model.specs.declared.rules.Expr.TheVariants.{Port, Not', And', Xor', Or'}
 use Rattle.vrt_model.specs.declared.rules.Rules.{Rules}
 use Rattle.constraints.specs.Evaluated.{value_in}
-use Rattle.constraints.specs.Handles.{handle_in, net_at, word_of}
+use Rattle.constraints.specs.Handles.{handle_tied, net_at, word_of}
 use Rattle.constraints.specs.Obliged.{AreNamed, HasPortBits, all_hold, assume_holds, clock_holds, obliged_at, phase_bits}
-use Rattle.constraints.specs.declared.ports.Way.TheVariants.{Tied}
 
 -- ---- names
 
@@ -167,7 +166,7 @@ module _ (design : Design) (rules : Rules) (i : FlatInstance) (phase : ℕ) (d :
   cell = (cell_at design i.cell).name
 
   abbrev handle : List ℕ → ℕ
-  handle = handle_in d.words ports Tied i.ports values
+  handle = handle_tied d.words ports i.ports values
 
   abbrev bit : List ℕ → Bool
   bit name = meaning d.nodes (handle name) v

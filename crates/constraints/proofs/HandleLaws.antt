@@ -1,64 +1,66 @@
 -- The handles of ports are live, and read what those of their span read.
-use Rattle.std.proofs.Common.{◌≡◌, ℕ, ◌<◌, List, [], Option, Some, None, length, arith, refl}
+use Rattle.std.proofs.Common.{◌≡◌, ℕ, ◌<◌, List, Option, Some, None, length, arith, refl}
 use Rattle.std.specs.Prelude.{All, IfSome, bytes_eq, option_and_then, option_map, slice_get}
 use Rattle.std.proofs.lemmas.List.Quantifiers.{position-Some}
-use Rattle.std.proofs.lemmas.Option.{none-some, same_Some}
 use Rattle.node_pool.specs.declared.region.Span.{Span}
 use Rattle.bdd_core.specs.Diagram.{IsReduced, IsWithin, meaning}
 use Rattle.bdd_core.specs.Store.{Diagrams}
-use Rattle.bdd_core.specs.Words.{IsFilled}
 use Rattle.bdd_ops.proofs.WithinLaws.{within_zero}
 use Rattle.bdd_ops.specs.Counting.{IsSpanWithin}
 use Rattle.vrt_model.proofs.Members.{all_among}
 use Rattle.vrt_model.specs.Lists.{place_of}
 use Rattle.vrt_model.specs.declared.ids.Net.{Net}
 use Rattle.constraints.specs.Evaluated.{AreLive, AreWithin}
-use Rattle.constraints.specs.Handles.{HasPlaces, handle_in, place_by, place_named, word_of}
-use Rattle.constraints.specs.declared.ports.Way.{Way}
-use Rattle.constraints.specs.declared.ports.Way.TheVariants.{Listed, Tied}
+use Rattle.constraints.specs.Handles.{HasHandles, IsReady, handle_in, handle_listed, handle_tied, net_at, word_of}
+use Rattle.constraints.specs.declared.ports.Ports.{Ports}
+use Rattle.constraints.specs.declared.ports.Ports.TheVariants.{Listed, Tied}
 
--- a name that stands among names has a place below their number
-place_within : (names : List (List ℕ)) (name : List ℕ) (at : ℕ) → place_of names name ≡ Some at → at < length names
-place_within names name at e = (position-Some (bytes_eq name) names at [] e).0
+-- ---- places
 
--- the place of a handle is within the span
-pub places_within : (names : List (List ℕ)) (way : Way) (nets : List Net) (count : ℕ) (name : List ℕ) → HasPlaces names way nets count
-    → IfSome (place_named names way nets name) (λ k. k < count)
-places_within names way nets count name has = by_place (place_of names name) (λ at e. place_within names name at e)
+-- the place of a name is below the number of names
+pub listed_low : (names : List (List ℕ)) (count : ℕ) (name : List ℕ) → count ≡ length names → IfSome (place_of names name) (λ k. k < count)
+listed_low names count name len = by_place (place_of names name) refl
   where
-    by_net : (at : ℕ) → at < length names → (o : Option ℕ) → place_by way nets at ≡ o → IfSome o (λ k. k < count)
-    by_net at lt None e = tt
-    by_net at lt (Some k) e = has at k lt e
+    by_place : (o : Option ℕ) → place_of names name ≡ o → IfSome o (λ k. k < count)
+    by_place None e = tt
+    by_place (Some at) e = let low = (position-Some (bytes_eq name) names at name e).0 in omega (arith, low, len)
 
-    by_place : (o : Option ℕ) → ((at : ℕ) → o ≡ Some at → at < length names) → IfSome (option_and_then (place_by way nets) o) (λ k. k < count)
-    by_place None low = tt
-    by_place (Some at) low = by_net at (low at refl) (place_by way nets at) refl
+-- a net that is tied to a port is one of the nets
+pub tied_low : (names : List (List ℕ)) (nets : List Net) (count : ℕ) (name : List ℕ) → All (λ (net : Net). net.0 < count) nets
+    → IfSome (option_and_then (net_at nets) (place_of names name)) (λ k. k < count)
+tied_low names nets count name low = by_place (place_of names name)
+  where
+    by_net : (at : ℕ) (o : Option Net) → slice_get nets at ≡ o → IfSome (option_map (λ (net : Net). net.0) o) (λ k. k < count)
+    by_net at None e = tt
+    by_net at (Some net) e = all_among (λ (x : Net). x.0 < count) nets net low (at, e)
+
+    by_place : (o : Option ℕ) → IfSome (option_and_then (net_at nets) o) (λ k. k < count)
+    by_place None = tt
+    by_place (Some at) = by_net at (slice_get nets at) refl
+
+-- ---- handles
 
 module _ (d : Diagrams) (values : Span) where
-  word_live : (o : Option ℕ) → IsReduced d.vars d.nodes → IsFilled d values → IfSome o (λ k. k < values.len) → word_of d.words values o < length d.nodes
-  word_live None sound live low = let ends = sound.ends in omega (arith, ends)
-  word_live (Some k) sound live low = live k low
+  word_live : (o : Option ℕ) → IsReduced d.vars d.nodes → IsReady d values → IfSome o (λ k. k < values.len) → word_of d.words values o < length d.nodes
+  word_live None sound ready low = let ends = sound.ends in omega (arith, ends)
+  word_live (Some k) sound ready low = ready.1 k low
 
   word_within : (u : ℕ) (o : Option ℕ) → IsSpanWithin u d values → IfSome o (λ k. k < values.len) → IsWithin u (meaning d.nodes (word_of d.words values o))
   word_within u None reads low = within_zero u d
   word_within u (Some k) reads low = reads k low
 
-  pub handles_live : (names : List (List ℕ)) (way : Way) (nets : List Net) → HasPlaces names way nets values.len → IsReduced d.vars d.nodes → IsFilled d values
-      → AreLive d (handle_in d.words names way nets values)
-  handles_live names way nets has sound live name = word_live (place_named names way nets name) sound live (places_within names way nets values.len name has)
+  pub tied_live : (names : List (List ℕ)) (nets : List Net) → All (λ (net : Net). net.0 < values.len) nets → IsReduced d.vars d.nodes → IsReady d values → AreLive d (handle_tied d.words names nets values)
+  tied_live names nets low sound ready name = word_live (option_and_then (net_at nets) (place_of names name)) sound ready (tied_low names nets values.len name low)
 
-  pub handles_within : (u : ℕ) (names : List (List ℕ)) (way : Way) (nets : List Net) → HasPlaces names way nets values.len → IsSpanWithin u d values
-      → AreWithin u d (handle_in d.words names way nets values)
-  handles_within u names way nets has reads name = word_within u (place_named names way nets name) reads (places_within names way nets values.len name has)
+  pub tied_within : (u : ℕ) (names : List (List ℕ)) (nets : List Net) → All (λ (net : Net). net.0 < values.len) nets → IsSpanWithin u d values → AreWithin u d (handle_tied d.words names nets values)
+  tied_within u names nets low reads name = word_within u (option_and_then (net_at nets) (place_of names name)) reads (tied_low names nets values.len name low)
 
--- each of the names has its own place
-pub listed_places : (names : List (List ℕ)) (nets : List Net) (count : ℕ) → count ≡ length names → HasPlaces names Listed nets count
-listed_places names nets count e at k lt is = let same = same_Some at k is in omega (arith, same, lt, e)
+  pub listed_live : (names : List (List ℕ)) → values.len ≡ length names → IsReduced d.vars d.nodes → IsReady d values → AreLive d (handle_listed d.words names values)
+  listed_live names len sound ready name = word_live (place_of names name) sound ready (listed_low names values.len name len)
 
--- each of the nets has its own place
-pub tied_places : (names : List (List ℕ)) (nets : List Net) (count : ℕ) → All (λ (net : Net). net.0 < count) nets → HasPlaces names Tied nets count
-tied_places names nets count low at k lt is = by_net (slice_get nets at) refl is
-  where
-    by_net : (o : Option Net) → slice_get nets at ≡ o → option_map (λ (net : Net). net.0) o ≡ Some k → k < count
-    by_net None e is = absurd (none-some k is)
-    by_net (Some net) e is = let here = all_among (λ (x : Net). x.0 < count) nets net low (at, e) in let same = same_Some net.0 k is in omega (arith, here, same)
+  pub listed_within : (u : ℕ) (names : List (List ℕ)) → values.len ≡ length names → IsSpanWithin u d values → AreWithin u d (handle_listed d.words names values)
+  listed_within u names len reads name = word_within u (place_of names name) reads (listed_low names values.len name len)
+
+pub handles_live : (d : Diagrams) (ports : Ports) → IsReduced d.vars d.nodes → HasHandles d ports → AreLive d (handle_in d.words ports)
+handles_live d (Listed names values) sound has = listed_live d values names.now has.1 sound has.0
+handles_live d (Tied names nets values) sound has = tied_live d values names.now nets.now has.1 sound has.0

@@ -18,7 +18,8 @@ use Rattle.vrt_model.specs.declared.rules.Expr.TheVariants.{Port, Not', And', Xo
 use Rattle.vrt_model.specs.declared.rules.Rules.{Rules}
 use Rattle.constraints.proofs.EvaluateLaws.{value_after, value_within}
 use Rattle.constraints.specs.Evaluated.{AreLive, AreWithin, expression_size}
-use Rattle.constraints.specs.Obliged.{all_hold, assume_holds, assume_operations, clock_holds, clock_in, clock_operations, is_asked, size_of}
+use Rattle.constraints.specs.Handles.{clock_in}
+use Rattle.constraints.specs.Obliged.{all_hold, assume_holds, assume_operations, clock_holds, clock_operations, is_asked, size_of}
 
 -- ---- what stays
 
@@ -54,7 +55,7 @@ some_name (And' p e q f) = let left = some_name e in let both = length-append (n
 some_name (Xor' p e q f) = let left = some_name e in let both = length-append (names_in e) (names_in f) in omega (arith, left, both)
 some_name (Or' p e q f) = let left = some_name e in let both = length-append (names_in e) (names_in f) in omega (arith, left, both)
 
-assumes_few : (cell : List ℕ) (phase : ℕ) (rules : List AssumeRule)
+pub assumes_few : (cell : List ℕ) (phase : ℕ) (rules : List AssumeRule)
     → sum_by (assume_operations cell phase) rules ≤ 2 * sum_by expression_size (filter_map (λ (r : AssumeRule). cond (bytes_eq r.cell cell && is_for r.phase phase) (Some r.expression) None) rules)
 assumes_few cell phase [] = omega arith
 assumes_few cell phase (rule ∷ rules) = by_test (assumes_few cell phase rules) (is_asked cell phase rule) refl

@@ -16,7 +16,8 @@ use Rattle.vrt_model.specs.declared.rules.AssumeRule.{AssumeRule}
 use Rattle.vrt_model.specs.declared.rules.ClockportRule.{ClockportRule}
 use Rattle.constraints.proofs.EvaluateLaws.{value_within}
 use Rattle.constraints.specs.Evaluated.{AreWithin, Evaluates, value_in}
-use Rattle.constraints.specs.Obliged.{AddsTest, assume_holds, assume_operations, clock_holds, clock_in, clock_operations, is_asked}
+use Rattle.constraints.specs.Handles.{clock_in}
+use Rattle.constraints.specs.Obliged.{AddsTest, assume_holds, assume_operations, clock_holds, clock_operations, is_asked}
 
 -- ---- an assumption
 

@@ -7,9 +7,8 @@ use Rattle.bdd_core.specs.declared.handle.H.{H}
 use Rattle.bdd_core.specs.declared.handle.Spent.{Spent}
 use Rattle.bdd_ops.specs.Counting.{Counts}
 use Rattle.vrt_model.specs.Expressions.{names_in, operators_in, value_of}
-use Rattle.vrt_model.specs.Lists.{place_of}
 use Rattle.vrt_model.specs.declared.rules.Expr.{Expr}
-use Rattle.constraints.specs.Handles.{word_of}
+use Rattle.constraints.specs.Handles.{handle_listed}
 
 -- the function of an expression, where each name has a handle
 abbrev pub value_in : Diagrams → (List ℕ → ℕ) → Expr → Function
@@ -27,10 +26,6 @@ AreWithin u d handle = (name : List ℕ) → IsWithin u (meaning d.nodes (handle
 pub record Evaluates (old new : Diagrams) (handle : List ℕ → ℕ) (e : Expr) (result : Result H Spent) : Type 0 where
   pub gives : Gives old new (value_in old handle e) result
   pub counts : (u : ℕ) → AreWithin u old handle → Counts u (2 * operators_in e) old new result
-
--- the handle at the place at which a name first stands, and the constant 0 for a name that stands nowhere
-abbrev pub handle_listed : List ℕ → List (List ℕ) → Span → List ℕ → ℕ
-handle_listed words names values name = word_of words values (place_of names name)
 
 -- the function of an expression over listed names
 abbrev pub value_listed : Diagrams → List (List ℕ) → Span → Expr → Function

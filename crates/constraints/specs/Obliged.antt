@@ -12,18 +12,16 @@ use Rattle.vrt_model.specs.Budget.{clockport_count}
 use Rattle.vrt_model.specs.CellRules.{assumed, is_for}
 use Rattle.vrt_model.specs.Comparison.{cell_at, phase_at}
 use Rattle.vrt_model.specs.Expressions.{names_in, operators_in}
-use Rattle.vrt_model.specs.Lists.{Among, bit_at, differ, has_name}
+use Rattle.vrt_model.specs.Lists.{Among, differ, has_name}
 use Rattle.vrt_model.specs.declared.design.Cell.{Cell}
 use Rattle.vrt_model.specs.declared.design.Design.{Design}
 use Rattle.vrt_model.specs.declared.circuit.FlatInstance.{FlatInstance}
 use Rattle.vrt_model.specs.declared.ids.Net.{Net}
 use Rattle.vrt_model.specs.declared.rules.AssumeRule.{AssumeRule}
-use Rattle.vrt_model.specs.declared.rules.ClockRef.{ClockRef}
 use Rattle.vrt_model.specs.declared.rules.ClockportRule.{ClockportRule}
 use Rattle.vrt_model.specs.declared.rules.Rules.{Rules}
 use Rattle.constraints.specs.Evaluated.{AreWithin, expression_size, value_in}
-use Rattle.constraints.specs.Handles.{handle_in}
-use Rattle.constraints.specs.declared.ports.Way.TheVariants.{Tied}
+use Rattle.constraints.specs.Handles.{clock_in, handle_tied}
 
 -- ---- what holds
 
@@ -34,10 +32,6 @@ is_asked cell phase r = bytes_eq r.cell cell && is_for r.phase phase
 -- an `assume` line is true, if it is for the cell and the phase
 abbrev pub assume_holds : Diagrams → (List ℕ → ℕ) → List ℕ → ℕ → AssumeRule → Function
 assume_holds d handle cell phase r = λ v. cond (is_asked cell phase r) (value_in d handle r.expression v) true
-
--- the bit of a carried clock among the bits of a phase
-abbrev pub clock_in : List Bool → ClockRef → Bool
-clock_in bits clock = differ clock.inverted (bit_at bits clock.clock)
 
 -- the port of a `clockport` line has its clock's bit, if the line is for the cell
 abbrev pub clock_holds : Diagrams → (List ℕ → ℕ) → List ℕ → List Bool → ClockportRule → Function
@@ -58,7 +52,7 @@ obliged d handle rules cell phase =
 -- all lines of the cell of an instance hold, where each net has a handle
 abbrev pub obliged_at : Diagrams → Design → Rules → FlatInstance → ℕ → Span → Function
 obliged_at d design rules i phase values =
-    obliged d (handle_in d.words (cell_at design i.cell).ports Tied i.ports values) rules (cell_at design i.cell).name phase
+    obliged d (handle_tied d.words (cell_at design i.cell).ports i.ports values) rules (cell_at design i.cell).name phase
 
 -- the lines of a cell name ports of it
 pub record AreNamed (rules : Rules) (cell : Cell) : Type 0 where

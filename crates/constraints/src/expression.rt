@@ -7,7 +7,7 @@ ghost use Rattle.bdd_ops.specs.Counting.{Counts, IsSpanWithin};
 ghost use Rattle.constraints.specs.Evaluated.{Evaluates, expression_size, value_listed};
 ghost use Rattle.constraints.specs.Handles.{HasHandles, handle_in};
 
-use crate::ports::{Ports, Way, handle_of};
+use crate::ports::{Ports, handle_of};
 use bdd_core::{H, Spent, Store};
 use bdd_ops::{and, not, or, xor};
 use node_pool::Span;
@@ -16,8 +16,8 @@ use vrt_model::{Expr, Seq, Text};
 /// The function of an expression. It takes at most two operations for each operator.
 #[tactic(auto, using(crate::proofs::DiagramLaws::handles_stay))]
 pub(crate) fn diagram(store: &mut Store, e: &Expr, ports: Ports<'_>) -> Result<H, Spent>
-    requires { HasHandles store.old ports.names.now ports.way ports.nets.now ports.values }
-    ensures { Evaluates store.old store.new (handle_in store.old.words ports.entry.names.now ports.entry.way ports.entry.nets.now ports.entry.values) e.now result }
+    requires { HasHandles store.old ports }
+    ensures { Evaluates store.old store.new (handle_in store.old.words ports.entry) e.now result }
 {
     store.sound();
     match e {
@@ -81,11 +81,6 @@ pub fn expr(store: &mut Store, e: &Expr, names: &Seq<Text>, values: Span) -> Res
     ensures counts { (u : ℕ) → IsSpanWithin u store.old values → Counts u (20 * (expression_size e.now + 1)) store.old store.new result }
 {
     store.sound();
-    let ports = Ports {
-        names: names.as_slice(),
-        way: Way::Listed,
-        nets: &[],
-        values,
-    };
-    diagram(store, e, ports)
+    let names = names.as_slice();
+    diagram(store, e, Ports::Listed { names, values })
 }

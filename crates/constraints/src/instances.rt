@@ -6,14 +6,14 @@ ghost use Rattle.bdd_core.specs.Store.{IsLive, IsSpan, function_of, Gives};
 ghost use Rattle.bdd_core.specs.Words.{IsFilled};
 ghost use Rattle.bdd_ops.specs.Counting.{Counts, IsSpanWithin};
 ghost use Rattle.constraints.specs.Handles.{HasHandles, handle_in};
-ghost use Rattle.constraints.specs.Obliged.{AddsTest, AreNamed, HasPortBits, all_hold, assume_holds, assume_operations, clock_holds, clock_in, clock_operations, is_asked, obligation_size, obliged_at, phase_bits};
+ghost use Rattle.constraints.specs.Obliged.{AddsTest, AreNamed, HasPortBits, all_hold, assume_holds, assume_operations, clock_holds, clock_operations, is_asked, obligation_size, obliged_at, phase_bits};
 ghost use Rattle.vrt_model.specs.Comparison.{cell_at};
 ghost use Rattle.vrt_model.specs.Faults.{BreaksConstraint};
 ghost use Rattle.vrt_model.specs.Inputs.{AllApart, AreRules};
 ghost use Rattle.vrt_model.specs.declared.ids.Net.{Net as NetValue};
 
 use crate::expression::diagram;
-use crate::ports::{Ports, Way, handle_of};
+use crate::ports::{Ports, clock_in, handle_of};
 use bdd_core::{H, ONE, Spent, Store, ZERO};
 use bdd_ops::and;
 use node_pool::Span;
@@ -39,9 +39,9 @@ fn add_assumed(
     ports: Ports<'_>,
     all: H,
 ) -> Result<H, Spent>
-    requires handles { HasHandles store.old ports.names.now ports.way ports.nets.now ports.values }
+    requires handles { HasHandles store.old ports }
     requires all { IsLive store.old all }
-    ensures { AddsTest (handle_in store.old.words ports.entry.names.now ports.entry.way ports.entry.nets.now ports.entry.values) (assume_operations cell.now phase rule.now) (function_of store.old all) (assume_holds store.old (handle_in store.old.words ports.entry.names.now ports.entry.way ports.entry.nets.now ports.entry.values) cell.now phase rule.now) store.old store.new result }
+    ensures { AddsTest (handle_in store.old.words ports.entry) (assume_operations cell.now phase rule.now) (function_of store.old all) (assume_holds store.old (handle_in store.old.words ports.entry) cell.now phase rule.now) store.old store.new result }
 {
     store.sound();
     if !is_asked(rule, cell, phase) {
@@ -63,9 +63,9 @@ fn add_assumptions(
     ports: Ports<'_>,
     start: H,
 ) -> Result<H, Spent>
-    requires handles { HasHandles store.old ports.names.now ports.way ports.nets.now ports.values }
+    requires handles { HasHandles store.old ports }
     requires start { IsLive store.old start }
-    ensures { AddsTest (handle_in store.old.words ports.entry.names.now ports.entry.way ports.entry.nets.now ports.entry.values) (sum_by (assume_operations cell.now phase) rules.now) (function_of store.old start) (all_hold (assume_holds store.old (handle_in store.old.words ports.entry.names.now ports.entry.way ports.entry.nets.now ports.entry.values) cell.now phase) rules.now) store.old store.new result }
+    ensures { AddsTest (handle_in store.old.words ports.entry) (sum_by (assume_operations cell.now phase) rules.now) (function_of store.old start) (all_hold (assume_holds store.old (handle_in store.old.words ports.entry) cell.now phase) rules.now) store.old store.new result }
 {
     store.sound();
     let mut all = start;
@@ -78,17 +78,6 @@ fn add_assumptions(
         rest = behind;
     }
     Ok(all)
-}
-
-/// The bit of a carried clock among the bits of a phase.
-fn clock_in(bits: &[bool], clock: ClockRef) -> bool
-    ensures { result ≡ clock_in bits.now clock }
-{
-    let bit = match bits.get(clock.clock as usize) {
-        Some(bit) => *bit,
-        None => false,
-    };
-    clock.inverted != bit
 }
 
 /// Whether a `clockport` line is for a cell.
@@ -107,9 +96,9 @@ fn add_clock(
     ports: Ports<'_>,
     all: H,
 ) -> Result<H, Spent>
-    requires handles { HasHandles store.old ports.names.now ports.way ports.nets.now ports.values }
+    requires handles { HasHandles store.old ports }
     requires all { IsLive store.old all }
-    ensures { AddsTest (handle_in store.old.words ports.entry.names.now ports.entry.way ports.entry.nets.now ports.entry.values) (clock_operations cell.now rule.now) (function_of store.old all) (clock_holds store.old (handle_in store.old.words ports.entry.names.now ports.entry.way ports.entry.nets.now ports.entry.values) cell.now bits.now rule.now) store.old store.new result }
+    ensures { AddsTest (handle_in store.old.words ports.entry) (clock_operations cell.now rule.now) (function_of store.old all) (clock_holds store.old (handle_in store.old.words ports.entry) cell.now bits.now rule.now) store.old store.new result }
 {
     store.sound();
     if !is_of(rule, cell) {
@@ -132,9 +121,9 @@ fn add_clocks(
     ports: Ports<'_>,
     start: H,
 ) -> Result<H, Spent>
-    requires handles { HasHandles store.old ports.names.now ports.way ports.nets.now ports.values }
+    requires handles { HasHandles store.old ports }
     requires start { IsLive store.old start }
-    ensures { AddsTest (handle_in store.old.words ports.entry.names.now ports.entry.way ports.entry.nets.now ports.entry.values) (sum_by (clock_operations cell.now) rules.now) (function_of store.old start) (all_hold (clock_holds store.old (handle_in store.old.words ports.entry.names.now ports.entry.way ports.entry.nets.now ports.entry.values) cell.now bits.now) rules.now) store.old store.new result }
+    ensures { AddsTest (handle_in store.old.words ports.entry) (sum_by (clock_operations cell.now) rules.now) (function_of store.old start) (all_hold (clock_holds store.old (handle_in store.old.words ports.entry) cell.now bits.now) rules.now) store.old store.new result }
 {
     store.sound();
     let mut all = start;
@@ -208,9 +197,8 @@ pub fn obligation(
     ensures counts { (u : ℕ) → IsSpanWithin u store.old values → Counts u (20 * (obligation_size design.now rules.now instance.now phase + 1)) store.old store.new result }
 {
     store.sound();
-    let ports = Ports {
+    let ports = Ports::Tied {
         names: cell_ports(design, instance.cell),
-        way: Way::Tied,
         nets: instance.ports.as_slice(),
         values,
     };

@@ -1,30 +1,33 @@
 //! The handles of the ports that an expression names.
 
-ghost use Rattle.std.specs.Prelude.{◌≡◌, ◌<◌, IfSome};
+ghost use Rattle.std.specs.Prelude.{◌≡◌, ◌<◌, IfSome, option_and_then};
 ghost use Rattle.bdd_core.specs.Store.{IsSpan};
-ghost use Rattle.constraints.specs.Handles.{HasPlaces, handle_in, net_at, place_by, place_named, word_of};
+ghost use Rattle.constraints.specs.Handles.{HasHandles, clock_in, handle_in, net_at, word_of};
 ghost use Rattle.vrt_model.specs.Lists.{place_of};
 
 use bdd_core::{H, Store, ZERO};
 use node_pool::Span;
-use vrt_model::{Net, Text};
+use vrt_model::{ClockRef, Net, Text};
 
-/// Where the handle of a port stands.
+/// Ports by their names, and where their handles stand.
 #[derive(Clone, Copy)]
-pub(crate) enum Way {
-    /// At the place of its name.
-    Listed,
-    /// At the net that is tied to it.
-    Tied,
-}
-
-/// Ports by their names, and their handles in a span: each at the place of its name, or at the net that is tied to it.
-#[derive(Clone, Copy)]
-pub(crate) struct Ports<'a> {
-    pub(crate) names: &'a [Text],
-    pub(crate) way: Way,
-    pub(crate) nets: &'a [Net],
-    pub(crate) values: Span,
+pub(crate) enum Ports<'a> {
+    /// Each at the place of its name.
+    Listed {
+        /// The names of the ports.
+        names: &'a [Text],
+        /// A handle for each name.
+        values: Span,
+    },
+    /// Each at the net that is tied to it.
+    Tied {
+        /// The names of the ports.
+        names: &'a [Text],
+        /// The net of each port.
+        nets: &'a [Net],
+        /// A handle for each net of the circuit.
+        values: Span,
+    },
 }
 
 /// The place of a name.
@@ -44,22 +47,12 @@ fn net_at(nets: &[Net], at: usize) -> Option<usize>
     }
 }
 
-/// The place of the handle of the port at a place.
-fn place_by(way: Way, nets: &[Net], at: usize) -> Option<usize>
-    ensures { result ≡ place_by way nets.now at }
+/// The net that is tied to a port.
+fn tied_net(names: &[Text], nets: &[Net], name: &[u8]) -> Option<usize>
+    ensures { result ≡ option_and_then (net_at nets.now) (place_of names.now name.now) }
 {
-    match way {
-        Way::Listed => Some(at),
-        Way::Tied => net_at(nets, at),
-    }
-}
-
-/// The place of the handle of a port.
-fn place_named(ports: Ports<'_>, name: &[u8]) -> Option<usize>
-    ensures { result ≡ place_named ports.entry.names.now ports.entry.way ports.entry.nets.now name.now }
-{
-    match place_of(ports.names, name) {
-        Some(at) => place_by(ports.way, ports.nets, at),
+    match place_of(names, name) {
+        Some(at) => net_at(nets, at),
         None => None,
     }
 }
@@ -76,11 +69,28 @@ fn handle_at(store: &Store, values: Span, place: Option<usize>) -> H
     }
 }
 
+/// The bit of a carried clock among the bits of a phase.
+pub(crate) fn clock_in(bits: &[bool], clock: ClockRef) -> bool
+    ensures { result ≡ clock_in bits.now clock }
+{
+    let bit = match bits.get(clock.clock as usize) {
+        Some(bit) => *bit,
+        None => false,
+    };
+    clock.inverted != bit
+}
+
 /// The handle of a port, and the constant 0 where there is no port of the name.
 pub(crate) fn handle_of(store: &Store, ports: Ports<'_>, name: &[u8]) -> H
-    requires live { IsSpan store.now ports.values }
-    requires places { HasPlaces ports.names.now ports.way ports.nets.now ports.values.len }
-    ensures { result.0 ≡ handle_in store.now.words ports.entry.names.now ports.entry.way ports.entry.nets.now ports.entry.values name.now }
+    requires { HasHandles store.now ports }
+    ensures { result.0 ≡ handle_in store.now.words ports.entry name.now }
 {
-    handle_at(store, ports.values, place_named(ports, name))
+    match ports {
+        Ports::Listed { names, values } => handle_at(store, values, place_of(names, name)),
+        Ports::Tied {
+            names,
+            nets,
+            values,
+        } => handle_at(store, values, tied_net(names, nets, name)),
+    }
 }

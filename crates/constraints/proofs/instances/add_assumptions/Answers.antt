@@ -13,45 +13,44 @@ use Rattle.constraints.proofs.instances.add_assumptions.Goals as goal
 pub rules-init : goal.rules-init
 rules-init c =
     let old = c.args.store.now in
-    let handle : List ℕ → ℕ = handle_in old.words c.args.ports.names.now c.args.ports.way c.args.ports.nets.now c.args.ports.values in
+    let handle : List ℕ → ℕ = handle_in old.words c.args.ports in
     none_so_far (assume_holds old handle c.args.cell.now c.args.phase) (assume_operations c.args.cell.now c.args.phase) handle (function_of old c.args.start) c.args.rules.now old c.args.start refl
     c.sound.ensures.sound c.sound.ensures.within c.requires.start
 
 pub add_assumed-requires-clause-handles : goal.add_assumed-requires-clause-handles
 add_assumed-requires-clause-handles c =
-    handles_after c.args.store.now c.rules.store c.rules.invariant.so_far (Ok c.rules.all) c.rules.invariant.gives c.args.ports.names.now c.args.ports.way c.args.ports.nets.now c.args.ports.values
-    c.requires.handles
+    handles_after c.args.store.now c.rules.store c.rules.invariant.so_far (Ok c.rules.all) c.rules.invariant.gives c.args.ports c.requires.handles
 
 pub returns-in-Err : goal.returns-in-Err
 returns-in-Err c =
     let old = c.args.store.now in
     let mid = c.rules.store in
-    let handle : List ℕ → ℕ = handle_in old.words c.args.ports.names.now c.args.ports.way c.args.ports.nets.now c.args.ports.values in
-    let live : AreLive old handle = handles_live old c.args.ports.values c.args.ports.names.now c.args.ports.way c.args.ports.nets.now c.requires.handles.places c.sound.ensures.sound c.requires.handles.live in
+    let handle : List ℕ → ℕ = handle_in old.words c.args.ports in
+    let live : AreLive old handle = handles_live old c.args.ports c.sound.ensures.sound c.requires.handles in
     let rule : AssumeRule = c.in-Some.rule.now in
     let far = c.rules.invariant in
     refused_so_far (assume_holds old handle c.args.cell.now c.args.phase) (assume_operations c.args.cell.now c.args.phase) handle (function_of old c.args.start) c.args.rules.now old mid c.add_assumed.new.store
     c.rules.rest.now c.in-Some.behind.now rule c.rules.all c.in-Some.ensures.cases.0 live far (assume_holds mid handle c.args.cell.now c.args.phase rule) c.in-Err.spent
-    (adds_next old mid far.so_far (Ok c.rules.all) far.gives c.args.ports.names.now c.args.ports.way c.args.ports.nets.now c.args.ports.values (assume_operations c.args.cell.now c.args.phase rule) (function_of mid c.rules.all)
+    (adds_next old mid far.so_far (Ok c.rules.all) far.gives (λ (ws : List ℕ). handle_in ws c.args.ports) (assume_operations c.args.cell.now c.args.phase rule) (function_of mid c.rules.all)
     (λ (h : List ℕ → ℕ). assume_holds mid h c.args.cell.now c.args.phase rule) c.add_assumed.new.store (Err c.in-Err.spent) c.in-Err.ensures)
 
 pub rules-preserved : goal.rules-preserved
 rules-preserved c =
     let old = c.args.store.now in
     let mid = c.rules.store in
-    let handle : List ℕ → ℕ = handle_in old.words c.args.ports.names.now c.args.ports.way c.args.ports.nets.now c.args.ports.values in
-    let live : AreLive old handle = handles_live old c.args.ports.values c.args.ports.names.now c.args.ports.way c.args.ports.nets.now c.requires.handles.places c.sound.ensures.sound c.requires.handles.live in
+    let handle : List ℕ → ℕ = handle_in old.words c.args.ports in
+    let live : AreLive old handle = handles_live old c.args.ports c.sound.ensures.sound c.requires.handles in
     let rule : AssumeRule = c.in-Some.rule.now in
     let far = c.rules.invariant in
     more_so_far (assume_holds old handle c.args.cell.now c.args.phase) (assume_operations c.args.cell.now c.args.phase) handle (function_of old c.args.start) c.args.rules.now old mid c.add_assumed.new.store
     c.rules.rest.now c.in-Some.behind.now rule c.rules.all c.in-Some.ensures.cases.0 live far (assume_holds mid handle c.args.cell.now c.args.phase rule) c.in-Ok.all
     (assume_after old mid far.so_far (Ok c.rules.all) far.gives handle live c.args.cell.now c.args.phase rule) (λ u reads. assume_within u old handle reads c.args.cell.now c.args.phase rule)
-    (adds_next old mid far.so_far (Ok c.rules.all) far.gives c.args.ports.names.now c.args.ports.way c.args.ports.nets.now c.args.ports.values (assume_operations c.args.cell.now c.args.phase rule) (function_of mid c.rules.all)
+    (adds_next old mid far.so_far (Ok c.rules.all) far.gives (λ (ws : List ℕ). handle_in ws c.args.ports) (assume_operations c.args.cell.now c.args.phase rule) (function_of mid c.rules.all)
     (λ (h : List ℕ → ℕ). assume_holds mid h c.args.cell.now c.args.phase rule) c.add_assumed.new.store (Ok c.in-Ok.all) c.in-Ok.ensures)
 
 pub returns : goal.returns
 returns c =
     let old = c.args.store.now in
-    let handle : List ℕ → ℕ = handle_in old.words c.args.ports.names.now c.args.ports.way c.args.ports.nets.now c.args.ports.values in
+    let handle : List ℕ → ℕ = handle_in old.words c.args.ports in
     all_so_far (assume_holds old handle c.args.cell.now c.args.phase) (assume_operations c.args.cell.now c.args.phase) handle (function_of old c.args.start) c.args.rules.now old c.rules.store c.rules.rest.now c.rules.all
     (none_left c.rules.rest.now c.in_default.ensures.cases) c.rules.invariant

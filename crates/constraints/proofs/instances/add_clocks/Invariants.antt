@@ -7,7 +7,7 @@ use Rattle.constraints.proofs.instances.add_clocks.Given as goal
 -- the lines so far, and those that are left
 abbrev pub invariant-rules : goal.invariant-rules
 invariant-rules l =
-    IsSoFar (clock_holds l.fn.store (handle_in l.fn.store.words l.ports.names.now l.ports.way l.ports.nets.now l.ports.values) l.cell l.bits) (clock_operations l.cell) (handle_in l.fn.store.words l.ports.names.now l.ports.way l.ports.nets.now l.ports.values)
+    IsSoFar (clock_holds l.fn.store (handle_in l.fn.store.words l.ports) l.cell l.bits) (clock_operations l.cell) (handle_in l.fn.store.words l.ports)
     (function_of l.fn.store l.fn.start) l.fn.rules l.rest l.fn.store l.store l.all
 
 abbrev pub decreases-rules : goal.decreases-rules

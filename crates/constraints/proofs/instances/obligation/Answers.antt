@@ -4,12 +4,12 @@ use Rattle.vrt_model.specs.Comparison.{cell_at}
 use Rattle.vrt_model.specs.declared.ids.Net.{Net}
 use Rattle.constraints.proofs.BreaksLaws.{breaks}
 use Rattle.constraints.proofs.DiagramLaws.{handles_after}
-use Rattle.constraints.proofs.HandleLaws.{handles_live, tied_places}
+use Rattle.constraints.proofs.HandleLaws.{tied_live}
 use Rattle.constraints.proofs.ObligationLaws.{Assumed, Clocked, first_counts, moved, whole_counts, whole_gives}
 use Rattle.constraints.specs.Evaluated.{AreLive}
-use Rattle.constraints.specs.Handles.{HasHandles, handle_in}
+use Rattle.constraints.specs.Handles.{HasHandles, handle_tied}
 use Rattle.constraints.specs.Obliged.{phase_bits}
-use Rattle.constraints.specs.declared.ports.Way.TheVariants.{Tied}
+use Rattle.constraints.specs.declared.ports.Ports.TheVariants.{Tied}
 use Rattle.constraints.proofs.instances.obligation.Goals as goal
 
 pub returns-in-Err-clause-exact : goal.returns-in-Err-clause-exact
@@ -27,20 +27,17 @@ returns-in-Err-clause-counts c =
     let design = c.args.design.now in
     let rules = c.args.rules.now in
     let i = c.args.instance.now in
-    let has : HasHandles old (cell_at design i.cell).ports Tied i.ports c.args.values =
-    record { span = c.requires.span; live = c.requires.live; places = tied_places (cell_at design i.cell).ports i.ports c.args.values.len c.requires.nets } in
     let first : Assumed old mid c.args.values c.args.phase (Err c.in-Err.spent) (cell_at design i.cell).ports i.ports (cell_at design i.cell).name rules.assumes =
     moved (Assumed old mid c.args.values c.args.phase (Err c.in-Err.spent)) c.cell_ports.result.now (cell_at design i.cell).ports c.as_slice.result.now i.ports c.cell_name-cell.result.now
     (cell_at design i.cell).name c.as_slice-2.result.now rules.assumes c.cell_ports.ensures c.as_slice.ensures c.cell_name-cell.ensures c.as_slice-2.ensures c.in-Err.ensures in
-    first_counts design rules i c.args.phase c.args.values old has mid c.in-Err.spent first
+    first_counts design rules i c.args.phase c.args.values old c.requires.nets mid c.in-Err.spent first
 
 pub add_clocks-requires-clause-handles : goal.add_clocks-requires-clause-handles
 add_clocks-requires-clause-handles c =
     let old = c.args.store.now in
     let low : All (λ (net : Net). net.0 < c.args.values.len) c.as_slice.result.now = subst (All (λ (net : Net). net.0 < c.args.values.len)) (sym c.as_slice.ensures) c.requires.nets in
-    let has : HasHandles old c.cell_ports.result.now Tied c.as_slice.result.now c.args.values =
-    record { span = c.requires.span; live = c.requires.live; places = tied_places c.cell_ports.result.now c.as_slice.result.now c.args.values.len low } in
-    handles_after old c.add_assumptions.new.store _ (Ok c.in-Ok.assumed) c.in-Ok.ensures.gives c.cell_ports.result.now Tied c.as_slice.result.now c.args.values has
+    let has : HasHandles old (Tied c.cell_ports.result c.as_slice.result c.args.values) = ((c.requires.span, c.requires.live), low) in
+    handles_after old c.add_assumptions.new.store _ (Ok c.in-Ok.assumed) c.in-Ok.ensures.gives (Tied c.cell_ports.result c.as_slice.result c.args.values) has
 
 pub returns-clause-gives : goal.returns-clause-gives
 returns-clause-gives c =
@@ -54,9 +51,7 @@ returns-clause-gives c =
     let ports : List (List ℕ) = (cell_at design i.cell).ports in
     let cell : List ℕ = (cell_at design i.cell).name in
     let p = c.in-Ok.assumed in
-    let has : HasHandles old ports Tied i.ports values =
-    record { span = c.requires.span; live = c.requires.live; places = tied_places ports i.ports values.len c.requires.nets } in
-    let live : AreLive old (handle_in old.words ports Tied i.ports values) = handles_live old values ports Tied i.ports has.places c.sound.ensures.sound c.requires.live in
+    let live : AreLive old (handle_tied old.words ports i.ports values) = tied_live old values ports i.ports c.requires.nets c.sound.ensures.sound (c.requires.span, c.requires.live) in
     let first : Assumed old mid values c.args.phase (Ok p) ports i.ports cell rules.assumes =
     moved (Assumed old mid values c.args.phase (Ok p)) c.cell_ports.result.now ports c.as_slice.result.now i.ports c.cell_name-cell.result.now cell c.as_slice-2.result.now rules.assumes
     c.cell_ports.ensures c.as_slice.ensures c.cell_name-cell.ensures c.as_slice-2.ensures c.in-Ok.ensures in
@@ -65,7 +60,7 @@ returns-clause-gives c =
     c.as_slice-3.result.now rules.clockports c.cell_ports.ensures c.as_slice.ensures c.cell_name-cell.ensures c.as_slice-3.ensures
     (subst (λ (bits : List Bool). Clocked mid new values p c.add_clocks.result bits c.cell_ports.result.now c.as_slice.result.now c.cell_name-cell.result.now c.as_slice-3.result.now)
     c.phase_bits-bits.ensures c.add_clocks.ensures) in
-    whole_gives design rules i c.args.phase values old has mid new p c.add_clocks.result live first second
+    whole_gives design rules i c.args.phase values old c.requires.nets mid new p c.add_clocks.result live first second
 
 pub returns-clause-counts : goal.returns-clause-counts
 returns-clause-counts c =
@@ -79,9 +74,7 @@ returns-clause-counts c =
     let ports : List (List ℕ) = (cell_at design i.cell).ports in
     let cell : List ℕ = (cell_at design i.cell).name in
     let p = c.in-Ok.assumed in
-    let has : HasHandles old ports Tied i.ports values =
-    record { span = c.requires.span; live = c.requires.live; places = tied_places ports i.ports values.len c.requires.nets } in
-    let live : AreLive old (handle_in old.words ports Tied i.ports values) = handles_live old values ports Tied i.ports has.places c.sound.ensures.sound c.requires.live in
+    let live : AreLive old (handle_tied old.words ports i.ports values) = tied_live old values ports i.ports c.requires.nets c.sound.ensures.sound (c.requires.span, c.requires.live) in
     let first : Assumed old mid values c.args.phase (Ok p) ports i.ports cell rules.assumes =
     moved (Assumed old mid values c.args.phase (Ok p)) c.cell_ports.result.now ports c.as_slice.result.now i.ports c.cell_name-cell.result.now cell c.as_slice-2.result.now rules.assumes
     c.cell_ports.ensures c.as_slice.ensures c.cell_name-cell.ensures c.as_slice-2.ensures c.in-Ok.ensures in
@@ -90,4 +83,4 @@ returns-clause-counts c =
     c.as_slice-3.result.now rules.clockports c.cell_ports.ensures c.as_slice.ensures c.cell_name-cell.ensures c.as_slice-3.ensures
     (subst (λ (bits : List Bool). Clocked mid new values p c.add_clocks.result bits c.cell_ports.result.now c.as_slice.result.now c.cell_name-cell.result.now c.as_slice-3.result.now)
     c.phase_bits-bits.ensures c.add_clocks.ensures) in
-    whole_counts design rules i c.args.phase values old has mid new p c.add_clocks.result live first second
+    whole_counts design rules i c.args.phase values old c.requires.nets mid new p c.add_clocks.result live first second
