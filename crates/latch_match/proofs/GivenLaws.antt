@@ -1,6 +1,6 @@
 -- What a call on a cell gives: the pairing with its roles, or what stands in the way.
-use Rattle.std.proofs.Common.{◌≡◌, ◌<◌, ◌↔◌, ◌∷◌, ◌⊎◌, inl, inr, [], ℕ, zero, suc, not, ◌||◌, List, Bool, true, false, cond, length, Option, Some, None, option_map, refl, ap, sym, subst, ◌∙◌}
-use Rattle.std.specs.Prelude.{All, MatchResult, bytes_eq, ◌&&◌, filter_map, find, is_some, is_none, Result, Ok, Err}
+use Rattle.std.proofs.Common.{◌≡◌, ◌<◌, ◌↔◌, ◌∷◌, ◌⊎◌, inl, inr, [], ℕ, zero, suc, List, Bool, true, false, cond, length, Option, Some, None, option_map, refl, ap, sym, subst, ◌∙◌}
+use Rattle.std.specs.Prelude.{MatchResult, bytes_eq, ◌&&◌, filter_map, find, is_some, is_none, Result, Ok, Err}
 use Rattle.std.specs.List.{cons_option}
 use Rattle.std.specs.Option.{option_or}
 use Rattle.std.proofs.lemmas.Bool.{or_parts}
@@ -9,7 +9,7 @@ use Rattle.vrt_model.specs.CellRules.{clock_of_port, supply_of}
 use Rattle.vrt_model.specs.Comparison.{cell_at}
 use Rattle.vrt_model.specs.Inputs.{AreRules}
 use Rattle.vrt_model.specs.Lists.{At, has_number}
-use Rattle.vrt_model.specs.PairedPorts.{HasRoles, clocked_signals, interface, is_port_in_way, is_signal_in_way, output_is_input, pairing_of, ports_fault, role_by, role_of, signal_of_port}
+use Rattle.vrt_model.specs.PairedPorts.{HasRoles, is_port_in_way, output_is_input, pairing_of, ports_fault, role_by, role_of, signal_of_port}
 use Rattle.vrt_model.specs.declared.design.Cell.{Cell}
 use Rattle.vrt_model.specs.declared.design.Design.{Design}
 use Rattle.vrt_model.specs.declared.flat_model.FlatModel.{FlatModel}
@@ -21,7 +21,7 @@ use Rattle.vrt_model.specs.declared.rules.ClockportRule.{ClockportRule}
 use Rattle.vrt_model.specs.declared.rules.Rules.{Rules}
 use Rattle.latch_match.specs.Facts.{role_in}
 use Rattle.latch_match.specs.Marked.{has_in}
-use Rattle.latch_match.specs.Paired.{ArePaired, IsPairing, PairGives, Tells, output_in, way_in}
+use Rattle.latch_match.specs.Paired.{ArePaired, PairGives, Tells, output_in, way_in}
 use Rattle.latch_match.specs.declared.faults.PairFault.{PairFault}
 use Rattle.latch_match.specs.declared.faults.PairFault.TheVariants.{Ports, OutputIsInput, NoMemory}
 use Rattle.latch_match.specs.declared.signals.Paired.{Paired}

@@ -1,6 +1,6 @@
 -- What is made of the ports of a cell is its pairing.
-use Rattle.std.proofs.Common.{◌≡◌, ◌<◌, ◌↔◌, ◌++◌, ◌∷◌, ◌⊎◌, inl, inr, ⊎_elim, [], ℕ, zero, suc, not, ◌&&◌, ◌||◌, nat_lt, List, Bool, true, false, cond, map, length, Option, Some, None, option_map, refl, ap, ap₂, sym, subst, ◌∙◌, arith}
-use Rattle.std.specs.Prelude.{count_by, filter, filter_map, find, is_some, is_none, option_and_then, slice_get, unwrap_or, ◌==◌, Result, Ok, Err}
+use Rattle.std.proofs.Common.{◌≡◌, ◌++◌, ◌∷◌, [], ℕ, suc, not, ◌&&◌, ◌||◌, nat_lt, List, Bool, true, false, cond, map, Option, Some, None, option_map, refl, ap, ap₂, sym, ◌∙◌}
+use Rattle.std.specs.Prelude.{count_by, filter_map, find, is_some, is_none, option_and_then, slice_get, unwrap_or, ◌==◌}
 use Rattle.std.specs.List.{cons_option, position}
 use Rattle.std.specs.Option.{option_or}
 use Rattle.std.proofs.lemmas.List.Folds.{find-append}
@@ -8,8 +8,8 @@ use mathlib.Core.Path.{fun_ext}
 use Rattle.vrt_model.specs.CellRules.{clock_of_port, supply_of}
 use Rattle.vrt_model.specs.Comparison.{cell_at}
 use Rattle.vrt_model.specs.Elements.{signal_name}
-use Rattle.vrt_model.specs.Lists.{At, has_number}
-use Rattle.vrt_model.specs.PairedPorts.{HasRoles, clocked_by_name, clocked_signals, interface, is_port_in_way, is_signal_in_way, output_is_input, paired_signals, pairing_of, ports_fault, role_by, role_of}
+use Rattle.vrt_model.specs.Lists.{has_number}
+use Rattle.vrt_model.specs.PairedPorts.{clocked_signals, interface, is_port_in_way, is_signal_in_way, output_is_input, paired_signals, pairing_of, ports_fault, role_by, role_of}
 use Rattle.vrt_model.specs.declared.design.Cell.{Cell}
 use Rattle.vrt_model.specs.declared.design.Design.{Design}
 use Rattle.vrt_model.specs.declared.flat_model.FlatModel.{FlatModel}
@@ -18,6 +18,8 @@ use Rattle.vrt_model.specs.declared.pairing.Pairing.{Pairing}
 use Rattle.vrt_model.specs.declared.pairing.PortRole.{PortRole}
 use Rattle.vrt_model.specs.declared.rules.ClockRef.{ClockRef}
 use Rattle.vrt_model.specs.declared.rules.Rules.{Rules}
+use Rattle.rule_index.specs.Tables.{AreRuleTables}
+use Rattle.rule_index.specs.declared.index.RuleIndex.{RuleIndex}
 use Rattle.latch_match.specs.Facts.{all_facts, clock_carried, is_in_way, port_facts, role_from, role_in, signal_paired}
 use Rattle.latch_match.specs.Looked.{AreLookups, facts_in}
 use Rattle.latch_match.specs.Marked.{AreCounts, has_in}
@@ -32,10 +34,11 @@ use Rattle.latch_match.proofs.TableLaws.{place_cons}
 
 -- ---- what is made of the ports
 
-pub facts_all : (flat : FlatModel) (rules : Rules) (cell : Cell) (l : Lookups) (name : List ℕ) (ports : List (List ℕ)) (facts : List PortFacts) → name ≡ cell.name → ports ≡ cell.ports → AreLookups flat rules name l
-    → facts ≡ map (facts_in l) ports → facts ≡ all_facts flat rules cell
-facts_all flat rules cell l name ports facts n p are e =
-    e ∙ ap (λ (f : List ℕ → PortFacts). map f ports) (fun_ext (λ port. facts_are flat rules name l port are)) ∙ ap₂ (λ (m : List ℕ) (ps : List (List ℕ)). map (port_facts flat rules m) ps) n p
+pub facts_all : (flat : FlatModel) (rules : Rules) (cell : Cell) (index : RuleIndex) (l : Lookups) (name : List ℕ) (ports : List (List ℕ)) (facts : List PortFacts) → name ≡ cell.name → ports ≡ cell.ports
+    → AreRuleTables rules index → AreLookups flat rules name l → facts ≡ map (facts_in index.supplies l) ports → facts ≡ all_facts flat rules cell
+facts_all flat rules cell index l name ports facts n p tables are e =
+    e ∙ ap (λ (f : List ℕ → PortFacts). map f ports) (fun_ext (λ port. facts_are flat rules name index.supplies l port (tables.supplies_are port) are))
+    ∙ ap₂ (λ (m : List ℕ) (ps : List (List ℕ)). map (port_facts flat rules m) ps) n p
 
 made : {X Y Z : Type 0} (h : Y → Option Z) (f : X → Y) (xs : List X) → filter_map h (map f xs) ≡ filter_map (λ x. h (f x)) xs
 made h f [] = refl
@@ -49,12 +52,12 @@ clocks_are : (flat : FlatModel) (rules : Rules) (cell : Cell) (facts : List Port
 clocks_are flat rules cell facts test e same =
     ap₂ (λ (xs : List ClockedSignal) (t : ℕ → Bool). xs ++ clocked_without_port flat rules t (flat.inputs ++ flat.clocks)) (ap (filter_map clock_carried) e ∙ made clock_carried (port_facts flat rules cell.name) cell.ports) same
 
-pub paired_are : (flat : FlatModel) (rules : Rules) (cell : Cell) (facts facts' : List PortFacts) (interface_list outputs_list : List ℕ) (counts : Counts) (clocked clocked' : List ClockedSignal) (carried outputs : NumberSet)
+pub paired_are : (flat : FlatModel) (rules : Rules) (cell : Cell) (lookups : Lookups) (facts facts' : List PortFacts) (interface_list outputs_list : List ℕ) (counts : Counts) (clocked clocked' : List ClockedSignal) (carried outputs : NumberSet)
     → interface_list ≡ interface flat → facts ≡ all_facts flat rules cell → facts' ≡ facts → AreCounts (filter_map signal_paired facts') counts
     → clocked ≡ filter_map clock_carried facts' ++ clocked_without_port flat rules (has_in counts.once) (flat.inputs ++ flat.clocks) → clocked' ≡ clocked → IsSetOf (carriers clocked') carried
     → outputs_list ≡ flat.outputs → IsSetOf outputs_list outputs
-    → ArePaired flat rules cell (record { facts = facts; interface = interface_list; outputs = outputs; counts = counts; clocked = clocked; carriers = carried })
-paired_are flat rules cell facts facts' interface_list outputs_list counts clocked clocked' carried outputs i f f' k c c' b o p =
+    → ArePaired flat rules cell (record { lookups = lookups; facts = facts; interface = interface_list; outputs = outputs; counts = counts; clocked = clocked; carriers = carried })
+paired_are flat rules cell lookups facts facts' interface_list outputs_list counts clocked clocked' carried outputs i f f' k c c' b o p =
     let paired : filter_map signal_paired facts' ≡ paired_signals flat rules cell = signals_are flat rules cell facts' (f' ∙ f) in
     let once : (n : ℕ) → has_in counts.once n ≡ has_number (paired_signals flat rules cell) n = λ n. k.once n ∙ ap (λ (xs : List ℕ). has_number xs n) paired in
     let clocks : clocked ≡ clocked_signals flat rules cell = c ∙ clocks_are flat rules cell facts' (has_in counts.once) (f' ∙ f) (fun_ext once) in

@@ -1,7 +1,7 @@
 -- Tables of values by name.
-use Rattle.std.proofs.Common.{◌≡◌, ◌++◌, ◌∷◌, ◌||◌, ◌+◌, [], ℕ, zero, suc, not, nat_lt, List, Bool, true, false, cond, map, take, length, Option, Some, None, option_map, refl, ap, ap₂, sym, subst, ◌∙◌, append-nil, length-append, arith}
+use Rattle.std.proofs.Common.{◌≡◌, ◌++◌, ◌∷◌, ◌||◌, ◌+◌, [], ℕ, suc, not, nat_lt, List, Bool, true, false, cond, map, take, length, Option, Some, None, option_map, refl, ap, ap₂, sym, subst, ◌∙◌, append-nil, length-append, arith}
 use Rattle.std.specs.Prelude.{bytes_eq, find, filter, filter_map, slice_get, is_some, option_and_then, ◌&&◌}
-use Rattle.std.specs.List.{cons_option, list_any, position, position_or_len}
+use Rattle.std.specs.List.{cons_option, position, position_or_len}
 use Rattle.std.specs.Option.{option_or}
 use Rattle.std.proofs.lemmas.Bool.Decides.{nat_tests}
 use Rattle.std.proofs.lemmas.List.{take_more}
@@ -165,11 +165,16 @@ pub more_ruled : {X V : Type 0} (h : X → Option (Named V)) (xs : List X) (i : 
 more_ruled {X} {V} h xs i x t u at before grows =
     subst (λ (es : List (Named V)). IsTable es u) (sym (filter_map-append h (take i xs) (x ∷ [])) ∙ ap (filter_map h) (sym (taken xs i x at))) (grows (filter_map h (take i xs)) before)
 
--- a rule that is for this cell gives a value
-pub ruled : {V : Type 0} (entries : List (Named V)) (test : Bool) (name name' : List ℕ) (value : V) (u : Table V) → test ≡ true → name ≡ name' → IsTable (entries ++ named name value ∷ []) u
-    → IsTable (entries ++ cons_option (cond test (Some (named name' value)) None) []) u
-ruled {V} entries test name name' value u t e is =
-    subst (λ (b : Bool). IsTable (entries ++ cons_option (cond b (Some (named name' value)) None) []) u) (sym t) (subst (λ (n : List ℕ). IsTable (entries ++ named n value ∷ []) u) e is)
+-- the item at a place gives a value
+pub found : {X V : Type 0} (g : X → Named V) (entries : List (Named V)) (o : Option X) (x : X) (name : List ℕ) (value : V) (u : Table V) → Some x ≡ o → named name value ≡ g x → IsTable (entries ++ named name value ∷ []) u
+    → IsTable (entries ++ cons_option (option_map g o) []) u
+found {X} {V} g entries o x name value u e is t =
+    subst (λ (p : Option X). IsTable (entries ++ cons_option (option_map g p) []) u) e (subst (λ (n : Named V). IsTable (entries ++ n ∷ []) u) is t)
+
+-- where there is no item, the table is as it was
+pub not_found : {X V : Type 0} (g : X → Named V) (entries : List (Named V)) (o : Option X) (t : Table V) → None ≡ o → IsTable entries t → IsTable (entries ++ cons_option (option_map g o) []) t
+not_found {X} {V} g entries o t e is =
+    subst (λ (p : Option X). IsTable (entries ++ cons_option (option_map g p) []) t) e (subst (λ (es : List (Named V)). IsTable es t) (sym (append-nil entries)) is)
 
 -- ---- what a table of items says
 

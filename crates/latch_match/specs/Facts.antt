@@ -1,5 +1,5 @@
 -- What the rules and the signals of a model say of a port, and what follows from it.
-use Rattle.std.specs.Prelude.{◌≡◌, ℕ, Bool, false, not, cond, nat_lt, ◌&&◌, ◌||◌, List, map, length, Option, Some, None, option_map, option_and_then, unwrap_or, is_some, is_none}
+use Rattle.std.specs.Prelude.{ℕ, Bool, false, not, cond, nat_lt, ◌&&◌, ◌||◌, List, map, length, Option, Some, None, option_map, option_and_then, unwrap_or, is_some, is_none}
 use Rattle.vrt_model.specs.CellRules.{clock_of_port, supply_of}
 use Rattle.vrt_model.specs.PairedPorts.{is_assumed, port_rule, signal_of_port, signals_like}
 use Rattle.vrt_model.specs.declared.design.Cell.{Cell}

@@ -1,5 +1,5 @@
 -- How a cell pairs with a model: what is made of its ports, and what a call answers.
-use Rattle.std.specs.Prelude.{◌≡◌, ℕ, Bool, true, false, not, ◌&&◌, List, [], ◌++◌, map, filter, filter_map, find, nat_lt, count_by, Option, Some, None, option_map, option_and_then, slice_get, position, ◌==◌, Result, Ok, Err}
+use Rattle.std.specs.Prelude.{◌≡◌, ℕ, Bool, not, ◌&&◌, List, [], ◌++◌, map, filter, filter_map, find, nat_lt, count_by, Option, Some, None, option_map, option_and_then, slice_get, position, ◌==◌, Result, Ok, Err}
 use Rattle.std.specs.Option.{option_or}
 use Rattle.vrt_model.specs.Comparison.{cell_at}
 use Rattle.vrt_model.specs.Elements.{signal_name}
@@ -13,6 +13,7 @@ use Rattle.vrt_model.specs.declared.pairing.ClockedSignal.{ClockedSignal}
 use Rattle.vrt_model.specs.declared.pairing.Pairing.{Pairing}
 use Rattle.vrt_model.specs.declared.rules.Rules.{Rules}
 use Rattle.latch_match.specs.Facts.{all_facts, is_in_way}
+use Rattle.latch_match.specs.Looked.{AreEmpty}
 use Rattle.latch_match.specs.Marked.{AreCounts, has_in}
 use Rattle.latch_match.specs.declared.faults.PairFault.{PairFault}
 use Rattle.latch_match.specs.declared.faults.PairFault.TheVariants.{Ports, OutputIsInput, NoMemory}
@@ -37,6 +38,7 @@ clocked_without_port flat rules is_paired signals = filter_map (clocked_by_name 
 
 -- nothing is known
 pub record IsBlank (p : Paired) : Type 0 where
+  pub lookups : AreEmpty p.lookups
   pub facts : p.facts ≡ []
   pub interface : p.interface ≡ []
   pub outputs : IsSetOf [] p.outputs

@@ -13,5 +13,5 @@ mod signals;
 mod table;
 
 pub use faults::PairFault;
-pub use models::{is_skipped, model_of};
-pub use ports::pair_ports;
+pub use models::{is_skipped, model_of, model_of_with};
+pub use ports::{pair_ports, pair_ports_with};

@@ -4,6 +4,7 @@ ghost use Rattle.std.specs.Prelude.{◌≡◌, ◌<◌, ◌≤◌, ◌⊎◌, �
 ghost use Rattle.std.specs.Option.{option_copied, option_or};
 ghost use Rattle.vrt_model.specs.Comparison.{cell_at};
 ghost use Rattle.vrt_model.specs.Elements.{signal_name};
+ghost use Rattle.rule_index.specs.Tables.{AreRuleTables};
 ghost use Rattle.vrt_model.specs.declared.design.Design.{Design as DesignValue};
 ghost use Rattle.latch_match.specs.Facts.{role_in};
 ghost use Rattle.latch_match.specs.Marked.{has_in};
@@ -15,6 +16,7 @@ use crate::faults::PairFault;
 use crate::lower_names::signal_name;
 use crate::numbers::NumberSet;
 use crate::signals::{Paired, add_some, paired_of};
+use rule_index::{RuleIndex, index_of};
 use std::alloc::Global;
 use vrt_model::{Cell, Design, FlatModel, NoMemory, Pairing, PortRole, Rules, Seq, Text};
 
@@ -179,17 +181,36 @@ fn pair_cell(
     model: u32,
     flat: &FlatModel,
     rules: &Rules,
+    index: &RuleIndex,
 ) -> Result<Pairing, PairFault>
-    requires { length rules.now.clocks ≤ 16 }
+    requires clocks { length rules.now.clocks ≤ 16 }
+    requires tables { AreRuleTables rules.now index.now }
     ensures { (design : DesignValue) (number : ℕ) → cell.now ≡ cell_at design number → PairGives design number model flat.now rules.now result }
 {
-    let Ok(paired) = paired_of(alloc, flat, rules, cell) else {
+    let Ok(paired) = paired_of(alloc, flat, rules, index, cell) else {
         return Err(PairFault::NoMemory);
     };
     match fault_of(alloc, flat, cell.ports.as_slice(), &paired) {
         Some(fault) => Err(fault),
         None => pairing_by(alloc, model, paired),
     }
+}
+
+/// The pairing of the ports of a cell, by the tables of the rules: the same as `pair_ports`, in time and memory in
+/// proportion to the ports, the signals and the rules of this cell.
+pub fn pair_ports_with(
+    alloc: Global,
+    index: &RuleIndex,
+    cell: &Cell,
+    model: u32,
+    flat: &FlatModel,
+    rules: &Rules,
+) -> Result<Pairing, PairFault>
+    requires tables { AreRuleTables rules.now index.now }
+    requires clocks { length rules.now.clocks ≤ 16 }
+    ensures { (design : DesignValue) (number : ℕ) → cell.now ≡ cell_at design number → PairGives design number model flat.now rules.now result }
+{
+    pair_cell(alloc, cell, model, flat, rules, index)
 }
 
 /// The pairing of the ports of a cell with the interface signals of a flat model. A port that is no supply pairs with
@@ -211,5 +232,8 @@ pub fn pair_ports(
     ensures { PairGives design.now cell model flat.now rules.now result }
 {
     let cells = design.cells.as_slice();
-    pair_cell(alloc, &cells[cell as usize], model, flat, rules)
+    match index_of(alloc, design, rules) {
+        Ok(index) => pair_ports_with(alloc, &index, &cells[cell as usize], model, flat, rules),
+        Err(_) => Err(PairFault::NoMemory),
+    }
 }

@@ -4,23 +4,26 @@ ghost use Rattle.std.specs.Prelude.{◌≡◌, ◌≤◌, ◌++◌, ◌∷◌, [
 ghost use Rattle.std.specs.List.{cons_option};
 ghost use Rattle.vrt_model.specs.Lists.{place_of};
 ghost use Rattle.vrt_model.specs.PairedPorts.{clocked_by_name, interface};
-ghost use Rattle.latch_match.specs.Facts.{all_facts, clock_carried, signal_paired};
-ghost use Rattle.latch_match.specs.Looked.{AreEmpty, facts_in};
+ghost use Rattle.latch_match.specs.Facts.{clock_carried, signal_paired};
+ghost use Rattle.latch_match.specs.Looked.{facts_in};
 ghost use Rattle.latch_match.specs.Marked.{AreCounts, has_in};
 ghost use Rattle.latch_match.specs.Paired.{ArePaired, IsBlank, IsSetOf, carriers, clocked_without_port, interface_by};
+ghost use Rattle.rule_index.specs.Tables.{AreRuleTables};
 
 use crate::counts::{Counts, count_all};
 use crate::facts::PortFacts;
 use crate::lookups::{Lookups, facts_of};
 use crate::lower_names::signal_name;
 use crate::numbers::NumberSet;
+use rule_index::{FirstValues, RuleIndex};
 use std::alloc::Global;
 use vrt_model::{Cell, ClockRef, ClockedSignal, FlatModel, NoMemory, Rules, Seq, Text};
 
-/// What is known of the ports of a cell and the signals of a model: what is said of each port, the interface, its
-/// outputs, the signals that ports pair with, and those that carry clocks.
+/// What is known of the ports of a cell and the signals of a model: the tables of the cell, what is said of each port, the
+/// interface, its outputs, the signals that ports pair with, and those that carry clocks.
 #[derive(Drop)]
 pub(crate) struct Paired {
+    lookups: Lookups,
     pub(crate) facts: Seq<PortFacts>,
     pub(crate) interface: Seq<u32>,
     pub(crate) outputs: NumberSet,
@@ -126,56 +129,20 @@ fn add_interface(alloc: Global, list: &mut Seq<u32>, flat: &FlatModel) -> Result
     Ok(())
 }
 
-/// Adds what the tables say of ports.
+/// Adds what the supplies and the tables say of ports.
 fn add_facts_by(
     facts: &mut Seq<PortFacts>,
+    supplies: &FirstValues<bool>,
     lookups: &Lookups,
     ports: &[Text],
 ) -> Result<(), NoMemory>
     requires { facts.old ≡ [] }
-    ensures { OnOk result (facts.new ≡ map (facts_in lookups.now) ports.now) }
+    ensures { OnOk result (facts.new ≡ map (facts_in supplies.now lookups.now) ports.now) }
 {
     for port in ports {
-        add_some(facts, Some(facts_of(lookups, port.as_bytes())))?;
+        add_some(facts, Some(facts_of(supplies, lookups, port.as_bytes())))?;
     }
     Ok(())
-}
-
-/// Adds what is said of the ports of a cell, looked up in tables that are filled first.
-fn look_up(
-    facts: &mut Seq<PortFacts>,
-    lookups: &mut Lookups,
-    alloc: Global,
-    flat: &FlatModel,
-    rules: &Rules,
-    cell: &Cell,
-    signals: &[u32],
-) -> Result<(), NoMemory>
-    requires empty { facts.old ≡ [] }
-    requires lookups { AreEmpty lookups.old }
-    requires signals { signals.now ≡ interface flat.now }
-    ensures { OnOk result (facts.new ≡ all_facts flat.now rules.now cell.now) }
-{
-    lookups.fill(alloc, flat, rules, cell.name.as_bytes(), signals)?;
-    add_facts_by(facts, lookups, cell.ports.as_slice())?;
-    Ok(())
-}
-
-/// Adds what is said of the ports of a cell.
-fn add_facts(
-    alloc: Global,
-    facts: &mut Seq<PortFacts>,
-    flat: &FlatModel,
-    rules: &Rules,
-    cell: &Cell,
-    signals: &[u32],
-) -> Result<(), NoMemory>
-    requires empty { facts.old ≡ [] }
-    requires signals { signals.now ≡ interface flat.now }
-    ensures { OnOk result (facts.new ≡ all_facts flat.now rules.now cell.now) }
-{
-    let mut lookups = Lookups::new(alloc);
-    look_up(facts, &mut lookups, alloc, flat, rules, cell, signals)
 }
 
 /// Adds the signals that ports pair with.
@@ -331,6 +298,7 @@ impl Paired {
         ensures { IsBlank result }
     {
         Paired {
+            lookups: Lookups::new(alloc),
             facts: Seq::new(alloc),
             interface: Seq::new(alloc),
             outputs: NumberSet::new(alloc),
@@ -346,22 +314,22 @@ impl Paired {
         alloc: Global,
         flat: &FlatModel,
         rules: &Rules,
+        index: &RuleIndex,
         cell: &Cell,
     ) -> Result<(), NoMemory>
         requires few { length rules.now.clocks ≤ 16 }
+        requires tables { AreRuleTables rules.now index.now }
         requires blank { IsBlank self.old }
         ensures { OnOk result (ArePaired flat.now rules.now cell.now self.new) }
     {
         let limit = flat.signals.len();
         add_interface(alloc, &mut self.interface, flat)?;
-        add_facts(
-            alloc,
-            &mut self.facts,
-            flat,
-            rules,
-            cell,
-            self.interface.as_slice(),
-        )?;
+        let lines = &index.lines.ports;
+        let signals = self.interface.as_slice();
+        self.lookups
+            .fill(flat, rules, lines, cell.name.as_bytes(), signals)?;
+        let ports = cell.ports.as_slice();
+        add_facts_by(&mut self.facts, &index.supplies, &self.lookups, ports)?;
         let facts = self.facts.as_slice();
         count_paired(alloc, &mut self.counts, limit, facts)?;
         add_clocked(&mut self.clocked, flat, rules, facts, &self.counts.once)?;
@@ -376,12 +344,14 @@ pub(crate) fn paired_of(
     alloc: Global,
     flat: &FlatModel,
     rules: &Rules,
+    index: &RuleIndex,
     cell: &Cell,
 ) -> Result<Paired, NoMemory>
-    requires { length rules.now.clocks ≤ 16 }
+    requires few { length rules.now.clocks ≤ 16 }
+    requires tables { AreRuleTables rules.now index.now }
     ensures { IfOk result (ArePaired flat.now rules.now cell.now) }
 {
     let mut paired = Paired::new(alloc);
-    paired.fill(alloc, flat, rules, cell)?;
+    paired.fill(alloc, flat, rules, index, cell)?;
     Ok(paired)
 }

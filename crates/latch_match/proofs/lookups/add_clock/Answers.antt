@@ -1,9 +1,11 @@
-use Rattle.std.proofs.Common.{sym, ◌∙◌}
-use Rattle.std.specs.Prelude.{bytes_eq}
-use Rattle.latch_match.proofs.TableLaws.{ruled}
+use Rattle.std.proofs.Common.{ap}
+use Rattle.std.specs.Prelude.{slice_get}
+use Rattle.vrt_model.specs.declared.rules.ClockportRule.{ClockportRule}
+use Rattle.latch_match.specs.Tables.{named}
+use Rattle.latch_match.proofs.TableLaws.{found}
 use Rattle.latch_match.proofs.lookups.add_clock.Goals as goal
 
-pub returns-then-is_same : goal.returns-then-is_same
-returns-then-is_same c = λ entries t.
-    ruled entries (bytes_eq c.args.rule.now.cell c.args.cell.now) c.as_bytes.result.now c.args.rule.now.port c.args.rule.now.clock c.add.new.self (sym c.is_same.ensures ∙ c.if-is_same.true) c.as_bytes.ensures
-    (c.in_ok-add.ensures entries t)
+pub returns-in_ok-add-in-Some : goal.returns-in_ok-add-in-Some
+returns-in_ok-add-in-Some c = λ entries t.
+    found (λ (r : ClockportRule). named r.port r.clock) entries (slice_get c.args.rules.now c.args.place) c.in-Some.rule.now c.as_bytes.result.now c.in-Some.rule.now.clock c.add.new.self c.in-Some.ensures
+    (ap (λ n. named n c.in-Some.rule.now.clock) c.as_bytes.ensures) (c.in_ok-add-in-Some.ensures entries t)

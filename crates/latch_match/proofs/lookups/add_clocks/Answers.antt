@@ -1,10 +1,11 @@
-use Rattle.std.proofs.Common.{arith, refl}
-use Rattle.std.proofs.lemmas.Option.{slice_get_read}
-use Rattle.latch_match.specs.Looked.{clock_named}
+use Rattle.std.proofs.Common.{arith, get_or}
+use Rattle.std.proofs.lemmas.Option.{slice_get-get_or}
+use Rattle.latch_match.specs.Looked.{clock_at}
 use Rattle.latch_match.proofs.TableLaws.{more_ruled}
 use Rattle.latch_match.proofs.lookups.add_clocks.Goals as goal
 
-pub loop-rule-preserved : goal.loop-rule-preserved
-loop-rule-preserved c =
-    more_ruled (clock_named c.args.cell.now) c.args.rules.now c.loop-rule.rule-index c.rule-item.result c.loop-rule.table c.add_clock.new.table
-    (slice_get_read c.args.rules.now _ c.loop-rule.rule-index _ refl (omega arith) c.rule-item.is) c.loop-rule.invariant c.in_ok-add_clock.ensures
+pub loop-place-preserved : goal.loop-place-preserved
+loop-place-preserved c =
+    let x = get_or c.args.places.now c.loop-place.place-index 0 in
+    more_ruled (clock_at c.args.rules.now) c.args.places.now c.loop-place.place-index x c.loop-place.table c.add_clock.new.table
+    (slice_get-get_or c.args.places.now c.loop-place.place-index 0 (omega arith)) c.loop-place.invariant c.in_ok-add_clock.ensures

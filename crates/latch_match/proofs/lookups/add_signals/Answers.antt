@@ -1,11 +1,12 @@
-use Rattle.std.proofs.Common.{arith, refl}
-use Rattle.std.proofs.lemmas.Option.{slice_get_read}
-use Rattle.latch_match.specs.Looked.{signal_ruled}
+use Rattle.std.proofs.Common.{arith, get_or}
+use Rattle.std.proofs.lemmas.Option.{slice_get-get_or}
+use Rattle.latch_match.specs.Looked.{ruled_at}
 use Rattle.latch_match.specs.Tables.{first_in}
 use Rattle.latch_match.proofs.TableLaws.{more_ruled}
 use Rattle.latch_match.proofs.lookups.add_signals.Goals as goal
 
-pub loop-rule-preserved : goal.loop-rule-preserved
-loop-rule-preserved c =
-    more_ruled (signal_ruled (first_in c.args.signals.now) c.args.cell.now) c.args.rules.now c.loop-rule.rule-index c.rule-item.result c.loop-rule.table c.add_signal.new.table
-    (slice_get_read c.args.rules.now _ c.loop-rule.rule-index _ refl (omega arith) c.rule-item.is) c.loop-rule.invariant c.in_ok-add_signal.ensures
+pub loop-place-preserved : goal.loop-place-preserved
+loop-place-preserved c =
+    let x = get_or c.args.places.now c.loop-place.place-index 0 in
+    more_ruled (ruled_at (first_in c.args.signals.now) c.args.rules.now) c.args.places.now c.loop-place.place-index x c.loop-place.table c.add_signal.new.table
+    (slice_get-get_or c.args.places.now c.loop-place.place-index 0 (omega arith)) c.loop-place.invariant c.in_ok-add_signal.ensures

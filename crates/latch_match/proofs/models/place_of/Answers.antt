@@ -1,4 +1,4 @@
-use Rattle.std.proofs.Common.{ap, ◌∙◌, List, ℕ}
+use Rattle.std.proofs.Common.{ap, ◌∙◌}
 use Rattle.std.specs.Prelude.{bytes_eq, find}
 use Rattle.vrt_model.specs.declared.rules.PairRule.{PairRule}
 use Rattle.latch_match.proofs.PairLaws.{place_some}
