@@ -1,7 +1,7 @@
 -- The circuit that is made of tables is the flat circuit of the cell.
-use Rattle.std.proofs.Common.{◌≡◌, ◌<◌, ◌≤◌, ◌+◌, ◌++◌, ◌∷◌, ◌||◌, ◌&&◌, [], ℕ, zero, suc, List, Bool, true, false, cond, filter, length, map, Option, Some, None, refl, ap, ap₂, sym, subst, ◌∙◌, arith, append-nil, append_assoc, length-append}
+use Rattle.std.proofs.Common.{◌≡◌, ◌≤◌, ◌+◌, ◌++◌, ◌∷◌, ◌||◌, [], ℕ, zero, suc, List, Bool, true, false, cond, filter, length, map, Option, Some, None, refl, ap, ap₂, sym, subst, ◌∙◌, arith, append-nil, append_assoc, length-append}
 use Rattle.std.specs.Prelude.{bytes_eq, codes, slice_get, is_none, option_map, unwrap_or, find, filter_map, drop, flat_map}
-use Rattle.std.specs.List.{cons_option, enumerate_from, list_any}
+use Rattle.std.specs.List.{cons_option, enumerate_from}
 use Rattle.std.specs.Option.{option_or}
 use Rattle.std.proofs.Math.Path.{fun_ext}
 use Rattle.std.proofs.lemmas.List.{length-map, map-append}
@@ -9,17 +9,19 @@ use Rattle.std.proofs.lemmas.Slice.Eq.{bytes_eq-Decides}
 use Rattle.vrt_model.specs.Lists.{At, has_name}
 use Rattle.flatten.proofs.CellNets.{IsLeaf, all_names, cell, global_names, is_plain, named, names_are, own_names, port_names, ports_are, shared_names}
 use Rattle.flatten.proofs.NetNumbers.{number_is}
-use Rattle.flatten.specs.Firsts.{value_in}
+use Rattle.rule_index.specs.Firsts.{value_in}
 use Rattle.flatten.specs.NetTables.{IsNetTable, Supplies, device_in, names_table, nets_in, nets_named, number_in, of_parts, port_nets_in, port_table}
-use Rattle.flatten.specs.Tables.{AreModels, AreTables, card_kind, declared_by, declared_level, declared_supply, kind_in, level_in, supply_in}
-use Rattle.flatten.specs.declared.firsts.FirstValues.{FirstValues}
+use Rattle.rule_index.specs.Tables.{AreModels, card_kind, declared_by, declared_supply, kind_in, supply_in}
+use Rattle.flatten.specs.DeviceTables.{AreTables, declared_level, device_level}
+use Rattle.flatten.specs.declared.device_tables.DeviceTable.{DeviceTable}
+use Rattle.rule_index.specs.declared.firsts.FirstValues.{FirstValues}
 use Rattle.flatten.specs.declared.net_names.NetTable.{NetTable}
-use Rattle.flatten.specs.declared.rule_tables.Declared.{Declared}
-use Rattle.flatten.specs.declared.rule_tables.ModelTable.{ModelTable}
-use Rattle.flatten.specs.declared.rule_tables.RuleTables.{RuleTables}
+use Rattle.rule_index.specs.declared.models.Declared.{Declared}
+use Rattle.rule_index.specs.declared.models.ModelTable.{ModelTable}
+use Rattle.rule_index.specs.declared.index.RuleIndex.{RuleIndex}
 use Rattle.vrt_model.specs.CellRules.{supply_of}
 use Rattle.vrt_model.specs.Comparison.{cell_at}
-use Rattle.vrt_model.specs.FlatCircuit.{Ruled, falls_on, flat_circuit_of, flat_device, flat_devices, flat_hold, flat_holds, flat_instance, flat_instances, flat_nets, is_outermost, kind_by, kind_of, level_of, net_id, own_flat_nets, plain_net, port_nets_of, rule_on, rules_on, supply_flat}
+use Rattle.vrt_model.specs.FlatCircuit.{Ruled, falls_on, flat_circuit_of, flat_device, flat_devices, flat_hold, flat_holds, flat_instance, flat_instances, flat_nets, is_outermost, kind_by, kind_of, level_of, net_id, own_flat_nets, plain_net, port_nets_of, rule_on, supply_flat}
 use Rattle.vrt_model.specs.Unrolled.{Place, Top, all_places, deepest, instances_from, net_at, own_nets, places_in, top_place}
 use Rattle.vrt_model.specs.declared.circuit.Circuit.{Circuit}
 use Rattle.vrt_model.specs.declared.circuit.Device.{Device}
@@ -68,10 +70,10 @@ kind_is design rules models model are =
     ap₂ (λ (o : Option Declared) (p : Option Kind). option_or (option_map (λ (d : Declared). d.kind) o) p) (are.rules_are model) (are.cards_are model)
     ∙ ap (λ (o : Option Kind). option_or o (card_kind design.models model)) (option_twice (λ (d : Declared). d.kind) declared_by (find (λ (r : DeviceRule). bytes_eq r.model model) rules.devices))
 
-pub level_is : (design : Design) (rules : Rules) (name : List ℕ) (tables : RuleTables) (device model : List ℕ) → AreTables design rules name tables
-    → level_in tables device model ≡ level_of rules name device model
-level_is design rules name tables device model are =
-    ap₂ (λ (o : Option ℕ) (p : Option Declared). unwrap_or (option_or o (option_map (λ (d : Declared). d.level) p)) 6) (are.devices_are.strengths_are device) (are.models_are.rules_are model)
+pub level_is : (design : Design) (rules : Rules) (name : List ℕ) (index : RuleIndex) (own : DeviceTable) (device model : List ℕ) → AreTables design rules name index own
+    → device_level index.models own device model ≡ level_of rules name device model
+level_is design rules name index own device model are =
+    ap₂ (λ (o : Option ℕ) (p : Option Declared). unwrap_or (option_or o (option_map (λ (d : Declared). d.level) p)) 6) (are.devices_are.strengths_are device) (are.index_is.models_are.rules_are model)
     ∙ ap (λ (p : Option ℕ). unwrap_or (option_or (declared_level rules.strengths name device) p) 6)
     (option_twice (λ (d : Declared). d.level) declared_by (find (λ (r : DeviceRule). bytes_eq r.model model) rules.devices))
 
@@ -228,28 +230,28 @@ module _ (design : Design) (rules : Rules) (k : ℕ) (leaf : IsLeaf design k) (r
       → made card k g l r v b ≡ made card k' g' l' r' v' b'
   same_made card k k' g g' l l' r r' v v' b b' e f h i j m = cc
 
-  number_same : (tables : RuleTables) (name : List ℕ) → AreTables design rules (cell design rules k leaf).name tables → named design rules k leaf name ≡ true
-      → number_in (supply_in tables.supplies) (all_names design rules k leaf) name ≡ net_at top place name
-  number_same tables name are there =
-      ap (λ (s : Supplies). number_in s (all_names design rules k leaf) name) (supplies_are rules tables.supplies are.supplies_are)
+  number_same : (index : RuleIndex) (own : DeviceTable) (name : List ℕ) → AreTables design rules (cell design rules k leaf).name index own → named design rules k leaf name ≡ true
+      → number_in (supply_in index.supplies) (all_names design rules k leaf) name ≡ net_at top place name
+  number_same index own name are there =
+      ap (λ (s : Supplies). number_in s (all_names design rules k leaf) name) (supplies_are rules index.supplies are.index_is.rules_are.supplies_are)
       ∙ number_is design rules k leaf roles name there
 
-  device_is : (tables : RuleTables) (i : ℕ) (card : DeviceCard) → AreTables design rules (cell design rules k leaf).name tables → At (cell design rules k leaf).devices i card
-      → device_in tables (all_names design rules k leaf) card ≡ flat_device top place card
-  device_is tables i card are e =
+  device_is : (index : RuleIndex) (own : DeviceTable) (i : ℕ) (card : DeviceCard) → AreTables design rules (cell design rules k leaf).name index own → At (cell design rules k leaf).devices i card
+      → device_in index own (all_names design rules k leaf) card ≡ flat_device top place card
+  device_is index own i card are e =
       let names = are_named (cell design rules k leaf).devices i card e in
       same_made card _ _ _ _ _ _ _ _ _ _ _ _
-      (ap (λ (o : Option Kind). unwrap_or o N) (kind_is design rules tables.models card.model are.models_are))
-      (number_same tables card.gate are names.gate)
-      (number_same tables card.drain are names.drain)
-      (number_same tables card.source are names.source)
-      (level_is design rules (cell design rules k leaf).name tables card.name card.model are)
+      (ap (λ (o : Option Kind). unwrap_or o N) (kind_is design rules index.models card.model are.index_is.models_are))
+      (number_same index own card.gate are names.gate)
+      (number_same index own card.drain are names.drain)
+      (number_same index own card.source are names.source)
+      (level_is design rules (cell design rules k leaf).name index own card.name card.model are)
       (are.devices_are.keepers_are card.name)
 
-  pub devices_are : (tables : RuleTables) → AreTables design rules (cell design rules k leaf).name tables
-      → map (device_in tables (all_names design rules k leaf)) (cell design rules k leaf).devices ≡ flat_devices top
-  devices_are tables are =
-      map_same (device_in tables (all_names design rules k leaf)) (flat_device top place) (cell design rules k leaf).devices (λ i card e. device_is tables i card are e)
+  pub devices_are : (index : RuleIndex) (own : DeviceTable) → AreTables design rules (cell design rules k leaf).name index own
+      → map (device_in index own (all_names design rules k leaf)) (cell design rules k leaf).devices ≡ flat_devices top
+  devices_are index own are =
+      map_same (device_in index own (all_names design rules k leaf)) (flat_device top place) (cell design rules k leaf).devices (λ i card e. device_is index own i card are e)
       ∙ sym (over_places (λ (at : Place). map (flat_device top at) (cell_at design at.cell).devices))
 
   pub device_count : length (flat_devices top) ≡ length (cell design rules k leaf).devices

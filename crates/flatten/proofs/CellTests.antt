@@ -1,31 +1,33 @@
 -- What the tests of a cell without instances find is what stands in the way of its flat circuit, and what passes them is well formed.
 use Rattle.std.proofs.Common.{◌≡◌, ◌<◌, ◌≤◌, ◌+◌, ◌∷◌, ◌&&◌, [], ℕ, zero, suc, List, Bool, true, false, not, cond, get_or, nat_lt, All, length, map, Option, Some, None, Ok, Err, refl, ap, ap₂, sym, subst, ◌∙◌, arith}
-use Rattle.std.specs.Prelude.{Result, bytes_eq, find, flat_map, is_none, option_map, slice_get, unwrap_or}
+use Rattle.std.specs.Prelude.{Result, bytes_eq, find, is_none, option_map, slice_get, unwrap_or}
 use Rattle.std.specs.Option.{option_or}
 use Rattle.std.proofs.Math.Path.{fun_ext}
 use Rattle.std.proofs.lemmas.Bool.Decides.{nat_tests}
 use Rattle.std.proofs.lemmas.List.{length-map}
 use Rattle.std.proofs.lemmas.List.Elements.{All-cons, All-nil}
-use Rattle.flatten.proofs.CellFlat.{circuit_of, device_count, devices_are, instances_are, kind_is, level_is, net_count, nets_by, one_place, over_places, place, table_names, top, within}
+use Rattle.flatten.proofs.CellFlat.{circuit_of, device_count, devices_are, instances_are, kind_is, level_is, net_count, nets_by, one_place, over_places, table_names, top, within}
 use Rattle.flatten.proofs.CellNets.{IsLeaf, all_names, cell}
 use Rattle.flatten.proofs.NetNumbers.{number_within}
-use Rattle.flatten.specs.Circuits.{FlatGives, IsFlatCircuit}
-use Rattle.flatten.specs.Firsts.{value_in}
+use Rattle.flatten.specs.Circuits.{IsFlatCircuit}
+use Rattle.rule_index.specs.Firsts.{value_in}
 use Rattle.flatten.specs.NetTables.{IsNetTable, device_in, nets_in, of_parts}
 use Rattle.flatten.specs.Structures.{IsFault, IsStructured, IsTestFault, StructureGives, TestGives, model_without_kind}
-use Rattle.flatten.specs.Tables.{AreModels, AreTables, declared_supply, kind_in, level_in, supply_in}
+use Rattle.rule_index.specs.Tables.{AreModels, declared_supply, kind_in, supply_in}
+use Rattle.flatten.specs.DeviceTables.{AreTables}
+use Rattle.flatten.specs.declared.device_tables.DeviceTable.{DeviceTable}
 use Rattle.flatten.specs.declared.faults.FlatFault.{FlatFault}
 use Rattle.flatten.specs.declared.faults.FlatFault.TheVariants.{DeviceModel, SupplyTie, Limit as LimitFault, NoMemory}
-use Rattle.flatten.specs.declared.firsts.FirstValues.{FirstValues}
+use Rattle.rule_index.specs.declared.firsts.FirstValues.{FirstValues}
 use Rattle.flatten.specs.declared.net_names.NetTable.{NetTable}
-use Rattle.flatten.specs.declared.rule_tables.ModelTable.{ModelTable}
-use Rattle.flatten.specs.declared.rule_tables.RuleTables.{RuleTables}
+use Rattle.rule_index.specs.declared.models.ModelTable.{ModelTable}
+use Rattle.rule_index.specs.declared.index.RuleIndex.{RuleIndex}
 use Rattle.vrt_model.specs.Circuits.{IsCircuit, IsDevice, IsHold, IsNet, IsWhole, IsFlat}
 use Rattle.vrt_model.specs.Comparison.{cell_at}
-use Rattle.vrt_model.specs.FlatCircuit.{flat_circuit_of, flat_devices, flat_instances, flat_nets, kind_of, level_of}
+use Rattle.vrt_model.specs.FlatCircuit.{flat_devices, flat_instances, flat_nets, kind_of, level_of}
 use Rattle.vrt_model.specs.Inputs.{AreRules, IsCell, IsDesign, IsLevel}
 use Rattle.vrt_model.specs.Lists.{At}
-use Rattle.vrt_model.specs.Unrolled.{Place, all_places, path_text}
+use Rattle.vrt_model.specs.Unrolled.{Place, path_text}
 use Rattle.vrt_model.specs.Unsupported.{Limit, carried, circuit_limits, device_without_kind, is_tied_apart, supply_tie, too_large, top_before}
 use Rattle.vrt_model.specs.declared.circuit.Circuit.{Circuit}
 use Rattle.vrt_model.specs.declared.circuit.Device.{Device}
@@ -36,7 +38,6 @@ use Rattle.vrt_model.specs.declared.design.Design.{Design}
 use Rattle.vrt_model.specs.declared.design.DeviceCard.{DeviceCard}
 use Rattle.vrt_model.specs.declared.design.Kind.{Kind}
 use Rattle.vrt_model.specs.declared.pairing.Pairing.{Pairing}
-use Rattle.vrt_model.specs.declared.pairing.PortRole.{PortRole}
 use Rattle.vrt_model.specs.declared.rules.DeviceRule.{DeviceRule}
 use Rattle.vrt_model.specs.declared.rules.Rules.{Rules}
 use Rattle.vrt_model.specs.declared.rules.StrengthRule.{StrengthRule}
@@ -107,18 +108,18 @@ level_within rules name device model are =
 
 -- ---- a circuit of nets and devices
 
-devices_within : (c : Circuit) (rules : Rules) (design : Design) (name : List ℕ) (tables : RuleTables) (names : List (List ℕ)) (cards : List DeviceCard) → AreRules rules
-    → AreTables design rules name tables → length c.nets ≡ 2 + length names → All (IsDevice c) (map (device_in tables names) cards)
-devices_within c rules design name tables names [] ruled are e = All-nil (IsDevice c)
-devices_within c rules design name tables names (card ∷ cards) ruled are e =
-    All-cons (IsDevice c) (device_in tables names card) (map (device_in tables names) cards)
+devices_within : (c : Circuit) (rules : Rules) (design : Design) (name : List ℕ) (index : RuleIndex) (own : DeviceTable) (names : List (List ℕ)) (cards : List DeviceCard) → AreRules rules
+    → AreTables design rules name index own → length c.nets ≡ 2 + length names → All (IsDevice c) (map (device_in index own names) cards)
+devices_within c rules design name index own names [] ruled are e = All-nil (IsDevice c)
+devices_within c rules design name index own names (card ∷ cards) ruled are e =
+    All-cons (IsDevice c) (device_in index own names card) (map (device_in index own names) cards)
     (record {
-      gate = let h = number_within (supply_in tables.supplies) names card.gate in omega (arith, h, e);
-      left = let h = number_within (supply_in tables.supplies) names card.drain in omega (arith, h, e);
-      right = let h = number_within (supply_in tables.supplies) names card.source in omega (arith, h, e);
-      level = subst IsLevel (sym (level_is design rules name tables card.name card.model are)) (level_within rules name card.name card.model ruled);
+      gate = let h = number_within (supply_in index.supplies) names card.gate in omega (arith, h, e);
+      left = let h = number_within (supply_in index.supplies) names card.drain in omega (arith, h, e);
+      right = let h = number_within (supply_in index.supplies) names card.source in omega (arith, h, e);
+      level = subst IsLevel (sym (level_is design rules name index own card.name card.model are)) (level_within rules name card.name card.model ruled);
     })
-    (devices_within c rules design name tables names cards ruled are e)
+    (devices_within c rules design name index own names cards ruled are e)
 
 well_formed : (nets : List FlatNet) (devices : List Device) → length nets ≤ 20000 → length devices ≤ 40000 → All (IsDevice (of_parts nets devices)) devices → IsCircuit (of_parts nets devices)
 well_formed nets devices few less all = record {
@@ -245,37 +246,37 @@ module _ (design : Design) (rules : Rules) (k : ℕ) (read : IsDesign design) (t
 
   abbrev Made : Cell → Type 0
   Made c =
-      (pairing : Pairing) (tables : RuleTables) (table : NetTable) (tested : List DeviceCard) (circuit : Circuit)
-      → AreTables design rules c.name tables → AreMade design rules c tables.supplies tables.models table tested
-      → (length table.names + 2 ≤ 20000) × (model_without_kind tables.models tested ≡ None)
-      → circuit ≡ of_parts (nets_in rules (supply_in tables.supplies) c.ports pairing.ports table) (map (device_in tables table.names) c.devices)
+      (pairing : Pairing) (index : RuleIndex) (own : DeviceTable) (table : NetTable) (tested : List DeviceCard) (circuit : Circuit)
+      → AreTables design rules c.name index own → AreMade design rules c index.supplies index.models table tested
+      → (length table.names + 2 ≤ 20000) × (model_without_kind index.models tested ≡ None)
+      → circuit ≡ of_parts (nets_in rules (supply_in index.supplies) c.ports pairing.ports table) (map (device_in index own table.names) c.devices)
       → IsFlatCircuit design rules k pairing circuit
 
   -- the circuit of a cell
   pub cell_made : AreRules rules → rules.holds ≡ [] → (found : Cell) → found ≡ cell_at design k → Made found
   cell_made ruled unheld found e = subst Made (sym e) at_cell where
     at_cell : Made (cell_at design k)
-    at_cell pairing tables table tested circuit are made gives is =
+    at_cell pairing index own table tested circuit are made gives is =
         let roles = pairing.ports in
         let names = all_names design rules k leaf in
         let cards = (cell design rules k leaf).devices in
-        let named = table_names design rules k leaf roles tables.supplies table made.supplies_are made.nets_are in
+        let named = table_names design rules k leaf roles index.supplies table made.supplies_are made.nets_are in
         let nets = flat_nets (top design rules k leaf roles) in
-        let devices = map (device_in tables names) cards in
+        let devices = map (device_in index own names) cards in
         let first : circuit ≡ of_parts nets devices =
-        is ∙ ap₂ (λ (ns : List FlatNet) (t : List (List ℕ)). of_parts ns (map (device_in tables t) cards)) (nets_by design rules k leaf roles tables.supplies table made.supplies_are made.nets_are) named in
+        is ∙ ap₂ (λ (ns : List FlatNet) (t : List (List ℕ)). of_parts ns (map (device_in index own t) cards)) (nets_by design rules k leaf roles index.supplies table made.supplies_are made.nets_are) named in
         let size = net_count design rules k leaf roles in
         let counted = ap (λ (ns : List (List ℕ)). length ns) named in
         let few = gives.0 in
         let less = leaf.few_cards in
-        let cards_count = length-map cards (device_in tables names) in
+        let cards_count = length-map cards (device_in index own names) in
         let formed : IsCircuit (of_parts nets devices) =
         well_formed nets devices (omega (arith, size, counted, few)) (omega (arith, less, cards_count))
-        (devices_within (of_parts nets devices) rules design (cell design rules k leaf).name tables names cards ruled are size) in
+        (devices_within (of_parts nets devices) rules design (cell design rules k leaf).name index own names cards ruled are size) in
         let flat : IsFlat (of_parts nets devices) = record { wholes = refl; devices = formed.devices; holds = formed.holds } in
         record {
-          is = first ∙ ap (of_parts nets) (devices_are design rules k leaf roles tables are) ∙ circuit_of design rules k leaf roles unheld;
+          is = first ∙ ap (of_parts nets) (devices_are design rules k leaf roles index own are) ∙ circuit_of design rules k leaf roles unheld;
           formed = subst IsCircuit (sym first) formed;
           flat = subst IsFlat (sym first) flat;
-          structured = passed design rules k leaf table.names tables.models tested named made.cards_are made.models_are gives;
+          structured = passed design rules k leaf table.names index.models tested named made.cards_are made.models_are gives;
         }

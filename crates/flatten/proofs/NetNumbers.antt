@@ -1,5 +1,5 @@
 -- Numbers of nets: a name's place among the names of nets is its net in the flat circuit.
-use Rattle.std.proofs.Common.{◌≡◌, ◌<◌, ◌≤◌, ◌+◌, ◌++◌, ◌∷◌, ◌&&◌, [], ℕ, zero, suc, not, List, Bool, true, false, cond, filter, length, Option, Some, None, refl, ap, ap₂, sym, subst, ◌∙◌, arith, length-append}
+use Rattle.std.proofs.Common.{◌≡◌, ◌<◌, ◌+◌, ◌∷◌, ◌&&◌, [], ℕ, zero, suc, not, List, Bool, true, false, cond, filter, length, Option, Some, None, refl, ap, ap₂, sym, ◌∙◌, arith, length-append}
 use Rattle.std.specs.Prelude.{bytes_eq, slice_get, is_none, option_map, unwrap_or}
 use Rattle.std.specs.List.{position}
 use Rattle.std.specs.Option.{option_or}

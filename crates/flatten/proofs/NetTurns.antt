@@ -1,12 +1,9 @@
 -- One card or one global net more, while the names of nets are gathered.
-use Rattle.std.proofs.Common.{◌≡◌, ◌<◌, ◌≤◌, ◌+◌, ◌++◌, ◌∷◌, ◌||◌, [], ℕ, List, Bool, true, false, cond, filter, length, get_or, drop, refl, ap, sym, ◌∙◌}
-use Rattle.std.specs.Prelude.{bytes_eq}
+use Rattle.std.proofs.Common.{◌≡◌, ◌<◌, ◌≤◌, ◌+◌, ◌++◌, ◌∷◌, [], ℕ, List, Bool, true, false, cond, filter, length, get_or, drop, refl, ap, sym, ◌∙◌}
 use Rattle.std.proofs.lemmas.List.{drop_all, drop_more}
-use Rattle.std.proofs.lemmas.List.Folds.{list_any-append}
-use Rattle.std.proofs.lemmas.Slice.Eq.{bytes_eq-Decides}
 use Rattle.names.proofs.NameLaws.{among_names, with_names-append}
 use Rattle.vrt_model.specs.Lists.{has_name}
-use Rattle.names.specs.Names.{with_name, with_names}
+use Rattle.names.specs.Names.{with_names}
 use Rattle.names.proofs.FilterLaws.{filter_same}
 use Rattle.flatten.proofs.CellNets.{with_nets-append}
 use Rattle.flatten.specs.NetTables.{Supplies, card_nets, globals_named, nets_named, with_named, with_net, with_nets}

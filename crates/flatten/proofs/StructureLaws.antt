@@ -1,6 +1,6 @@
 -- What stands in the way of a cell with its instances.
-use Rattle.std.proofs.Common.{◌≡◌, ◌<◌, ◌≤◌, ◌-◌, ◌^◌, [], ℕ, List, Bool, true, false, cond, nat_lt, length, Option, Some, None, Ok, Err, refl, ap, ap₂, sym, subst, ◌∙◌, arith, inl, inr}
-use Rattle.std.specs.Prelude.{Result, find, flat_map, is_none, option_map}
+use Rattle.std.proofs.Common.{◌≡◌, ◌<◌, ◌≤◌, ℕ, List, Bool, true, false, cond, nat_lt, length, Option, Some, None, Ok, Err, refl, ap, ap₂, sym, subst, ◌∙◌, arith, inl, inr}
+use Rattle.std.specs.Prelude.{Result, flat_map, is_none, option_map}
 use Rattle.std.proofs.lemmas.Bool.{cases_lt}
 use Rattle.std.proofs.lemmas.Bool.Decides.{nat_tests}
 use Rattle.flat_sizes.specs.Sizes.{AreSizes}
@@ -8,15 +8,15 @@ use Rattle.flat_sizes.specs.declared.counts.FlatSizes.{FlatSizes}
 use Rattle.flatten.proofs.CellFlat.{kind_is, supplies_are}
 use Rattle.flatten.proofs.CellTests.{find_same}
 use Rattle.flatten.proofs.WalkLaws.{cards_unrolled, ties_unrolled}
-use Rattle.flatten.specs.Firsts.{value_in}
+use Rattle.rule_index.specs.Firsts.{value_in}
 use Rattle.flatten.specs.NetTables.{Supplies}
-use Rattle.flatten.specs.Structures.{CausesGive, IsFault, StructureGives, large_in}
-use Rattle.flatten.specs.Tables.{AreModels, declared_supply, supply_in}
+use Rattle.flatten.specs.Structures.{CausesGive, StructureGives, large_in}
+use Rattle.rule_index.specs.Tables.{AreModels, declared_supply, supply_in}
 use Rattle.flatten.specs.Walks.{card_without_kind, has_no_kind, tie_from, top_spot}
 use Rattle.flatten.specs.declared.faults.FlatFault.{FlatFault}
 use Rattle.flatten.specs.declared.faults.FlatFault.TheVariants.{DeviceModel, SupplyTie, Limit as LimitFault, NoMemory}
-use Rattle.flatten.specs.declared.firsts.FirstValues.{FirstValues}
-use Rattle.flatten.specs.declared.rule_tables.ModelTable.{ModelTable}
+use Rattle.rule_index.specs.declared.firsts.FirstValues.{FirstValues}
+use Rattle.rule_index.specs.declared.models.ModelTable.{ModelTable}
 use Rattle.vrt_model.specs.FlatCircuit.{flat_devices, flat_instances, flat_nets, kind_of}
 use Rattle.vrt_model.specs.Comparison.{cell_at}
 use Rattle.vrt_model.specs.Unrolled.{Place, Top, all_places}

@@ -1,26 +1,25 @@
 -- What is told of the unrolled cells of a cell, without numbers of nets.
-use Rattle.std.proofs.Common.{◌≡◌, ◌<◌, ◌≤◌, ◌+◌, ◌++◌, ◌∷◌, ◌&&◌, [], ℕ, zero, suc, List, Bool, true, false, not, cond, nat_lt, length, get_or, drop, map, Option, Some, None, option_map, refl, ap, ap₂, sym, subst, ◌∙◌, arith}
-use Rattle.std.specs.Prelude.{bytes_eq, find, flat_map, is_none, is_some, position, slice_get, unwrap_or, ◌==◌}
-use Rattle.std.specs.List.{position_or_len}
+use Rattle.std.proofs.Common.{◌≡◌, ◌<◌, ◌≤◌, ◌+◌, ◌∷◌, ◌&&◌, [], ℕ, zero, suc, List, Bool, true, false, not, cond, length, get_or, drop, map, Option, Some, None, option_map, refl, ap, ap₂, sym, subst, ◌∙◌, arith}
+use Rattle.std.specs.Prelude.{bytes_eq, find, flat_map, is_none, is_some, slice_get, unwrap_or, ◌==◌}
 use Rattle.std.specs.Option.{option_or}
-use Rattle.std.proofs.Math.Path.{fun_ext}
 use Rattle.std.proofs.lemmas.Bool.Decides.{nat_tests}
 use Rattle.std.proofs.lemmas.Grind.{flat_map-append}
-use Rattle.std.proofs.lemmas.List.{append-nil, drop_all, drop_more, length-map}
+use Rattle.std.proofs.lemmas.List.{append-nil, drop_all, drop_more}
 use Rattle.std.proofs.lemmas.List.Folds.{find-append}
-use Rattle.std.proofs.lemmas.Option.{slice_get-map, slice_get_within}
-use Rattle.names.proofs.NameLaws.{bytes_eq-sym}
+use Rattle.std.proofs.lemmas.Option.{slice_get_within}
 use Rattle.flatten.proofs.CellTests.{cell_there}
 use Rattle.flatten.proofs.NameLists.{apart_all}
 use Rattle.flatten.specs.NetTables.{Supplies}
-use Rattle.flatten.specs.Walks.{AreCellNames, are_apart, card_without_kind, first_card, first_some, first_tie, has_no_kind, is_apart, own_tie, port_supply, spot_by, spot_in, supply_at, tie_from, tied_supply, top_spot}
-use Rattle.flatten.specs.declared.rule_tables.ModelTable.{ModelTable}
+use Rattle.flatten.specs.Walks.{AreNumbered, are_apart, card_without_kind, first_card, first_some, first_tie, has_no_kind, is_apart, own_tie, port_supply, spot_by, spot_in, supply_at, tie_from, tied_supply, top_spot}
+use Rattle.rule_index.specs.Firsts.{value_in}
+use Rattle.rule_index.specs.declared.firsts.FirstValues.{FirstValues}
+use Rattle.rule_index.specs.declared.models.ModelTable.{ModelTable}
 use Rattle.flatten.specs.declared.ties.Spot.{Spot}
 use Rattle.names.specs.Names.{with_names}
 use Rattle.vrt_model.specs.CellRules.{supply_of}
-use Rattle.vrt_model.specs.Comparison.{cell_at, port_nets, port_nets_from}
+use Rattle.vrt_model.specs.Comparison.{cell_at, port_nets_from}
 use Rattle.vrt_model.specs.Inputs.{AllApart, IsDesign}
-use Rattle.vrt_model.specs.Lists.{At, differ, path_name, place_of}
+use Rattle.vrt_model.specs.Lists.{differ, path_name, place_of}
 use Rattle.vrt_model.specs.Unrolled.{Place, Top, all_places, cell_named, first_global, global_net, globals_of, instances_at, instances_from, net_at, own_count, own_net, own_nets, path_text, places_in, port_net, supply_net, top_cell, top_place}
 use Rattle.vrt_model.specs.Unsupported.{is_tied_apart, supply_tie}
 use Rattle.vrt_model.specs.declared.design.Cell.{Cell}
@@ -28,31 +27,7 @@ use Rattle.vrt_model.specs.declared.design.Design.{Design}
 use Rattle.vrt_model.specs.declared.design.DeviceCard.{DeviceCard}
 use Rattle.vrt_model.specs.declared.design.InstanceCard.{InstanceCard}
 
--- ---- the names of cells
-
-met_at : (cells : List Cell) (name : List ℕ) → position_or_len (bytes_eq name) (map (λ (c : Cell). c.name) cells) ≡ position_or_len (λ (c : Cell). bytes_eq c.name name) cells
-met_at [] name = refl
-met_at (c ∷ cells) name = ap₂ (λ (b : Bool) (n : ℕ). cond (not b) (1 + n) 0) (bytes_eq-sym name c.name) (met_at cells name)
-
-named_at : (cells : List Cell) (name : List ℕ) → position (bytes_eq name) (map (λ (c : Cell). c.name) cells) ≡ position (λ (c : Cell). bytes_eq c.name name) cells
-named_at cells name =
-    ap₂ (λ (n m : ℕ). cond (nat_lt n m) (Some n) None) (met_at cells name) (length-map cells (λ (c : Cell). c.name))
-
-names_apart : (cells : List Cell) → AllApart (λ (a b : Cell). bytes_eq a.name b.name) cells → AllApart bytes_eq (map (λ (c : Cell). c.name) cells)
-names_apart cells apart i j x y a b e =
-    let first = found cells i x a in
-    let second = found cells j y b in
-    apart i j first.0 second.0 first.1 second.1 (ap₂ bytes_eq first.2 second.2 ∙ e) where
-      found : (xs : List Cell) (n : ℕ) (z : List ℕ) → At (map (λ (c : Cell). c.name) xs) n z → (c : Cell) × At xs n c × (c.name ≡ z)
-      found [] n z h = cc
-      found (c ∷ xs) zero z h = let same : c.name ≡ z = cc in (c, refl, same)
-      found (c ∷ xs) (suc n) z h = found xs n z h
-
-pub cells_named : (design : Design) (names : List (List ℕ)) (cells : List Cell) → IsDesign design → cells ≡ design.cells → names ≡ with_names [] (map (λ (c : Cell). c.name) cells) → AreCellNames design names
-cells_named design names cells read same e name =
-    ap (λ (ns : List (List ℕ)). unwrap_or (position (bytes_eq name) ns) 0)
-    (e ∙ ap (λ (cs : List Cell). with_names [] (map (λ (c : Cell). c.name) cs)) same ∙ apart_all (map (λ (c : Cell). c.name) design.cells) (names_apart design.cells read.names))
-    ∙ ap (λ (o : Option ℕ). unwrap_or o 0) (named_at design.cells name)
+-- ---- cells
 
 -- the ports of a cell do not repeat
 cell_apart : (design : Design) (k : ℕ) (found : Cell) → IsDesign design → Some found ≡ slice_get design.cells k → AllApart bytes_eq (cell_at design k).ports
@@ -95,8 +70,9 @@ pub not_here : {Y : Type 0} (F : InstanceCard → Option Y) (cards : List Instan
 not_here F cards i card None b lt is e there t left = none_here F cards i card lt is (sym e) left
 not_here F cards i card (Some y) b lt is e there t left = cc
 
-pub number_named : (design : Design) (names : List (List ℕ)) (n : ℕ) (bytes name : List ℕ) → n ≡ unwrap_or (position (bytes_eq bytes) names) 0 → bytes ≡ name → AreCellNames design names → n ≡ cell_named design name
-number_named design names n bytes name e same named = e ∙ ap (λ (b : List ℕ). unwrap_or (position (bytes_eq b) names) 0) same ∙ named name
+pub number_named : (design : Design) (cells : FirstValues ℕ) (n : ℕ) (bytes name : List ℕ) → n ≡ unwrap_or (value_in cells bytes) 0 → bytes ≡ name → AreNumbered design cells → n ≡ cell_named design name
+number_named design cells n bytes name e same named =
+    e ∙ ap (λ (b : List ℕ). unwrap_or (value_in cells b) 0) same ∙ ap (λ (o : Option ℕ). unwrap_or o 0) (named name)
 
 -- ---- devices
 
@@ -330,13 +306,13 @@ ties_unrolled t =
 -- ---- the walk over ties
 
 -- an instance by tables is that of the definition
-pub spot_is : (design : Design) (names : List (List ℕ)) (supply : Supplies) (k : ℕ) (found : Cell) (ports : List (List ℕ)) (at : Spot) (card : InstanceCard) → IsDesign design → AreCellNames design names
-    → Some found ≡ slice_get design.cells at.cell → ports ≡ with_names [] found.ports → spot_by names supply ports at card ≡ spot_in design supply at card
-spot_is design names supply k found ports at card read named e same =
+pub spot_is : (design : Design) (cells : FirstValues ℕ) (supply : Supplies) (k : ℕ) (found : Cell) (ports : List (List ℕ)) (at : Spot) (card : InstanceCard) → IsDesign design → AreNumbered design cells
+    → Some found ≡ slice_get design.cells at.cell → ports ≡ with_names [] found.ports → spot_by cells supply ports at card ≡ spot_in design supply at card
+spot_is design cells supply k found ports at card read named e same =
     let is = cell_found design at.cell found e in
     let once : ports ≡ (cell_at design at.cell).ports =
     same ∙ apart_all found.ports (subst (λ (c : Cell). AllApart bytes_eq c.ports) (sym is) (cell_apart design at.cell found read e)) ∙ ap (λ (c : Cell). c.ports) is in
-    ap₂ (λ (m : ℕ) (ps : List (List ℕ)). let s : Spot = record { cell = m; path = path_name at.path card.name; values = map (tied_supply supply ps at.values) card.nets } in s) (named card.cell) once
+    ap₂ (λ (m : ℕ) (ps : List (List ℕ)). let s : Spot = record { cell = m; path = path_name at.path card.name; values = map (tied_supply supply ps at.values) card.nets } in s) (ap (λ (o : Option ℕ). unwrap_or o 0) (named card.cell)) once
 
 pub tied_here : (design : Design) (supply : Supplies) (depth : ℕ) (at : Spot) (found : Cell) (ports : List (List ℕ)) (values : List (Option Bool)) (b : Bool) → Some found ≡ slice_get design.cells at.cell
     → ports ≡ found.ports → values ≡ at.values → b ≡ are_apart supply ports values → own_tie design supply at ≡ cond b (Some at.path) None

@@ -1,7 +1,6 @@
 pub mod CellTables
 pub mod Circuits
-pub mod Firsts
+pub mod DeviceTables
 pub mod NetTables
 pub mod Structures
-pub mod Tables
 pub mod Walks

@@ -2,16 +2,17 @@
 use Rattle.std.specs.Prelude.{◌≡◌, ℕ, ◌+◌, List, [], ◌∷◌, ◌++◌, map, filter, flat_map, Bool, true, false, cond, drop, length, Option, Some, None, option_map, unwrap_or, slice_get, if◌then◌else◌, position, bytes_eq}
 use Rattle.vrt_model.specs.Lists.{has_name}
 use Rattle.names.specs.Names.{with_name}
-use Rattle.flatten.specs.Tables.{kind_in, level_in, supply_in}
+use Rattle.rule_index.specs.Tables.{kind_in, supply_in}
+use Rattle.flatten.specs.DeviceTables.{device_level}
+use Rattle.flatten.specs.declared.device_tables.DeviceTable.{DeviceTable}
 use Rattle.flatten.specs.declared.net_names.NetTable.{NetTable}
-use Rattle.flatten.specs.declared.rule_tables.RuleTables.{RuleTables}
+use Rattle.rule_index.specs.declared.index.RuleIndex.{RuleIndex}
 use Rattle.vrt_model.specs.FlatCircuit.{kind_by, net_id, plain_net, supply_flat}
 use Rattle.vrt_model.specs.declared.circuit.Circuit.{Circuit}
 use Rattle.vrt_model.specs.declared.circuit.Device.{Device}
 use Rattle.vrt_model.specs.declared.circuit.FlatNet.{FlatNet}
 use Rattle.vrt_model.specs.declared.design.Cell.{Cell}
 use Rattle.vrt_model.specs.declared.design.DeviceCard.{DeviceCard}
-use Rattle.vrt_model.specs.declared.design.Kind.{Kind}
 use Rattle.vrt_model.specs.declared.design.Kind.TheVariants.{N}
 use Rattle.vrt_model.specs.declared.pairing.PortRole.{PortRole}
 use Rattle.vrt_model.specs.declared.rules.Rules.{Rules}
@@ -94,17 +95,17 @@ nets_in rules supply ports roles table =
     ∷ (port_nets_in supply ports roles ++ map plain_net (drop table.port_count table.names))
 
 -- the device of a card, by the names of nets
-abbrev pub device_in : RuleTables → List (List ℕ) → DeviceCard → Device
-device_in tables names card =
-    let net : List ℕ → ℕ = number_in (supply_in tables.supplies) names in
+abbrev pub device_in : RuleIndex → DeviceTable → List (List ℕ) → DeviceCard → Device
+device_in index table names card =
+    let net : List ℕ → ℕ = number_in (supply_in index.supplies) names in
     record {
       name = card.name;
-      kind = unwrap_or (kind_in tables.models card.model) N;
+      kind = unwrap_or (kind_in index.models card.model) N;
       gate = net_id (net card.gate);
       left = net_id (net card.drain);
       right = net_id (net card.source);
-      level = level_in tables card.name card.model;
-      keeper = has_name tables.devices.keepers card.name;
+      level = device_level index.models table card.name card.model;
+      keeper = has_name table.keepers card.name;
     }
 
 -- a circuit of nets and devices alone

@@ -1,9 +1,9 @@
 -- What stands in the way of a flat circuit.
 use Rattle.std.specs.Prelude.{◌≡◌, ◌≤◌, ◌<◌, ℕ, List, Result, Ok, Err, Option, Some, None, option_map, find, is_none, cond, nat_lt}
-use Rattle.flatten.specs.Tables.{kind_in}
+use Rattle.rule_index.specs.Tables.{kind_in}
 use Rattle.flatten.specs.declared.faults.FlatFault.{FlatFault}
 use Rattle.flatten.specs.declared.faults.FlatFault.TheVariants.{DeviceModel, SupplyTie, Limit, NoMemory}
-use Rattle.flatten.specs.declared.rule_tables.ModelTable.{ModelTable}
+use Rattle.rule_index.specs.declared.models.ModelTable.{ModelTable}
 use Rattle.vrt_model.specs.Unrolled.{Top}
 use Rattle.vrt_model.specs.Unsupported.{carried, circuit_limits, device_without_kind, supply_tie, too_large}
 use Rattle.vrt_model.specs.declared.design.DeviceCard.{DeviceCard}

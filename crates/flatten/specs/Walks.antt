@@ -2,8 +2,10 @@
 use Rattle.std.specs.Prelude.{◌≡◌, ℕ, zero, suc, List, [], ◌∷◌, map, find, is_none, Bool, true, false, cond, Option, Some, None, unwrap_or, slice_get, position, bytes_eq, ◌==◌}
 use Rattle.std.specs.Option.{option_or}
 use Rattle.flatten.specs.NetTables.{Supplies}
-use Rattle.flatten.specs.Tables.{kind_in}
-use Rattle.flatten.specs.declared.rule_tables.ModelTable.{ModelTable}
+use Rattle.rule_index.specs.Firsts.{value_in}
+use Rattle.rule_index.specs.Tables.{cell_numbered, kind_in}
+use Rattle.rule_index.specs.declared.firsts.FirstValues.{FirstValues}
+use Rattle.rule_index.specs.declared.models.ModelTable.{ModelTable}
 use Rattle.flatten.specs.declared.ties.Spot.{Spot}
 use Rattle.vrt_model.specs.Comparison.{cell_at}
 use Rattle.vrt_model.specs.Lists.{differ, path_name}
@@ -12,9 +14,9 @@ use Rattle.vrt_model.specs.declared.design.Design.{Design}
 use Rattle.vrt_model.specs.declared.design.DeviceCard.{DeviceCard}
 use Rattle.vrt_model.specs.declared.design.InstanceCard.{InstanceCard}
 
--- the number of a cell is the place of its name among these
-abbrev pub AreCellNames : Design → List (List ℕ) → Type 0
-AreCellNames design names = (name : List ℕ) → unwrap_or (position (bytes_eq name) names) 0 ≡ cell_named design name
+-- a table has the number of each cell under its name
+abbrev pub AreNumbered : Design → FirstValues ℕ → Type 0
+AreNumbered design cells = (name : List ℕ) → value_in cells name ≡ cell_numbered design.cells name
 
 -- the first that is found of some items
 abbrev pub first_some : {X Y : Type 0} → (X → Option Y) → List X → Option Y
@@ -72,10 +74,10 @@ spot_in design supply at i = record {
   values = map (tied_supply supply (cell_at design at.cell).ports at.values) i.nets;
 }
 
--- the same by the names of cells and those of the ports
-abbrev pub spot_by : List (List ℕ) → Supplies → List (List ℕ) → Spot → InstanceCard → Spot
-spot_by names supply ports at i = record {
-  cell = unwrap_or (position (bytes_eq i.cell) names) 0;
+-- the same by a table of the numbers of cells and the names of the ports
+abbrev pub spot_by : FirstValues ℕ → Supplies → List (List ℕ) → Spot → InstanceCard → Spot
+spot_by cells supply ports at i = record {
+  cell = unwrap_or (value_in cells i.cell) 0;
   path = path_name at.path i.name;
   values = map (tied_supply supply ports at.values) i.nets;
 }

@@ -3,13 +3,14 @@
 ghost use Rattle.std.specs.Prelude.{◌≡◌, ◌≤◌, ◌+◌, ◌++◌, ◌∷◌, [], IfOk, OnOk, find, is_none, length, map, unwrap_or};
 ghost use Rattle.std.specs.Option.{option_copied};
 ghost use Rattle.flatten.specs.NetTables.{device_in};
-ghost use Rattle.flatten.specs.Tables.{kind_in};
+ghost use Rattle.rule_index.specs.Tables.{kind_in};
 ghost use Rattle.vrt_model.specs.declared.design.DeviceCard.{DeviceCard as CardValue};
 
+use crate::device_tables::{DeviceTable, level};
 use crate::lists::append;
 use crate::net_names::net;
-use crate::rule_tables::{ModelTable, RuleTables, kind, level};
 use names::Names;
+use rule_index::{ModelTable, RuleIndex};
 use std::alloc::Global;
 use vrt_model::{Device, DeviceCard, Kind, NoMemory, Seq, Text};
 
@@ -17,7 +18,7 @@ use vrt_model::{Device, DeviceCard, Kind, NoMemory, Seq, Text};
 fn has_no_kind(models: &ModelTable, card: &DeviceCard) -> bool
     ensures { result ≡ is_none (kind_in models.now card.now.model) }
 {
-    kind(models, card.model.as_bytes()).is_none()
+    models.kind(card.model.as_bytes()).is_none()
 }
 
 /// The first card whose model has no kind.
@@ -31,28 +32,34 @@ pub fn without_kind<'a>(models: &ModelTable, cards: &'a [DeviceCard]) -> Option<
 fn kind_or_n(models: &ModelTable, model: &[u8]) -> Kind
     ensures { result ≡ unwrap_or (kind_in models.now model.now) Kind.N }
 {
-    kind(models, model).unwrap_or(Kind::N)
+    models.kind(model).unwrap_or(Kind::N)
 }
 
 /// The device of a card, by the names of nets.
 fn device(
     alloc: Global,
-    tables: &RuleTables,
+    index: &RuleIndex,
+    table: &DeviceTable,
     names: &Names,
     card: &DeviceCard,
 ) -> Result<Device, NoMemory>
     requires few { length names.now + 2 ≤ 20000 }
-    ensures { IfOk result (λ device. device ≡ device_in tables.now names.now card.now) }
+    ensures { IfOk result (λ device. device ≡ device_in index.now table.now names.now card.now) }
 {
     let name = Text::from_bytes(alloc, card.name.as_bytes())?;
     Ok(Device {
         name,
-        kind: kind_or_n(&tables.models, card.model.as_bytes()),
-        gate: net(names, &tables.supplies, card.gate.as_bytes()),
-        left: net(names, &tables.supplies, card.drain.as_bytes()),
-        right: net(names, &tables.supplies, card.source.as_bytes()),
-        level: level(tables, card.name.as_bytes(), card.model.as_bytes()),
-        keeper: tables.devices.keepers.contains(card.name.as_bytes()),
+        kind: kind_or_n(&index.models, card.model.as_bytes()),
+        gate: net(names, &index.supplies, card.gate.as_bytes()),
+        left: net(names, &index.supplies, card.drain.as_bytes()),
+        right: net(names, &index.supplies, card.source.as_bytes()),
+        level: level(
+            &index.models,
+            table,
+            card.name.as_bytes(),
+            card.model.as_bytes(),
+        ),
+        keeper: table.keepers.contains(card.name.as_bytes()),
     })
 }
 
@@ -60,14 +67,15 @@ fn device(
 fn add_device(
     alloc: Global,
     found: &mut Seq<Device>,
-    tables: &RuleTables,
+    index: &RuleIndex,
+    table: &DeviceTable,
     names: &Names,
     card: &DeviceCard,
 ) -> Result<(), NoMemory>
     requires few { length names.now + 2 ≤ 20000 }
-    ensures { OnOk result (found.new ≡ found.old ++ device_in tables.now names.now card.now ∷ []) }
+    ensures { OnOk result (found.new ≡ found.old ++ device_in index.now table.now names.now card.now ∷ []) }
 {
-    append(found, device(alloc, tables, names, card)?)?;
+    append(found, device(alloc, index, table, names, card)?)?;
     Ok(())
 }
 
@@ -75,16 +83,17 @@ fn add_device(
 fn add_devices(
     alloc: Global,
     found: &mut Seq<Device>,
-    tables: &RuleTables,
+    index: &RuleIndex,
+    table: &DeviceTable,
     names: &Names,
     cards: &[DeviceCard],
 ) -> Result<(), NoMemory>
     requires empty { found.old ≡ [] }
     requires few { length names.now + 2 ≤ 20000 }
-    ensures { OnOk result (found.new ≡ map (device_in tables.now names.now) cards.now) }
+    ensures { OnOk result (found.new ≡ map (device_in index.now table.now names.now) cards.now) }
 {
     for card in cards {
-        add_device(alloc, found, tables, names, card)?;
+        add_device(alloc, found, index, table, names, card)?;
     }
     Ok(())
 }
@@ -92,14 +101,15 @@ fn add_devices(
 /// The devices of some cards.
 pub fn devices(
     alloc: Global,
-    tables: &RuleTables,
+    index: &RuleIndex,
+    table: &DeviceTable,
     names: &Names,
     cards: &[DeviceCard],
 ) -> Result<Seq<Device>, NoMemory>
     requires few { length names.now + 2 ≤ 20000 }
-    ensures { IfOk result (λ found. found ≡ map (device_in tables.now names.now) cards.now) }
+    ensures { IfOk result (λ found. found ≡ map (device_in index.now table.now names.now) cards.now) }
 {
     let mut found = Seq::new(alloc);
-    add_devices(alloc, &mut found, tables, names, cards)?;
+    add_devices(alloc, &mut found, index, table, names, cards)?;
     Ok(found)
 }

@@ -2,12 +2,11 @@
 
 ghost use Rattle.std.specs.Prelude.{◌≡◌};
 ghost use Rattle.std.specs.Option.{option_copied};
-ghost use Rattle.flatten.specs.Walks.{AreCellNames, card_without_kind, first_card, has_no_kind};
+ghost use Rattle.flatten.specs.Walks.{AreNumbered, card_without_kind, first_card, has_no_kind};
 
-use crate::cell_names::cell_number;
+use crate::cells::cell_number;
 use crate::devices::without_kind;
-use crate::rule_tables::ModelTable;
-use names::Names;
+use rule_index::{FirstValues, ModelTable};
 use vrt_model::{Design, DeviceCard};
 
 /// The first device without a kind, of a cell and then of the cells in it, at most so deep. It takes time in proportion to
@@ -15,11 +14,11 @@ use vrt_model::{Design, DeviceCard};
 fn first_without<'a>(
     models: &ModelTable,
     design: &'a Design,
-    names: &Names,
+    cells: &FirstValues<usize>,
     cell: usize,
     depth: u32,
 ) -> Option<&'a DeviceCard>
-    requires { AreCellNames design.now names.now }
+    requires { AreNumbered design.now cells.now }
     ensures { option_copied result ≡ first_card (has_no_kind models.now) design.entry.now depth cell }
 {
     let found = design.cells.get(cell)?;
@@ -31,8 +30,8 @@ fn first_without<'a>(
     }
     let below = depth - 1;
     for card in found.instances.as_slice() {
-        let number = cell_number(names, card.cell.as_bytes());
-        if let Some(first) = first_without(models, design, names, number, below) {
+        let number = cell_number(cells, card.cell.as_bytes());
+        if let Some(first) = first_without(models, design, cells, number, below) {
             return Some(first);
         }
     }
@@ -43,11 +42,11 @@ fn first_without<'a>(
 pub fn unrolled_without_kind<'a>(
     models: &ModelTable,
     design: &'a Design,
-    names: &Names,
+    cells: &FirstValues<usize>,
     cell: usize,
 ) -> Option<&'a DeviceCard>
-    requires { AreCellNames design.now names.now }
+    requires { AreNumbered design.now cells.now }
     ensures { option_copied result ≡ card_without_kind models.now design.entry.now cell }
 {
-    first_without(models, design, names, cell, 32)
+    first_without(models, design, cells, cell, 32)
 }

@@ -4,11 +4,10 @@ ghost use Rattle.std.specs.Prelude.{◌≡◌, ◌≤◌, ◌+◌, [], length, f
 ghost use Rattle.vrt_model.specs.Lists.{has_name};
 ghost use Rattle.names.specs.Names.{with_names};
 ghost use Rattle.flatten.specs.NetTables.{IsNetTable, card_nets, globals_named, nets_named, number_in, place_in, with_named, with_net, with_nets};
-ghost use Rattle.flatten.specs.Tables.{supply_in};
+ghost use Rattle.rule_index.specs.Tables.{supply_in};
 
-use crate::firsts::FirstValues;
-use crate::rule_tables::supply;
 use names::Names;
+use rule_index::{FirstValues, supply};
 use std::alloc::Global;
 use vrt_model::{Cell, Design, DeviceCard, Net, NoMemory, Text};
 

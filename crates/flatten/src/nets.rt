@@ -3,15 +3,14 @@
 ghost use Rattle.std.specs.Prelude.{◌≡◌, ◌≤◌, ◌++◌, ◌∷◌, [], false, true, IfOk, OnOk, codes, cond, drop, find, length, map, not, slice_get};
 ghost use Rattle.std.specs.Option.{option_copied};
 ghost use Rattle.flatten.specs.NetTables.{nets_in, port_nets_in, port_net_in};
-ghost use Rattle.flatten.specs.Tables.{supply_in};
+ghost use Rattle.rule_index.specs.Tables.{supply_in};
 ghost use Rattle.vrt_model.specs.FlatCircuit.{kind_by, kind_by_role, plain_net, supply_flat, supply_name};
 ghost use Rattle.vrt_model.specs.Lists.{differ};
 ghost use Rattle.vrt_model.specs.declared.rules.SupplyRule.{SupplyRule as RuleValue};
 
-use crate::firsts::FirstValues;
 use crate::lists::append;
 use crate::net_names::NetTable;
-use crate::rule_tables::supply;
+use rule_index::{FirstValues, supply};
 use std::alloc::Global;
 use vrt_model::{FlatNet, NetKind, NoMemory, PortRole, Rules, Seq, SupplyRule, Text};
 

@@ -1,26 +1,24 @@
 //! What stands in the way of a flat circuit.
 
 ghost use Rattle.std.specs.Prelude.{◌≡◌, ◌<◌, ◌+◌, [], None, length, nat_lt, option_map};
-ghost use Rattle.flatten.specs.CellTables.{AreFreshCellTables};
 ghost use Rattle.flatten.specs.Structures.{CausesGive, StructureGives, TestGives, large_in};
-ghost use Rattle.flatten.specs.Tables.{AreFreshTables, supply_in};
-ghost use Rattle.flatten.specs.Walks.{AreCellNames, card_without_kind, tie_from, top_spot};
+ghost use Rattle.flatten.specs.Walks.{AreNumbered, card_without_kind, tie_from, top_spot};
+ghost use Rattle.rule_index.specs.Tables.{AreIndexed, supply_in};
 ghost use Rattle.vrt_model.specs.Comparison.{cell_at};
 ghost use Rattle.vrt_model.specs.Inputs.{IsDesign};
-ghost use Rattle.vrt_model.specs.Unsupported.{carried, device_without_kind, supply_tie, top_before};
+ghost use Rattle.vrt_model.specs.Unsupported.{carried, top_before};
 ghost use Rattle.vrt_model.specs.declared.design.DeviceCard.{DeviceCard as CardValue};
+ghost use Rattle.vrt_model.specs.declared.rules.Rules.{Rules as RulesValue};
 
-use crate::cell_names::cell_names;
 use crate::cells::{cell_of, is_leaf};
 use crate::devices::without_kind;
 use crate::faults::FlatFault;
-use crate::firsts::FirstValues;
 use crate::kinds::unrolled_without_kind;
-use crate::rule_tables::{ModelTable, RuleTables, note_supplies};
-use crate::tables::CellTables;
+use crate::net_names::NetTable;
 use crate::ties::tied_apart;
 use flat_sizes::{FlatSizes, sizes};
 use names::Names;
+use rule_index::{ModelTable, RuleIndex, index_of};
 use std::alloc::Global;
 use vrt_model::{Design, DeviceCard, Rules, Text};
 
@@ -62,24 +60,24 @@ pub fn test(
     }
 }
 
-/// Tests a cell, by tables that are filled first.
+/// Tests a cell, by a table of its nets that is filled first.
 fn structure_by(
     alloc: Global,
+    index: &RuleIndex,
     design: &Design,
-    rules: &Rules,
     cell: u32,
-    tables: &mut CellTables,
+    nets: &mut NetTable,
 ) -> Result<(), FlatFault>
     requires netlist { IsDesign design.now }
     requires there { cell < length design.now.cells }
     requires leaf { (cell_at design.now cell).instances ≡ [] }
-    requires fresh { AreFreshCellTables tables.old }
-    ensures { StructureGives (top_before design.now rules.now cell) result }
+    requires fresh { nets.old.names ≡ [] }
+    ensures { (rules : RulesValue) → AreIndexed design.now rules index.now → StructureGives (top_before design.now rules cell) result }
 {
     let cell = cell_of(design, cell);
-    tables.fill_names(alloc, design, rules, cell)?;
+    nets.fill(alloc, &index.supplies, design, cell)?;
     let cards = cell.devices.as_slice();
-    test(alloc, &tables.rules.models, &tables.nets.names, cards)
+    test(alloc, &index.models, &nets.names, cards)
 }
 
 /// The first count that passes its limit.
@@ -99,19 +97,13 @@ fn first_large(counts: FlatSizes) -> Option<u64>
 }
 
 /// Tests whether an instance ties a supply to another net.
-fn test_ties(
-    alloc: Global,
-    design: &Design,
-    names: &Names,
-    supplies: &FirstValues<bool>,
-    cell: u32,
-) -> Result<(), FlatFault>
+fn test_ties(alloc: Global, index: &RuleIndex, design: &Design, cell: u32) -> Result<(), FlatFault>
     requires netlist { IsDesign design.now }
-    requires named { AreCellNames design.now names.now }
+    requires numbered { AreNumbered design.now index.now.cells }
     requires there { cell < length design.now.cells }
-    ensures { CausesGive None None (tie_from design.now (supply_in supplies.now) (top_spot design.now (supply_in supplies.now) cell)) result }
+    ensures { CausesGive None None (tie_from design.now (supply_in index.now.supplies) (top_spot design.now (supply_in index.now.supplies) cell)) result }
 {
-    let path = tied_apart(alloc, design, names, supplies, cell)?;
+    let path = tied_apart(alloc, design, &index.cells, &index.supplies, cell)?;
     match path {
         Some(path) => Err(FlatFault::SupplyTie { path }),
         None => Ok(()),
@@ -121,55 +113,62 @@ fn test_ties(
 /// Tests the models of all devices, then the ties of all instances.
 fn test_unrolled(
     alloc: Global,
+    index: &RuleIndex,
     design: &Design,
-    names: &Names,
-    tables: &RuleTables,
     cell: u32,
 ) -> Result<(), FlatFault>
     requires netlist { IsDesign design.now }
-    requires named { AreCellNames design.now names.now }
+    requires numbered { AreNumbered design.now index.now.cells }
     requires there { cell < length design.now.cells }
-    ensures { CausesGive None (option_map (λ (d : CardValue). d.model) (card_without_kind tables.now.models design.now cell)) (tie_from design.now (supply_in tables.now.supplies) (top_spot design.now (supply_in tables.now.supplies) cell)) result }
+    ensures { CausesGive None (option_map (λ (d : CardValue). d.model) (card_without_kind index.now.models design.now cell)) (tie_from design.now (supply_in index.now.supplies) (top_spot design.now (supply_in index.now.supplies) cell)) result }
 {
-    match unrolled_without_kind(&tables.models, design, names, cell as usize) {
+    match unrolled_without_kind(&index.models, design, &index.cells, cell as usize) {
         Some(card) => {
             let model = Text::from_bytes(alloc, card.model.as_bytes())?;
             Err(FlatFault::DeviceModel { model })
         }
-        None => test_ties(alloc, design, names, &tables.supplies, cell),
+        None => test_ties(alloc, index, design, cell),
     }
 }
 
-/// The same, by tables that are filled first.
-fn test_by(
+/// Tests a cell with its instances. No instance is unrolled where a count passes its limit.
+fn test_whole(
     alloc: Global,
+    index: &RuleIndex,
     design: &Design,
     rules: &Rules,
     cell: u32,
-    tables: &mut RuleTables,
 ) -> Result<(), FlatFault>
     requires netlist { IsDesign design.now }
-    requires there { cell < length design.now.cells }
-    requires fresh { AreFreshTables tables.old }
-    ensures { CausesGive None (device_without_kind (top_before design.now rules.now cell)) (supply_tie (top_before design.now rules.now cell)) result }
-{
-    note_supplies(&mut tables.supplies, rules.supplies.as_slice())?;
-    tables.models.fill(design, rules)?;
-    let names = cell_names(alloc, design)?;
-    test_unrolled(alloc, design, &names, tables, cell)
-}
-
-/// Tests a cell with its instances. No instance is unrolled where a count passes its limit.
-fn test_whole(alloc: Global, design: &Design, rules: &Rules, cell: u32) -> Result<(), FlatFault>
-    requires netlist { IsDesign design.now }
+    requires indexed { AreIndexed design.now rules.now index.now }
     requires there { cell < length design.now.cells }
     ensures { StructureGives (top_before design.now rules.now cell) result }
 {
     if let Some(count) = first_large(sizes(design, rules, cell)) {
         return Err(FlatFault::Limit { count });
     }
-    let mut tables = RuleTables::new(alloc);
-    test_by(alloc, design, rules, cell, &mut tables)
+    test_unrolled(alloc, index, design, cell)
+}
+
+/// Tests what stands in the way of the flat circuit of a cell by the tables of its netlist and rules: the same as
+/// `structure`.
+pub fn structure_with(
+    alloc: Global,
+    index: &RuleIndex,
+    design: &Design,
+    rules: &Rules,
+    cell: u32,
+) -> Result<(), FlatFault>
+    requires netlist { IsDesign design.now }
+    requires indexed { AreIndexed design.now rules.now index.now }
+    requires there { cell < length design.now.cells }
+    ensures { StructureGives (top_before design.now rules.now cell) result }
+{
+    if is_leaf(design, cell) {
+        let mut nets = NetTable::new(alloc);
+        return structure_by(alloc, index, design, cell, &mut nets);
+    }
+    test_whole(alloc, index, design, rules, cell)
 }
 
 /// Tests, before a cell is paired, what stands in the way of its flat circuit, in this order: a count of nets, devices or
@@ -179,9 +178,6 @@ pub fn structure(alloc: Global, design: &Design, rules: &Rules, cell: u32) -> Re
     requires there { cell < length design.now.cells }
     ensures { StructureGives (top_before design.now rules.now cell) result }
 {
-    if is_leaf(design, cell) {
-        let mut tables = CellTables::new(alloc);
-        return structure_by(alloc, design, rules, cell, &mut tables);
-    }
-    test_whole(alloc, design, rules, cell)
+    let index = index_of(alloc, design, rules)?;
+    structure_with(alloc, &index, design, rules, cell)
 }

@@ -1,17 +1,21 @@
 //! The tables of one cell.
 
-ghost use Rattle.std.specs.Prelude.{◌≡◌, OnOk};
-ghost use Rattle.flatten.specs.CellTables.{AreCellTables, AreFreshCellTables, AreNamed};
+ghost use Rattle.std.specs.Prelude.{OnOk};
+ghost use Rattle.flatten.specs.CellTables.{AreCellTables, AreFreshCellTables};
+ghost use Rattle.rule_index.specs.Tables.{AreIndexed};
 
+use crate::device_tables::DeviceTable;
 use crate::net_names::NetTable;
-use crate::rule_tables::{RuleTables, note_supplies};
+use rule_index::RuleIndex;
 use std::alloc::Global;
 use vrt_model::{Cell, Design, NoMemory, Rules};
 
-/// What is said of the names in one cell, and the names of its nets.
+/// What is said of the devices of one cell, and the names of its nets.
 pub struct CellTables {
-    /// What the rules and `.model` cards say of supplies, device models and transistors.
-    pub rules: RuleTables,
+    /// What memory is taken from.
+    pub alloc: Global,
+    /// What is said of the transistors of the cell alone.
+    pub devices: DeviceTable,
     /// The names of the nets of the cell, whose places give the nets their numbers.
     pub nets: NetTable,
 }
@@ -20,7 +24,8 @@ pub struct CellTables {
 impl Drop for CellTables {
     fn drop(self) {
         let CellTables {
-            rules: _rules,
+            alloc: _alloc,
+            devices: _devices,
             nets: _nets,
         } = self;
     }
@@ -32,42 +37,27 @@ impl CellTables {
         ensures { AreFreshCellTables result }
     {
         CellTables {
-            rules: RuleTables::new(alloc),
+            alloc,
+            devices: DeviceTable::new(alloc),
             nets: NetTable::new(alloc),
         }
     }
 
-    /// Notes the supplies and what is said of models, and names the nets, where nothing is said yet.
-    pub fn fill_names(
-        &mut self,
-        alloc: Global,
-        design: &Design,
-        rules: &Rules,
-        cell: &Cell,
-    ) -> Result<(), NoMemory>
-        requires { AreFreshCellTables self.old }
-        ensures named { OnOk result (AreNamed design.now rules.now cell.now self.new) }
-        ensures devices { OnOk result (self.new.rules.devices ≡ self.old.rules.devices) }
-    {
-        note_supplies(&mut self.rules.supplies, rules.supplies.as_slice())?;
-        self.rules.models.fill(design, rules)?;
-        self.nets.fill(alloc, &self.rules.supplies, design, cell)?;
-        Ok(())
-    }
-
-    /// The same, and what is said of devices.
+    /// Notes what is said of the devices of a cell and names its nets, where nothing is said yet.
     pub fn fill(
         &mut self,
-        alloc: Global,
+        index: &RuleIndex,
         design: &Design,
         rules: &Rules,
         cell: &Cell,
     ) -> Result<(), NoMemory>
-        requires { AreFreshCellTables self.old }
-        ensures { OnOk result (AreCellTables design.now rules.now cell.now self.new) }
+        requires fresh { AreFreshCellTables self.old }
+        requires tables { AreIndexed design.now rules.now index.now }
+        ensures { OnOk result (AreCellTables design.now rules.now cell.now index.now self.new) }
     {
-        self.fill_names(alloc, design, rules, cell)?;
-        self.rules.devices.fill(rules, cell.name.as_bytes())?;
+        self.nets.fill(self.alloc, &index.supplies, design, cell)?;
+        let lines = &index.lines.devices;
+        self.devices.fill(lines, rules, cell.name.as_bytes())?;
         Ok(())
     }
 }

@@ -2,17 +2,15 @@
 
 ghost use Rattle.std.specs.Prelude.{◌≡◌, ◌<◌, [], length, map, IfOk};
 ghost use Rattle.names.specs.Names.{with_names};
-ghost use Rattle.flatten.specs.Tables.{supply_in};
-ghost use Rattle.flatten.specs.Walks.{AreCellNames, are_apart, first_tie, is_apart, port_supply, spot_by, tie_from, tied_supply, top_spot};
+ghost use Rattle.rule_index.specs.Tables.{supply_in};
+ghost use Rattle.flatten.specs.Walks.{AreNumbered, are_apart, first_tie, is_apart, port_supply, spot_by, tie_from, tied_supply, top_spot};
 ghost use Rattle.vrt_model.specs.Inputs.{IsDesign};
 ghost use Rattle.vrt_model.specs.Lists.{path_name};
 
-use crate::cell_names::cell_number;
-use crate::cells::cell_of;
-use crate::firsts::FirstValues;
+use crate::cells::{cell_number, cell_of};
 use crate::lists::append;
-use crate::rule_tables::supply;
 use names::Names;
+use rule_index::{FirstValues, supply};
 use std::alloc::Global;
 use vrt_model::{Cell, Design, InstanceCard, NoMemory, Seq, Text};
 
@@ -158,18 +156,18 @@ fn port_names(alloc: Global, cell: &Cell) -> Result<Names, NoMemory>
 /// An instance in a cell.
 fn inner_spot(
     alloc: Global,
-    names: &Names,
+    cells: &FirstValues<usize>,
     supplies: &FirstValues<bool>,
     ports: &Names,
     at: &Spot,
     card: &InstanceCard,
 ) -> Result<Spot, NoMemory>
-    ensures { IfOk result (λ spot. spot ≡ spot_by names.now (supply_in supplies.now) ports.now at.now card.now) }
+    ensures { IfOk result (λ spot. spot ≡ spot_by cells.now (supply_in supplies.now) ports.now at.now card.now) }
 {
     let path = inner_path(alloc, &at.path, card.name.as_bytes())?;
     let values = at.values.as_slice();
     let values = tied_values(alloc, supplies, ports, values, card.nets.as_slice())?;
-    let cell = cell_number(names, card.cell.as_bytes());
+    let cell = cell_number(cells, card.cell.as_bytes());
     Ok(Spot { cell, path, values })
 }
 
@@ -178,13 +176,13 @@ fn inner_spot(
 fn first_from(
     alloc: Global,
     design: &Design,
-    names: &Names,
+    cells: &FirstValues<usize>,
     supplies: &FirstValues<bool>,
     at: &Spot,
     depth: u32,
 ) -> Result<Option<Text>, NoMemory>
     requires netlist { IsDesign design.now }
-    requires named { AreCellNames design.now names.now }
+    requires numbered { AreNumbered design.now cells.now }
     ensures { IfOk result (λ path. path ≡ first_tie design.now (supply_in supplies.now) depth at.now) }
 {
     let Some(cell) = design.cells.get(at.cell) else {
@@ -200,8 +198,8 @@ fn first_from(
     let below = depth - 1;
     let ports = port_names(alloc, cell)?;
     for card in cell.instances.as_slice() {
-        let inner = inner_spot(alloc, names, supplies, &ports, at, card)?;
-        let found = first_from(alloc, design, names, supplies, &inner, below)?;
+        let inner = inner_spot(alloc, cells, supplies, &ports, at, card)?;
+        let found = first_from(alloc, design, cells, supplies, &inner, below)?;
         if found.is_some() {
             return Ok(found);
         }
@@ -213,12 +211,12 @@ fn first_from(
 pub fn tied_apart(
     alloc: Global,
     design: &Design,
-    names: &Names,
+    cells: &FirstValues<usize>,
     supplies: &FirstValues<bool>,
     cell: u32,
 ) -> Result<Option<Text>, NoMemory>
     requires netlist { IsDesign design.now }
-    requires named { AreCellNames design.now names.now }
+    requires numbered { AreNumbered design.now cells.now }
     requires there { cell < length design.now.cells }
     ensures { IfOk result (λ path. path ≡ tie_from design.now (supply_in supplies.now) (top_spot design.now (supply_in supplies.now) cell)) }
 {
@@ -229,5 +227,5 @@ pub fn tied_apart(
         path: Text::new(alloc),
         values,
     };
-    first_from(alloc, design, names, supplies, &top, 32)
+    first_from(alloc, design, cells, supplies, &top, 32)
 }

@@ -1,7 +1,7 @@
 use Rattle.std.proofs.Common.{arith, ap, ◌∙◌}
 use Rattle.flatten.proofs.NetTurns.{named_kept, named_on}
 use Rattle.flatten.specs.NetTables.{with_named}
-use Rattle.flatten.specs.Tables.{supply_in}
+use Rattle.rule_index.specs.Tables.{supply_in}
 use Rattle.flatten.proofs.net_names.add_all_named.Goals as goal
 
 pub loop-name-preserved : goal.loop-name-preserved

@@ -1,7 +1,7 @@
 use Rattle.std.proofs.Common.{◌≡◌, drop, filter}
 use Rattle.vrt_model.specs.Lists.{has_name}
 use Rattle.flatten.specs.NetTables.{with_nets}
-use Rattle.flatten.specs.Tables.{supply_in}
+use Rattle.rule_index.specs.Tables.{supply_in}
 use Rattle.flatten.proofs.net_names.add_all_named.Given as goal
 
 -- the names so far, with those of the rest that cards name

@@ -1,6 +1,6 @@
 use Rattle.std.proofs.Common.{arith}
 use Rattle.flatten.proofs.NetTurns.{cards_kept, cards_on}
-use Rattle.flatten.specs.Tables.{supply_in}
+use Rattle.rule_index.specs.Tables.{supply_in}
 use Rattle.flatten.proofs.net_names.add_cards.Goals as goal
 
 pub loop-card-preserved : goal.loop-card-preserved

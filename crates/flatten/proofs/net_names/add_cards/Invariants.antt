@@ -1,6 +1,6 @@
 use Rattle.std.proofs.Common.{◌≡◌, drop}
 use Rattle.flatten.specs.NetTables.{nets_named, with_nets}
-use Rattle.flatten.specs.Tables.{supply_in}
+use Rattle.rule_index.specs.Tables.{supply_in}
 use Rattle.flatten.proofs.net_names.add_cards.Given as goal
 
 -- the names so far, with those of the rest

@@ -1,6 +1,6 @@
 use Rattle.std.proofs.Common.{◌≡◌, ◌++◌, length}
 use Rattle.flatten.specs.NetTables.{port_nets_in}
-use Rattle.flatten.specs.Tables.{supply_in}
+use Rattle.rule_index.specs.Tables.{supply_in}
 use Rattle.flatten.proofs.nets.add_ports.Given as goal
 
 -- the nets so far, with those of the ports that are left

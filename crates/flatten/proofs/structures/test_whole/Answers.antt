@@ -1,12 +1,18 @@
 use Rattle.std.proofs.Common.{◌∙◌, sym}
-use Rattle.flatten.proofs.StructureLaws.{sized_large, structured}
+use Rattle.flatten.proofs.StructureLaws.{causes_are, sized_large, structured}
 use Rattle.vrt_model.specs.Unsupported.{top_before}
 use Rattle.flatten.proofs.structures.test_whole.Goals as goal
+
+pub test_unrolled-requires-clause-numbered : goal.test_unrolled-requires-clause-numbered
+test_unrolled-requires-clause-numbered c = c.requires.indexed.cells_are
 
 pub returns : goal.returns
 returns c =
     let t = top_before c.args.design.now c.args.rules.now c.args.cell in
-    structured t c.test_by.result (sym (sized_large t c.sizes.result c.sizes.ensures) ∙ sym c.in_default.ensures) c.test_by.ensures
+    let indexed = c.requires.indexed in
+    structured t c.test_unrolled.result (sym (sized_large t c.sizes.result c.sizes.ensures) ∙ sym c.in_default.ensures)
+    (causes_are c.args.design.now c.args.rules.now c.args.cell c.args.index.now.supplies c.args.index.now.models c.test_unrolled.result indexed.rules_are.supplies_are indexed.models_are
+    c.test_unrolled.ensures)
 
 pub returns-in-Some : goal.returns-in-Some
 returns-in-Some c =

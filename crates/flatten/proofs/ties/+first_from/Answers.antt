@@ -1,6 +1,6 @@
-use Rattle.std.proofs.Common.{◌≡◌, ◌-◌, ℕ, List, suc, cond, Bool, Option, None, Some, refl, ap, sym, ◌∙◌, arith}
+use Rattle.std.proofs.Common.{◌-◌, cond, Bool, None, Some, ap, ◌∙◌, arith}
 use Rattle.flatten.proofs.WalkLaws.{inner_ties, none_left, not_here, some_here, spot_is, tied_here}
-use Rattle.flatten.specs.Tables.{supply_in}
+use Rattle.rule_index.specs.Tables.{supply_in}
 use Rattle.flatten.specs.Walks.{first_tie, spot_in}
 use Rattle.vrt_model.specs.declared.design.InstanceCard.{InstanceCard}
 use Rattle.flatten.proofs.ties.+first_from.Goals as goal
@@ -12,7 +12,7 @@ returns-then-is_some t c =
     some_here (λ (i : InstanceCard). first_tie c.args.design.now supply below (spot_in c.args.design.now supply c.args.at.now i)) c.as_slice-card-items.result.now c.loop-card.card-index c.card-item.result
     c.in_ok-found.found c.is_some.result (omega arith) c.card-item.is
     (c.in_ok-found.ensures ∙ ap (first_tie c.args.design.now supply below)
-    (c.in_ok-inner.ensures ∙ spot_is c.args.design.now c.args.names.now supply 0 c.in-Some.cell.now c.in_ok-ports.ports c.args.at.now c.card-item.result c.requires.netlist c.requires.named c.in-Some.ensures c.in_ok-ports.ensures))
+    (c.in_ok-inner.ensures ∙ spot_is c.args.design.now c.args.cells.now supply 0 c.in-Some.cell.now c.in_ok-ports.ports c.args.at.now c.card-item.result c.requires.netlist c.requires.numbered c.in-Some.ensures c.in_ok-ports.ensures))
     c.is_some.ensures c.if-is_some.true c.loop-card.invariant
     ∙ inner_ties c.args.design.now supply c.args.depth below c.args.at.now c.in-Some.cell.now c.as_slice-card-items.result.now c.in-Some.ensures
     (tied_here c.args.design.now supply 0 c.args.at.now c.in-Some.cell.now c.as_slice.result.now c.as_slice-2.result.now c.ties_apart.result c.in-Some.ensures c.as_slice.ensures c.as_slice-2.ensures c.ties_apart.ensures
@@ -26,7 +26,7 @@ loop-card-preserved t c =
     not_here (λ (i : InstanceCard). first_tie c.args.design.now supply below (spot_in c.args.design.now supply c.args.at.now i)) c.as_slice-card-items.result.now c.loop-card.card-index c.card-item.result
     c.in_ok-found.found c.is_some.result (omega arith) c.card-item.is
     (c.in_ok-found.ensures ∙ ap (first_tie c.args.design.now supply below)
-    (c.in_ok-inner.ensures ∙ spot_is c.args.design.now c.args.names.now supply 0 c.in-Some.cell.now c.in_ok-ports.ports c.args.at.now c.card-item.result c.requires.netlist c.requires.named c.in-Some.ensures c.in_ok-ports.ensures))
+    (c.in_ok-inner.ensures ∙ spot_is c.args.design.now c.args.cells.now supply 0 c.in-Some.cell.now c.in_ok-ports.ports c.args.at.now c.card-item.result c.requires.netlist c.requires.numbered c.in-Some.ensures c.in_ok-ports.ensures))
     c.is_some.ensures c.if-is_some.false c.loop-card.invariant
 
 pub returns : goal.returns

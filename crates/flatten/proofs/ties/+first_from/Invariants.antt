@@ -1,5 +1,5 @@
 use Rattle.flatten.proofs.WalkLaws.{Left}
-use Rattle.flatten.specs.Tables.{supply_in}
+use Rattle.rule_index.specs.Tables.{supply_in}
 use Rattle.flatten.specs.Walks.{first_tie, spot_in}
 use Rattle.vrt_model.specs.declared.design.InstanceCard.{InstanceCard}
 use Rattle.flatten.proofs.ties.+first_from.Given as goal

@@ -1,5 +1,5 @@
 use Rattle.std.proofs.Common.{◌≡◌, map, take}
-use Rattle.flatten.specs.Tables.{supply_in}
+use Rattle.rule_index.specs.Tables.{supply_in}
 use Rattle.flatten.proofs.ties.own_values.Given as goal
 
 -- the ports so far

@@ -1,5 +1,5 @@
 use Rattle.std.proofs.Common.{◌≡◌, length}
-use Rattle.flatten.specs.Tables.{supply_in}
+use Rattle.rule_index.specs.Tables.{supply_in}
 use Rattle.flatten.specs.Walks.{are_apart}
 use Rattle.flatten.proofs.ties.ties_apart.Given as goal
 
