@@ -1,0 +1,12 @@
+-- A rule that is found decides by its model; where none is, no cell is skipped.
+use Rattle.latch_match.proofs.PairLaws.{ruled_skipped, unruled_kept}
+use Rattle.prepared_tables.proofs.pairs.is_left_out.Goals as goal
+
+pub returns-in-Some : goal.returns-in-Some
+returns-in-Some c = λ blif. ruled_skipped blif c.args.cell.now c.in-Some.rule.now _ c.is_none.result c.in-Some.ensures c.is_none.ensures
+
+pub returns-in-None : goal.returns-in-None
+returns-in-None c = λ blif. (
+  λ h. cc,
+  λ e. absurd (unruled_kept blif c.args.cell.now _ c.in-None.ensures e),
+)

@@ -1,0 +1,2 @@
+pub mod ModelNames
+pub mod Prepared
