@@ -3,9 +3,10 @@
 ghost use Rattle.std.specs.Prelude.{◌≡◌, ◌≤◌, ◌<◌, [], None, false, length, IfOk};
 ghost use Rattle.cell_compare.specs.Compared.{AreInputs, IsBuilt};
 ghost use Rattle.cell_compare.specs.Cells.{HasLine, HasFacts};
+ghost use Rattle.prepared_tables.specs.Prepared.{ArePrepared};
 ghost use Rattle.vrt_model.specs.Inputs.{AreRules, IsBlif, IsDesign};
 ghost use Rattle.vrt_model.specs.Models.{AreModels};
-ghost use Rattle.vrt_model.specs.PairedPorts.{Model, paired_model};
+ghost use Rattle.vrt_model.specs.PairedPorts.{Model, model_of_paired, paired_model};
 ghost use Rattle.vrt_model.specs.Verdicts.{IsVerdict};
 
 use crate::checks::check_cell;
@@ -13,7 +14,7 @@ use crate::flattened::{Comparison, Flattened};
 use crate::flattening::flatten_cell;
 use crate::known_facts::{facts_of, no_facts};
 use crate::unchecked::Unchecked;
-use latch_match::{is_skipped, model_of};
+use prepared_tables::{Prepared, is_skipped_with, model_of_with, prepare};
 use std::alloc::Global;
 use vrt_model::{Blif, CellFacts, Design, NoMemory, Rules, Seq, Verdict, Why};
 
@@ -44,6 +45,7 @@ fn without(alloc: Global, verdict: Verdict) -> Compared
 fn compare_with(
     alloc: Global,
     budget: u32,
+    prepared: &Prepared,
     design: &Design,
     blif: &Blif,
     rules: &Rules,
@@ -51,13 +53,14 @@ fn compare_with(
     model: u32,
 ) -> Result<Compared, NoMemory>
     requires budget { (65536 ≤ budget) × (budget ≤ 64000000) }
+    requires prepared { ArePrepared design.now blif.now rules.now prepared.now }
     requires inputs { AreInputs design.now blif.now rules.now cell }
     requires paired { paired_model design.now blif.now rules.now cell ≡ Model model }
     ensures verdict { IfOk result (λ c. IsVerdict design.now blif.now rules.now budget cell c.verdict) }
     ensures line { IfOk result (λ c. HasLine design.now blif.now rules.now cell c.verdict c.flattened) }
     ensures facts { IfOk result (λ c. HasFacts design.now blif.now rules.now cell c.verdict c.facts) }
 {
-    let flattened = match flatten_cell(alloc, design, blif, rules, cell, model) {
+    let flattened = match flatten_cell(alloc, prepared, design, blif, rules, cell, model) {
         Ok(flattened) => flattened,
         Err(Unchecked::Because(why)) => return Ok(without(alloc, Verdict::Unsupported(why))),
         Err(Unchecked::NoMemory) => return Err(NoMemory),
@@ -75,6 +78,56 @@ fn compare_with(
         facts,
         flattened: Some(flattened),
     })
+}
+
+/// The number of the model with which a cell pairs.
+fn paired_number(
+    prepared: &Prepared,
+    design: &Design,
+    blif: &Blif,
+    rules: &Rules,
+    cell: u32,
+) -> Option<u32>
+    requires { ArePrepared design.now blif.now rules.now prepared.now }
+    ensures { result ≡ model_of_paired (paired_model design.now blif.now rules.now cell) }
+{
+    // the names of the models are in the tables
+    let _unread = blif;
+    model_of_with(prepared, design, rules, cell)
+}
+
+/// The verdict on a cell by the tables of the netlist, the models and the rules, which `prepare` makes: the same as `compare`,
+/// in a time that does not grow with the numbers of cells and models.
+pub fn compare_prepared(
+    alloc: Global,
+    budget: u32,
+    prepared: &Prepared,
+    design: &Design,
+    blif: &Blif,
+    rules: &Rules,
+    cell: u32,
+    facts: &Seq<CellFacts>,
+) -> Result<Compared, NoMemory>
+    requires budget { (65536 ≤ budget) × (budget ≤ 64000000) }
+    requires prepared { ArePrepared design.now blif.now rules.now prepared.now }
+    requires design { IsDesign design.now }
+    requires blif { IsBlif blif.now }
+    requires models { AreModels blif.now }
+    requires rules { AreRules rules.now }
+    requires cell { cell < length design.now.cells }
+    requires built { IsBuilt design.now blif.now rules.now cell }
+    ensures verdict { IfOk result (λ c. IsVerdict design.now blif.now rules.now budget cell c.verdict) }
+    ensures line { IfOk result (λ c. HasLine design.now blif.now rules.now cell c.verdict c.flattened) }
+    ensures facts { IfOk result (λ c. HasFacts design.now blif.now rules.now cell c.verdict c.facts) }
+{
+    let _unread = facts;
+    if is_skipped_with(prepared, design, rules, cell) {
+        return Ok(without(alloc, Verdict::Skipped));
+    }
+    match paired_number(prepared, design, blif, rules, cell) {
+        Some(model) => compare_with(alloc, budget, prepared, design, blif, rules, cell, model),
+        None => Ok(without(alloc, Verdict::Unsupported(Why::NoModel))),
+    }
 }
 
 /// The verdict on a cell without instances, for models without latches and for rules without holds, keepers, matches and
@@ -103,12 +156,6 @@ pub fn compare(
     ensures line { IfOk result (λ c. HasLine design.now blif.now rules.now cell c.verdict c.flattened) }
     ensures facts { IfOk result (λ c. HasFacts design.now blif.now rules.now cell c.verdict c.facts) }
 {
-    let _unread = facts;
-    if is_skipped(design, rules, cell) {
-        return Ok(without(alloc, Verdict::Skipped));
-    }
-    match model_of(design, blif, rules, cell) {
-        Some(model) => compare_with(alloc, budget, design, blif, rules, cell, model),
-        None => Ok(without(alloc, Verdict::Unsupported(Why::NoModel))),
-    }
+    let prepared = prepare(alloc, design, blif, rules)?;
+    compare_prepared(alloc, budget, &prepared, design, blif, rules, cell, facts)
 }

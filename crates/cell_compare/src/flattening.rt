@@ -1,10 +1,13 @@
 //! A cell and its model flattened, or the first cause that stands in the way before the phases.
 
-ghost use Rattle.std.specs.Prelude.{◌≡◌, ◌<◌, [], filter, length};
+ghost use Rattle.std.specs.Prelude.{◌≡◌, ◌<◌, filter, length};
+ghost use Rattle.blif_flat.specs.Counts.{AreModelTables};
 ghost use Rattle.cell_compare.specs.Compared.{IsBuilt};
 ghost use Rattle.cell_compare.specs.Steps.{CircuitTells, FlattenedTells, InputsTell, ModelTells, PairingTells};
+ghost use Rattle.latch_match.specs.Paired.{PairGives};
+ghost use Rattle.prepared_tables.specs.Prepared.{ArePrepared};
+ghost use Rattle.rule_index.specs.Tables.{AreIndexed};
 ghost use Rattle.vrt_model.specs.Circuits.{IsCircuit};
-ghost use Rattle.vrt_model.specs.Comparison.{cell_at};
 ghost use Rattle.vrt_model.specs.Inputs.{AreRules, IsBlif, IsDesign};
 ghost use Rattle.vrt_model.specs.Models.{AreModels};
 ghost use Rattle.vrt_model.specs.PairedPorts.{Model, paired_model};
@@ -13,10 +16,13 @@ ghost use Rattle.vrt_model.specs.Variables.{is_input};
 ghost use Rattle.vrt_model.specs.declared.circuit.FlatNet.{FlatNet as NetValue};
 
 use crate::flattened::Flattened;
+use crate::ports::cell_of;
 use crate::unchecked::Unchecked;
-use blif_flat::{FlatModelFault, flat_model};
-use flatten::{FlatFault, flat, structure};
-use latch_match::{PairFault, pair_ports};
+use blif_flat::{FlatModelFault, ModelTables, flat_model_with};
+use flatten::{FlatFault, flat_with, structure_with};
+use latch_match::{PairFault, pair_ports_with};
+use prepared_tables::Prepared;
+use rule_index::RuleIndex;
 use std::alloc::Global;
 use vrt_model::{Blif, Circuit, Design, FlatModel, FlatNet, NetKind, Pairing, Rules, Why};
 
@@ -24,16 +30,17 @@ use vrt_model::{Blif, Circuit, Design, FlatModel, FlatNet, NetKind, Pairing, Rul
 /// of the model.
 fn circuit_cause(
     alloc: Global,
+    index: &RuleIndex,
     design: &Design,
     rules: &Rules,
     cell: u32,
 ) -> Result<Option<Why>, Unchecked>
     requires netlist { IsDesign design.now }
+    requires indexed { AreIndexed design.now rules.now index.now }
     requires there { cell < length design.now.cells }
-    requires leaf { (cell_at design.now cell).instances ≡ [] }
     ensures { CircuitTells (top_before design.now rules.now cell) result }
 {
-    match structure(alloc, design, rules, cell) {
+    match structure_with(alloc, index, design, rules, cell) {
         Ok(()) => Ok(None),
         Err(FlatFault::DeviceModel { model }) => Ok(Some(Why::DeviceModel { model })),
         Err(FlatFault::SupplyTie { path }) => Ok(Some(Why::SupplyTie { path })),
@@ -43,32 +50,58 @@ fn circuit_cause(
 }
 
 /// The flat model of a number, or the count that is too large.
-fn flat_model_of(alloc: Global, blif: &Blif, model: u32) -> Result<FlatModel, Unchecked>
+fn flat_model_of(
+    alloc: Global,
+    tables: &ModelTables,
+    blif: &Blif,
+    model: u32,
+) -> Result<FlatModel, Unchecked>
+    requires tables { AreModelTables blif.now tables.now }
     requires blif { IsBlif blif.now }
     requires models { AreModels blif.now }
     ensures { ModelTells blif.now model result }
 {
-    match flat_model(alloc, blif, model) {
+    match flat_model_with(alloc, tables, blif, model) {
         Ok(flat) => Ok(flat),
         Err(FlatModelFault::Limit { count }) => Err(Unchecked::Because(Why::TooLarge { count })),
         Err(FlatModelFault::NoMemory) => Err(Unchecked::NoMemory),
     }
 }
 
+/// The pairing of the ports of a cell by its number.
+fn ports_paired(
+    alloc: Global,
+    index: &RuleIndex,
+    design: &Design,
+    cell: u32,
+    model: u32,
+    flat: &FlatModel,
+    rules: &Rules,
+) -> Result<Pairing, PairFault>
+    requires indexed { AreIndexed design.now rules.now index.now }
+    requires cell { cell < length design.now.cells }
+    requires rules { AreRules rules.now }
+    ensures { PairGives design.now cell model flat.now rules.now result }
+{
+    pair_ports_with(alloc, index, cell_of(design, cell), model, flat, rules)
+}
+
 /// The pairing of a cell with its model, or what stands in its way.
 fn pairing_of(
     alloc: Global,
+    index: &RuleIndex,
     design: &Design,
     cell: u32,
     model: u32,
     flat: &FlatModel,
     rules: &Rules,
 ) -> Result<Pairing, Unchecked>
+    requires indexed { AreIndexed design.now rules.now index.now }
     requires cell { cell < length design.now.cells }
     requires rules { AreRules rules.now }
     ensures { PairingTells design.now cell model flat.now rules.now result }
 {
-    match pair_ports(alloc, design, cell, model, flat, rules) {
+    match ports_paired(alloc, index, design, cell, model, flat, rules) {
         Ok(pairing) => Ok(pairing),
         Err(PairFault::Ports { name }) => Err(Unchecked::Because(Why::Ports { name })),
         Err(PairFault::OutputIsInput { signal }) => {
@@ -82,12 +115,14 @@ fn pairing_of(
 /// count of the model, the model of a device, a tied supply, a port, an output that is an input.
 pub(crate) fn flatten_cell(
     alloc: Global,
+    prepared: &Prepared,
     design: &Design,
     blif: &Blif,
     rules: &Rules,
     cell: u32,
     model: u32,
 ) -> Result<Flattened, Unchecked>
+    requires prepared { ArePrepared design.now blif.now rules.now prepared.now }
     requires design { IsDesign design.now }
     requires blif { IsBlif blif.now }
     requires models { AreModels blif.now }
@@ -97,13 +132,14 @@ pub(crate) fn flatten_cell(
     requires paired { paired_model design.now blif.now rules.now cell ≡ Model model }
     ensures { FlattenedTells design.now blif.now rules.now cell model result }
 {
-    let cause = circuit_cause(alloc, design, rules, cell)?;
-    let flat_model = flat_model_of(alloc, blif, model)?;
+    let index = &prepared.index;
+    let cause = circuit_cause(alloc, index, design, rules, cell)?;
+    let flat_model = flat_model_of(alloc, &prepared.models, blif, model)?;
     if let Some(why) = cause {
         return Err(Unchecked::Because(why));
     }
-    let pairing = pairing_of(alloc, design, cell, model, &flat_model, rules)?;
-    match flat(alloc, design, rules, cell, &pairing) {
+    let pairing = pairing_of(alloc, index, design, cell, model, &flat_model, rules)?;
+    match flat_with(alloc, index, design, rules, cell, &pairing) {
         Ok(circuit) => Ok(Flattened {
             pairing,
             circuit,

@@ -22,7 +22,7 @@ mod told_faults;
 mod unchecked;
 
 pub use circuit::circuit_fault;
-pub use compared::{Compared, compare};
+pub use compared::{Compared, compare, compare_prepared};
 pub use flattened::{Flattened, PhaseFound, PhasePlan};
 pub use least::least_valuation;
 pub use net::CircuitFault;

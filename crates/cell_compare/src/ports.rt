@@ -115,7 +115,7 @@ fn outputs_at(
 }
 
 /// A cell by its number.
-fn cell_of(design: &Design, cell: u32) -> &Cell
+pub(crate) fn cell_of(design: &Design, cell: u32) -> &Cell
     requires { cell < length design.now.cells }
     ensures { result.now ≡ cell_at design.entry.now cell }
 {

@@ -10,6 +10,18 @@ use Rattle.vrt_model.specs.Unsupported.{top_before}
 use Rattle.vrt_model.specs.declared.verdict.Why.{Why}
 use Rattle.cell_compare.proofs.flattening.flatten_cell.Goals as goal
 
+pub circuit_cause-requires-clause-indexed : goal.circuit_cause-requires-clause-indexed
+circuit_cause-requires-clause-indexed c = c.requires.prepared.index_is
+
+pub flat_model_of-requires-clause-tables : goal.flat_model_of-requires-clause-tables
+flat_model_of-requires-clause-tables c = c.requires.prepared.models_are
+
+pub pairing_of-requires-clause-indexed : goal.pairing_of-requires-clause-indexed
+pairing_of-requires-clause-indexed c = c.requires.prepared.index_is
+
+pub flat_with-requires-clause-indexed : goal.flat_with-requires-clause-indexed
+flat_with-requires-clause-indexed c = c.requires.prepared.index_is
+
 pub returns-in_err-cause : goal.returns-in_err-cause
 returns-in_err-cause c =
     let t = top_before c.args.design.now c.args.rules.now c.args.cell in

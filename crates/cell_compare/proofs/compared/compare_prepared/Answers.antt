@@ -1,4 +1,4 @@
-use Rattle.cell_compare.proofs.compared.compare.Goals as goal
+use Rattle.cell_compare.proofs.compared.compare_prepared.Goals as goal
 
 pub compare_with-requires-clause-inputs : goal.compare_with-requires-clause-inputs
 compare_with-requires-clause-inputs c = record {
@@ -9,3 +9,6 @@ compare_with-requires-clause-inputs c = record {
   there = c.requires.cell;
   built = c.requires.built;
 }
+
+pub is_skipped_with-requires : goal.is_skipped_with-requires
+is_skipped_with-requires c = c.requires.prepared.index_is.rules_are
