@@ -1,0 +1,5 @@
+-- Classes of parts.
+pub mod ChannelLaws
+pub mod ClassLaws
+pub mod JudgedLaws
+pub mod TableLaws

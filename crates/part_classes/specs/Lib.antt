@@ -1,0 +1,4 @@
+pub mod Channels
+pub mod Classes
+pub mod Judged
+pub mod Tables
