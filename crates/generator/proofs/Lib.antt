@@ -1,0 +1,6 @@
+mod AppendLaws
+mod Examples
+mod FormLaws
+mod PlainLaws
+mod ShortLaws
+mod TextLaws
