@@ -45,7 +45,8 @@ gives_as a b f g r x same = gives_same a b f g r same x
 pub wider : (f : Function) (low high : ℕ) → low ≤ high → IsWithin low f → IsWithin high f
 wider f low high le reads v w same = reads v w (λ y lt. same y (omega (arith, lt, le)))
 
-constant_is : (nodes : List Node) (v : Valuation) (b : Bool) → meaning nodes (cond b 1 0) v ≡ b
+-- the constant of a bit
+pub constant_is : (nodes : List Node) (v : Valuation) (b : Bool) → meaning nodes (cond b 1 0) v ≡ b
 constant_is nodes v true = meaning_one nodes v
 constant_is nodes v false = meaning_zero nodes v
 

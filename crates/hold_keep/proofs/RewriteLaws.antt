@@ -383,7 +383,7 @@ bits_same [] k v w same = refl
 bits_same (s ∷ ss) k v w same = ap₂ (λ (b : Bool) (bs : List Bool). b ∷ bs) (same k (omega arith)) (bits_same ss (suc k) v w (λ y lt. same y (omega (arith, lt))))
 
 -- what is read of the variables alone
-within_bits : (sources : List Source) (f : Function) (g : List Bool → Bool) → ((v : Valuation) → f v ≡ g (bits_at sources v)) → IsWithin (length sources) f
+pub within_bits : (sources : List Source) (f : Function) (g : List Bool → Bool) → ((v : Valuation) → f v ≡ g (bits_at sources v)) → IsWithin (length sources) f
 within_bits sources f g is v w same = is v ∙ ap g (bits_same sources 0 v w (λ y lt. same y (omega (arith, lt)))) ∙ sym (is w)
 
 module _ (c : Circuit) (roots : Span) (phase : ℕ) (sources : List Source) (number : ℕ) (group : HoldGroup) (entered : Option Bool) (is_entered : entered ≡ entered_bit c phase group)
@@ -416,7 +416,7 @@ module _ (c : Circuit) (roots : Span) (phase : ℕ) (sources : List Source) (num
 
 -- ---- the call
 
-members_less : (groups : List HoldGroup) (at : ℕ) → members_in (drop at groups) ≤ members_in groups
+pub members_less : (groups : List HoldGroup) (at : ℕ) → members_in (drop at groups) ≤ members_in groups
 members_less groups at = let parts = sum_by-take-drop (λ (g : HoldGroup). length g.members) groups at in omega (arith, parts)
 
 -- a refusal at a group
