@@ -111,9 +111,13 @@ once_is_all (x ∷ xs) apart =
 pub once_by : (xs : List (List ℕ)) → AllApart bytes_eq xs → NoRepeat xs
 once_by xs apart = subst NoRepeat (once_is_all xs apart) (once_apart xs)
 
--- names that do not repeat, gathered from none, are all there in their order
+-- names that are apart, gathered from none, are all there in their order
+pub apart_named : (xs : List (List ℕ)) → AllApart bytes_eq xs → with_names [] xs ≡ xs
+apart_named xs apart = names_once xs ∙ once_is_all xs apart
+
+-- so are names that do not repeat
 pub all_named : (xs : List (List ℕ)) → NoRepeat xs → with_names [] xs ≡ xs
-all_named xs n = names_once xs ∙ once_is_all xs (apart xs n)
+all_named xs n = apart_named xs (apart xs n)
 
 -- an item at a place has its name there
 name_at : {X : Type 0} (name : X → List ℕ) (xs : List X) (i : ℕ) (n : List ℕ) → slice_get (map name xs) i ≡ Some n → (x : X) × (slice_get xs i ≡ Some x) × (name x ≡ n)

@@ -1,6 +1,6 @@
 -- Lists that are filtered, and the names that are left.
-use Rattle.std.proofs.Common.{◌≡◌, ◌∷◌, ◌||◌, ◌&&◌, [], ℕ, suc, not, List, Bool, true, false, cond, filter, refl, ap, ap₂, sym, ◌∙◌}
-use Rattle.std.specs.Prelude.{bytes_eq}
+use Rattle.std.proofs.Common.{◌≡◌, ◌∷◌, ◌||◌, ◌&&◌, [], ℕ, suc, not, List, Bool, true, false, cond, filter, Option, Some, refl, ap, ap₂, sym, ◌∙◌}
+use Rattle.std.specs.Prelude.{bytes_eq, find, slice_get}
 use Rattle.std.proofs.lemmas.Slice.Eq.{bytes_eq-Decides}
 use Rattle.vrt_model.specs.Lists.{At, has_name}
 
@@ -33,6 +33,20 @@ and_swap false false = refl
 pub filter_swap : {X : Type 0} (p q : X → Bool) (xs : List X) → filter p (filter q xs) ≡ filter q (filter p xs)
 filter_swap p q xs =
     filter_twice p q xs ∙ filter_same (λ x. q x && p x) (λ x. p x && q x) xs (λ i x e. and_swap (q x) (p x)) ∙ sym (filter_twice q p xs)
+
+-- the first item that is kept is the one that is found
+pub first_is_found : {X : Type 0} (p : X → Bool) (xs : List X) → slice_get (filter p xs) 0 ≡ find p xs
+first_is_found p [] = refl
+first_is_found {X} p (x ∷ xs) = by_test (p x) (filter p xs) (find p xs) (first_is_found p xs)
+  where
+    by_test : (b : Bool) (ys : List X) (o : Option X) → slice_get ys 0 ≡ o → slice_get (cond b (x ∷ ys) ys) 0 ≡ cond b (Some x) o
+    by_test true ys o e = refl
+    by_test false ys o e = e
+
+-- tests that agree find the same item
+pub find_same : {X : Type 0} (p q : X → Bool) → ((x : X) → p x ≡ q x) → (xs : List X) → find p xs ≡ find q xs
+find_same p q same [] = refl
+find_same p q same (x ∷ xs) = ap₂ (λ t o. cond t (Some x) o) (same x) (find_same p q same xs)
 
 -- a name is among the filtered names where it passes and is among the names
 pub has_name_filter : (p : List ℕ → Bool) (xs : List (List ℕ)) (name : List ℕ) → has_name (filter p xs) name ≡ (p name && has_name xs name)

@@ -1,5 +1,5 @@
 -- Names that are gathered: with one more, with more, and each name once.
-use Rattle.std.proofs.Common.{◌≡◌, ◌≤◌, ◌∷◌, ◌++◌, ◌||◌, ◌&&◌, [], ℕ, not, List, Bool, true, false, cond, filter, map, drop, length, refl, ap, sym, ◌∙◌, append-nil, append_assoc}
+use Rattle.std.proofs.Common.{◌≡◌, ◌≤◌, ◌+◌, ◌∷◌, ◌++◌, ◌||◌, ◌&&◌, [], ℕ, suc, not, List, Bool, true, false, cond, filter, map, drop, length, length-append, arith, refl, ap, sym, ◌∙◌, append-nil, append_assoc}
 use Rattle.std.specs.Prelude.{bytes_eq}
 use Rattle.std.proofs.lemmas.List.{drop_all}
 use Rattle.std.proofs.lemmas.List.Folds.{list_any-append}
@@ -60,6 +60,16 @@ among_names names (x ∷ xs) name =
 pub with_names-append : (names xs ys : List (List ℕ)) → with_names names (xs ++ ys) ≡ with_names (with_names names xs) ys
 with_names-append names [] ys = refl
 with_names-append names (x ∷ xs) ys = with_names-append (with_name names x) xs ys
+
+-- there are at most as many as both
+pub length-with_names : (names xs : List (List ℕ)) → length (with_names names xs) ≤ length names + length xs
+length-with_names names [] = omega arith
+length-with_names names (x ∷ xs) = by_test (has_name names x) (length-with_names (with_name names x) xs)
+  where
+    by_test : (b : Bool) → length (with_names (cond b names (names ++ x ∷ [])) xs) ≤ length (cond b names (names ++ x ∷ [])) + length xs
+        → length (with_names (cond b names (names ++ x ∷ [])) xs) ≤ length names + suc (length xs)
+    by_test true h = omega (arith, h)
+    by_test false h = let len = length-append names (x ∷ []) in omega (arith, h, len)
 
 -- ---- each name once
 

@@ -1,29 +1,42 @@
 -- The places at which names stand.
-use Rattle.std.proofs.Common.{◌≡◌, ◌<◌, ◌+◌, ◌∷◌, ◌||◌, [], ℕ, zero, suc, not, List, Bool, true, false, cond, map, nat_lt, length, Some, None, refl, ap, ap₂, sym, ◌∙◌, arith}
+use Rattle.std.proofs.Common.{◌≡◌, ◌<◌, ◌+◌, ◌∷◌, ◌||◌, [], ℕ, zero, suc, not, List, Bool, true, false, cond, map, nat_lt, length, Some, None, option_map, refl, ap, ap₂, sym, ◌∙◌, arith}
 use Rattle.std.specs.Prelude.{bytes_eq, is_some}
 use Rattle.std.specs.List.{list_any, position, position_or_len}
+use Rattle.std.proofs.lemmas.Bool.{or_right}
 use Rattle.std.proofs.lemmas.Bool.Decides.{nat_tests}
 use Rattle.std.proofs.lemmas.List.{length-map}
 use Rattle.std.proofs.lemmas.List.Quantifiers.{position-Some}
-use Rattle.std.proofs.lemmas.Option.{slice_get_within}
+use Rattle.std.proofs.lemmas.Option.{same_Some, slice_get_within}
 use Rattle.std.proofs.lemmas.Slice.Eq.{bytes_eq-Decides}
 use Rattle.vrt_model.specs.Inputs.{AllApart}
 use Rattle.vrt_model.specs.Lists.{At, has_name}
 use Rattle.names.proofs.ApartLaws.{apart_behind}
 use Rattle.names.proofs.NameLaws.{bytes_eq-sym}
 
-same_name : (a b : List ℕ) → Some a ≡ Some b → a ≡ b
-same_name a b h = cc
+-- the first place in a list with one item in front
+pub place_cons : {X : Type 0} (p : X → Bool) (x : X) (xs : List X) → position p (x ∷ xs) ≡ cond (p x) (Some 0) (option_map suc (position p xs))
+place_cons p x xs = by_test (p x) (position_or_len p xs) (length xs)
+  where
+    shifted : (t : Bool) (n : ℕ) → cond t (Some (1 + n)) None ≡ option_map suc (cond t (Some n) None)
+    shifted true n = ap Some (omega arith)
+    shifted false n = refl
+
+    further : (n count : ℕ) → nat_lt (1 + n) (suc count) ≡ nat_lt n count
+    further n count = grind (arith, nat_tests)
+
+    first : (count : ℕ) → nat_lt 0 (suc count) ≡ true
+    first count = grind (arith, nat_tests)
+
+    by_test : (b : Bool) (n count : ℕ) → cond (nat_lt (cond (not b) (1 + n) 0) (suc count)) (Some (cond (not b) (1 + n) 0)) None ≡ cond b (Some 0) (option_map suc (cond (nat_lt n count) (Some n) None))
+    by_test true n count = ap (λ (t : Bool). cond t (Some 0) None) (first count)
+    by_test false n count = ap (λ (t : Bool). cond t (Some (1 + n)) None) (further n count) ∙ shifted (nat_lt n count) n
 
 -- a name that stands at a place is among the names
 pub at_among : (xs : List (List ℕ)) (i : ℕ) (name : List ℕ) → At xs i name → has_name xs name ≡ true
 at_among [] i name e = cc
 at_among (x ∷ xs) zero name e =
-    ap (λ (b : Bool). b || has_name xs name) ((bytes_eq-Decides name x).1 (sym (same_name x name e)))
-at_among (x ∷ xs) (suc i) name e = or_true (bytes_eq name x) (has_name xs name) (at_among xs i name e) where
-  or_true : (a b : Bool) → b ≡ true → (a || b) ≡ true
-  or_true true b e = refl
-  or_true false b e = e
+    ap (λ (b : Bool). b || has_name xs name) ((bytes_eq-Decides name x).1 (sym (same_Some x name e)))
+at_among (x ∷ xs) (suc i) name e = or_right (bytes_eq name x) (has_name xs name) (at_among xs i name e)
 
 -- and one that is among them stands at a place
 pub among_at : (xs : List (List ℕ)) (name : List ℕ) → has_name xs name ≡ true → (i : ℕ) × At xs i name
@@ -36,7 +49,7 @@ among_at (x ∷ xs) name e = by_test (bytes_eq name x) refl (λ h. among_at xs n
 first_place : (xs : List (List ℕ)) (k : ℕ) (name : List ℕ) → AllApart bytes_eq xs → At xs k name → position_or_len (bytes_eq name) xs ≡ k
 first_place [] k name apart e = cc
 first_place (x ∷ xs) zero name apart e =
-    ap (λ (b : Bool). cond (not b) (1 + position_or_len (bytes_eq name) xs) 0) ((bytes_eq-Decides name x).1 (sym (same_name x name e)))
+    ap (λ (b : Bool). cond (not b) (1 + position_or_len (bytes_eq name) xs) 0) ((bytes_eq-Decides name x).1 (sym (same_Some x name e)))
 first_place (x ∷ xs) (suc k) name apart e =
     ap (λ (b : Bool). cond (not b) (1 + position_or_len (bytes_eq name) xs) 0) (differs (bytes_eq name x) refl)
     ∙ more (position_or_len (bytes_eq name) xs) (first_place xs k name (apart_behind x xs apart) e) where
