@@ -1,23 +1,20 @@
 -- Names that do not repeat.
 use Rattle.std.proofs.Common.{◌≡◌, ◌++◌, ◌∷◌, ◌||◌, [], ℕ, zero, suc, not, List, Bool, true, false, cond, Option, Some, None, option_map, map, filter, refl, ap, ap₂, sym, subst, ◌∙◌, arith, append-nil}
 use Rattle.std.specs.Prelude.{bytes_eq, slice_get}
-use Rattle.std.proofs.lemmas.Bool.{or_parts}
+use Rattle.std.proofs.lemmas.Bool.{or_from, or_parts}
 use Rattle.std.proofs.lemmas.List.Folds.{list_any-append}
-use Rattle.std.proofs.lemmas.Option.{slice_get-map}
+use Rattle.std.proofs.lemmas.Option.{same_Some, slice_get-map}
+use Rattle.vrt_model.proofs.Tests.{bytes_eq-sym}
 use Rattle.vrt_model.specs.Inputs.{AllApart}
 use Rattle.vrt_model.specs.Lists.{At, distinct, has_name}
 use Rattle.names.specs.Names.{with_name, with_names}
 use Rattle.names.proofs.FilterLaws.{filter_all}
-use Rattle.names.proofs.NameLaws.{bytes_eq-sym, names_once}
+use Rattle.names.proofs.NameLaws.{names_once}
 
 -- no name stands again behind it
 abbrev pub NoRepeat : List (List ℕ) → Type 0
 NoRepeat [] = Unit {0}
 NoRepeat (x ∷ xs) = (has_name xs x ≡ false) × NoRepeat xs
-
-both_no : (a b : Bool) → a ≡ false → b ≡ false → (a || b) ≡ false
-both_no false b h e = e
-both_no true b h e = cc
 
 -- a name more in the middle
 pub no_repeat_within : (xs ys : List (List ℕ)) (y : List ℕ) → NoRepeat (xs ++ ys) → has_name (xs ++ ys) y ≡ false → NoRepeat (xs ++ y ∷ ys)
@@ -25,7 +22,7 @@ no_repeat_within [] ys y n e = (e, n)
 no_repeat_within (x ∷ xs) ys y n e =
     let apart = or_parts (has_name xs x) (has_name ys x) (sym (list_any-append (bytes_eq x) xs ys) ∙ n.0) in
     let new = or_parts (bytes_eq y x) (has_name (xs ++ ys) y) e in (
-      list_any-append (bytes_eq x) xs (y ∷ ys) ∙ both_no (has_name xs x) (bytes_eq x y || has_name ys x) apart.0 (both_no (bytes_eq x y) (has_name ys x) (bytes_eq-sym x y ∙ new.0) apart.1),
+      list_any-append (bytes_eq x) xs (y ∷ ys) ∙ or_from (has_name xs x) (bytes_eq x y || has_name ys x) apart.0 (or_from (bytes_eq x y) (has_name ys x) (bytes_eq-sym x y ∙ new.0) apart.1),
       no_repeat_within xs ys y n.1 new.1,
     )
 
@@ -34,13 +31,10 @@ pub no_repeat_end : (xs : List (List ℕ)) (y : List ℕ) → NoRepeat xs → ha
 no_repeat_end xs y n e =
     no_repeat_within xs [] y (rw (append-nil xs) n) (ap (λ names. has_name names y) (append-nil xs) ∙ e)
 
-same_name : (a b : List ℕ) → Some a ≡ Some b → a ≡ b
-same_name a b h = cc
-
 -- a name that stands at a place is among the names
 there : (xs : List (List ℕ)) (i : ℕ) (x y : List ℕ) → slice_get xs i ≡ Some y → bytes_eq x y ≡ true → has_name xs x ≡ true
 there [] i x y h e = cc
-there (z ∷ zs) zero x y h e = ap (λ (b : Bool). b || has_name zs x) (ap (bytes_eq x) (same_name z y h) ∙ e)
+there (z ∷ zs) zero x y h e = ap (λ (b : Bool). b || has_name zs x) (ap (bytes_eq x) (same_Some z y h) ∙ e)
 there (z ∷ zs) (suc i) x y h e = or_true (bytes_eq x z) (has_name zs x) (there zs i x y h e) where
   or_true : (a b : Bool) → b ≡ true → (a || b) ≡ true
   or_true true b e = refl
@@ -55,9 +49,9 @@ pub apart : (xs : List (List ℕ)) → NoRepeat xs → AllApart bytes_eq xs
 apart [] n i j x y hi hj e = cc
 apart (z ∷ zs) n zero zero x y hi hj e = refl
 apart (z ∷ zs) n zero (suc j) x y hi hj e =
-    absurd (clash (has_name zs z) (there zs j z y hj (ap (λ w. bytes_eq w y) (same_name z x hi) ∙ e)) n.0)
+    absurd (clash (has_name zs z) (there zs j z y hj (ap (λ w. bytes_eq w y) (same_Some z x hi) ∙ e)) n.0)
 apart (z ∷ zs) n (suc i) zero x y hi hj e =
-    absurd (clash (has_name zs z) (there zs i z x hi (bytes_eq-sym z x ∙ ap (bytes_eq x) (same_name z y hj) ∙ e)) n.0)
+    absurd (clash (has_name zs z) (there zs i z x hi (bytes_eq-sym z x ∙ ap (bytes_eq x) (same_Some z y hj) ∙ e)) n.0)
 apart (z ∷ zs) n (suc i) (suc j) x y hi hj e = ap suc (apart zs n.1 i j x y hi hj e)
 
 -- items are apart where their names are

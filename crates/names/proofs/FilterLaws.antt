@@ -2,6 +2,7 @@
 use Rattle.std.proofs.Common.{◌≡◌, ◌∷◌, ◌||◌, ◌&&◌, [], ℕ, suc, not, List, Bool, true, false, cond, filter, Option, Some, refl, ap, ap₂, sym, ◌∙◌}
 use Rattle.std.specs.Prelude.{bytes_eq, find, slice_get}
 use Rattle.std.proofs.lemmas.Slice.Eq.{bytes_eq-Decides}
+pub use Rattle.vrt_model.proofs.Lists.{filter_twice}
 use Rattle.vrt_model.specs.Lists.{At, has_name}
 
 -- two tests that agree on the items
@@ -15,24 +16,6 @@ pub filter_all : {X : Type 0} (p : X → Bool) (xs : List X) → ((i : ℕ) (x :
 filter_all p [] h = refl
 filter_all {X} p (x ∷ xs) h =
     ap₂ (λ (b : Bool) (rest : List X). cond b (x ∷ rest) rest) (h 0 x refl) (filter_all p xs (λ i y e. h (suc i) y e))
-
-pub filter_twice : {X : Type 0} (p q : X → Bool) (xs : List X) → filter p (filter q xs) ≡ filter (λ x. q x && p x) xs
-filter_twice p q [] = refl
-filter_twice {X} p q (x ∷ xs) = by_test (q x) (filter_twice p q xs) where
-  by_test : (b : Bool) → filter p (filter q xs) ≡ filter (λ x. q x && p x) xs
-      → filter p (cond b (x ∷ filter q xs) (filter q xs)) ≡ cond (b && p x) (x ∷ filter (λ x. q x && p x) xs) (filter (λ x. q x && p x) xs)
-  by_test true e = ap (λ (rest : List X). cond (p x) (x ∷ rest) rest) e
-  by_test false e = e
-
-and_swap : (a b : Bool) → (a && b) ≡ (b && a)
-and_swap true true = refl
-and_swap true false = refl
-and_swap false true = refl
-and_swap false false = refl
-
-pub filter_swap : {X : Type 0} (p q : X → Bool) (xs : List X) → filter p (filter q xs) ≡ filter q (filter p xs)
-filter_swap p q xs =
-    filter_twice p q xs ∙ filter_same (λ x. q x && p x) (λ x. p x && q x) xs (λ i x e. and_swap (q x) (p x)) ∙ sym (filter_twice q p xs)
 
 -- the first item that is kept is the one that is found
 pub first_is_found : {X : Type 0} (p : X → Bool) (xs : List X) → slice_get (filter p xs) 0 ≡ find p xs

@@ -4,36 +4,17 @@ use Rattle.std.specs.Prelude.{bytes_eq}
 use Rattle.std.proofs.lemmas.List.{drop_all}
 use Rattle.std.proofs.lemmas.List.Folds.{list_any-append}
 use Rattle.std.proofs.lemmas.Slice.Eq.{bytes_eq-Decides}
+use Rattle.std.proofs.Math.Bool.{or-false}
+use Rattle.vrt_model.proofs.Lists.{filter_among_same, filter_swap, filter_twice}
+pub use Rattle.vrt_model.proofs.Tests.{bytes_eq-sym, or_swap}
 use Rattle.vrt_model.specs.Lists.{distinct, has_name}
 use Rattle.names.specs.Names.{with_name, with_names}
-use Rattle.names.proofs.FilterLaws.{filter_new, filter_same, filter_swap, filter_twice}
-
--- ---- names that are equal
-
-pub same_tests : (r s : Bool) → (r ≡ true → s ≡ true) → (s ≡ true → r ≡ true) → r ≡ s
-same_tests true true f g = refl
-same_tests true false f g = let h = f refl in cc
-same_tests false true f g = let h = g refl in cc
-same_tests false false f g = refl
-
-pub bytes_eq-sym : (a b : List ℕ) → bytes_eq a b ≡ bytes_eq b a
-bytes_eq-sym a b =
-    same_tests (bytes_eq a b) (bytes_eq b a) (λ e. (bytes_eq-Decides b a).1 (sym ((bytes_eq-Decides a b).0 e))) (λ e. (bytes_eq-Decides a b).1 (sym ((bytes_eq-Decides b a).0 e)))
+use Rattle.names.proofs.FilterLaws.{filter_new}
 
 -- ---- lists with the same names
 
 abbrev pub HaveSame : List (List ℕ) → List (List ℕ) → Type 0
 HaveSame a b = (name : List ℕ) → has_name a name ≡ has_name b name
-
-pub or_swap : (p q : Bool) → (p || (q || false)) ≡ (q || p)
-or_swap true true = refl
-or_swap true false = refl
-or_swap false true = refl
-or_swap false false = refl
-
-pub or_none : (p : Bool) → (p || false) ≡ p
-or_none true = refl
-or_none false = refl
 
 -- a name more, at the end unless it is there, or in front
 pub with_front : (names : List (List ℕ)) (n : List ℕ) → HaveSame (with_name names n) (n ∷ names)
@@ -48,7 +29,7 @@ with_front names n name = by_test (has_name names n) refl where
 
 -- a name is among names with more where it is among the first or among the others
 pub among_names : (names xs : List (List ℕ)) (name : List ℕ) → has_name (with_names names xs) name ≡ (has_name names name || has_name xs name)
-among_names names [] name = sym (or_none (has_name names name))
+among_names names [] name = sym (or-false (has_name names name))
 among_names names (x ∷ xs) name =
     among_names (with_name names x) xs name ∙ ap (λ (b : Bool). b || has_name xs name) (with_front names x name) ∙ turn (bytes_eq name x) (has_name names name) (has_name xs name) where
       turn : (p q r : Bool) → ((p || q) || r) ≡ (q || (p || r))
@@ -87,7 +68,7 @@ once_filter p (x ∷ xs) = by_test (p x) refl (once_filter p xs) where
   by_test true h e =
       ap (λ (ys : List (List ℕ)). x ∷ filter (λ y. not (bytes_eq x y)) ys) e ∙ ap (λ (ys : List (List ℕ)). x ∷ ys) (filter_swap (λ y. not (bytes_eq x y)) p (distinct xs))
   by_test false h e =
-      e ∙ sym (filter_twice p (λ y. not (bytes_eq x y)) (distinct xs) ∙ filter_same (λ y. not (bytes_eq x y) && p y) p (distinct xs) (λ i y a. skip y (bytes_eq x y) h refl))
+      e ∙ sym (filter_twice p (λ y. not (bytes_eq x y)) (distinct xs) ∙ filter_among_same (λ y. not (bytes_eq x y) && p y) p (distinct xs) (λ y m. skip y (bytes_eq x y) h refl))
 
 -- names with more are the names and, each once, those that are not among them
 pub with_names_are : (names xs : List (List ℕ)) → with_names names xs ≡ names ++ distinct (filter (λ y. not (has_name names y)) xs)
@@ -111,7 +92,7 @@ with_names_are names (x ∷ xs) = by_test (has_name names x) (with_names_are nam
   by_test false kept new =
       new ∙ append_assoc names (x ∷ []) (distinct (filter (λ y. not (has_name (names ++ x ∷ []) y)) xs))
       ∙ ap (λ (ys : List (List ℕ)). names ++ x ∷ ys)
-      (ap distinct (filter_same (λ y. not (has_name (names ++ x ∷ []) y)) (λ y. not (has_name names y) && not (bytes_eq x y)) xs (λ i y e. apart y)
+      (ap distinct (filter_among_same (λ y. not (has_name (names ++ x ∷ []) y)) (λ y. not (has_name names y) && not (bytes_eq x y)) xs (λ y m. apart y)
       ∙ sym (filter_twice (λ y. not (bytes_eq x y)) (λ y. not (has_name names y)) xs))
       ∙ once_filter (λ y. not (bytes_eq x y)) (filter (λ y. not (has_name names y)) xs))
 
