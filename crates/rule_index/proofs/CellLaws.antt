@@ -3,8 +3,8 @@ use Rattle.std.proofs.Common.{◌≡◌, ◌<◌, ◌≤◌, ◌+◌, ◌∷◌,
 use Rattle.std.specs.Prelude.{bytes_eq}
 use Rattle.std.specs.Option.{option_or}
 use Rattle.std.proofs.lemmas.List.{drop_all, drop_more}
+use Rattle.names.proofs.PlaceLaws.{place_cons}
 use Rattle.rule_index.proofs.FirstNotes.{or_none}
-use Rattle.rule_index.proofs.NameLaws.{place_cons}
 use Rattle.rule_index.specs.Tables.{cell_numbered}
 use Rattle.vrt_model.specs.declared.design.Cell.{Cell}
 

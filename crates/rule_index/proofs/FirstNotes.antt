@@ -5,10 +5,10 @@ use Rattle.std.specs.List.{position}
 use Rattle.std.specs.Option.{option_or}
 use Rattle.std.proofs.lemmas.List.{drop_all, drop_more}
 use Rattle.std.proofs.lemmas.Slice.Eq.{bytes_eq-Decides}
+use Rattle.names.proofs.PlaceLaws.{place_cons}
+use Rattle.vrt_model.proofs.Tests.{bytes_eq-sym}
 use Rattle.names.specs.Names.{with_name}
 use Rattle.vrt_model.specs.Lists.{has_name}
-use Rattle.names.proofs.NameLaws.{bytes_eq-sym}
-use Rattle.rule_index.proofs.NameLaws.{place_cons}
 use Rattle.rule_index.specs.Firsts.{IsEven, first_in, value_in}
 use Rattle.rule_index.specs.declared.firsts.FirstValues.{FirstValues}
 

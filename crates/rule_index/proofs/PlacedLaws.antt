@@ -3,6 +3,7 @@ use Rattle.std.proofs.Common.{◌≡◌, ◌∷◌, ◌||◌, ◌&&◌, [], ℕ,
 use Rattle.std.specs.Prelude.{bytes_eq, filter_map, find, option_and_then, slice_get, unwrap_or}
 use Rattle.std.specs.List.{cons_option, list_any}
 use Rattle.std.proofs.lemmas.Option.{same_Some}
+use Rattle.names.proofs.FilterLaws.{first_is_found}
 
 first_same : {X : Type 0} (x y : X) (xs ys : List X) → x ∷ xs ≡ y ∷ ys → x ≡ y
 first_same {X} x y xs ys e = same_Some x y (ap (λ (zs : List X). slice_get zs 0) e)
@@ -45,13 +46,6 @@ any_of {R} test more (r ∷ rules) = by_test (test r) ∙ ap (λ (b : Bool). (te
   by_test true = refl
   by_test false = refl
 
-pub first_of : {R : Type 0} (test : R → Bool) (rules : List R) → slice_get (filter test rules) 0 ≡ find test rules
-first_of test [] = refl
-first_of {R} test (r ∷ rules) = by_test (test r) (first_of test rules) where
-  by_test : (b : Bool) → slice_get (filter test rules) 0 ≡ find test rules → slice_get (cond b (r ∷ filter test rules) (filter test rules)) 0 ≡ cond b (Some r) (find test rules)
-  by_test true e = refl
-  by_test false e = e
-
 -- ---- the rules of a cell
 
 -- a value for each rule of a cell
@@ -71,7 +65,7 @@ pub first_placed : {R : Type 0} (cell_of : R → List ℕ) (rules : List R) (pla
     → option_and_then (slice_get rules) (slice_get places 0) ≡ find (λ r. bytes_eq (cell_of r) cell) rules
 first_placed {R} cell_of rules places cell e =
     first_at (slice_get rules) places ∙ ap (λ (os : List (Option R)). option_and_then (λ o. o) (slice_get os 0)) e ∙ first_some (filter (λ r. bytes_eq (cell_of r) cell) rules)
-    ∙ first_of (λ r. bytes_eq (cell_of r) cell) rules where
+    ∙ first_is_found (λ r. bytes_eq (cell_of r) cell) rules where
       first_at : (f : ℕ → Option R) (ps : List ℕ) → option_and_then f (slice_get ps 0) ≡ option_and_then (λ o. o) (slice_get (map f ps) 0)
       first_at f [] = refl
       first_at f (p ∷ ps) = refl
