@@ -11,7 +11,7 @@ use Rattle.constraints.specs.Evaluated.{Evaluates}
 use Rattle.constraints.specs.Handles.{HasHandles, IsReady, handle_in}
 use Rattle.constraints.specs.Obliged.{AddsTest}
 use Rattle.constraints.specs.declared.ports.Ports.{Ports}
-use Rattle.constraints.specs.declared.ports.Ports.TheVariants.{Listed, Tied}
+use Rattle.constraints.specs.declared.ports.Ports.TheVariants.{Listed, Tied, Given}
 
 -- what is ready stays so
 pub ready_kept : (a b : Diagrams) (f : Function) (r : Result H Spent) (values : Span) → Gives a b f r → IsReady a values → IsReady b values
@@ -20,6 +20,7 @@ ready_kept a b f r values g ready = (span_added values a b g.adds ready.0, fille
 has_kept : (a b : Diagrams) (f : Function) (r : Result H Spent) (ports : Ports) → Gives a b f r → HasHandles a ports → HasHandles b ports
 has_kept a b f r (Listed names values) g has = (ready_kept a b f r values g has.0, has.1)
 has_kept a b f r (Tied names nets values) g has = (ready_kept a b f r values g has.0, has.1)
+has_kept a b f r (Given given) g has = (ready_kept a b f r given.values g has.0, has.1)
 
 module _ (old mid : Diagrams) (f : Function) (r : Result H Spent) (first : Gives old mid f r) where
   words_next : mid.words ≡ old.words

@@ -1,9 +1,15 @@
+pub mod AssumeLaws
+pub mod BitLaws
 pub mod BreaksLaws
+pub mod CareLaws
+pub mod CaredLaws
 pub mod DiagramLaws
+pub mod EnterLaws
 pub mod EvaluateLaws
 pub mod HandleLaws
 pub mod ObligationLaws
 pub mod ObligedLaws
 pub mod OrderedLaws
+pub mod PortLaws
 pub mod StepLaws
 pub mod TestLaws

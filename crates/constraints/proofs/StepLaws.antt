@@ -1,15 +1,15 @@
 -- One line more: an assumption, or a clock port.
-use Rattle.std.proofs.Common.{◌≡◌, ℕ, ◌+◌, ◌*◌, ◌≤◌, ◌&&◌, Bool, true, false, cond, not, List, length, Result, Ok, Err, arith, ap, ap₂, refl, sym, subst, ◌∙◌}
+use Rattle.std.proofs.Common.{◌≡◌, ℕ, ◌+◌, ◌*◌, ◌&&◌, Bool, true, cond, not, List, Result, Ok, Err, arith, ap, ap₂, refl, sym, subst, ◌∙◌}
 use Rattle.std.specs.Prelude.{bytes_eq}
-use Rattle.bdd_core.proofs.Meaning.{meaning_zero}
-use Rattle.bdd_core.specs.Diagram.{Function, IsWithin, Valuation, choice, meaning}
-use Rattle.bdd_core.specs.Store.{Diagrams, IsLive, Makes, function_of}
+use Rattle.bdd_core.specs.Diagram.{Function, IsWithin, Valuation, meaning}
+use Rattle.bdd_core.specs.Store.{Diagrams, Gives, IsLive, Makes, function_of}
 use Rattle.bdd_core.specs.declared.handle.H.{H}
 use Rattle.bdd_core.specs.declared.handle.Spent.{Spent}
 use Rattle.bdd_ops.proofs.CountingLaws.{counts_made, counts_more, counts_then}
-use Rattle.bdd_ops.proofs.WithinLaws.{within_and, within_choice, within_same, within_zero}
+use Rattle.bdd_ops.proofs.WithinLaws.{within_and, within_same}
+use Rattle.bdd_ops.specs.Counting.{Counts}
 use Rattle.bdd_ops.specs.Ops.{and_of}
-use Rattle.bdd_core.proofs.Frames.{gives_made, gives_next, gives_error}
+use Rattle.bdd_core.proofs.Frames.{gives_made, gives_next, gives_error, gives_same}
 use Rattle.vrt_model.specs.Expressions.{operators_in}
 use Rattle.vrt_model.specs.Lists.{differ}
 use Rattle.vrt_model.specs.declared.rules.AssumeRule.{AssumeRule}
@@ -52,57 +52,29 @@ module _ (old mid : Diagrams) (handle : List ℕ → ℕ) (cell : List ℕ) (pha
 
 -- ---- a clock port
 
-clock_at_one : (port all : Bool) → cond port all false ≡ (all && not (differ true port))
-clock_at_one true true = refl
-clock_at_one true false = refl
-clock_at_one false true = refl
-clock_at_one false false = refl
-
-clock_at_zero : (port all : Bool) → cond port false all ≡ (all && not (differ false port))
-clock_at_zero true true = refl
-clock_at_zero true false = refl
-clock_at_zero false true = refl
-clock_at_zero false false = refl
-
-module _ (old new : Diagrams) (handle : List ℕ → ℕ) (cell : List ℕ) (bits : List Bool) (rule : ClockportRule) (all port : H) (r : Result H Spent) (ours : bytes_eq rule.cell cell ≡ true)
-    (is : port.0 ≡ handle rule.port) (two : 2 ≤ length old.nodes) where
+module _ (old new : Diagrams) (handle : List ℕ → ℕ) (cell : List ℕ) (bits : List Bool) (rule : ClockportRule) (all port : H) (wanted : Bool) (r : Result H Spent) (ours : bytes_eq rule.cell cell ≡ true)
+    (is : port.0 ≡ handle rule.port) (wanted_is : wanted ≡ clock_in bits rule.clock) where
   clock_cost : clock_operations cell rule ≡ 1
   clock_cost = ap (λ (b : Bool). cond b 1 0) ours
+
+  abbrev with_bit : Function
+  with_bit = λ v. function_of old all v && not (differ wanted (function_of old port v))
 
   abbrev target : Function
   target = λ v. function_of old all v && clock_holds old handle cell bits rule v
 
   -- the line is for the cell, and its clock has this bit
-  known_clock : (b : Bool) → clock_in bits rule.clock ≡ b → (v : Valuation) → (function_of old all v && not (differ b (function_of old port v))) ≡ target v
-  known_clock b e v =
-      ap₂ (λ (x : Bool) (k : ℕ). function_of old all v && not (differ x (meaning old.nodes k v))) (sym e) is
+  known_clock : (v : Valuation) → with_bit v ≡ target v
+  known_clock v =
+      ap₂ (λ (x : Bool) (k : ℕ). function_of old all v && not (differ x (meaning old.nodes k v))) wanted_is is
       ∙ ap (λ (t : Bool). function_of old all v && cond t (not (differ (clock_in bits rule.clock) (meaning old.nodes (handle rule.port) v))) true) (sym ours)
 
   port_reads : (u : ℕ) → AreWithin u old handle → IsWithin u (function_of old port)
   port_reads u reads = subst (λ (k : ℕ). IsWithin u (meaning old.nodes k)) (sym is) (reads rule.port)
 
-  pub clock_one : clock_in bits rule.clock ≡ true → Makes old new (choice (function_of old port) (function_of old all) (meaning old.nodes 0)) r
+  pub clock_added : Gives old new with_bit r → ((u : ℕ) → IsWithin u (function_of old port) → IsWithin u (function_of old all) → Counts u 1 old new r)
       → AddsTest handle (clock_operations cell rule) (function_of old all) (clock_holds old handle cell bits rule) old new r
-  clock_one e makes =
-      let whole : Function = choice (function_of old port) (function_of old all) (meaning old.nodes 0) in
-      record {
-        gives = gives_made old new whole target r
-            (λ v. ap (λ (z : Bool). cond (function_of old port v) (function_of old all v) z) (meaning_zero old.nodes v) ∙ clock_at_one (function_of old port v) (function_of old all v) ∙ known_clock true e v)
-            makes;
-        counts = λ u reads starts.
-            counts_more u 1 (clock_operations cell rule) old new r (omega (arith, clock_cost))
-            (counts_made u old new two whole r makes (within_choice u (function_of old port) (function_of old all) (meaning old.nodes 0) (port_reads u reads) starts (within_zero u old)));
-      }
-
-  pub clock_zero : clock_in bits rule.clock ≡ false → Makes old new (choice (function_of old port) (meaning old.nodes 0) (function_of old all)) r
-      → AddsTest handle (clock_operations cell rule) (function_of old all) (clock_holds old handle cell bits rule) old new r
-  clock_zero e makes =
-      let whole : Function = choice (function_of old port) (meaning old.nodes 0) (function_of old all) in
-      record {
-        gives = gives_made old new whole target r
-            (λ v. ap (λ (z : Bool). cond (function_of old port v) z (function_of old all v)) (meaning_zero old.nodes v) ∙ clock_at_zero (function_of old port v) (function_of old all v) ∙ known_clock false e v)
-            makes;
-        counts = λ u reads starts.
-            counts_more u 1 (clock_operations cell rule) old new r (omega (arith, clock_cost))
-            (counts_made u old new two whole r makes (within_choice u (function_of old port) (meaning old.nodes 0) (function_of old all) (port_reads u reads) (within_zero u old) starts));
-      }
+  clock_added given counted = record {
+    gives = gives_same old new with_bit target r known_clock given;
+    counts = λ u reads starts. counts_more u 1 (clock_operations cell rule) old new r (omega (arith, clock_cost)) (counted u (port_reads u reads) starts);
+  }

@@ -1,3 +1,4 @@
+pub mod Cared
 pub mod Evaluated
 pub mod Handles
 pub mod Obliged

@@ -22,13 +22,10 @@ pub(crate) fn diagram(store: &mut Store, e: &Expr, ports: Ports<'_>) -> Result<H
     store.sound();
     match e {
         Expr::Port(name) => Ok(handle_of(store, ports, name.as_bytes())),
-        Expr::Not(inner) => {
-            let inner = match diagram(store, inner, ports) {
-                Ok(inner) => inner,
-                Err(spent) => return Err(spent),
-            };
-            not(store, inner)
-        }
+        Expr::Not(inner) => match diagram(store, inner, ports) {
+            Ok(inner) => not(store, inner),
+            Err(spent) => Err(spent),
+        },
         Expr::And(left, right) => {
             let left = match diagram(store, left, ports) {
                 Ok(left) => left,

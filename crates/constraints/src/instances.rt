@@ -6,79 +6,19 @@ ghost use Rattle.bdd_core.specs.Store.{IsLive, IsSpan, function_of, Gives};
 ghost use Rattle.bdd_core.specs.Words.{IsFilled};
 ghost use Rattle.bdd_ops.specs.Counting.{Counts, IsSpanWithin};
 ghost use Rattle.constraints.specs.Handles.{HasHandles, handle_in};
-ghost use Rattle.constraints.specs.Obliged.{AddsTest, AreNamed, HasPortBits, all_hold, assume_holds, assume_operations, clock_holds, clock_operations, is_asked, obligation_size, obliged_at, phase_bits};
+ghost use Rattle.constraints.specs.Obliged.{AddsTest, AreNamed, HasPortBits, all_hold, clock_holds, clock_operations, obligation_size, obliged_at};
 ghost use Rattle.vrt_model.specs.Comparison.{cell_at};
 ghost use Rattle.vrt_model.specs.Faults.{BreaksConstraint};
 ghost use Rattle.vrt_model.specs.Inputs.{AllApart, AreRules};
 ghost use Rattle.vrt_model.specs.declared.ids.Net.{Net as NetValue};
 
-use crate::expression::diagram;
+use crate::assumptions::add_assumptions;
+use crate::bits::add_bit;
+use crate::cells::{cell_name, cell_ports, phase_bits};
 use crate::ports::{Ports, clock_in, handle_of};
-use bdd_core::{H, ONE, Spent, Store, ZERO};
-use bdd_ops::and;
+use bdd_core::{H, ONE, Spent, Store};
 use node_pool::Span;
-use vrt_model::{AssumeRule, ClockRef, ClockportRule, Design, FlatInstance, Rules, Text};
-
-/// Whether an `assume` line is for a cell in a phase.
-fn is_asked(rule: &AssumeRule, cell: &[u8], phase: u32) -> bool
-    ensures { result ≡ is_asked cell.now phase rule.now }
-{
-    let is_phase = match rule.phase {
-        Some(other) => other == phase,
-        None => true,
-    };
-    rule.cell.as_bytes() == cell && is_phase
-}
-
-/// A function, where besides an `assume` line holds, if it is for this cell and phase.
-fn add_assumed(
-    store: &mut Store,
-    rule: &AssumeRule,
-    cell: &[u8],
-    phase: u32,
-    ports: Ports<'_>,
-    all: H,
-) -> Result<H, Spent>
-    requires handles { HasHandles store.old ports }
-    requires all { IsLive store.old all }
-    ensures { AddsTest (handle_in store.old.words ports.entry) (assume_operations cell.now phase rule.now) (function_of store.old all) (assume_holds store.old (handle_in store.old.words ports.entry) cell.now phase rule.now) store.old store.new result }
-{
-    store.sound();
-    if !is_asked(rule, cell, phase) {
-        return Ok(all);
-    }
-    let one = match diagram(store, &rule.expression, ports) {
-        Ok(one) => one,
-        Err(spent) => return Err(spent),
-    };
-    and(store, all, one)
-}
-
-/// A function, where besides each `assume` line for a cell and phase holds.
-fn add_assumptions(
-    store: &mut Store,
-    rules: &[AssumeRule],
-    cell: &[u8],
-    phase: u32,
-    ports: Ports<'_>,
-    start: H,
-) -> Result<H, Spent>
-    requires handles { HasHandles store.old ports }
-    requires start { IsLive store.old start }
-    ensures { AddsTest (handle_in store.old.words ports.entry) (sum_by (assume_operations cell.now phase) rules.now) (function_of store.old start) (all_hold (assume_holds store.old (handle_in store.old.words ports.entry) cell.now phase) rules.now) store.old store.new result }
-{
-    store.sound();
-    let mut all = start;
-    let mut rest = rules;
-    'rules: while let Some((rule, behind)) = rest.split_first() {
-        all = match add_assumed(store, rule, cell, phase, ports, all) {
-            Ok(all) => all,
-            Err(spent) => return Err(spent),
-        };
-        rest = behind;
-    }
-    Ok(all)
-}
+use vrt_model::{ClockportRule, Design, FlatInstance, Rules};
 
 /// Whether a `clockport` line is for a cell.
 fn is_of(rule: &ClockportRule, cell: &[u8]) -> bool
@@ -105,11 +45,7 @@ fn add_clock(
         return Ok(all);
     }
     let port = handle_of(store, ports, rule.port.as_bytes());
-    if clock_in(bits, rule.clock) {
-        store.ite(port, all, ZERO)
-    } else {
-        store.ite(port, ZERO, all)
-    }
+    add_bit(store, clock_in(bits, rule.clock), port, all)
 }
 
 /// A function, where besides each port of a cell with a `clockport` line has its clock's bit.
@@ -136,36 +72,6 @@ fn add_clocks(
         rest = behind;
     }
     Ok(all)
-}
-
-/// The bits of the clocks in a phase, none where there is no such phase.
-fn phase_bits(rules: &Rules, phase: u32) -> &[bool]
-    ensures { result.now ≡ phase_bits rules.now phase }
-{
-    match rules.phases.get(phase as usize) {
-        Some(phase) => phase.bits.as_slice(),
-        None => &[],
-    }
-}
-
-/// The name of a cell, empty where there is none.
-fn cell_name(design: &Design, cell: u32) -> &[u8]
-    ensures { result.now ≡ (cell_at design.now cell).name }
-{
-    match design.cells.get(cell as usize) {
-        Some(cell) => cell.name.as_bytes(),
-        None => &[],
-    }
-}
-
-/// The ports of a cell, none where there is no such cell.
-fn cell_ports(design: &Design, cell: u32) -> &[Text]
-    ensures { result.now ≡ (cell_at design.now cell).ports }
-{
-    match design.cells.get(cell as usize) {
-        Some(cell) => cell.ports.as_slice(),
-        None => &[],
-    }
 }
 
 /// Where the constraints of an instance's cell hold in a phase: each of its `assume` lines, and each port with a

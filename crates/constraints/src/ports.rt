@@ -5,6 +5,7 @@ ghost use Rattle.bdd_core.specs.Store.{IsSpan};
 ghost use Rattle.constraints.specs.Handles.{HasHandles, clock_in, handle_in, net_at, word_of};
 ghost use Rattle.vrt_model.specs.Lists.{place_of};
 
+use crate::given_ports::{GivenPorts, given_handle};
 use bdd_core::{H, Store, ZERO};
 use node_pool::Span;
 use vrt_model::{ClockRef, Net, Text};
@@ -28,6 +29,8 @@ pub(crate) enum Ports<'a> {
         /// A handle for each net of the circuit.
         values: Span,
     },
+    /// Those of the checked cell: supplies and clock ports have constants, and inputs have the handles of their nets.
+    Given(GivenPorts<'a>),
 }
 
 /// The place of a name.
@@ -92,5 +95,6 @@ pub(crate) fn handle_of(store: &Store, ports: Ports<'_>, name: &[u8]) -> H
             nets,
             values,
         } => handle_at(store, values, tied_net(names, nets, name)),
+        Ports::Given(given) => given_handle(store, given, name),
     }
 }

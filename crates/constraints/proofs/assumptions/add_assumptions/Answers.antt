@@ -8,7 +8,7 @@ use Rattle.constraints.proofs.TestLaws.{all_so_far, more_so_far, none_left, none
 use Rattle.constraints.specs.Evaluated.{AreLive}
 use Rattle.constraints.specs.Handles.{handle_in}
 use Rattle.constraints.specs.Obliged.{assume_holds, assume_operations}
-use Rattle.constraints.proofs.instances.add_assumptions.Goals as goal
+use Rattle.constraints.proofs.assumptions.add_assumptions.Goals as goal
 
 pub rules-init : goal.rules-init
 rules-init c =

@@ -2,7 +2,7 @@ use Rattle.std.proofs.Common.{◌≡◌, true, sym, ◌∙◌}
 use Rattle.constraints.proofs.StepLaws.{assumed_more, assumed_refused}
 use Rattle.constraints.specs.Handles.{handle_in}
 use Rattle.constraints.specs.Obliged.{is_asked}
-use Rattle.constraints.proofs.instances.add_assumed.Goals as goal
+use Rattle.constraints.proofs.assumptions.add_assumed.Goals as goal
 
 pub returns-in-Err : goal.returns-in-Err
 returns-in-Err c =

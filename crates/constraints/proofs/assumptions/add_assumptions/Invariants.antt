@@ -2,7 +2,7 @@ use Rattle.std.proofs.Common.{length}
 use Rattle.bdd_core.specs.Store.{function_of}
 use Rattle.constraints.specs.Handles.{handle_in}
 use Rattle.constraints.specs.Obliged.{IsSoFar, assume_holds, assume_operations}
-use Rattle.constraints.proofs.instances.add_assumptions.Given as goal
+use Rattle.constraints.proofs.assumptions.add_assumptions.Given as goal
 
 -- the lines so far, and those that are left
 abbrev pub invariant-rules : goal.invariant-rules
