@@ -1,6 +1,7 @@
 //! The report of all cells: each is compared with its model, and its line is put at once.
 
 ghost use Rattle.std.specs.Prelude.{◌≡◌, ◌<◌, ◌≤◌, IfOk, IfErr, length};
+ghost use Rattle.prepared_tables.specs.Prepared.{ArePrepared};
 ghost use Rattle.verity_run.specs.Given.{AreFit};
 ghost use Rattle.verity_run.specs.Reports.{BeginsReport, IsReportOf, PutsCell, StopsAtCell, cell_line, with_undecided, with_verdict};
 ghost use Rattle.verity_run.specs.Runs.{Ends, IsBudget};
@@ -12,7 +13,8 @@ use crate::puts::put_line;
 use crate::refusals::Inputs;
 use crate::status::Status;
 use crate::verdict_text::verdict_line;
-use cell_compare::compare;
+use cell_compare::compare_prepared;
+use prepared_tables::{Prepared, prepare};
 use std::alloc::Global;
 use vrt_io::Sink;
 use vrt_model::{Cell, NoMemory, Seq, Text, Verdict};
@@ -60,11 +62,13 @@ fn with_verdict(status: Status, verdict: &Verdict) -> Status
 fn answer_on(
     alloc: Global,
     budget: u32,
+    prepared: &Prepared,
     inputs: &Inputs,
     number: u32,
     cell: &Cell,
 ) -> Result<CellAnswer, NoMemory>
     requires budget { IsBudget budget }
+    requires prepared { ArePrepared inputs.now.design inputs.now.blif inputs.now.rules prepared.now }
     requires fit { AreFit inputs.now.design inputs.now.blif inputs.now.rules }
     requires built { AreBuilt inputs.now.design inputs.now.blif inputs.now.rules }
     requires number { number < length inputs.now.design.cells }
@@ -74,9 +78,10 @@ fn answer_on(
 {
     // nothing that is known of other cells is looked at yet
     let facts = Seq::new(alloc);
-    let compared = compare(
+    let compared = compare_prepared(
         alloc,
         budget,
+        prepared,
         &inputs.design,
         &inputs.blif,
         &inputs.rules,
@@ -100,6 +105,7 @@ fn answer_on(
 fn report_cell<O: Sink>(
     alloc: Global,
     budget: u32,
+    prepared: &Prepared,
     inputs: &Inputs,
     number: u32,
     cell: &Cell,
@@ -107,6 +113,7 @@ fn report_cell<O: Sink>(
     out: &mut O,
 ) -> Result<Status, Status>
     requires budget { IsBudget budget }
+    requires prepared { ArePrepared inputs.now.design inputs.now.blif inputs.now.rules prepared.now }
     requires fit { AreFit inputs.now.design inputs.now.blif inputs.now.rules }
     requires built { AreBuilt inputs.now.design inputs.now.blif inputs.now.rules }
     requires number { number < length inputs.now.design.cells }
@@ -115,7 +122,7 @@ fn report_cell<O: Sink>(
     ensures stopped { IfErr result (λ end. StopsAtCell inputs.now.design inputs.now.blif inputs.now.rules budget number end (O.written out.old) (O.written out.new) (O.faults out.old) (O.faults out.new)) }
     ensures later { O.faults out.old ≤ O.faults out.new }
 {
-    match answer_on(alloc, budget, inputs, number, cell) {
+    match answer_on(alloc, budget, prepared, inputs, number, cell) {
         Ok(answer) => match put_line(out, answer.line.as_bytes()) {
             Ok(()) => Ok(with_verdict(status, &answer.verdict)),
             Err(end) => Err(end),
@@ -124,9 +131,17 @@ fn report_cell<O: Sink>(
     }
 }
 
-/// Compares each cell with its model, in the order of the file, and puts its line before the next is compared.
-pub fn report_cells<O: Sink>(alloc: Global, budget: u32, inputs: &Inputs, out: &mut O) -> Status
+/// Compares each cell with its model, in the order of the file, by tables that were made before, and puts its line before
+/// the next is compared.
+fn report_by<O: Sink>(
+    alloc: Global,
+    budget: u32,
+    prepared: &Prepared,
+    inputs: &Inputs,
+    out: &mut O,
+) -> Status
     requires budget { IsBudget budget }
+    requires prepared { ArePrepared inputs.now.design inputs.now.blif inputs.now.rules prepared.now }
     requires fit { AreFit inputs.now.design inputs.now.blif inputs.now.rules }
     requires built { AreBuilt inputs.now.design inputs.now.blif inputs.now.rules }
     ensures { Ends (IsReportOf inputs.now.design inputs.now.blif inputs.now.rules budget) (BeginsReport inputs.now.design inputs.now.blif inputs.now.rules budget)
@@ -134,10 +149,34 @@ pub fn report_cells<O: Sink>(alloc: Global, budget: u32, inputs: &Inputs, out: &
 {
     let mut status = Status::AllEqual;
     for (number, cell) in inputs.design.cells.as_slice().iter().enumerate() {
-        match report_cell(alloc, budget, inputs, number as u32, cell, status, out) {
+        match report_cell(
+            alloc,
+            budget,
+            prepared,
+            inputs,
+            number as u32,
+            cell,
+            status,
+            out,
+        ) {
             Ok(more) => status = more,
             Err(end) => return end,
         }
     }
     status
+}
+
+/// Compares each cell with its model, in the order of the file, and puts its line before the next is compared. What is
+/// looked up for each cell is put into tables once, before the first.
+pub fn report_cells<O: Sink>(alloc: Global, budget: u32, inputs: &Inputs, out: &mut O) -> Status
+    requires budget { IsBudget budget }
+    requires fit { AreFit inputs.now.design inputs.now.blif inputs.now.rules }
+    requires built { AreBuilt inputs.now.design inputs.now.blif inputs.now.rules }
+    ensures { Ends (IsReportOf inputs.now.design inputs.now.blif inputs.now.rules budget) (BeginsReport inputs.now.design inputs.now.blif inputs.now.rules budget)
+        result (O.written out.old) (O.written out.new) (O.faults out.old) (O.faults out.new) }
+{
+    match prepare(alloc, &inputs.design, &inputs.blif, &inputs.rules) {
+        Ok(prepared) => report_by(alloc, budget, &prepared, inputs, out),
+        Err(_) => Status::NoMemory,
+    }
 }

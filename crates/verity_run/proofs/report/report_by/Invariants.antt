@@ -1,6 +1,6 @@
 use Rattle.std.proofs.Common.{◌≤◌}
 use Rattle.verity_run.specs.Reports.{PutsCells}
-use Rattle.verity_run.proofs.report.report_cells.Given as goal
+use Rattle.verity_run.proofs.report.report_by.Given as goal
 
 -- the lines of the cells so far were put
 abbrev pub invariant-loop-number : goal.invariant-loop-number
