@@ -12,7 +12,7 @@ use Rattle.names.specs.Names.{with_name}
 use Rattle.prepared_tables.specs.ModelNames.{AreNoted, IsEmpty, Notes, low_name}
 use Rattle.prepared_tables.specs.declared.by_name.NameTable.{NameTable}
 use Rattle.rule_index.proofs.NameLaws.{place_cons}
-use Rattle.rule_index.specs.Firsts.{IsEven, value_in}
+use Rattle.rule_index.specs.Firsts.{value_in}
 use Rattle.vrt_model.specs.Lists.{has_name}
 use Rattle.vrt_model.specs.PairedPorts.{has_lower_name}
 use Rattle.vrt_model.specs.declared.blif.BlifModel.{BlifModel}

@@ -1,5 +1,5 @@
 -- The models of a file by their names, in tables.
-use Rattle.std.specs.Prelude.{◌≡◌, ◌||◌, ◌&&◌, ℕ, List, [], Option, Some, None, bytes_eq, cond, filter, is_some, length, nat_lt, position}
+use Rattle.std.specs.Prelude.{◌≡◌, ◌||◌, ◌&&◌, ℕ, List, [], Some, None, bytes_eq, cond, filter, is_some, length, nat_lt, position}
 use Rattle.std.specs.Option.{option_or}
 use Rattle.std.specs.Str.{str_to_ascii_lowercase}
 use Rattle.prepared_tables.specs.declared.by_name.ModelNames.{ModelNames}

@@ -1,4 +1,4 @@
-use Rattle.std.proofs.Common.{ap, sym, ◌∙◌}
+use Rattle.std.proofs.Common.{ap, sym}
 use Rattle.std.specs.Prelude.{is_some}
 use Rattle.prepared_tables.proofs.NotedLaws.{noted_again, noted_new}
 use Rattle.rule_index.specs.Firsts.{value_in}
