@@ -30,18 +30,18 @@ impl Drop for Builder {
     }
 }
 
-// An operation's answer, with its refusal as one of this crate.
+/// An operation's answer, with its refusal as one of this crate.
 fn or_spent(made: Result<H, Spent>) -> Result<H, Refused> {
     made.map_err(|_| Refused::Spent)
 }
 
-// Two handles, the older one first. The operations of two are the same in both orders, and so the memo more often has
-// the answer.
+/// Two handles, the older one first. The operations of two are the same in both orders, and so the memo more often has
+/// the answer.
 fn in_order(f: H, g: H) -> (H, H) {
     if f.0 <= g.0 { (f, g) } else { (g, f) }
 }
 
-// Has a place of a diagram counted.
+/// Has a place of a diagram counted.
 fn reach(seen: &mut Vec<bool>, place: u32) {
     if let Some(here) = seen.get_mut(place as usize) {
         *here = true;

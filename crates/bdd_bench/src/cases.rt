@@ -61,8 +61,8 @@ pub(crate) fn make(b: &mut Builder, case: Case) -> Result<H, Refused> {
     }
 }
 
-// The sum of 17 products. The first operands are `step` apart, and the second operand of each is `apart` after its
-// first.
+/// The sum of 17 products. The first operands are `step` apart, and the second operand of each is `apart` after its
+/// first.
 fn and_or(b: &mut Builder, step: u32, apart: u32) -> Result<H, Refused>
     requires { (step < 3) × (apart < 18) }
 {
@@ -76,7 +76,7 @@ fn and_or(b: &mut Builder, step: u32, apart: u32) -> Result<H, Refused>
     Ok(sum)
 }
 
-// Not both of two squares of the board, which are counted row by row, and what was asked before.
+/// Not both of two squares of the board, which are counted row by row, and what was asked before.
 fn not_both(b: &mut Builder, before: H, one: u32, other: u32) -> Result<H, Refused> {
     let x = b.bit(one)?;
     let y = b.bit(other)?;
@@ -86,7 +86,7 @@ fn not_both(b: &mut Builder, before: H, one: u32, other: u32) -> Result<H, Refus
     b.and(before, free)
 }
 
-// Whether the queens of two squares attack each other.
+/// Whether the queens of two squares attack each other.
 fn attacks(one: u32, other: u32) -> bool
     requires { (one < 64) × (other < 64) }
 {
@@ -95,7 +95,7 @@ fn attacks(one: u32, other: u32) -> bool
     one != other && (rows == 0 || columns == 0 || rows == columns)
 }
 
-// A queen in each row, and no two that attack each other.
+/// A queen in each row, and no two that attack each other.
 fn queens(b: &mut Builder) -> Result<H, Refused> {
     let mut all = ONE;
     for row in 0..8u32 {
@@ -118,7 +118,7 @@ fn queens(b: &mut Builder) -> Result<H, Refused> {
     Ok(all)
 }
 
-// A full adder: the sum and the carry of three bits.
+/// A full adder: the sum and the carry of three bits.
 fn add(b: &mut Builder, x: H, y: H, carry: H) -> Result<(H, H), Refused> {
     let half = b.xor(x, y)?;
     let sum = b.xor(half, carry)?;
@@ -128,7 +128,7 @@ fn add(b: &mut Builder, x: H, y: H, carry: H) -> Result<(H, H), Refused> {
     Ok((sum, carry))
 }
 
-// One row of a multiplier, added to the sums of its weights: the products of the bit `i` of one factor.
+/// One row of a multiplier, added to the sums of its weights: the products of the bit `i` of one factor.
 fn add_row(b: &mut Builder, sums: &mut [H], i: u32) -> Result<H, Refused>
     requires { (length sums.old ≤ 10) × (i < 10) }
 {
@@ -144,7 +144,7 @@ fn add_row(b: &mut Builder, sums: &mut [H], i: u32) -> Result<H, Refused>
     Ok(carry)
 }
 
-// The middle output of a multiplier of 10 by 10 bits, row by row, with the bits of the two factors side by side.
+/// The middle output of a multiplier of 10 by 10 bits, row by row, with the bits of the two factors side by side.
 fn multiplier(b: &mut Builder) -> Result<H, Refused> {
     let mut sums = [ZERO; 20];
     for i in 0..10usize {
@@ -154,7 +154,7 @@ fn multiplier(b: &mut Builder) -> Result<H, Refused> {
     Ok(sums[9])
 }
 
-// The carry of an adder of 32 bits, with the bits of the two numbers side by side.
+/// The carry of an adder of 32 bits, with the bits of the two numbers side by side.
 fn adder(b: &mut Builder) -> Result<H, Refused> {
     let mut carry = ZERO;
     for i in 0..32u32 {
@@ -166,7 +166,7 @@ fn adder(b: &mut Builder) -> Result<H, Refused> {
     Ok(carry)
 }
 
-// The complement of the sum of 200 variables.
+/// The complement of the sum of 200 variables.
 fn nor(b: &mut Builder) -> Result<H, Refused> {
     let mut sum = ZERO;
     for i in 0..200u32 {
@@ -176,7 +176,7 @@ fn nor(b: &mut Builder) -> Result<H, Refused> {
     b.not(sum)
 }
 
-// The parity of 1,000 variables.
+/// The parity of 1,000 variables.
 fn parity(b: &mut Builder) -> Result<H, Refused> {
     let mut odd = ZERO;
     for i in 0..1000u32 {

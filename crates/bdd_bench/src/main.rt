@@ -17,7 +17,7 @@ use std::time::Instant;
 /// The budget of nodes where none is given.
 const BUDGET: u32 = 4_000_000;
 
-// The case of a name.
+/// The case of a name.
 fn case_of(name: &str) -> Option<Case> {
     for case in ALL {
         if cases::name(case) == name {
@@ -27,7 +27,7 @@ fn case_of(name: &str) -> Option<Case> {
     None
 }
 
-// Makes one function and tells its nodes.
+/// Makes one function and tells its nodes.
 fn count(rt: HostRuntime, case: Case) -> Result<()> {
     let name = cases::name(case);
     let Ok(mut builder) = Builder::open(rt.alloc(), BUDGET) else {
@@ -45,7 +45,7 @@ fn count(rt: HostRuntime, case: Case) -> Result<()> {
     Ok(())
 }
 
-// Makes one function several times and tells how long it took.
+/// Makes one function several times and tells how long it took.
 fn time(rt: HostRuntime, case: Case, budget: u32, times: u32) -> Result<()> {
     let name = cases::name(case);
     let start = Instant::now(&rt)?;

@@ -61,8 +61,8 @@ impl Model for Memo {
     ghost invariant = { IsTable };
 }
 
-// The place of what was asked, among `mask` and one more. What differs by one in the first number has the next place:
-// answers that are asked one after another then lie near each other, which caches serve well.
+/// The place of what was asked, among `mask` and one more. What differs by one in the first number has the next place:
+/// answers that are asked one after another then lie near each other, which caches serve well.
 fn slot_at(mask: u32, f: u32, g: u32, h: u32) -> u32
     ensures { result ≤ mask }
 {
@@ -72,7 +72,7 @@ fn slot_at(mask: u32, f: u32, g: u32, h: u32) -> u32
     mixed & mask
 }
 
-// Appends empty entries, for which there is room.
+/// Appends empty entries, for which there is room.
 fn push_empty(entries: &mut Vec<Entry>, len: u32)
     requires { length entries.old.items + len ≤ vec_capacity entries.old }
     ensures items { entries.new.items ≡ entries.old.items ++ replicate len (record { f = 0; g = 0; h = 0; r = 0 }) }
@@ -83,7 +83,7 @@ fn push_empty(entries: &mut Vec<Entry>, len: u32)
     }
 }
 
-// Empties every entry.
+/// Empties every entry.
 fn clear(entries: &mut Vec<Entry>)
     ensures empty { IsEmpty entries.new.items }
     ensures len { length entries.new.items ≡ length entries.old.items }
@@ -94,7 +94,7 @@ fn clear(entries: &mut Vec<Entry>)
     }
 }
 
-// Copies each of the first entries to the place that it has now.
+/// Copies each of the first entries to the place that it has now.
 fn place_anew(entries: &mut Vec<Entry>, few: usize, mask: u32)
     requires within { few ≤ length entries.old.items }
     requires len { length entries.old.items ≡ mask + 1 }
@@ -149,7 +149,7 @@ impl Memo {
         self.entries[slot] = entry;
     }
 
-    // Has four times the entries where the store has as many nodes.
+    /// Has four times the entries where the store has as many nodes.
     fn grow(&mut self, count: u32)
         ensures { (k : ℕ) → k < length self.new → ((entry_at self.new k).f ≡ 0) ⊎ Contains self.old (entry_at self.new k) }
     {

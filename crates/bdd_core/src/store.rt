@@ -44,7 +44,7 @@ impl Model for Store {
     ghost invariant = { IsSound };
 }
 
-// Adds a node that is not there and has room.
+/// Adds a node that is not there and has room.
 fn add_end(pool: &mut Pool, end: Node)
     requires new { ¬ Contains pool.old.nodes end }
     requires room { length pool.old.nodes < pool.old.node_room }
@@ -53,7 +53,7 @@ fn add_end(pool: &mut Pool, end: Node)
     let _place = pool.add_node(end);
 }
 
-// In the place of the third number of a memo's entry, the mark of an answer of `restrict`. No node has this place.
+/// In the place of the third number of a memo's entry, the mark of an answer of `restrict`. No node has this place.
 fn mark_of(value: bool) -> u32
     ensures { result ≡ fixed_mark value }
 {
@@ -154,7 +154,7 @@ impl Store {
         Some(self.pool.node(f.0))
     }
 
-    // The variable that a place tests. The constants have the number of variables.
+    /// The variable that a place tests. The constants have the number of variables.
     fn top_of(&self, f: H) -> u32
         requires { IsLive self.now f }
         ensures { result ≡ top self.now.nodes f.0 }
@@ -162,7 +162,7 @@ impl Store {
         self.pool.node(f.0).var
     }
 
-    // The least variable that one of three tests.
+    /// The least variable that one of three tests.
     fn least_top(&self, f: H, g: H, h: H) -> u32
         requires { IsLive self.now f × IsLive self.now g × IsLive self.now h }
         ensures least { (result ≤ top self.now.nodes f.0) × (result ≤ top self.now.nodes g.0) × (result ≤ top self.now.nodes h.0) }
@@ -174,7 +174,7 @@ impl Store {
         x.min(y).min(z)
     }
 
-    // The parts of f where a variable is 0 and where it is 1.
+    /// The parts of f where a variable is 0 and where it is 1.
     fn branches(&self, f: H, var: u32) -> (H, H)
         requires live { IsLive self.now f }
         requires first { var ≤ top self.now.nodes f.0 }
@@ -193,7 +193,7 @@ impl Store {
         }
     }
 
-    // The function that is `hi` where a variable is 1 and `lo` where it is 0.
+    /// The function that is `hi` where a variable is 1 and `lo` where it is 0.
     fn join(&mut self, var: u32, lo: H, hi: H) -> Result<H, Spent>
         requires var { var < self.old.vars }
         requires lo { IsLive self.old lo }
@@ -242,7 +242,7 @@ impl Store {
         self.join(var.0, ZERO, ONE)
     }
 
-    // What is known of `choose` with no new node: at the ends, and by the memo.
+    /// What is known of `choose` with no new node: at the ends, and by the memo.
     fn known(&self, f: H, g: H, h: H) -> Option<H>
         requires { IsLive self.now f × IsLive self.now g × IsLive self.now h }
         ensures some { IfSome result (λ r. Means self.now r (choice (function_of self.now f) (function_of self.now g) (function_of self.now h))) }
@@ -267,7 +267,7 @@ impl Store {
         Some(H(r))
     }
 
-    // Keeps an answer of `choose`.
+    /// Keeps an answer of `choose`.
     fn remember(&mut self, f: H, g: H, h: H, r: H)
         requires live { IsLive self.old f × IsLive self.old g × IsLive self.old h }
         requires is { Means self.old r (choice (function_of self.old f) (function_of self.old g) (function_of self.old h)) }
@@ -283,7 +283,7 @@ impl Store {
         self.memo.keep(entry, count);
     }
 
-    // `ite`, part by part. It goes as deep as there are variables.
+    /// `ite`, part by part. It goes as deep as there are variables.
     fn choose(&mut self, f: H, g: H, h: H) -> Result<H, Spent>
         requires { IsLive self.old f × IsLive self.old g × IsLive self.old h }
         ensures { Makes self.old self.new (choice (function_of self.old f) (function_of self.old g) (function_of self.old h)) result }
@@ -322,7 +322,7 @@ impl Store {
         self.choose(f, g, h)
     }
 
-    // An answer of `fix` that the memo has.
+    /// An answer of `fix` that the memo has.
     fn known_fixed(&self, f: H, var: u32, value: bool) -> Option<H>
         requires { (2 ≤ f.0) × IsLive self.now f }
         ensures { IfSome result (λ r. Means self.now r (fixed (function_of self.now f) var value)) }
@@ -334,7 +334,7 @@ impl Store {
         Some(H(r))
     }
 
-    // Keeps an answer of `fix`.
+    /// Keeps an answer of `fix`.
     fn remember_fixed(&mut self, f: H, var: u32, value: bool, r: H)
         requires live { IsLive self.old f }
         requires is { Means self.old r (fixed (function_of self.old f) var value) }
@@ -350,7 +350,7 @@ impl Store {
         self.memo.keep(entry, count);
     }
 
-    // `restrict`, part by part. It goes as deep as there are variables.
+    /// `restrict`, part by part. It goes as deep as there are variables.
     fn fix(&mut self, f: H, var: u32, value: bool) -> Result<H, Spent>
         requires { IsLive self.old f }
         ensures { Makes self.old self.new (fixed (function_of self.old f) var value) result }

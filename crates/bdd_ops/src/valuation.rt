@@ -29,7 +29,7 @@ pub fn value_at(store: &Store, f: H, at: &Valuation) -> bool
     place == ONE
 }
 
-// From a place that is not the constant 0, the place below it that has the least valuation, and its bit at a variable.
+/// From a place that is not the constant 0, the place below it that has the least valuation, and its bit at a variable.
 fn turn(store: &Store, place: H, x: u32) -> (H, u32)
     requires live { IsLive store.now place }
     requires some { place.0 ≢ 0 }

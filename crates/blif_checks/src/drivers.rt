@@ -18,14 +18,14 @@ use names::Names;
 use std::alloc::Global;
 use vrt_model::{Blif, BlifModel, CoverLine, LatchLine, NoMemory, Seq, Text};
 
-// The line at a place.
+/// The line at a place.
 fn line_at(lines: &[u32], number: usize) -> Option<u32>
     ensures { result ≡ slice_get lines.now number }
 {
     lines.get(number).copied()
 }
 
-// The first line on which a name is listed.
+/// The first line on which a name is listed.
 fn line_in(names: &Names, lines: &[u32], name: &[u8]) -> Option<u32>
     requires { length lines.now ≡ length names.now }
     ensures { result ≡ line_in (on_lines names.now lines.now) name.now }
@@ -34,7 +34,7 @@ fn line_in(names: &Names, lines: &[u32], name: &[u8]) -> Option<u32>
     line_at(lines, number)
 }
 
-// The earlier of a line and another, if there is one.
+/// The earlier of a line and another, if there is one.
 fn earlier(line: u32, other: Option<u32>) -> u32
     ensures { result ≡ min line (unwrap_or other line) }
 {
@@ -44,7 +44,7 @@ fn earlier(line: u32, other: Option<u32>) -> u32
     }
 }
 
-// Adds inputs, each at the earlier of its line and that of the clock of its name.
+/// Adds inputs, each at the earlier of its line and that of the clock of its name.
 fn add_inputs(
     list: &mut Seq<Mention>,
     names: &Names,
@@ -70,7 +70,7 @@ fn add_inputs(
     Ok(())
 }
 
-// Adds a clock that is no input.
+/// Adds a clock that is no input.
 fn add_clock(
     list: &mut Seq<Mention>,
     names: &Names,
@@ -86,7 +86,7 @@ fn add_clock(
     add(list, names, line, clock)
 }
 
-// Adds the clocks that are no inputs.
+/// Adds the clocks that are no inputs.
 fn add_clocks(
     list: &mut Seq<Mention>,
     names: &Names,
@@ -109,7 +109,7 @@ fn add_clocks(
     Ok(())
 }
 
-// Adds the outputs of covers.
+/// Adds the outputs of covers.
 fn add_covers(list: &mut Seq<Mention>, names: &Names, covers: &[CoverLine]) -> Result<(), NoMemory>
     ensures { OnOk result (list.new ≡ list.old ++ map (numbered names.now) (map (λ (c : CoverValue). on_line c.line c.output) covers.now)) }
 {
@@ -119,7 +119,7 @@ fn add_covers(list: &mut Seq<Mention>, names: &Names, covers: &[CoverLine]) -> R
     Ok(())
 }
 
-// Adds the outputs of latches.
+/// Adds the outputs of latches.
 fn add_latches(
     list: &mut Seq<Mention>,
     names: &Names,
@@ -133,7 +133,7 @@ fn add_latches(
     Ok(())
 }
 
-// The names of signals, each once.
+/// The names of signals, each once.
 fn once(alloc: Global, signals: &[Text]) -> Result<Names, NoMemory>
     ensures { IfOk result (λ names. names ≡ with_names [] signals.now) }
 {
@@ -142,7 +142,7 @@ fn once(alloc: Global, signals: &[Text]) -> Result<Names, NoMemory>
     Ok(names)
 }
 
-// Adds the inputs and clocks of a model.
+/// Adds the inputs and clocks of a model.
 fn add_heads(
     alloc: Global,
     list: &mut Seq<Mention>,

@@ -21,7 +21,7 @@ use names::Names;
 use std::alloc::Global;
 use vrt_model::{Blif, BlifModel, NoMemory, Seq, Text};
 
-// Whether a line is there and is this one.
+/// Whether a line is there and is this one.
 fn is_line(line: Option<u32>, at: u32) -> bool
     ensures { result ≡ is_line line at }
 {
@@ -31,7 +31,7 @@ fn is_line(line: Option<u32>, at: u32) -> bool
     }
 }
 
-// Whether a mention is the second driver of its signal.
+/// Whether a mention is the second driver of its signal.
 fn is_second(notes: &[Note], mention: Mention) -> bool
     ensures { result ≡ is_second notes.now mention }
 {
@@ -41,7 +41,7 @@ fn is_second(notes: &[Note], mention: Mention) -> bool
     }
 }
 
-// Whether a mention is the first use of a signal without a driver.
+/// Whether a mention is the first use of a signal without a driver.
 fn is_first_use(notes: &[Note], mention: Mention) -> bool
     ensures { result ≡ is_first_use notes.now mention }
 {
@@ -51,14 +51,14 @@ fn is_first_use(notes: &[Note], mention: Mention) -> bool
     }
 }
 
-// Whether a mention is one or the other.
+/// Whether a mention is one or the other.
 fn is_bad(notes: &[Note], mention: Mention) -> bool
     ensures { result ≡ is_bad notes.now mention }
 {
     is_second(notes, mention) || is_first_use(notes, mention)
 }
 
-// The earlier of a line and another, if there is one.
+/// The earlier of a line and another, if there is one.
 fn earlier(least: Option<u32>, line: u32) -> Option<u32>
     ensures { result ≡ earlier_line least line }
 {
@@ -74,7 +74,7 @@ fn earlier(least: Option<u32>, line: u32) -> Option<u32>
     }
 }
 
-// The least line of those so far and of a mention, if that is bad.
+/// The least line of those so far and of a mention, if that is bad.
 fn with_mention(notes: &[Note], least: Option<u32>, mention: Mention) -> Option<u32>
     ensures { result ≡ cond (is_bad notes.now mention) (earlier_line least mention.line) least }
 {
@@ -85,7 +85,7 @@ fn with_mention(notes: &[Note], least: Option<u32>, mention: Mention) -> Option<
     }
 }
 
-// The least line with a bad mention.
+/// The least line with a bad mention.
 fn least_line(notes: &[Note], mentions: &[Mention]) -> Option<u32>
     ensures { IsLeastLine (is_bad notes.now) mentions.now result }
 {
@@ -96,7 +96,7 @@ fn least_line(notes: &[Note], mentions: &[Mention]) -> Option<u32>
     least
 }
 
-// The first second driver on a line.
+/// The first second driver on a line.
 fn second_on(notes: &[Note], mentions: &[Mention], line: u32) -> Option<Mention>
     ensures { result ≡ find (passes_on (is_second notes.now) line) mentions.now }
 {
@@ -108,7 +108,7 @@ fn second_on(notes: &[Note], mentions: &[Mention], line: u32) -> Option<Mention>
     None
 }
 
-// The first use on a line of a signal without a driver.
+/// The first use on a line of a signal without a driver.
 fn first_use_on(notes: &[Note], mentions: &[Mention], line: u32) -> Option<Mention>
     ensures { result ≡ find (passes_on (is_first_use notes.now) line) mentions.now }
 {
@@ -120,7 +120,7 @@ fn first_use_on(notes: &[Note], mentions: &[Mention], line: u32) -> Option<Menti
     None
 }
 
-// The name of a number, empty where there is none.
+/// The name of a number, empty where there is none.
 fn bytes_at(names: &[Text], number: usize) -> &[u8]
     ensures { result.now ≡ get_or names.now number [] }
 {
@@ -131,7 +131,7 @@ fn bytes_at(names: &[Text], number: usize) -> &[u8]
     }
 }
 
-// A copy of the name of a number, empty where there is none.
+/// A copy of the name of a number, empty where there is none.
 fn name_at(alloc: Global, names: &Names, number: usize) -> Result<Text, NoMemory>
     ensures { IfOk result (λ name. name ≡ get_or names.now number []) }
 {
@@ -140,7 +140,7 @@ fn name_at(alloc: Global, names: &Names, number: usize) -> Result<Text, NoMemory
     Ok(name)
 }
 
-// The fault of a second driver.
+/// The fault of a second driver.
 fn twice(alloc: Global, names: &Names, line: u32, mention: Mention) -> ModelFault
     ensures { (result ≡ ModelFault.NoMemory) ⊎ (result ≡ ModelFault.DrivenTwice line (get_or names.now mention.signal [])) }
 {
@@ -150,7 +150,7 @@ fn twice(alloc: Global, names: &Names, line: u32, mention: Mention) -> ModelFaul
     }
 }
 
-// The fault of a use without a driver.
+/// The fault of a use without a driver.
 fn never(alloc: Global, names: &Names, line: u32, mention: Mention) -> ModelFault
     ensures { (result ≡ ModelFault.NoMemory) ⊎ (result ≡ ModelFault.Undriven line (get_or names.now mention.signal [])) }
 {
@@ -160,7 +160,7 @@ fn never(alloc: Global, names: &Names, line: u32, mention: Mention) -> ModelFaul
     }
 }
 
-// Refuses the first bad mention on a line: a second driver, or else a use without a driver.
+/// Refuses the first bad mention on a line: a second driver, or else a use without a driver.
 fn judge_line(
     alloc: Global,
     notes: &[Note],
@@ -180,7 +180,7 @@ fn judge_line(
     }
 }
 
-// Refuses the first bad mention on the least line that has one.
+/// Refuses the first bad mention on the least line that has one.
 fn judge_mentions(
     alloc: Global,
     notes: &[Note],
@@ -213,7 +213,7 @@ impl Drop for Shown {
     }
 }
 
-// What is shown of a model.
+/// What is shown of a model.
 fn shown_of(
     alloc: Global,
     blif: &Blif,
@@ -238,7 +238,7 @@ fn shown_of(
     })
 }
 
-// Refuses the first signal of a model with two drivers or none.
+/// Refuses the first signal of a model with two drivers or none.
 fn judge_model(
     alloc: Global,
     blif: &Blif,
@@ -262,7 +262,7 @@ fn judge_model(
     )
 }
 
-// Refuses the first model that has such a signal.
+/// Refuses the first model that has such a signal.
 fn judge_models(
     alloc: Global,
     blif: &Blif,

@@ -16,7 +16,7 @@ pub(crate) struct Mention {
     pub(crate) signal: usize,
 }
 
-// The number of a name, the count of the names where it is none of them.
+/// The number of a name, the count of the names where it is none of them.
 fn number_among(names: &Names, name: &[u8]) -> usize
     ensures { result ≡ number_among names.now name.now }
 {
@@ -79,7 +79,7 @@ pub(crate) fn add_listed(
     Ok(())
 }
 
-// Adds the mentions of a cover.
+/// Adds the mentions of a cover.
 fn add_cover(list: &mut Seq<Mention>, names: &Names, cover: &CoverLine) -> Result<(), NoMemory>
     ensures { OnOk result (list.new ≡ list.old ++ map (numbered names.now) (cover_mentions cover.now)) }
 {
@@ -87,7 +87,7 @@ fn add_cover(list: &mut Seq<Mention>, names: &Names, cover: &CoverLine) -> Resul
     add(list, names, cover.line, cover.output.as_bytes())
 }
 
-// Adds the mentions of a latch.
+/// Adds the mentions of a latch.
 fn add_latch(list: &mut Seq<Mention>, names: &Names, latch: &LatchLine) -> Result<(), NoMemory>
     ensures { OnOk result (list.new ≡ list.old ++ map (numbered names.now) (latch_mentions latch.now)) }
 {
@@ -99,7 +99,7 @@ fn add_latch(list: &mut Seq<Mention>, names: &Names, latch: &LatchLine) -> Resul
     }
 }
 
-// Adds the actuals of ties.
+/// Adds the actuals of ties.
 fn add_ties(list: &mut Seq<Mention>, names: &Names, line: u32, ties: &[Tie]) -> Result<(), NoMemory>
     ensures { OnOk result (list.new ≡ list.old ++ map (numbered names.now) (map (on_line line) (map (λ t. t.actual) ties.now))) }
 {
@@ -109,7 +109,7 @@ fn add_ties(list: &mut Seq<Mention>, names: &Names, line: u32, ties: &[Tie]) -> 
     Ok(())
 }
 
-// Adds the mentions of covers.
+/// Adds the mentions of covers.
 fn add_covers(list: &mut Seq<Mention>, names: &Names, covers: &[CoverLine]) -> Result<(), NoMemory>
     ensures { OnOk result (list.new ≡ list.old ++ map (numbered names.now) (flat_map cover_mentions covers.now)) }
 {
@@ -119,7 +119,7 @@ fn add_covers(list: &mut Seq<Mention>, names: &Names, covers: &[CoverLine]) -> R
     Ok(())
 }
 
-// Adds the mentions of latches.
+/// Adds the mentions of latches.
 fn add_latches(
     list: &mut Seq<Mention>,
     names: &Names,
@@ -133,7 +133,7 @@ fn add_latches(
     Ok(())
 }
 
-// Adds the mentions of sub-models.
+/// Adds the mentions of sub-models.
 fn add_subs(list: &mut Seq<Mention>, names: &Names, subs: &[SubLine]) -> Result<(), NoMemory>
     ensures { OnOk result (list.new ≡ list.old ++ map (numbered names.now) (flat_map sub_mentions subs.now)) }
 {

@@ -16,7 +16,7 @@ pub(crate) struct Note {
     pub(crate) used: Option<u32>,
 }
 
-// The least of a line and another, if there is one.
+/// The least of a line and another, if there is one.
 fn least(other: Option<u32>, line: u32) -> Option<u32>
     ensures { (l : ℕ) → is_by result l ≡ (is_by other l || not (nat_lt l line)) }
 {
@@ -26,7 +26,7 @@ fn least(other: Option<u32>, line: u32) -> Option<u32>
     }
 }
 
-// The greater of a line and another, if there is one.
+/// The greater of a line and another, if there is one.
 fn greater(other: Option<u32>, line: u32) -> Option<u32>
     ensures { (l : ℕ) → is_by result l ≡ (is_by other l && not (nat_lt l line)) }
 {
@@ -37,7 +37,7 @@ fn greater(other: Option<u32>, line: u32) -> Option<u32>
     }
 }
 
-// The least of two lines, if there are any.
+/// The least of two lines, if there are any.
 fn least_of(a: Option<u32>, b: Option<u32>) -> Option<u32>
     ensures { (l : ℕ) → is_by result l ≡ (is_by a l || is_by b l) }
 {
@@ -48,7 +48,7 @@ fn least_of(a: Option<u32>, b: Option<u32>) -> Option<u32>
 }
 
 impl Note {
-    // With one driver more.
+    /// With one driver more.
     fn driven(self, line: u32) -> Note
         ensures { (driven used : List ℕ) → IsNote self driven used → IsNote result (driven ++ line ∷ []) used }
     {
@@ -59,7 +59,7 @@ impl Note {
         }
     }
 
-    // With one use more.
+    /// With one use more.
     fn used(self, line: u32) -> Note
         ensures { (driven used : List ℕ) → IsNote self driven used → IsNote result driven (used ++ line ∷ []) }
     {
@@ -71,7 +71,7 @@ impl Note {
     }
 }
 
-// Notes a driver.
+/// Notes a driver.
 fn note_driver(notes: &mut Vec<Note>, mention: Mention)
     ensures notes { (drivers uses : List MentionValue) → AreNotes notes.old.items drivers uses → AreNotes notes.new.items (drivers ++ mention ∷ []) uses }
     ensures count { length notes.new.items ≡ length notes.old.items }
@@ -81,7 +81,7 @@ fn note_driver(notes: &mut Vec<Note>, mention: Mention)
     }
 }
 
-// Notes a use.
+/// Notes a use.
 fn note_use(notes: &mut Vec<Note>, mention: Mention)
     ensures notes { (drivers uses : List MentionValue) → AreNotes notes.old.items drivers uses → AreNotes notes.new.items drivers (uses ++ mention ∷ []) }
     ensures count { length notes.new.items ≡ length notes.old.items }
@@ -91,7 +91,7 @@ fn note_use(notes: &mut Vec<Note>, mention: Mention)
     }
 }
 
-// Notes of signals that are neither driven nor used.
+/// Notes of signals that are neither driven nor used.
 fn no_notes(alloc: Global, count: usize) -> Result<Vec<Note>, NoMemory>
     ensures { IfOk result (λ notes. notes.items ≡ replicate count no_note) }
 {

@@ -21,7 +21,7 @@ pub(crate) enum Role {
     Reading,
 }
 
-// The signals that a model reads, each once.
+/// The signals that a model reads, each once.
 fn read_by(alloc: Global, model: &BlifModel) -> Result<Names, NoMemory>
     ensures { IfOk result (λ names. names ≡ read_by model.now) }
 {
@@ -45,7 +45,7 @@ pub(crate) fn reads_of(alloc: Global, models: &[BlifModel]) -> Result<Seq<Names>
     Ok(reads)
 }
 
-// Whether a list of lists of names, at a number, has a name.
+/// Whether a list of lists of names, at a number, has a name.
 fn has_at(lists: &[Names], number: usize, name: &[u8]) -> bool
     ensures { result ≡ has_name (get_or lists.now number []) name.now }
 {
@@ -55,7 +55,7 @@ fn has_at(lists: &[Names], number: usize, name: &[u8]) -> bool
     }
 }
 
-// Whether the first holds and the second does not.
+/// Whether the first holds and the second does not.
 fn is_first_alone(first: bool, second: bool) -> bool
     ensures { result ≡ (first && not second) }
 {

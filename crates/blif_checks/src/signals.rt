@@ -11,7 +11,7 @@ use names::Names;
 use std::alloc::Global;
 use vrt_model::{BlifModel, CoverLine, LatchLine, NoMemory, SubLine, Tie};
 
-// Adds the signals of a cover.
+/// Adds the signals of a cover.
 fn add_cover(names: &mut Names, cover: &CoverLine) -> Result<(), NoMemory>
     ensures { OnOk result (names.new ≡ with_names names.old (cover_signals cover.now)) }
 {
@@ -20,7 +20,7 @@ fn add_cover(names: &mut Names, cover: &CoverLine) -> Result<(), NoMemory>
     Ok(())
 }
 
-// Adds the signals of covers.
+/// Adds the signals of covers.
 fn add_covers(names: &mut Names, covers: &[CoverLine]) -> Result<(), NoMemory>
     ensures { OnOk result (names.new ≡ with_names names.old (flat_map cover_signals covers.now)) }
 {
@@ -30,7 +30,7 @@ fn add_covers(names: &mut Names, covers: &[CoverLine]) -> Result<(), NoMemory>
     Ok(())
 }
 
-// Adds the signals of a latch.
+/// Adds the signals of a latch.
 fn add_latch(names: &mut Names, latch: &LatchLine) -> Result<(), NoMemory>
     ensures { OnOk result (names.new ≡ with_names names.old (latch_signals latch.now)) }
 {
@@ -42,7 +42,7 @@ fn add_latch(names: &mut Names, latch: &LatchLine) -> Result<(), NoMemory>
     Ok(())
 }
 
-// Adds the signals of latches.
+/// Adds the signals of latches.
 fn add_latches(names: &mut Names, latches: &[LatchLine]) -> Result<(), NoMemory>
     ensures { OnOk result (names.new ≡ with_names names.old (flat_map latch_signals latches.now)) }
 {
@@ -52,7 +52,7 @@ fn add_latches(names: &mut Names, latches: &[LatchLine]) -> Result<(), NoMemory>
     Ok(())
 }
 
-// Adds the actuals of ties.
+/// Adds the actuals of ties.
 fn add_ties(names: &mut Names, ties: &[Tie]) -> Result<(), NoMemory>
     ensures { OnOk result (names.new ≡ with_names names.old (map (λ (t : TieValue). t.actual) ties.now)) }
 {
@@ -62,7 +62,7 @@ fn add_ties(names: &mut Names, ties: &[Tie]) -> Result<(), NoMemory>
     Ok(())
 }
 
-// Adds the signals of sub-models.
+/// Adds the signals of sub-models.
 fn add_subs(names: &mut Names, subs: &[SubLine]) -> Result<(), NoMemory>
     ensures { OnOk result (names.new ≡ with_names names.old (flat_map sub_signals subs.now)) }
 {

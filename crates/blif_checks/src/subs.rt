@@ -16,7 +16,7 @@ use names::Names;
 use std::alloc::Global;
 use vrt_model::{Blif, BlifModel, SubLine, Text, Tie};
 
-// The fault of a formal that does not fit.
+/// The fault of a formal that does not fit.
 fn formals_fault(alloc: Global, line: u32, name: &[u8]) -> ModelFault
     ensures { (result ≡ ModelFault.NoMemory) ⊎ (result ≡ ModelFault.Formals line name.now) }
 {
@@ -26,7 +26,7 @@ fn formals_fault(alloc: Global, line: u32, name: &[u8]) -> ModelFault
     }
 }
 
-// The fault of an unknown model.
+/// The fault of an unknown model.
 fn unknown_model(alloc: Global, sub: &SubLine) -> ModelFault
     ensures { (result ≡ ModelFault.NoMemory) ⊎ (result ≡ ModelFault.UnknownModel sub.now.line sub.now.model) }
 {
@@ -39,7 +39,7 @@ fn unknown_model(alloc: Global, sub: &SubLine) -> ModelFault
     }
 }
 
-// Takes a tied formal, unless it is no signal of the interface or was seen.
+/// Takes a tied formal, unless it is no signal of the interface or was seen.
 fn take_formal(
     alloc: Global,
     line: u32,
@@ -59,7 +59,7 @@ fn take_formal(
     }
 }
 
-// Takes the formals of ties, up to the first that does not fit.
+/// Takes the formals of ties, up to the first that does not fit.
 fn take_formals(
     alloc: Global,
     line: u32,
@@ -77,7 +77,7 @@ fn take_formals(
     Ok(())
 }
 
-// Refuses the first of some signals that is not tied.
+/// Refuses the first of some signals that is not tied.
 fn take_tied(alloc: Global, line: u32, tied: &Names, signals: &[Text]) -> Result<(), ModelFault>
     ensures { Judges result (option_map (ModelFault.Formals line) (first_missing tied.now signals.now)) }
 {
@@ -89,7 +89,7 @@ fn take_tied(alloc: Global, line: u32, tied: &Names, signals: &[Text]) -> Result
     Ok(())
 }
 
-// Judges the ties to a model.
+/// Judges the ties to a model.
 fn judge_ties(
     alloc: Global,
     model: &BlifModel,
@@ -106,7 +106,7 @@ fn judge_ties(
     Ok(())
 }
 
-// The model of a name, and its interface.
+/// The model of a name, and its interface.
 fn find_model<'a>(
     blif: &'a Blif,
     tables: &'a Tables,
@@ -122,7 +122,7 @@ fn find_model<'a>(
     Some((model, interface))
 }
 
-// Judges a sub-model.
+/// Judges a sub-model.
 fn judge_sub(alloc: Global, blif: &Blif, tables: &Tables, sub: &SubLine) -> Result<(), ModelFault>
     requires { AreTables blif.now tables.now }
     ensures { Judges result (sub_fault blif.now sub.now) }
@@ -133,7 +133,7 @@ fn judge_sub(alloc: Global, blif: &Blif, tables: &Tables, sub: &SubLine) -> Resu
     }
 }
 
-// Judges the sub-models of a model.
+/// Judges the sub-models of a model.
 fn judge_subs(
     alloc: Global,
     blif: &Blif,

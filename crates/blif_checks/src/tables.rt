@@ -30,7 +30,7 @@ impl Drop for Tables {
     }
 }
 
-// The names of models.
+/// The names of models.
 fn names_of(alloc: Global, models: &[BlifModel]) -> Result<Names, NoMemory>
     ensures { IfOk result (λ names. names ≡ distinct (map (λ m. m.name) models.now)) }
 {
@@ -41,7 +41,7 @@ fn names_of(alloc: Global, models: &[BlifModel]) -> Result<Names, NoMemory>
     Ok(names)
 }
 
-// The signals of an interface, each once.
+/// The signals of an interface, each once.
 fn interface(alloc: Global, model: &BlifModel) -> Result<Names, NoMemory>
     ensures { IfOk result (λ names. names ≡ distinct (interface_of model.now)) }
 {
@@ -52,7 +52,7 @@ fn interface(alloc: Global, model: &BlifModel) -> Result<Names, NoMemory>
     Ok(names)
 }
 
-// The interfaces of models.
+/// The interfaces of models.
 fn interfaces_of(alloc: Global, models: &[BlifModel]) -> Result<Seq<Names>, NoMemory>
     ensures { IfOk result (λ found. found ≡ map (λ m. distinct (interface_of m)) models.now) }
 {

@@ -15,7 +15,7 @@ use names::Names;
 use std::alloc::Global;
 use vrt_model::{Blif, BlifModel, CoverLine, LatchLine, NoMemory, Seq};
 
-// Adds the inputs of covers.
+/// Adds the inputs of covers.
 fn add_covers(list: &mut Seq<Mention>, names: &Names, covers: &[CoverLine]) -> Result<(), NoMemory>
     ensures { OnOk result (list.new ≡ list.old ++ map (numbered names.now) (flat_map (λ (c : CoverValue). map (on_line c.line) c.inputs) covers.now)) }
 {
@@ -25,7 +25,7 @@ fn add_covers(list: &mut Seq<Mention>, names: &Names, covers: &[CoverLine]) -> R
     Ok(())
 }
 
-// Adds the input and the control of a latch.
+/// Adds the input and the control of a latch.
 fn add_latch(list: &mut Seq<Mention>, names: &Names, latch: &LatchLine) -> Result<(), NoMemory>
     ensures { OnOk result (list.new ≡ list.old ++ map (numbered names.now) (latch_uses latch.now)) }
 {
@@ -36,7 +36,7 @@ fn add_latch(list: &mut Seq<Mention>, names: &Names, latch: &LatchLine) -> Resul
     }
 }
 
-// Adds the inputs and controls of latches.
+/// Adds the inputs and controls of latches.
 fn add_latches(
     list: &mut Seq<Mention>,
     names: &Names,

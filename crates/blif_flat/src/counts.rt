@@ -38,7 +38,7 @@ pub(crate) struct Counts {
     pub subs: u64,
 }
 
-// What a sub-model counts of its own.
+/// What a sub-model counts of its own.
 fn weight_of(kind: Counted, inside: Inside) -> u64
     ensures { result ≡ weight kind inside }
 {
@@ -49,7 +49,7 @@ fn weight_of(kind: Counted, inside: Inside) -> u64
     }
 }
 
-// The number at a place, 0 where there is none.
+/// The number at a place, 0 where there is none.
 fn number_at(numbers: &[u64], place: usize) -> u64
     ensures { result ≡ get_or numbers.now place 0 }
 {
@@ -60,7 +60,7 @@ fn number_at(numbers: &[u64], place: usize) -> u64
     }
 }
 
-// What sub-models count, with what those in them count.
+/// What sub-models count, with what those in them count.
 fn sum_of(kind: Counted, insides: &[Inside], sums: &[u64]) -> u64
     ensures { result ≡ sum_over kind sums.now insides.now }
 {
@@ -72,7 +72,7 @@ fn sum_of(kind: Counted, insides: &[Inside], sums: &[u64]) -> u64
     sum
 }
 
-// What the models below each count, by one level more.
+/// What the models below each count, by one level more.
 fn next_sums(
     alloc: Global,
     kind: Counted,
@@ -90,7 +90,7 @@ fn next_sums(
     Ok(next)
 }
 
-// What the models below each count, 32 levels deep.
+/// What the models below each count, 32 levels deep.
 fn sums_of(alloc: Global, kind: Counted, all: &[Seq<Inside>]) -> Result<Seq<u64>, NoMemory>
     ensures { IfOk result (λ sums. AreSums all.now kind 32 sums) }
 {
@@ -101,7 +101,7 @@ fn sums_of(alloc: Global, kind: Counted, all: &[Seq<Inside>]) -> Result<Seq<u64>
     Ok(sums)
 }
 
-// How many rows the covers of a model have.
+/// How many rows the covers of a model have.
 fn rows_of(model: &BlifModel) -> u64
     ensures { result ≡ rows_in model.now }
 {
@@ -112,7 +112,7 @@ fn rows_of(model: &BlifModel) -> u64
     rows
 }
 
-// The rows of each model.
+/// The rows of each model.
 fn all_rows(alloc: Global, models: &[BlifModel]) -> Result<Seq<u64>, NoMemory>
     ensures { IfOk result (λ rows. rows ≡ map rows_in models.now) }
 {
@@ -125,7 +125,7 @@ fn all_rows(alloc: Global, models: &[BlifModel]) -> Result<Seq<u64>, NoMemory>
     Ok(rows)
 }
 
-// The signals of a model, in their order.
+/// The signals of a model, in their order.
 fn signal_list(alloc: Global, model: &BlifModel) -> Result<Seq<Text>, NoMemory>
     ensures { IfOk result (λ list. list ≡ signals_of model.now) }
 {
@@ -149,7 +149,7 @@ pub(crate) fn all_signals(alloc: Global, models: &[BlifModel]) -> Result<Seq<Seq
     Ok(lists)
 }
 
-// How many names the list at a place has, 0 where there is none.
+/// How many names the list at a place has, 0 where there is none.
 fn size_at(lists: &[Seq<Text>], place: usize) -> u64
     ensures { result ≡ length (get_or lists.now place []) }
 {
@@ -159,7 +159,7 @@ fn size_at(lists: &[Seq<Text>], place: usize) -> u64
     }
 }
 
-// A sub-model, with what it has of its own: all signals but those that are tied.
+/// A sub-model, with what it has of its own: all signals but those that are tied.
 fn inside_of(names: &Names, signals: &[Seq<Text>], rows: &[u64], sub: &SubLine) -> Inside
     ensures { result ≡ sub_inside names.now signals.now rows.now sub.now }
 {
@@ -171,7 +171,7 @@ fn inside_of(names: &Names, signals: &[Seq<Text>], rows: &[u64], sub: &SubLine) 
     }
 }
 
-// The sub-models of a model.
+/// The sub-models of a model.
 fn insides_of(
     alloc: Global,
     names: &Names,
@@ -190,7 +190,7 @@ fn insides_of(
     Ok(insides)
 }
 
-// The sub-models of each model.
+/// The sub-models of each model.
 fn all_insides(
     alloc: Global,
     names: &Names,
@@ -231,7 +231,7 @@ impl Drop for Sums {
 }
 
 impl Sums {
-    // With nothing counted. It takes no memory.
+    /// With nothing counted. It takes no memory.
     fn new(alloc: Global) -> Self {
         Sums {
             rows: Seq::new(alloc),
@@ -241,7 +241,7 @@ impl Sums {
         }
     }
 
-    // Counts the models of a file.
+    /// Counts the models of a file.
     fn fill(
         &mut self,
         alloc: Global,
@@ -274,7 +274,7 @@ pub(crate) fn sums_by(
     Ok(sums)
 }
 
-// A count of a model with what stands below it.
+/// A count of a model with what stands below it.
 fn with_below(sums: &Seq<u64>, model: usize, own: u64) -> u64
     ensures { result ≡ carried (own + get_or sums.now model 0) }
 {

@@ -24,14 +24,14 @@ use names::Names;
 use std::alloc::Global;
 use vrt_model::{Blif, BlifModel, FlatModel, NoMemory, Seq, Text};
 
-// The first count of a model that passes its limit, if any does.
+/// The first count of a model that passes its limit, if any does.
 fn count_above(tables: &ModelTables, model: usize) -> Option<u64>
     ensures { (blif : BlifValue) → AreModelTables blif tables.now → bad_sub blif ≡ None → result ≡ too_large (model_limits blif model) }
 {
     first_above(counts_of(tables, model))
 }
 
-// The names of a list.
+/// The names of a list.
 fn names_of(alloc: Global, names: &[Text]) -> Result<Names, NoMemory>
     ensures { IfOk result (λ all. all ≡ with_names [] names.now) }
 {
@@ -40,7 +40,7 @@ fn names_of(alloc: Global, names: &[Text]) -> Result<Names, NoMemory>
     Ok(all)
 }
 
-// Adds the flat signal of a clock that is no input.
+/// Adds the flat signal of a clock that is no input.
 fn add_clock(
     place: &Place,
     inputs: &Names,
@@ -59,7 +59,7 @@ fn add_clock(
     Ok(())
 }
 
-// The flat signals of clocks that are no inputs.
+/// The flat signals of clocks that are no inputs.
 fn clocks_of(
     alloc: Global,
     place: &Place,
@@ -84,7 +84,7 @@ pub(crate) struct Interface {
     pub outputs: Seq<u32>,
 }
 
-// The interface of a model at a place.
+/// The interface of a model at a place.
 fn interface_of(alloc: Global, place: &Place, model: &BlifModel) -> Result<Interface, NoMemory>
     requires { HasRoom place.now }
     ensures { IfOk result (λ interface. IsInterface place.now model.now interface) }
@@ -97,7 +97,7 @@ fn interface_of(alloc: Global, place: &Place, model: &BlifModel) -> Result<Inter
     })
 }
 
-// The interface of the model at a place, empty where there is no model.
+/// The interface of the model at a place, empty where there is no model.
 fn interface_at(alloc: Global, blif: &Blif, place: &Place) -> Result<Interface, NoMemory>
     requires { HasRoom place.now }
     ensures { IfOk result (λ interface. IsInterface place.now (model_at blif.now place.now.model) interface) }
@@ -112,7 +112,7 @@ fn interface_at(alloc: Global, blif: &Blif, place: &Place) -> Result<Interface, 
     }
 }
 
-// A model with its sub-models unrolled.
+/// A model with its sub-models unrolled.
 fn unrolled(
     alloc: Global,
     blif: &Blif,
@@ -144,7 +144,7 @@ fn unrolled(
     })
 }
 
-// A model with its sub-models unrolled, or the first count that passes its limit.
+/// A model with its sub-models unrolled, or the first count that passes its limit.
 #[tactic(auto, using(crate::proofs::FlatLaws::signals_within, crate::proofs::OneDriverLaws::is_flat))]
 fn unrolled_within(
     alloc: Global,

@@ -7,7 +7,7 @@ ghost use Rattle.blif_flat.specs.Flat.{limits_of};
 
 use crate::counts::Counts;
 
-// Whether a count passes a limit.
+/// Whether a count passes a limit.
 fn is_above(count: u64, limit: u64) -> bool
     ensures { result ≡ nat_lt limit count }
 {

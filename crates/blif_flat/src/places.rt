@@ -27,7 +27,7 @@ pub(crate) struct Place {
     pub base: u32,
 }
 
-// The number of a name among own signals, 0 where it is none.
+/// The number of a name among own signals, 0 where it is none.
 fn own_number(inner: &Names, name: &[u8]) -> u32
     requires { length inner.now ≤ 20000 }
     ensures value { result ≡ unwrap_or (position (bytes_eq name.now) inner.now) 0 }
@@ -39,7 +39,7 @@ fn own_number(inner: &Names, name: &[u8]) -> u32
     }
 }
 
-// The flat signal of a tie, 0 where there is none.
+/// The flat signal of a tie, 0 where there is none.
 fn tie_at(ties: &[u32], place: usize) -> u32
     ensures { result ≡ unwrap_or (slice_get ties.now place) 0 }
 {
@@ -70,7 +70,7 @@ pub(crate) fn name_at(alloc: Global, path: &Text, name: &[u8]) -> Result<Text, N
     Ok(text)
 }
 
-// The path of a sub-model.
+/// The path of a sub-model.
 fn path_of(alloc: Global, path: &Text, number: usize) -> Result<Text, NoMemory>
     ensures { IfOk result (λ text. text ≡ path_name path.now (decimal number)) }
 {
@@ -80,7 +80,7 @@ fn path_of(alloc: Global, path: &Text, number: usize) -> Result<Text, NoMemory>
     }
 }
 
-// The formals of ties.
+/// The formals of ties.
 fn formals_of(alloc: Global, ties: &[Tie]) -> Result<Names, NoMemory>
     ensures { IfOk result (λ names. names ≡ with_names [] (map (λ (t : TieValue). t.formal) ties.now)) }
 {
@@ -91,7 +91,7 @@ fn formals_of(alloc: Global, ties: &[Tie]) -> Result<Names, NoMemory>
     Ok(names)
 }
 
-// The flat signals of the actuals of ties.
+/// The flat signals of the actuals of ties.
 fn actuals_of(alloc: Global, place: &Place, ties: &[Tie]) -> Result<Seq<u32>, NoMemory>
     requires { HasRoom place.now }
     ensures { IfOk result (λ numbers. numbers ≡ map (λ (t : TieValue). number_in place.now t.actual) ties.now) }
@@ -108,7 +108,7 @@ fn actuals_of(alloc: Global, place: &Place, ties: &[Tie]) -> Result<Seq<u32>, No
     Ok(numbers)
 }
 
-// Adds a signal if it is not tied.
+/// Adds a signal if it is not tied.
 fn add_untied(names: &mut Names, tied: &Names, signal: &Text) -> Result<(), NoMemory>
     ensures { OnOk result (names.new ≡ with_names names.old (filter (λ name. not (has_name tied.now name)) (signal.now ∷ []))) }
 {
@@ -118,7 +118,7 @@ fn add_untied(names: &mut Names, tied: &Names, signal: &Text) -> Result<(), NoMe
     Ok(())
 }
 
-// Those of some signals that are not tied.
+/// Those of some signals that are not tied.
 fn untied(alloc: Global, signals: &[Text], tied: &Names) -> Result<Names, NoMemory>
     ensures { IfOk result (λ names. names ≡ with_names [] (filter (λ name. not (has_name tied.now name)) signals.now)) }
 {
@@ -129,7 +129,7 @@ fn untied(alloc: Global, signals: &[Text], tied: &Names) -> Result<Names, NoMemo
     Ok(names)
 }
 
-// The signals of the model at a place, none where there is no model.
+/// The signals of the model at a place, none where there is no model.
 fn own_signals(
     alloc: Global,
     signals: &[Seq<Text>],

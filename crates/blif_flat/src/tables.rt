@@ -30,7 +30,7 @@ impl Drop for ModelTables {
     }
 }
 
-// The names and interfaces of models, and the signals of each.
+/// The names and interfaces of models, and the signals of each.
 fn all_tables(alloc: Global, blif: &Blif) -> Result<(Tables, Seq<Seq<Text>>), NoMemory>
     requires { IsBlif blif.now }
     ensures tables { IfOk result (λ t. AreTables blif.now t.0) }

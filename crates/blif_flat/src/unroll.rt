@@ -36,7 +36,7 @@ pub(crate) fn numbers_of(alloc: Global, place: &Place, names: &[Text]) -> Result
     Ok(numbers)
 }
 
-// Copies of texts.
+/// Copies of texts.
 fn copies_of(alloc: Global, texts: &[Text]) -> Result<Seq<Text>, NoMemory>
     ensures { IfOk result (λ copies. copies ≡ texts.now) }
 {
@@ -50,7 +50,7 @@ fn copies_of(alloc: Global, texts: &[Text]) -> Result<Seq<Text>, NoMemory>
     Ok(copies)
 }
 
-// A cover at a place.
+/// A cover at a place.
 fn cover_of(alloc: Global, place: &Place, cover: &CoverLine) -> Result<Cover, NoMemory>
     requires { HasRoom place.now }
     ensures { IfOk result (λ flat. flat ≡ cover_in place.now cover.now) }
@@ -63,7 +63,7 @@ fn cover_of(alloc: Global, place: &Place, cover: &CoverLine) -> Result<Cover, No
     })
 }
 
-// What a latch does at its control. Without a type it has the rising edge.
+/// What a latch does at its control. Without a type it has the rising edge.
 fn kind_of(kind: Option<LatchKind>) -> LatchKind
     ensures { result ≡ unwrap_or kind Re }
 {
@@ -73,7 +73,7 @@ fn kind_of(kind: Option<LatchKind>) -> LatchKind
     }
 }
 
-// The flat signal of a control, if there is one.
+/// The flat signal of a control, if there is one.
 fn control_of(place: &Place, control: &Option<Text>) -> Option<u32>
     requires { HasRoom place.now }
     ensures { result ≡ option_map (number_in place.now) control.now }
@@ -84,7 +84,7 @@ fn control_of(place: &Place, control: &Option<Text>) -> Option<u32>
     }
 }
 
-// A latch at a place.
+/// A latch at a place.
 fn latch_of(place: &Place, latch: &LatchLine) -> FlatLatch
     requires { HasRoom place.now }
     ensures { result ≡ latch_in place.now latch.now }
@@ -97,7 +97,7 @@ fn latch_of(place: &Place, latch: &LatchLine) -> FlatLatch
     }
 }
 
-// Adds the own signals of a place by their names with its path.
+/// Adds the own signals of a place by their names with its path.
 fn add_signals(alloc: Global, place: &Place, signals: &mut Seq<Text>) -> Result<(), NoMemory>
     ensures { OnOk result (signals.new ≡ signals.old ++ own_names place.now) }
 {
@@ -111,7 +111,7 @@ fn add_signals(alloc: Global, place: &Place, signals: &mut Seq<Text>) -> Result<
     Ok(())
 }
 
-// Adds covers at a place.
+/// Adds covers at a place.
 fn add_covers(
     alloc: Global,
     place: &Place,
@@ -130,7 +130,7 @@ fn add_covers(
     Ok(())
 }
 
-// Adds latches at a place.
+/// Adds latches at a place.
 fn add_latches(
     place: &Place,
     latches: &[LatchLine],
@@ -147,7 +147,7 @@ fn add_latches(
     Ok(())
 }
 
-// Adds what a model at a place has of its own.
+/// Adds what a model at a place has of its own.
 fn add_own(
     alloc: Global,
     place: &Place,

@@ -13,7 +13,7 @@ use crate::words::{name_of, opens, shuts};
 use std::alloc::Global;
 use vrt_model::{Blif, BlifModel, NoMemory, Seq, Text};
 
-// The cards before the end of a model.
+/// The cards before the end of a model.
 fn before_end(cards: &[Card]) -> &[Card]
     ensures { result.now ≡ up_to ends_model cards.now }
 {
@@ -27,7 +27,7 @@ fn before_end(cards: &[Card]) -> &[Card]
     cards
 }
 
-// The model of its first card and the cards up to its end.
+/// The model of its first card and the cards up to its end.
 fn model(alloc: Global, first: &Card, body: &[Card]) -> Result<BlifModel, NoMemory>
     ensures { IfOk result (λ m. m ≡ model_of (first.now, body.now)) }
 {
@@ -49,7 +49,7 @@ fn model(alloc: Global, first: &Card, body: &[Card]) -> Result<BlifModel, NoMemo
     })
 }
 
-// Adds the model of a card, if it begins one, with the cards behind it.
+/// Adds the model of a card, if it begins one, with the cards behind it.
 fn add_model(
     alloc: Global,
     models: &mut Seq<BlifModel>,

@@ -40,7 +40,7 @@ pub struct Open {
     pub bytes: Text,
 }
 
-// A line without its comment.
+/// A line without its comment.
 fn without_comment(line: &[u8]) -> &[u8]
     ensures { result.now ≡ uncommented line.now }
 {
@@ -54,7 +54,7 @@ fn without_comment(line: &[u8]) -> &[u8]
     line
 }
 
-// What stands before the `\` at the end, none where there is no such byte.
+/// What stands before the `\` at the end, none where there is no such byte.
 fn before_backslash(bytes: &[u8]) -> Option<&[u8]>
     ensures joins { IfSome result (λ front. (ends_with_backslash bytes.now ≡ true) × (front.now ≡ but_last bytes.now)) }
     ensures ends { IfNone result (ends_with_backslash bytes.now ≡ false) }
@@ -65,7 +65,7 @@ fn before_backslash(bytes: &[u8]) -> Option<&[u8]>
     }
 }
 
-// The card of a line, or of several that are joined.
+/// The card of a line, or of several that are joined.
 fn card_of_bytes(alloc: Global, line: u32, bytes: &[u8]) -> Result<Card, NoMemory>
     ensures { IfOk result (λ card. card ≡ card_of (line, bytes.now)) }
 {
@@ -76,7 +76,7 @@ fn card_of_bytes(alloc: Global, line: u32, bytes: &[u8]) -> Result<Card, NoMemor
     })
 }
 
-// Adds a card, unless it is blank.
+/// Adds a card, unless it is blank.
 fn add_card(alloc: Global, cards: &mut Seq<Card>, line: u32, bytes: &[u8]) -> Result<(), NoMemory>
     ensures { OnOk result (cards.new ≡ cards.old ++ filter has_words (card_of (line, bytes.now) ∷ [])) }
 {
@@ -90,7 +90,7 @@ fn add_card(alloc: Global, cards: &mut Seq<Card>, line: u32, bytes: &[u8]) -> Re
     }
 }
 
-// The lines so far, with a line more.
+/// The lines so far, with a line more.
 fn add_line(
     alloc: Global,
     number: u32,
@@ -108,7 +108,7 @@ fn add_line(
     }
 }
 
-// The lines so far, with the bytes of a line more.
+/// The lines so far, with the bytes of a line more.
 fn go_on(first: u32, so_far: Text, line: &[u8]) -> Result<Open, NoMemory>
     ensures { IfOk result (λ now. now ≡ record { line = first; bytes = so_far ++ line.now }) }
 {
@@ -117,7 +117,7 @@ fn go_on(first: u32, so_far: Text, line: &[u8]) -> Result<Open, NoMemory>
     Ok(Open { line: first, bytes })
 }
 
-// Takes a line that ends a card.
+/// Takes a line that ends a card.
 fn take_last(
     alloc: Global,
     number: u32,
@@ -136,7 +136,7 @@ fn take_last(
     }
 }
 
-// Takes a line.
+/// Takes a line.
 fn take_line(
     alloc: Global,
     number: u32,
@@ -159,7 +159,7 @@ fn take_line(
     }
 }
 
-// Ends the card whose last line ends in `\`, if there is one.
+/// Ends the card whose last line ends in `\`, if there is one.
 #[tactic(auto, unfolding(crate::specs::Opened::cards_behind))]
 fn end_last(alloc: Global, cards: &mut Seq<Card>, opened: Option<Open>) -> Result<(), NoMemory>
     ensures { OnOk result (cards.new ≡ cards.old ++ cards_behind opened []) }

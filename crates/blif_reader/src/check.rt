@@ -15,7 +15,7 @@ use names::Names;
 use std::alloc::Global;
 use vrt_model::NoMemory;
 
-// Adds the name of a model, if the card begins one.
+/// Adds the name of a model, if the card begins one.
 fn learn_model(models: &mut Names, card: &Card) -> Result<(), NoMemory>
     ensures { OnOk result (models.new ≡ models_behind models.old card.now) }
 {
@@ -26,7 +26,7 @@ fn learn_model(models: &mut Names, card: &Card) -> Result<(), NoMemory>
     Ok(())
 }
 
-// Whether a model is open behind a card.
+/// Whether a model is open behind a card.
 fn is_inside_behind(is_inside: bool, card: &Card) -> bool
     ensures { result ≡ inside_behind is_inside card.now }
 {
@@ -39,7 +39,7 @@ fn is_inside_behind(is_inside: bool, card: &Card) -> bool
     is_inside
 }
 
-// A cover with a row more.
+/// A cover with a row more.
 fn with_row_more(cover: OpenCover, row: &Card) -> OpenCover
     ensures { result ≡ with_row row.now cover }
 {
@@ -53,7 +53,7 @@ fn with_row_more(cover: OpenCover, row: &Card) -> OpenCover
     }
 }
 
-// The cover that goes on behind a card.
+/// The cover that goes on behind a card.
 fn cover_after(cover: Option<OpenCover>, card: &Card) -> Option<OpenCover>
     ensures { result ≡ cover_behind cover card.now }
 {
@@ -72,7 +72,7 @@ fn cover_after(cover: Option<OpenCover>, card: &Card) -> Option<OpenCover>
     }
 }
 
-// What is known behind a card.
+/// What is known behind a card.
 fn learn(known: &mut Known, card: &Card) -> Result<(), NoMemory>
     ensures { OnOk result (known.new ≡ learned known.old card.now) }
 {
@@ -82,7 +82,7 @@ fn learn(known: &mut Known, card: &Card) -> Result<(), NoMemory>
     Ok(())
 }
 
-// Judges a card, and learns it if it has no fault.
+/// Judges a card, and learns it if it has no fault.
 fn step(alloc: Global, known: &mut Known, card: &Card) -> Result<(), BlifFault>
     ensures fault { Judges BlifFault.NoMemory result (fault_by known.old card.now) }
     ensures next { OnOk result (known.new ≡ learned known.old card.now) }

@@ -23,7 +23,7 @@ pub fn is_on_row(row: &Card) -> bool
     end(row.words.as_slice()) == b"1".as_slice()
 }
 
-// The rows of a cover: the cards before the next one that begins with `.`.
+/// The rows of a cover: the cards before the next one that begins with `.`.
 fn rows_before(cards: &[Card]) -> &[Card]
     ensures { result.now ≡ up_to is_dotted cards.now }
 {
@@ -37,7 +37,7 @@ fn rows_before(cards: &[Card]) -> &[Card]
     cards
 }
 
-// Whether rows are those of the on-set.
+/// Whether rows are those of the on-set.
 fn is_on_set(rows: &[Card]) -> bool
     ensures { result ≡ unwrap_or (first_output rows.now) true }
 {
@@ -47,7 +47,7 @@ fn is_on_set(rows: &[Card]) -> bool
     }
 }
 
-// The inputs of a row.
+/// The inputs of a row.
 fn bits_of(row: &Card) -> &[u8]
     ensures { result.now ≡ row_inputs row.now }
 {
@@ -57,7 +57,7 @@ fn bits_of(row: &Card) -> &[u8]
     }
 }
 
-// The inputs of rows.
+/// The inputs of rows.
 fn bits_of_rows(alloc: Global, rows: &[Card]) -> Result<Seq<Text>, NoMemory>
     ensures { IfOk result (λ found. found ≡ map row_inputs rows.now) }
 {
@@ -71,7 +71,7 @@ fn bits_of_rows(alloc: Global, rows: &[Card]) -> Result<Seq<Text>, NoMemory>
     Ok(found)
 }
 
-// Copies of words.
+/// Copies of words.
 fn copies(alloc: Global, words: &[Text]) -> Result<Seq<Text>, NoMemory>
     ensures { IfOk result (λ texts. texts ≡ words.now) }
 {
@@ -85,7 +85,7 @@ fn copies(alloc: Global, words: &[Text]) -> Result<Seq<Text>, NoMemory>
     Ok(texts)
 }
 
-// The cover of its first card and its rows.
+/// The cover of its first card and its rows.
 fn cover(alloc: Global, first: &Card, rows: &[Card]) -> Result<CoverLine, NoMemory>
     ensures { IfOk result (λ c. c ≡ cover_of (first.now, rows.now)) }
 {
@@ -98,7 +98,7 @@ fn cover(alloc: Global, first: &Card, rows: &[Card]) -> Result<CoverLine, NoMemo
     })
 }
 
-// Adds the cover of a card, if it begins one, with the cards behind it.
+/// Adds the cover of a card, if it begins one, with the cards behind it.
 fn add_cover(
     alloc: Global,
     found: &mut Seq<CoverLine>,

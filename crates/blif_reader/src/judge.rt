@@ -21,7 +21,7 @@ use crate::words::{
 use std::alloc::Global;
 use vrt_model::Text;
 
-// Whether the profile has a card of this first word.
+/// Whether the profile has a card of this first word.
 fn is_card_known(card: &Card) -> bool
     ensures { result ≡ is_known card.now }
 {
@@ -73,7 +73,7 @@ fn are_inputs(bits: &[u8]) -> bool
     bits.iter().all(|b| is_bit_or_dash(*b))
 }
 
-// Whether words are a row of a cover with so many inputs.
+/// Whether words are a row of a cover with so many inputs.
 fn is_row_of(width: usize, words: &[Text]) -> bool
     ensures { result ≡ is_row width words.now }
 {
@@ -166,7 +166,7 @@ fn is_past_limit(known: &Known, card: &Card) -> bool
     opens(card) && known.models.len() >= 4096 || is_cover_card(card) && inputs_of(card).len() > 1000
 }
 
-// The fault of a card that is not supported.
+/// The fault of a card that is not supported.
 fn unsupported(alloc: Global, line: u32, word: &[u8]) -> BlifFault
     ensures { (result ≡ BlifFault.NoMemory) ⊎ (result ≡ BlifFault.Unsupported line word.now) }
 {
@@ -176,7 +176,7 @@ fn unsupported(alloc: Global, line: u32, word: &[u8]) -> BlifFault
     }
 }
 
-// The fault of a second model of a name.
+/// The fault of a second model of a name.
 fn model_twice(alloc: Global, card: &Card) -> BlifFault
     ensures { (result ≡ BlifFault.NoMemory) ⊎ (result ≡ BlifFault.ModelTwice card.now.line (model_name card.now)) }
 {

@@ -19,7 +19,7 @@ pub struct LatchEnd {
     pub init: u8,
 }
 
-// The type of a latch.
+/// The type of a latch.
 fn kind_of(word: &[u8]) -> Option<LatchKind>
     ensures { result ≡ latch_kind word.now }
 {
@@ -38,7 +38,7 @@ fn kind_of(word: &[u8]) -> Option<LatchKind>
     None
 }
 
-// The initial value of a latch.
+/// The initial value of a latch.
 fn read_init(word: &[u8]) -> Option<u8>
     ensures { result ≡ init_of word.now }
 {
@@ -69,7 +69,7 @@ pub fn has_latch_form(words: &[Text]) -> bool
     }
 }
 
-// The control of a latch.
+/// The control of a latch.
 fn read_control(alloc: Global, word: &[u8]) -> Result<Option<Text>, NoMemory>
     ensures { IfOk result (λ control. control ≡ control_of word.now) }
 {
@@ -80,7 +80,7 @@ fn read_control(alloc: Global, word: &[u8]) -> Result<Option<Text>, NoMemory>
     Ok(Some(text))
 }
 
-// The end of a latch with a type.
+/// The end of a latch with a type.
 fn read_typed(
     alloc: Global,
     kind: &[u8],
@@ -103,7 +103,7 @@ fn read_typed(
     }))
 }
 
-// The end of a latch without a type.
+/// The end of a latch without a type.
 fn untyped(init: u8) -> LatchEnd
     ensures { result ≡ record { kind = None; control = None; init = init } }
 {
@@ -114,7 +114,7 @@ fn untyped(init: u8) -> LatchEnd
     }
 }
 
-// The end of a latch, none where the words have another form.
+/// The end of a latch, none where the words have another form.
 fn read_end(alloc: Global, words: &[Text]) -> Result<Option<LatchEnd>, NoMemory>
     ensures { IfOk result (λ found. found ≡ latch_end words.now) }
 {
@@ -135,7 +135,7 @@ fn read_end(alloc: Global, words: &[Text]) -> Result<Option<LatchEnd>, NoMemory>
     }
 }
 
-// The latch of a card and of its end.
+/// The latch of a card and of its end.
 fn latch(alloc: Global, card: &Card, end: LatchEnd) -> Result<LatchLine, NoMemory>
     ensures { IfOk result (λ found. found ≡ latch_of card.now end) }
 {
@@ -151,7 +151,7 @@ fn latch(alloc: Global, card: &Card, end: LatchEnd) -> Result<LatchLine, NoMemor
     })
 }
 
-// Adds the latch of a card, if it is one.
+/// Adds the latch of a card, if it is one.
 fn add_latch(alloc: Global, found: &mut Seq<LatchLine>, card: &Card) -> Result<(), NoMemory>
     ensures { OnOk result (found.new ≡ found.old ++ latches_in card.now) }
 {

@@ -28,7 +28,7 @@ impl Drop for Listed {
     }
 }
 
-// Adds a signal, unless it is there.
+/// Adds a signal, unless it is there.
 fn add_signal(
     alloc: Global,
     seen: &mut Names,
@@ -51,7 +51,7 @@ fn add_signal(
     }
 }
 
-// Adds the signals of a card, those that are not there.
+/// Adds the signals of a card, those that are not there.
 fn add_signals(
     alloc: Global,
     seen: &mut Names,
@@ -69,7 +69,7 @@ fn add_signals(
     Ok(())
 }
 
-// Adds the signals that a card lists, if it is a card of this first word.
+/// Adds the signals that a card lists, if it is a card of this first word.
 fn add_card(
     alloc: Global,
     seen: &mut Names,

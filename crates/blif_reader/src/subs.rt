@@ -10,7 +10,7 @@ use crate::words::{is_sub_card, word, words_from};
 use std::alloc::Global;
 use vrt_model::{NoMemory, Seq, SubLine, Text, Tie};
 
-// What stands before and behind the first `=`.
+/// What stands before and behind the first `=`.
 fn cut_tie(word: &[u8]) -> (&[u8], &[u8])
     ensures formal { result.0.now ≡ up_to is_equals word.now }
     ensures actual { result.1.now ≡ behind_equals word.now }
@@ -33,7 +33,7 @@ pub fn is_bad_tie_word(word: &[u8]) -> bool
     formal.is_empty() || actual.is_empty()
 }
 
-// The tie of a word.
+/// The tie of a word.
 fn tie(alloc: Global, word: &[u8]) -> Result<Tie, NoMemory>
     ensures { IfOk result (λ t. t ≡ tie_of word.now) }
 {
@@ -44,7 +44,7 @@ fn tie(alloc: Global, word: &[u8]) -> Result<Tie, NoMemory>
     })
 }
 
-// The ties of words.
+/// The ties of words.
 fn ties_of(alloc: Global, words: &[Text]) -> Result<Seq<Tie>, NoMemory>
     ensures { IfOk result (λ ties. ties ≡ map tie_of words.now) }
 {
@@ -58,7 +58,7 @@ fn ties_of(alloc: Global, words: &[Text]) -> Result<Seq<Tie>, NoMemory>
     Ok(ties)
 }
 
-// The sub-model of a card.
+/// The sub-model of a card.
 fn sub(alloc: Global, card: &Card) -> Result<SubLine, NoMemory>
     ensures { IfOk result (λ s. s ≡ sub_of card.now) }
 {
@@ -69,7 +69,7 @@ fn sub(alloc: Global, card: &Card) -> Result<SubLine, NoMemory>
     })
 }
 
-// Adds the sub-model of a card, if it is one.
+/// Adds the sub-model of a card, if it is one.
 fn add_sub(alloc: Global, found: &mut Seq<SubLine>, card: &Card) -> Result<(), NoMemory>
     ensures { OnOk result (found.new ≡ found.old ++ map sub_of (filter is_sub (card.now ∷ []))) }
 {

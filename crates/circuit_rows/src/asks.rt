@@ -19,7 +19,7 @@ pub(crate) fn ask(rt: HostRuntime, circuit: &Circuit, what: Ask, numbers: &[u32]
     }
 }
 
-// A phase in which the clock is 1.
+/// A phase in which the clock is 1.
 fn phase(alloc: Global) -> Result<Phase, Stop> {
     let mut bits = Seq::new(alloc);
     if bits.push(true).is_err() {
@@ -32,7 +32,7 @@ fn phase(alloc: Global) -> Result<Phase, Stop> {
     })
 }
 
-// The known nets of a circuit.
+/// The known nets of a circuit.
 fn known(alloc: Global, circuit: &Circuit) -> Result<Vec<Option<bool>>, Stop> {
     if !is_flat(circuit) {
         return Err(Stop::Unfit);
@@ -41,7 +41,7 @@ fn known(alloc: Global, circuit: &Circuit) -> Result<Vec<Option<bool>>, Stop> {
     Ok(known_nets(alloc, circuit, &phase)?)
 }
 
-// A bit, or that it is not known.
+/// A bit, or that it is not known.
 fn letter(bit: Option<bool>) -> char {
     match bit {
         Some(true) => '1',
@@ -50,7 +50,7 @@ fn letter(bit: Option<bool>) -> char {
     }
 }
 
-// What is known of nets, a letter for each.
+/// What is known of nets, a letter for each.
 fn letters(alloc: Global, known: &[Option<bool>]) -> Result<String, Stop> {
     let mut letters = String::new(alloc);
     for bit in known {
@@ -72,7 +72,7 @@ fn tell_known(rt: HostRuntime, circuit: &Circuit, nets: &[u32]) -> Result<()> {
     Ok(())
 }
 
-// The least nets of the parts.
+/// The least nets of the parts.
 fn least(alloc: Global, circuit: &Circuit, bare: bool) -> Result<Vec<usize>, Stop> {
     let known = known(alloc, circuit)?;
     if !is_flat(circuit) {
@@ -101,7 +101,7 @@ enum Found {
     Cycle(Seq<Net>),
 }
 
-// The parts of a circuit.
+/// The parts of a circuit.
 fn parts_of(alloc: Global, circuit: &Circuit, bare: bool) -> Result<Found, Stop> {
     if !is_flat(circuit) {
         return Err(Stop::Unfit);
@@ -121,14 +121,14 @@ fn tell_parts(rt: HostRuntime, circuit: &Circuit, numbers: &[u32]) -> Result<()>
     }
 }
 
-// The first nets of a cycle.
+/// The first nets of a cycle.
 fn tell_cycle(rt: HostRuntime, nets: &[Net]) -> Result<()> {
     let (count, first) = (nets.len(), nets.get(..3).unwrap_or(nets));
     println!(rt; "cycle: {count} nets, first {first:?}")?;
     Ok(())
 }
 
-// The parts at these places, or all, with what is known.
+/// The parts at these places, or all, with what is known.
 fn tell_list(rt: HostRuntime, parts: &Parts, places: &[u32]) -> Result<()> {
     let (count, nets) = (parts.list.len(), parts.known.len());
     println!(rt; "parts: {count} of {nets} nets")?;
@@ -141,7 +141,7 @@ fn tell_list(rt: HostRuntime, parts: &Parts, places: &[u32]) -> Result<()> {
     Ok(())
 }
 
-// What is known, and all parts.
+/// What is known, and all parts.
 fn tell_all(rt: HostRuntime, parts: &Parts) -> Result<()> {
     let letters = letters(rt.alloc(), parts.known.as_slice())?;
     println!(rt; "known: {letters}")?;
@@ -151,7 +151,7 @@ fn tell_all(rt: HostRuntime, parts: &Parts) -> Result<()> {
     Ok(())
 }
 
-// The part at a place.
+/// The part at a place.
 fn tell_part(rt: HostRuntime, parts: &Parts, at: usize) -> Result<()> {
     let Some(part) = parts.list.get(at) else {
         return Err(Stop::NotRead.into());
@@ -161,7 +161,7 @@ fn tell_part(rt: HostRuntime, parts: &Parts, at: usize) -> Result<()> {
     Ok(())
 }
 
-// Numbers as places.
+/// Numbers as places.
 fn places(alloc: Global, numbers: &[u32]) -> Result<Vec<usize>, Stop> {
     let mut places = Vec::new(alloc);
     for number in numbers {
@@ -170,7 +170,7 @@ fn places(alloc: Global, numbers: &[u32]) -> Result<Vec<usize>, Stop> {
     Ok(places)
 }
 
-// The plain nets in their order, by ranks of all nets.
+/// The plain nets in their order, by ranks of all nets.
 fn order(
     alloc: Global,
     circuit: &Circuit,
@@ -190,7 +190,7 @@ fn tell_order(rt: HostRuntime, circuit: &Circuit, ranks: &[u32]) -> Result<()> {
     Ok(())
 }
 
-// The bits of numbers.
+/// The bits of numbers.
 fn bits(alloc: Global, numbers: &[u32]) -> Result<Vec<bool>, Stop> {
     let mut bits = Vec::new(alloc);
     for number in numbers {
@@ -215,7 +215,7 @@ impl Drop for Shown {
     }
 }
 
-// The signals of a circuit at bits of its holds and its nets.
+/// The signals of a circuit at bits of its holds and its nets.
 fn signals_of(
     alloc: Global,
     circuit: &Circuit,

@@ -39,7 +39,7 @@ impl Drop for Board {
     }
 }
 
-// The part of all plain nets and all devices.
+/// The part of all plain nets and all devices.
 fn whole_part(alloc: Global, circuit: &Circuit) -> Result<Part, Stop> {
     let mut part = Part {
         rank: 1,
@@ -61,7 +61,7 @@ fn whole_part(alloc: Global, circuit: &Circuit) -> Result<Part, Stop> {
     Ok(part)
 }
 
-// How many variables the inputs and the holds have.
+/// How many variables the inputs and the holds have.
 fn variables(circuit: &Circuit) -> u32 {
     let nets = circuit.nets.as_slice();
     let inputs = nets.iter().filter(|net| net.kind == NetKind::Input).count();
@@ -130,7 +130,7 @@ impl Board {
         Ok(board)
     }
 
-    // Writes the handles of the gates and the roots: those of the high supply, the inputs in order, and the holds.
+    /// Writes the handles of the gates and the roots: those of the high supply, the inputs in order, and the holds.
     fn put_bits(&mut self, circuit: &Circuit) -> Result<(), Stop> {
         put(&mut self.store, self.gates, HIGH.0, ONE);
         put(&mut self.store, self.roots, HIGH.0, ONE);

@@ -50,7 +50,7 @@ impl Desk {
         self.obey(rt, word_of(name)?, numbers.as_slice())
     }
 
-    // Does what a word says.
+    /// Does what a word says.
     fn obey(&mut self, rt: HostRuntime, word: Word, numbers: &[u32]) -> Result<()> {
         match word {
             Word::Circuit => Ok(self.begin(rt.alloc())?),
@@ -67,7 +67,7 @@ impl Desk {
         }
     }
 
-    // A new circuit, of the supplies alone.
+    /// A new circuit, of the supplies alone.
     fn begin(&mut self, alloc: Global) -> Result<(), Stop> {
         self.draft = Draft::new(alloc)?;
         self.paths = None;

@@ -5,7 +5,7 @@ use crate::words::{Drawing, bit, number};
 use circuit_draft::Draft;
 use vrt_model::{ClockRef, Kind, Net, NetKind};
 
-// The net at a place of a line.
+/// The net at a place of a line.
 fn net(numbers: &[u32], at: usize) -> Result<Net, Stop> {
     Ok(Net(number(numbers, at)?))
 }

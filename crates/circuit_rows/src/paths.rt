@@ -53,7 +53,7 @@ pub(crate) fn follow_path(
     }
 }
 
-// Solves the part of a circuit.
+/// Solves the part of a circuit.
 fn solve(alloc: Global, circuit: &Circuit, budget: u32) -> Result<Solved, Stop> {
     let mut board = Board::open(alloc, circuit, budget)?;
     let spent = board.solve(circuit)?.err();
@@ -64,7 +64,7 @@ fn solve(alloc: Global, circuit: &Circuit, budget: u32) -> Result<Solved, Stop> 
     })
 }
 
-// Tells whether a part was solved, or the budget and the nodes of the store.
+/// Tells whether a part was solved, or the budget and the nodes of the store.
 fn tell_solved(rt: HostRuntime, solved: &Solved) -> Result<()> {
     let nodes = solved.board.store.node_count();
     match solved.spent {
@@ -74,7 +74,7 @@ fn tell_solved(rt: HostRuntime, solved: &Solved) -> Result<()> {
     Ok(())
 }
 
-// The function that is 1 where both are.
+/// The function that is 1 where both are.
 fn both(store: &mut Store, f: H, g: H) -> Result<H, Stop> {
     let count = store.node_count();
     if f.0 >= count || g.0 >= count {
@@ -83,7 +83,7 @@ fn both(store: &mut Store, f: H, g: H) -> Result<H, Stop> {
     Ok(and(store, f, g)?)
 }
 
-// The function that is 1 where one of them or both are.
+/// The function that is 1 where one of them or both are.
 fn either(store: &mut Store, f: H, g: H) -> Result<H, Stop> {
     let count = store.node_count();
     if f.0 >= count || g.0 >= count {
@@ -92,7 +92,7 @@ fn either(store: &mut Store, f: H, g: H) -> Result<H, Stop> {
     Ok(or(store, f, g)?)
 }
 
-// The complement.
+/// The complement.
 fn complement(store: &mut Store, f: H) -> Result<H, Stop> {
     if f.0 >= store.node_count() {
         return Err(Stop::Unfit);
@@ -113,7 +113,7 @@ impl Solved {
         Ok(())
     }
 
-    // Adds the product of inputs to the sum.
+    /// Adds the product of inputs to the sum.
     fn add_product(&mut self, nets: &[u32]) -> Result<(), Stop> {
         let mut product = ONE;
         for net in nets {
@@ -124,7 +124,7 @@ impl Solved {
         Ok(())
     }
 
-    // Adds the complement of an input to the sum.
+    /// Adds the complement of an input to the sum.
     fn add_complement(&mut self, net: u32) -> Result<(), Stop> {
         let gate = self.board.gate(net);
         let off = complement(&mut self.board.store, gate)?;
@@ -132,7 +132,7 @@ impl Solved {
         Ok(())
     }
 
-    // Whether an entry of a net is the sum. A new sum begins.
+    /// Whether an entry of a net is the sum. A new sum begins.
     fn is_sum(&mut self, level: u32, net: u32) -> Result<bool, Stop> {
         let Some(place) = self.board.place(Net(net)) else {
             return Err(Stop::NotRead);
@@ -142,7 +142,7 @@ impl Solved {
         Ok(is_sum)
     }
 
-    // Tells whether an entry of a net is the sum.
+    /// Tells whether an entry of a net is the sum.
     fn tell(&mut self, rt: HostRuntime, level: u32, net: u32) -> Result<()> {
         let is_sum = self.is_sum(level, net)?;
         match level {

@@ -28,7 +28,7 @@ const CHANNELS: [(u32, u32); 9] = [
     (5, 7),
 ];
 
-// Adds the device of a number at an input. From KINDS on there is none.
+/// Adds the device of a number at an input. From KINDS on there is none.
 fn add_numbered(draft: &mut Draft, number: usize, gate: Net) -> Result<(), Stop> {
     let Some((left, right)) = CHANNELS.get(number / 4).copied() else {
         return Ok(());
@@ -39,7 +39,7 @@ fn add_numbered(draft: &mut Draft, number: usize, gate: Net) -> Result<(), Stop>
     Ok(())
 }
 
-// The circuit of three devices with inputs 2 to 4 as gates. Net 7 has a hold.
+/// The circuit of three devices with inputs 2 to 4 as gates. Net 7 has a hold.
 fn circuit(alloc: Global, numbers: [usize; 3]) -> Result<Circuit, Stop> {
     let mut draft = Draft::new(alloc)?;
     for _ in 0..3u32 {
@@ -57,7 +57,7 @@ fn circuit(alloc: Global, numbers: [usize; 3]) -> Result<Circuit, Stop> {
     Ok(draft.circuit)
 }
 
-// The bits of the nets at a valuation, which is a number below 16.
+/// The bits of the nets at a valuation, which is a number below 16.
 fn reading(at: u32) -> [bool; 8] {
     [
         false,
@@ -71,7 +71,7 @@ fn reading(at: u32) -> [bool; 8] {
     ]
 }
 
-// Whether the words of a net say what the table says, at a valuation.
+/// Whether the words of a net say what the table says, at a valuation.
 fn agrees(board: &Board, table: &Signals, place: usize, at: &Valuation) -> Result<bool, Stop> {
     let net = place.saturating_add(5);
     let strength = table.strengths.get(net).copied().unwrap_or(0) as u32;
@@ -85,7 +85,7 @@ fn agrees(board: &Board, table: &Signals, place: usize, at: &Valuation) -> Resul
     Ok(table.zeros.get(net) == Some(&zero) && table.ones.get(net) == Some(&one))
 }
 
-// Whether the words of all nets say what the table says, at a valuation, which is a number below 16.
+/// Whether the words of all nets say what the table says, at a valuation, which is a number below 16.
 fn agrees_at(alloc: Global, circuit: &Circuit, board: &Board, number: u32) -> Result<bool, Stop> {
     if !is_flat(circuit) {
         return Err(Stop::Unfit);
@@ -101,7 +101,7 @@ fn agrees_at(alloc: Global, circuit: &Circuit, board: &Board, number: u32) -> Re
     Ok(true)
 }
 
-// Whether the words of a circuit agree with its plain tables at all valuations.
+/// Whether the words of a circuit agree with its plain tables at all valuations.
 fn agrees_everywhere(alloc: Global, numbers: [usize; 3]) -> Result<bool, Stop> {
     let circuit = circuit(alloc, numbers)?;
     let mut board = Board::open(alloc, &circuit, BUDGET)?;
@@ -116,7 +116,7 @@ fn agrees_everywhere(alloc: Global, numbers: [usize; 3]) -> Result<bool, Stop> {
     Ok(true)
 }
 
-// How many circuits agree whose first devices are these, with each third device from the second on.
+/// How many circuits agree whose first devices are these, with each third device from the second on.
 fn agreeing(alloc: Global, first: usize, second: usize) -> Result<u32, Stop> {
     let mut agreeing = 0u32;
     for third in second..=KINDS {
@@ -127,7 +127,7 @@ fn agreeing(alloc: Global, first: usize, second: usize) -> Result<u32, Stop> {
     Ok(agreeing)
 }
 
-// How many of all circuits agree.
+/// How many of all circuits agree.
 fn all_agreeing(alloc: Global) -> Result<u32, Stop> {
     let mut all = 0u32;
     for first in 0..=KINDS {

@@ -76,7 +76,7 @@ pub(crate) fn append(list: &mut Seq<u32>, number: u32) -> Result<(), NoMemory>
     }
 }
 
-// How often a number stands in a list.
+/// How often a number stands in a list.
 fn times(numbers: &[u32], s: u32) -> usize
     ensures { result ≡ count_by (λ d. d == s) numbers.now }
 {
@@ -89,7 +89,7 @@ fn is_one(a: usize, b: usize, c: usize) -> bool
     (a == 1 && b == 0 && c == 0) || (a == 0 && b == 1 && c == 0) || (a == 0 && b == 0 && c == 1)
 }
 
-// Adds the outputs of covers.
+/// Adds the outputs of covers.
 fn add_outputs(list: &mut Seq<u32>, covers: &[Cover]) -> Result<(), NoMemory>
     ensures { OnOk result (list.new ≡ list.old ++ map (λ (c : CoverValue). c.output) covers.now) }
 {
@@ -99,7 +99,7 @@ fn add_outputs(list: &mut Seq<u32>, covers: &[Cover]) -> Result<(), NoMemory>
     Ok(())
 }
 
-// Adds the outputs of latches.
+/// Adds the outputs of latches.
 fn add_latch_outputs(list: &mut Seq<u32>, latches: &[FlatLatch]) -> Result<(), NoMemory>
     ensures { OnOk result (list.new ≡ list.old ++ map (λ (l : LatchValue). l.output) latches.now) }
 {
@@ -109,7 +109,7 @@ fn add_latch_outputs(list: &mut Seq<u32>, latches: &[FlatLatch]) -> Result<(), N
     Ok(())
 }
 
-// The outputs of covers, and behind them those of latches.
+/// The outputs of covers, and behind them those of latches.
 fn outputs(alloc: Global, flat: &FlatModel) -> Result<Seq<u32>, NoMemory>
     ensures { IfOk result (λ list. list ≡ outputs_in flat.now) }
 {
@@ -213,7 +213,7 @@ fn are_apart(a: Span, b: Span) -> bool
     a.start as u64 + a.len as u64 <= b.start as u64
 }
 
-// How many elements a latch has.
+/// How many elements a latch has.
 fn elements_of(kind: LatchKind) -> u32
     ensures { result ≡ element_count kind }
 {
@@ -223,7 +223,7 @@ fn elements_of(kind: LatchKind) -> u32
     }
 }
 
-// The latch at a place.
+/// The latch at a place.
 fn latch_at(latches: &[FlatLatch], at: usize) -> FlatLatch
     requires { at < length latches.now }
     ensures { slice_get latches.now at ≡ Some result }
@@ -246,7 +246,7 @@ pub(crate) fn element_number(latches: &[FlatLatch]) -> Option<u32>
     Some(number)
 }
 
-// Whether spans have the lengths that a model with so many elements asks for.
+/// Whether spans have the lengths that a model with so many elements asks for.
 fn are_long(flat: &FlatModel, elements: u32, inputs: Span, held: Span, out: Span) -> bool
     requires elements { elements ≡ length (element_names flat.now) }
     ensures { result ≡ true → (inputs.len ≡ length flat.now.signals + 1) × (held.len ≡ length (element_names flat.now)) × (out.len ≡ length flat.now.signals + length (element_names flat.now)) }
@@ -283,7 +283,7 @@ pub(crate) fn are_model_spans(
         && are_apart(held, out)
 }
 
-// Whether a signal is an input or a clock.
+/// Whether a signal is an input or a clock.
 fn is_given(flat: &FlatModel, s: u32) -> bool
     ensures { result ≡ true → Among (flat.now.inputs ++ flat.now.clocks) s }
 {
@@ -292,7 +292,7 @@ fn is_given(flat: &FlatModel, s: u32) -> bool
     inputs > 0 || clocks > 0
 }
 
-// What is known of a signal.
+/// What is known of a signal.
 fn entry(known: &Seq<Option<bool>>, at: u32) -> Option<bool>
     ensures { result ≡ entry_of known.now at }
 {
@@ -317,7 +317,7 @@ pub(crate) fn are_outside(flat: &FlatModel, known: &Seq<Option<bool>>) -> bool
     true
 }
 
-// Whether a word is the constant that is known.
+/// Whether a word is the constant that is known.
 fn is_constant(known: Option<bool>, word: u32) -> bool
     ensures { result ≡ true → (b : Bool) → known ≡ Some b → word ≡ cond b 1 0 }
 {

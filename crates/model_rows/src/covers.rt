@@ -29,7 +29,7 @@ impl Drop for Bits {
     }
 }
 
-// The sign of a row by a number below 3.
+/// The sign of a row by a number below 3.
 fn sign(digit: u8) -> u8 {
     match digit {
         0 => b'0',
@@ -38,12 +38,12 @@ fn sign(digit: u8) -> u8 {
     }
 }
 
-// The row of a number below 27.
+/// The row of a number below 27.
 fn row_of(number: u8) -> [u8; 3] {
     [sign(number / 9 % 3), sign(number / 3 % 3), sign(number % 3)]
 }
 
-// Whether a row is that of the valuation of a number below 8.
+/// Whether a row is that of the valuation of a number below 8.
 fn fits(number: u8, at: u8) -> bool {
     let [first, second, third] = row_of(number);
     (first == b'-' || first == b'0' + (at >> 2 & 1))
@@ -51,7 +51,7 @@ fn fits(number: u8, at: u8) -> bool {
         && (third == b'-' || third == b'0' + (at & 1))
 }
 
-// The bit of a cover, by its text.
+/// The bit of a cover, by its text.
 fn told(on: bool, rows: &[u8], at: u8) -> bool {
     let some = rows.iter().any(|row| fits(*row, at));
     if on || rows.is_empty() { some } else { !some }
@@ -87,7 +87,7 @@ impl Bits {
         Ok(Bits { store, values })
     }
 
-    // The function of a cover.
+    /// The function of a cover.
     fn diagram(&mut self, cover: &Cover) -> Result<H, Stop> {
         let values = self.values;
         if !is_live(&self.store, values) || !is_cover(cover, values.len) {
@@ -99,7 +99,7 @@ impl Bits {
         Ok(cover_diagram(&mut self.store, cover, values)?)
     }
 
-    // Whether the bits of a cover at all valuations are those of its text.
+    /// Whether the bits of a cover at all valuations are those of its text.
     fn is_as_told(&mut self, alloc: Global, on: bool, rows: &[u8]) -> Result<bool, Stop> {
         let cover = cover(alloc, on, rows)?;
         let f = self.diagram(&cover)?;
@@ -112,7 +112,7 @@ impl Bits {
         Ok(true)
     }
 
-    // How many covers are as their texts of those whose first row is this, with a second row or none.
+    /// How many covers are as their texts of those whose first row is this, with a second row or none.
     fn with_first(&mut self, alloc: Global, on: bool, first: u8) -> Result<u32, Stop> {
         let mut right = self.is_as_told(alloc, on, [first].as_slice())? as u32;
         for second in 0..ROWS {
@@ -124,7 +124,7 @@ impl Bits {
     }
 }
 
-// How many covers of the on-set or the off-set are as their texts.
+/// How many covers of the on-set or the off-set are as their texts.
 fn right(alloc: Global, on: bool) -> Result<u32, Stop> {
     let mut bits = Bits::open(alloc)?;
     let mut right = bits.is_as_told(alloc, on, [].as_slice())? as u32;

@@ -31,7 +31,7 @@ const CLOCK: u32 = 1;
 /// The signal that is the input.
 const INPUT: u32 = 2;
 
-// A model of one latch: its output, its clock and its input.
+/// A model of one latch: its output, its clock and its input.
 fn drawn(alloc: Global, kind: LatchKind, control: Option<u32>) -> Result<Model, Stop> {
     let mut model = Model::new(alloc, 3, true)?;
     append(&mut model.flat.clocks, CLOCK)?;
@@ -47,7 +47,7 @@ fn drawn(alloc: Global, kind: LatchKind, control: Option<u32>) -> Result<Model, 
     }
 }
 
-// What is known of three signals, of which one is the clock, and of the default clock.
+/// What is known of three signals, of which one is the clock, and of the default clock.
 fn known(
     alloc: Global,
     clock: Option<bool>,
@@ -60,12 +60,12 @@ fn known(
     Ok(known)
 }
 
-// The handle of a constant.
+/// The handle of a constant.
 fn constant(bit: bool) -> H {
     if bit { ONE } else { ZERO }
 }
 
-// Takes the spans of a latch, with the first variable as its input and the next two as held bits.
+/// Takes the spans of a latch, with the first variable as its input and the next two as held bits.
 fn take_spans(store: &mut Store, elements: u32, clock: bool, default: bool) -> Result<Spans, Stop> {
     let inputs = take(store, 4)?;
     let held = take(store, elements)?;
@@ -81,7 +81,7 @@ fn take_spans(store: &mut Store, elements: u32, clock: bool, default: bool) -> R
     Ok(Spans { inputs, held, out })
 }
 
-// The bits of a function at the eight valuations of three variables, as a number.
+/// The bits of a function at the eight valuations of three variables, as a number.
 fn table(alloc: Global, store: &Store, f: H) -> Result<u32, Stop> {
     let mut table = 0u32;
     for number in 0..8u32 {
@@ -92,7 +92,7 @@ fn table(alloc: Global, store: &Store, f: H) -> Result<u32, Stop> {
     Ok(table)
 }
 
-// What a latch gives where its clock and the default clock have these bits.
+/// What a latch gives where its clock and the default clock have these bits.
 fn work_out(
     alloc: Global,
     kind: LatchKind,
@@ -122,7 +122,7 @@ fn work_out(
     })
 }
 
-// Tells what a latch gives by its own clock, and by the default clock; the other of the two has the other bit.
+/// Tells what a latch gives by its own clock, and by the default clock; the other of the two has the other bit.
 fn tell(rt: HostRuntime, kind: LatchKind, bit: bool) -> Result<()> {
     let own = work_out(rt.alloc(), kind, Some(CLOCK), bit, !bit)?;
     let (output, first, last) = (own.output, own.first, own.last);
@@ -144,7 +144,7 @@ pub(crate) fn tell_kinds(rt: HostRuntime) -> Result<()> {
     Ok(())
 }
 
-// A latch that takes in the complement of its own output. The input is not read.
+/// A latch that takes in the complement of its own output. The input is not read.
 fn ring(alloc: Global, clock: Option<bool>) -> Result<Option<Seq<u32>>, Stop> {
     let mut model = Model::new(alloc, 4, true)?;
     append(&mut model.flat.clocks, CLOCK)?;

@@ -27,7 +27,7 @@ impl Drop for Model {
     }
 }
 
-// Adds a text at the end of a list.
+/// Adds a text at the end of a list.
 fn append_text(texts: &mut Seq<Text>, text: Text) -> Result<(), Stop> {
     match texts.push(text) {
         Ok(()) => Ok(()),
@@ -35,7 +35,7 @@ fn append_text(texts: &mut Seq<Text>, text: Text) -> Result<(), Stop> {
     }
 }
 
-// A cover without inputs and rows.
+/// A cover without inputs and rows.
 fn empty(alloc: Global, output: u32, on: bool) -> Cover {
     Cover {
         inputs: Seq::new(alloc),
@@ -75,7 +75,7 @@ pub(crate) struct Spans {
     pub(crate) out: Span,
 }
 
-// Takes the spans of a model, with the bit of the first variable as its input.
+/// Takes the spans of a model, with the bit of the first variable as its input.
 fn take_spans(store: &mut Store, signals: u32, input: Option<u32>) -> Result<Spans, Stop> {
     let inputs = take(store, signals.saturating_add(1))?;
     let held = take(store, 0)?;
@@ -104,13 +104,13 @@ impl Drop for Evaluated {
 }
 
 impl Evaluated {
-    // The bit of a signal where the first variable has a bit.
+    /// The bit of a signal where the first variable has a bit.
     fn value(&self, alloc: Global, signal: u32, input: bool) -> Result<bool, Stop> {
         let at = valuation(alloc, [1].as_slice(), input as u32)?;
         value(&self.store, word(&self.store, self.spans.out, signal), &at)
     }
 
-    // The bits of a signal where the first variable is 0 and where it is 1.
+    /// The bits of a signal where the first variable is 0 and where it is 1.
     fn values(&self, alloc: Global, signal: u32) -> Result<(bool, bool), Stop> {
         let off = self.value(alloc, signal, false)?;
         let on = self.value(alloc, signal, true)?;
@@ -190,19 +190,19 @@ impl Model {
         }
     }
 
-    // The signals with which the model is refused.
+    /// The signals with which the model is refused.
     fn cycle(&self, alloc: Global) -> Result<Option<Seq<u32>>, Stop> {
         let known = unknown(alloc, self.flat.signals.len().saturating_add(1))?;
         first_cycle(alloc, &self.flat, &known)
     }
 
-    // Writes the values of the signals.
+    /// Writes the values of the signals.
     fn evaluate(&self, alloc: Global, store: &mut Store, spans: Spans) -> Result<(), Stop> {
         let known = unknown(alloc, self.flat.signals.len().saturating_add(1))?;
         evaluate(alloc, &self.flat, &known, store, spans)
     }
 
-    // A store with the values of all signals.
+    /// A store with the values of all signals.
     fn values(&self, alloc: Global, budget: u32) -> Result<Evaluated, Stop> {
         let count = self.flat.signals.len().min(MOST) as u32;
         let input = self.flat.inputs.get(0).copied();
@@ -215,7 +215,7 @@ impl Model {
     }
 }
 
-// Each of a thousand signals is the complement of the next, and the last is the input.
+/// Each of a thousand signals is the complement of the next, and the last is the input.
 fn chain(alloc: Global) -> Result<Model, Stop> {
     let mut model = Model::new(alloc, 1000, true)?;
     for signal in 0..999u32 {
@@ -235,7 +235,7 @@ pub(crate) fn tell_chain(rt: HostRuntime) -> Result<()> {
     Ok(())
 }
 
-// Signals 1 and 2 read each other, and signal 0 reads the input alone.
+/// Signals 1 and 2 read each other, and signal 0 reads the input alone.
 fn ring(alloc: Global) -> Result<Model, Stop> {
     let mut model = Model::new(alloc, 4, true)?;
     model.add(with_row(alloc, 0, true, [(3, false)].as_slice())?)?;
@@ -253,7 +253,7 @@ pub(crate) fn tell_ring(rt: HostRuntime) -> Result<()> {
     Ok(())
 }
 
-// With a row of no inputs a cover is constant 1, or 0 where the row is of the off-set; without rows it is constant 0.
+/// With a row of no inputs a cover is constant 1, or 0 where the row is of the off-set; without rows it is constant 0.
 fn constants(alloc: Global) -> Result<Model, Stop> {
     let mut model = Model::new(alloc, 4, false)?;
     model.add(with_row(alloc, 0, true, [].as_slice())?)?;

@@ -63,7 +63,7 @@ impl Pool {
         Pool::taken(alloc, nodes, words, chains).map_err(|_| NoMemory)
     }
 
-    // All of a pool's memory.
+    /// All of a pool's memory.
     fn taken(alloc: Global, nodes: u32, words: u32, most_heads: u32) -> Result<Pool, AllocError>
         requires { (1024 ≤ most_heads) × (most_heads ≤ 2 ^ 31) }
         ensures { IfOk result (λ pool. pool ≡ record { nodes = []; words = []; node_room = nodes; word_room = words }) }
@@ -114,7 +114,7 @@ impl Pool {
         Some(self.append(node))
     }
 
-    // Adds a node that is not there, and links it.
+    /// Adds a node that is not there, and links it.
     fn append(&mut self, node: Node) -> u32
         requires new { ¬ Contains self.old.nodes node }
         requires room { length self.old.nodes < self.old.node_room }
@@ -129,7 +129,7 @@ impl Pool {
         count
     }
 
-    // Has four times the heads where there are as many nodes as heads.
+    /// Has four times the heads where there are as many nodes as heads.
     fn grow(&mut self)
         ensures { self.new ≡ self.old }
     {

@@ -60,7 +60,7 @@ impl Drop for Board {
     }
 }
 
-// The part of all plain nets and all devices.
+/// The part of all plain nets and all devices.
 fn whole_part(alloc: Global, circuit: &Circuit) -> Result<Part, Refused> {
     let mut part = Part {
         rank: 1,
@@ -82,7 +82,7 @@ fn whole_part(alloc: Global, circuit: &Circuit) -> Result<Part, Refused> {
     Ok(part)
 }
 
-// Whether a span is live in a store.
+/// Whether a span is live in a store.
 fn is_live(store: &Store, span: Span) -> bool
     ensures { IsTrue result → IsSpan store.now span }
 {
@@ -90,14 +90,14 @@ fn is_live(store: &Store, span: Span) -> bool
     store.own_words() <= span.start && span.start as u64 + span.len as u64 <= words
 }
 
-// Sets a word of a span to a handle.
+/// Sets a word of a span to a handle.
 fn put(store: &mut Store, span: Span, at: u32, handle: H) {
     if at < span.len && is_live(store, span) {
         store.write(span, at, handle.0);
     }
 }
 
-// The bit of a variable.
+/// The bit of a variable.
 fn bit(store: &mut Store, var: u32) -> Result<H, Refused> {
     if var >= store.vars() {
         return Err(Refused::Unfit);
@@ -105,7 +105,7 @@ fn bit(store: &mut Store, var: u32) -> Result<H, Refused> {
     store.bit(Var(var)).map_err(|_| Refused::Spent)
 }
 
-// A span of so many words.
+/// A span of so many words.
 fn take(store: &mut Store, words: u32) -> Result<Span, Refused> {
     match store.take_span(words) {
         Some(span) => Ok(span),
@@ -135,7 +135,7 @@ impl Board {
         Ok(board)
     }
 
-    // Writes the bits of the high supply and of the inputs. All other words are 0.
+    /// Writes the bits of the high supply and of the inputs. All other words are 0.
     fn put_inputs(&mut self) -> Result<(), Refused> {
         put(&mut self.store, self.given, HIGH.0, ONE);
         let mut var = 0u32;

@@ -66,7 +66,7 @@ pub(crate) fn circuit(alloc: Global, case: Case, size: u32) -> Result<Circuit, N
     Ok(draft.circuit)
 }
 
-// Adds a device with a gate of its own, which is an input.
+/// Adds a device with a gate of its own, which is an input.
 fn pass(draft: &mut Draft, left: Net, right: Net) -> Result<(), NoMemory> {
     let gate = draft.net(NetKind::Input)?;
     draft.device(Kind::N, 6, gate, left, right)
@@ -107,7 +107,7 @@ fn ladder(draft: &mut Draft, rungs: u32) -> Result<(), NoMemory> {
     Ok(())
 }
 
-// Adds so many inputs and gives the first.
+/// Adds so many inputs and gives the first.
 fn inputs(draft: &mut Draft, count: u32) -> Result<Net, NoMemory> {
     let first = draft.net(NetKind::Input)?;
     for _ in 1..count {
@@ -116,8 +116,8 @@ fn inputs(draft: &mut Draft, count: u32) -> Result<Net, NoMemory> {
     Ok(first)
 }
 
-// Adds a net for each pair of nets that stand one behind another from `from` on: the first where the gate is 0, the
-// second where it is 1. Gives the net behind the pairs.
+/// Adds a net for each pair of nets that stand one behind another from `from` on: the first where the gate is 0, the
+/// second where it is 1. Gives the net behind the pairs.
 fn row(draft: &mut Draft, gate: Net, from: Net, pairs: u32) -> Result<Net, NoMemory> {
     let mut first = from;
     for _ in 0..pairs {
@@ -142,8 +142,8 @@ fn multiplexer(draft: &mut Draft, selects: u32) -> Result<(), NoMemory>
     Ok(())
 }
 
-// Adds a product of two inputs: devices in a row from the output to the low supply, and side by side from one net to
-// another on the way from the high supply to the output.
+/// Adds a product of two inputs: devices in a row from the output to the low supply, and side by side from one net to
+/// another on the way from the high supply to the output.
 fn product(draft: &mut Draft, output: Net, above: Net, below: Net) -> Result<(), NoMemory> {
     let first = draft.net(NetKind::Input)?;
     let second = draft.net(NetKind::Input)?;

@@ -25,7 +25,7 @@ struct Solved {
     micros: u128,
 }
 
-// The case of a name.
+/// The case of a name.
 fn case_of(name: &str) -> Option<Case> {
     for case in ALL {
         if cases::name(case) == name {
@@ -40,7 +40,7 @@ fn open(alloc: Global, case: Case, size: u32) -> Result<Board, Refused> {
     Board::open(alloc, circuit)
 }
 
-// Solves one part in a new store.
+/// Solves one part in a new store.
 fn solve(rt: HostRuntime, case: Case, size: u32) -> Result<Solved> {
     let mut board = match open(rt.alloc(), case, size) {
         Ok(board) => board,
@@ -63,7 +63,7 @@ fn solve(rt: HostRuntime, case: Case, size: u32) -> Result<Solved> {
     })
 }
 
-// Tells the size of a part and the nodes.
+/// Tells the size of a part and the nodes.
 fn tell(rt: HostRuntime, case: Case, size: u32, solved: Solved) -> Result<()> {
     let name = cases::name(case);
     let Solved {
@@ -79,7 +79,7 @@ fn tell(rt: HostRuntime, case: Case, size: u32, solved: Solved) -> Result<()> {
     Ok(())
 }
 
-// Solves one part several times, and tells its size, the nodes and the least time.
+/// Solves one part several times, and tells its size, the nodes and the least time.
 fn time(rt: HostRuntime, case: Case, size: u32, times: u32) -> Result<()> {
     let mut best = solve(rt, case, size)?;
     for _ in 1..times {

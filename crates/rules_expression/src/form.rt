@@ -16,7 +16,7 @@ pub struct Form {
     pub depth: usize,
 }
 
-// Behind one token more where an operand is expected. None where the token cannot stand there.
+/// Behind one token more where an operand is expected. None where the token cannot stand there.
 fn first_behind(depth: usize, token: &Token) -> Option<Form>
     requires { depth + 1 < 2 ^ 64 }
     ensures { result ≡ form_behind false depth token.now }
@@ -38,7 +38,7 @@ fn first_behind(depth: usize, token: &Token) -> Option<Form>
     }
 }
 
-// Behind one token more behind an operand.
+/// Behind one token more behind an operand.
 fn next_behind(depth: usize, token: &Token) -> Option<Form>
     ensures { result ≡ form_behind true depth token.now }
 {
@@ -72,7 +72,7 @@ fn behind(form: Form, token: &Token) -> Option<Form>
     }
 }
 
-// Whether each token can stand where it does, and the last ends an expression.
+/// Whether each token can stand where it does, and the last ends an expression.
 fn has_form(tokens: &[Token]) -> bool
     ensures { result ≡ forms (Some (form false 0)) tokens.now }
 {
@@ -99,7 +99,7 @@ pub fn is_form(tokens: &[Token]) -> bool
     has_form(tokens)
 }
 
-// How many parentheses are open behind a token.
+/// How many parentheses are open behind a token.
 fn depth_after(depth: usize, token: &Token) -> usize
     requires { depth + 1 < 2 ^ 64 }
     ensures { result ≡ depth_behind depth token.now }

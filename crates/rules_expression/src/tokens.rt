@@ -28,7 +28,7 @@ pub enum Token {
     Closing,
 }
 
-// The sign of a byte, none for a byte of a name.
+/// The sign of a byte, none for a byte of a name.
 fn sign(b: u8) -> Option<Token>
     ensures { result ≡ sign_of b }
 {
@@ -62,7 +62,7 @@ fn add(tokens: &mut Seq<Token>, token: Token) -> Result<(), NoMemory>
     }
 }
 
-// Adds a name, if it has a byte.
+/// Adds a name, if it has a byte.
 fn add_name(tokens: &mut Seq<Token>, name: Text) -> Result<(), NoMemory>
     ensures { OnOk result (tokens.new ≡ tokens.old ++ named name) }
 {
@@ -72,7 +72,7 @@ fn add_name(tokens: &mut Seq<Token>, name: Text) -> Result<(), NoMemory>
     add(tokens, Token::Name(name))
 }
 
-// A name with a byte more.
+/// A name with a byte more.
 fn longer(name: Text, b: u8) -> Result<Text, NoMemory>
     ensures { IfOk result (λ more. more ≡ name ++ to_ascii_lowercase b ∷ []) }
 {
@@ -83,7 +83,7 @@ fn longer(name: Text, b: u8) -> Result<Text, NoMemory>
     }
 }
 
-// Takes a byte, behind the bytes of a name. The bytes of the name that goes on are answered.
+/// Takes a byte, behind the bytes of a name. The bytes of the name that goes on are answered.
 fn take_byte(alloc: Global, tokens: &mut Seq<Token>, name: Text, b: u8) -> Result<Text, NoMemory>
     ensures { IfOk result (λ next. (rest : List Token) → tokens.new ++ after_name next rest ≡ tokens.old ++ after_name name (onto b rest)) }
 {
@@ -100,7 +100,7 @@ fn take_byte(alloc: Global, tokens: &mut Seq<Token>, name: Text, b: u8) -> Resul
     }
 }
 
-// Adds the tokens of a word.
+/// Adds the tokens of a word.
 fn add_word(alloc: Global, tokens: &mut Seq<Token>, word: &[u8]) -> Result<(), NoMemory>
     ensures { OnOk result (tokens.new ≡ tokens.old ++ tokens_in word.now) }
 {

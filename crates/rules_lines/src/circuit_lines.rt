@@ -84,7 +84,7 @@ pub fn strength(alloc: Global, words: &[Text]) -> Result<Option<Entry>, NoMemory
     }
 }
 
-// The model of a `pair` line, none for `-`.
+/// The model of a `pair` line, none for `-`.
 fn paired(alloc: Global, model: &Text) -> Result<Option<Text>, NoMemory>
     ensures { IfOk result (λ found. found ≡ paired_model model.now) }
 {
@@ -163,7 +163,7 @@ pub fn keeper(alloc: Global, words: &[Text]) -> Result<Option<Entry>, NoMemory>
     }
 }
 
-// A latch of an instance within a cell.
+/// A latch of an instance within a cell.
 fn instance_match(
     alloc: Global,
     cell: &Text,
@@ -183,7 +183,7 @@ fn instance_match(
     })
 }
 
-// A net of a cell itself.
+/// A net of a cell itself.
 fn net_match(alloc: Global, cell: &Text, net: &Text, latch: &Text) -> Result<Entry, NoMemory>
     ensures { IfOk result (λ entry. entry ≡ MatchLine (lowered cell.now) (lowered net.now) (signed latch.now)) }
 {

@@ -13,7 +13,7 @@ use rules_expression::tokens_of_words;
 use std::alloc::Global;
 use vrt_model::{NoMemory, Seq, Text};
 
-// `clock NAME..`
+/// `clock NAME..`
 fn clock(alloc: Global, words: &[Text]) -> Result<Option<Entry>, NoMemory>
     ensures { IfOk result (λ entry. entry ≡ clock_entry words.now) }
 {
@@ -25,7 +25,7 @@ fn clock(alloc: Global, words: &[Text]) -> Result<Option<Entry>, NoMemory>
     }))
 }
 
-// `CLOCK=BIT`, cut at its first `=`.
+/// `CLOCK=BIT`, cut at its first `=`.
 fn clock_bit_of(alloc: Global, word: &Text) -> Result<ClockBit, NoMemory>
     ensures { IfOk result (λ b. b ≡ clock_bit word.now) }
 {
@@ -60,7 +60,7 @@ fn all_have_equals(words: &[Text]) -> bool
     words.iter().all(|word| has_equals_sign(word.as_bytes()))
 }
 
-// `phase NAME CLOCK=BIT..`
+/// `phase NAME CLOCK=BIT..`
 fn phase(alloc: Global, words: &[Text]) -> Result<Option<Entry>, NoMemory>
     ensures { IfOk result (λ entry. entry ≡ phase_entry words.now) }
 {
@@ -77,7 +77,7 @@ fn phase(alloc: Global, words: &[Text]) -> Result<Option<Entry>, NoMemory>
     }
 }
 
-// A clock, lowered, with or without `!`.
+/// A clock, lowered, with or without `!`.
 fn lowered_sign(alloc: Global, clock: &Text) -> Result<Signed, NoMemory>
     ensures { IfOk result (λ s. s ≡ signed (lowered clock.now)) }
 {
@@ -85,7 +85,7 @@ fn lowered_sign(alloc: Global, clock: &Text) -> Result<Signed, NoMemory>
     sign_off(alloc, clock.as_bytes())
 }
 
-// `clockport CELL PORT [!]CLOCK`
+/// `clockport CELL PORT [!]CLOCK`
 fn clockport(alloc: Global, words: &[Text]) -> Result<Option<Entry>, NoMemory>
     ensures { IfOk result (λ entry. entry ≡ clockport_entry words.now) }
 {
@@ -99,7 +99,7 @@ fn clockport(alloc: Global, words: &[Text]) -> Result<Option<Entry>, NoMemory>
     }
 }
 
-// `defaultclock CLOCK`
+/// `defaultclock CLOCK`
 fn defaultclock(alloc: Global, words: &[Text]) -> Result<Option<Entry>, NoMemory>
     ensures { IfOk result (λ entry. entry ≡ defaultclock_entry words.now) }
 {
@@ -111,7 +111,7 @@ fn defaultclock(alloc: Global, words: &[Text]) -> Result<Option<Entry>, NoMemory
     }
 }
 
-// `enter CELL PHASE NET BIT`
+/// `enter CELL PHASE NET BIT`
 fn enter(alloc: Global, words: &[Text]) -> Result<Option<Entry>, NoMemory>
     ensures { IfOk result (λ entry. entry ≡ enter_entry words.now) }
 {
@@ -131,7 +131,7 @@ fn enter(alloc: Global, words: &[Text]) -> Result<Option<Entry>, NoMemory>
     }
 }
 
-// `observe CELL PORT PHASE..`
+/// `observe CELL PORT PHASE..`
 fn observe(alloc: Global, words: &[Text]) -> Result<Option<Entry>, NoMemory>
     ensures { IfOk result (λ entry. entry ≡ observe_entry words.now) }
 {
@@ -148,7 +148,7 @@ fn observe(alloc: Global, words: &[Text]) -> Result<Option<Entry>, NoMemory>
     }
 }
 
-// The phase of an `assume` line, none for `*`.
+/// The phase of an `assume` line, none for `*`.
 fn assumed(alloc: Global, phase: &Text) -> Result<Option<Text>, NoMemory>
     ensures { IfOk result (λ found. found ≡ assumed_phase phase.now) }
 {
@@ -159,7 +159,7 @@ fn assumed(alloc: Global, phase: &Text) -> Result<Option<Text>, NoMemory>
     Ok(Some(phase))
 }
 
-// `assume CELL PHASE EXPR`, `assume CELL * EXPR`
+/// `assume CELL PHASE EXPR`, `assume CELL * EXPR`
 fn assume(alloc: Global, words: &[Text]) -> Result<Option<Entry>, NoMemory>
     ensures { IfOk result (λ entry. entry ≡ assume_entry words.now) }
 {

@@ -90,7 +90,7 @@ pub fn kind(word: &[u8]) -> Option<Kind>
     None
 }
 
-// The place of the first such byte.
+/// The place of the first such byte.
 fn first_place(sign: u8, word: &[u8]) -> Option<usize>
     ensures place { result ≡ position (λ b. b == sign) word.now }
     ensures fits { IfSome result (λ n. n + 1 < 2 ^ 64) }

@@ -13,7 +13,7 @@ use names::Names;
 use std::alloc::Global;
 use vrt_model::{NoMemory, Phase, Rules, Seq, Text};
 
-// No rules but the clocks.
+/// No rules but the clocks.
 fn empty(alloc: Global, clocks: Seq<Text>) -> Rules
     ensures { result ≡ record { clocks = clocks; phases = []; supplies = []; devices = []; strengths = []; clockports = []; defaultclocks = []; pairs = []; ports = []; holds = []; keepers = []; matches = []; instance_matches = []; enters = []; observes = []; assumes = [] } }
 {
@@ -37,7 +37,7 @@ fn empty(alloc: Global, clocks: Seq<Text>) -> Rules
     }
 }
 
-// Adds the rules of a line, if it says something.
+/// Adds the rules of a line, if it says something.
 fn add_card(
     alloc: Global,
     clocks: &Names,
@@ -55,7 +55,7 @@ fn add_card(
     }
 }
 
-// The tables of lines.
+/// The tables of lines.
 fn tables(
     alloc: Global,
     known: &Known,
@@ -80,7 +80,7 @@ fn tables(
     Ok(())
 }
 
-// The phase `all`, in which every clock is 0.
+/// The phase `all`, in which every clock is 0.
 fn all_phase(alloc: Global, clocks: &[Text]) -> Result<Phase, NoMemory>
     ensures { IfOk result (λ p. p ≡ record { line = 0; name = codes "all"; bits = map (λ c. false) clocks.now }) }
 {
@@ -95,7 +95,7 @@ fn all_phase(alloc: Global, clocks: &[Text]) -> Result<Phase, NoMemory>
     })
 }
 
-// Adds the phase `all` where there is no phase.
+/// Adds the phase `all` where there is no phase.
 fn add_all(alloc: Global, phases: &mut Seq<Phase>, clocks: &[Text]) -> Result<(), NoMemory>
     ensures { OnOk result (phases.new ≡ all_from clocks.now phases.old) }
 {
@@ -106,7 +106,7 @@ fn add_all(alloc: Global, phases: &mut Seq<Phase>, clocks: &[Text]) -> Result<()
     append(phases, all)
 }
 
-// Adds the rules of all lines, where there are none yet.
+/// Adds the rules of all lines, where there are none yet.
 fn fill(alloc: Global, known: &Known, rules: &mut Rules, cards: &[Card]) -> Result<(), NoMemory>
     requires known { known.now ≡ known_by cards.now }
     requires none { AreSoFar known.now.clocks known.now.phases known.now.clocks [] rules.old }

@@ -31,7 +31,7 @@ impl Drop for Card {
     }
 }
 
-// The bytes from the first on that is no blank.
+/// The bytes from the first on that is no blank.
 fn from_first(line: &[u8]) -> &[u8]
     ensures { result.now ≡ without_blanks line.now }
 {
@@ -51,7 +51,7 @@ fn is_blank_only(line: &[u8]) -> bool
     line.iter().all(|b| is_blank_byte(*b))
 }
 
-// Whether a line is blank, or its first byte that is no blank is `#`.
+/// Whether a line is blank, or its first byte that is no blank is `#`.
 fn is_passed(line: &[u8]) -> bool
     ensures { result ≡ is_passed_over line.now }
 {
@@ -67,7 +67,7 @@ fn begins(sign: u8, bytes: &[u8]) -> bool
     }
 }
 
-// The card of a line.
+/// The card of a line.
 fn read_card(alloc: Global, line: u32, bytes: &[u8]) -> Result<Card, NoMemory>
     ensures { IfOk result (λ card. card ≡ card_of (line, bytes.now)) }
 {
@@ -80,7 +80,7 @@ fn read_card(alloc: Global, line: u32, bytes: &[u8]) -> Result<Card, NoMemory>
     })
 }
 
-// Adds the card of a line, unless it is passed over.
+/// Adds the card of a line, unless it is passed over.
 fn add_line(alloc: Global, cards: &mut Seq<Card>, line: u32, bytes: &[u8]) -> Result<(), NoMemory>
     ensures { OnOk result (cards.new ≡ cards.old ++ cards_on (line, bytes.now)) }
 {

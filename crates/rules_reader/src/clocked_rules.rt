@@ -16,8 +16,8 @@ use vrt_model::{
     Phase, Seq, Text,
 };
 
-// The number of a name, and 0 where it is not there. The limits of clocks and phases keep it far below 32 bits; a greater
-// one would be answered as want of memory.
+/// The number of a name, and 0 where it is not there. The limits of clocks and phases keep it far below 32 bits; a greater
+/// one would be answered as want of memory.
 fn number(names: &Names, name: &Text) -> Result<u32, NoMemory>
     ensures { IfOk result (λ n. n ≡ number_in names.now name.now) }
 {
@@ -27,7 +27,7 @@ fn number(names: &Names, name: &Text) -> Result<u32, NoMemory>
     }
 }
 
-// The bit that a phase gives a clock.
+/// The bit that a phase gives a clock.
 fn bit_of_clock(bits: &[ClockBit], clock: &[u8]) -> bool
     ensures { result ≡ bit_for bits.now clock.now }
 {
@@ -41,7 +41,7 @@ fn bit_of_clock(bits: &[ClockBit], clock: &[u8]) -> bool
     false
 }
 
-// The bits that a phase gives clocks.
+/// The bits that a phase gives clocks.
 fn bits_of(alloc: Global, bits: &[ClockBit], clocks: &[Text]) -> Result<Seq<bool>, NoMemory>
     ensures { IfOk result (λ found. found ≡ map (bit_for bits.now) clocks.now) }
 {
@@ -133,7 +133,7 @@ pub fn add_enter(
     append(rules, rule)
 }
 
-// The numbers of phases.
+/// The numbers of phases.
 fn numbers(alloc: Global, phases: &Names, names: &[Text]) -> Result<Seq<u32>, NoMemory>
     ensures { IfOk result (λ found. found ≡ map (number_in phases.now) names.now) }
 {
@@ -168,7 +168,7 @@ pub fn add_observe(
     append(rules, rule)
 }
 
-// The number of a phase, none for `*`.
+/// The number of a phase, none for `*`.
 fn phase_number(phases: &Names, phase: &Option<Text>) -> Result<Option<u32>, NoMemory>
     ensures { IfOk result (λ n. n ≡ option_map (number_in phases.now) phase.now) }
 {
@@ -181,7 +181,7 @@ fn phase_number(phases: &Names, phase: &Option<Text>) -> Result<Option<u32>, NoM
     }
 }
 
-// The expression of tokens, a port without a name where they spell none.
+/// The expression of tokens, a port without a name where they spell none.
 fn expression(alloc: Global, tokens: &[Token]) -> Result<Expr, NoMemory>
     ensures { IfOk result (λ e. seen e ≡ unwrap_or (formula_of tokens.now) (a_port [])) }
 {

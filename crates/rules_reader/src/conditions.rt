@@ -20,7 +20,7 @@ fn is_of_clock(clock: &[u8], b: &ClockBit) -> bool
     clock == b.clock.as_bytes()
 }
 
-// Whether there is a bit of a clock.
+/// Whether there is a bit of a clock.
 fn has_bit(bits: &[ClockBit], clock: &[u8]) -> bool
     ensures { result ≡ list_any (is_bit_of clock.now) bits.now }
 {
@@ -40,7 +40,7 @@ fn lacks(bits: &[ClockBit], clock: &[u8]) -> bool
     !has_bit(bits, clock)
 }
 
-// Whether some clock has no bit.
+/// Whether some clock has no bit.
 fn any_lacks(bits: &[ClockBit], clocks: &[Text]) -> bool
     ensures { result ≡ list_any (lacks_bit bits.now) clocks.now }
 {
@@ -54,7 +54,7 @@ fn any_lacks(bits: &[ClockBit], clocks: &[Text]) -> bool
     false
 }
 
-// Whether a `phase` line comes too late, or gives some clock no bit.
+/// Whether a `phase` line comes too late, or gives some clock no bit.
 fn is_phase_misplaced(alloc: Global, known: &Known, bits: &[ClockBit]) -> Result<bool, NoMemory>
     ensures { IfOk result (λ b. b ≡ (known.now.is_phase_named || list_any (lacks_bit bits.now) known.now.clocks)) }
 {
@@ -112,7 +112,7 @@ pub fn is_expression_bad(entry: &Entry) -> bool
     }
 }
 
-// Whether a phase is known.
+/// Whether a phase is known.
 fn has_phase(phases: &Names, name: &[u8]) -> bool
     ensures { result ≡ has_name (known_from phases.now) name.now }
 {
@@ -132,7 +132,7 @@ fn missing_phase(alloc: Global, phases: &Names, name: &Text) -> Result<Option<Te
     Ok(Some(name))
 }
 
-// The first of some phases that is not known.
+/// The first of some phases that is not known.
 fn first_missing_phase(
     alloc: Global,
     phases: &Names,
@@ -178,7 +178,7 @@ fn missing_clock(alloc: Global, clocks: &Names, name: &Text) -> Result<Option<Te
     Ok(Some(name))
 }
 
-// The first clock of a phase that is not known.
+/// The first clock of a phase that is not known.
 fn first_missing_clock(
     alloc: Global,
     clocks: &Names,

@@ -21,7 +21,7 @@ use rules_lines::Entry;
 use std::alloc::Global;
 use vrt_model::NoMemory;
 
-// Adds the clocks of a line.
+/// Adds the clocks of a line.
 fn learn_clocks(clocks: &mut Names, entry: &Entry) -> Result<(), NoMemory>
     ensures { OnOk result (clocks.new ≡ with_names clocks.old (clocks_in entry.now)) }
 {
@@ -31,7 +31,7 @@ fn learn_clocks(clocks: &mut Names, entry: &Entry) -> Result<(), NoMemory>
     }
 }
 
-// Adds the phase of a line.
+/// Adds the phase of a line.
 fn learn_phase(phases: &mut Names, entry: &Entry) -> Result<(), NoMemory>
     ensures { OnOk result (phases.new ≡ with_names phases.old (phase_names_in entry.now)) }
 {
@@ -44,7 +44,7 @@ fn learn_phase(phases: &mut Names, entry: &Entry) -> Result<(), NoMemory>
     }
 }
 
-// Whether a line names a phase.
+/// Whether a line names a phase.
 fn names_phase(entry: &Entry) -> bool
     ensures { result ≡ not (is_empty (phases_named entry.now)) }
 {

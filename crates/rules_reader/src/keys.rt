@@ -10,7 +10,7 @@ use rules_lines::{ClockBit, Entry};
 use std::alloc::Global;
 use vrt_model::{NoMemory, Text};
 
-// Words with one more and a blank.
+/// Words with one more and a blank.
 fn with_word(front: Text, word: &Text) -> Result<Text, NoMemory>
     ensures { IfOk result (λ more. more ≡ front ++ spaced word.now) }
 {
@@ -22,7 +22,7 @@ fn with_word(front: Text, word: &Text) -> Result<Text, NoMemory>
     }
 }
 
-// A table and a word with blanks.
+/// A table and a word with blanks.
 fn front_of(alloc: Global, table: &[u8], word: &Text) -> Result<Text, NoMemory>
     ensures { IfOk result (λ front. front ≡ table.now ++ spaced word.now) }
 {
@@ -30,7 +30,7 @@ fn front_of(alloc: Global, table: &[u8], word: &Text) -> Result<Text, NoMemory>
     with_word(front, word)
 }
 
-// Adds a key, or answers its last word where it is there.
+/// Adds a key, or answers its last word where it is there.
 fn claim(
     alloc: Global,
     keys: &mut Names,
@@ -49,7 +49,7 @@ fn claim(
     Ok(None)
 }
 
-// Adds the keys of some last words, up to the first that is there, which is answered.
+/// Adds the keys of some last words, up to the first that is there, which is answered.
 fn claim_all(
     alloc: Global,
     keys: &mut Names,
@@ -68,7 +68,7 @@ fn claim_all(
     Ok(None)
 }
 
-// The same for clocks of a phase.
+/// The same for clocks of a phase.
 fn claim_clocks(
     alloc: Global,
     keys: &mut Names,
@@ -87,7 +87,7 @@ fn claim_clocks(
     Ok(None)
 }
 
-// The key of a table and its one word.
+/// The key of a table and its one word.
 fn claim_word(
     alloc: Global,
     keys: &mut Names,
@@ -100,7 +100,7 @@ fn claim_word(
     claim(alloc, keys, &front, last)
 }
 
-// The key of a table, a cell and a word.
+/// The key of a table, a cell and a word.
 fn claim_in(
     alloc: Global,
     keys: &mut Names,
@@ -114,7 +114,7 @@ fn claim_in(
     claim(alloc, keys, &front, last)
 }
 
-// The key of a table, a cell and two words.
+/// The key of a table, a cell and two words.
 fn claim_within(
     alloc: Global,
     keys: &mut Names,
@@ -130,7 +130,7 @@ fn claim_within(
     claim(alloc, keys, &front, last)
 }
 
-// The keys of a table and each of some words.
+/// The keys of a table and each of some words.
 fn claim_words(
     alloc: Global,
     keys: &mut Names,
@@ -143,7 +143,7 @@ fn claim_words(
     claim_all(alloc, keys, &front, lasts)
 }
 
-// The keys of the devices of a `keeper` line.
+/// The keys of the devices of a `keeper` line.
 fn claim_devices(
     alloc: Global,
     keys: &mut Names,
@@ -156,7 +156,7 @@ fn claim_devices(
     claim_all(alloc, keys, &front, devices)
 }
 
-// The keys of a `phase` line: its name, and each clock on it.
+/// The keys of a `phase` line: its name, and each clock on it.
 fn claim_phase(
     alloc: Global,
     keys: &mut Names,
@@ -173,7 +173,7 @@ fn claim_phase(
     claim_clocks(alloc, keys, &front, bits)
 }
 
-// The key of a `strength` line.
+/// The key of a `strength` line.
 fn claim_strength(
     alloc: Global,
     keys: &mut Names,
@@ -185,7 +185,7 @@ fn claim_strength(
     claim_in(alloc, keys, b"strength ".as_slice(), cell, device)
 }
 
-// The key of a `clockport` line.
+/// The key of a `clockport` line.
 fn claim_clockport(
     alloc: Global,
     keys: &mut Names,
@@ -197,7 +197,7 @@ fn claim_clockport(
     claim_in(alloc, keys, b"clockport ".as_slice(), cell, port)
 }
 
-// The key of a `defaultclock` line.
+/// The key of a `defaultclock` line.
 fn claim_defaultclock(alloc: Global, keys: &mut Names) -> Result<Option<Text>, NoMemory>
     ensures { IfOk result (Claims (key [] (codes "defaultclock") ∷ []) keys.old keys.new) }
 {

@@ -14,7 +14,7 @@ use crate::check::check_cards;
 use std::alloc::Global;
 use vrt_model::Rules;
 
-// The rules of lines, or their first fault.
+/// The rules of lines, or their first fault.
 fn rules_of(alloc: Global, cards: &[Card]) -> Result<Rules, RulesFault>
     ensures ok { IfOk result (λ rules. IsClean fault_of cards.now × AreRulesOf cards.now rules) }
     ensures err { IfErr result (λ fault. (fault ≡ RulesFault.NoMemory) ⊎ IsFirst fault_of cards.now fault) }

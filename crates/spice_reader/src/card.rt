@@ -42,7 +42,7 @@ pub struct Open {
     pub bytes: Text,
 }
 
-// The place of the first `=`.
+/// The place of the first `=`.
 fn first_equals(text: &[u8]) -> Option<usize>
     ensures place { result ≡ position (λ b. b == 61) text.now }
     ensures fits { IfSome result (λ n. n + 1 < 2 ^ 64) }
@@ -50,7 +50,7 @@ fn first_equals(text: &[u8]) -> Option<usize>
     text.iter().position(|b| *b == b'=')
 }
 
-// What stands before and behind the first `=`.
+/// What stands before and behind the first `=`.
 fn cut_equals(text: &[u8]) -> Option<(&[u8], &[u8])>
     ensures cut { IfSome result (λ p. (length p.1.now < length text.now) × (joined_at_equals text.now ≡ trimmed p.0.now ++ 61 ∷ joined_at_equals p.1.now)) }
     ensures last { IfNone result (joined_at_equals text.now ≡ trimmed text.now) }
@@ -61,14 +61,14 @@ fn cut_equals(text: &[u8]) -> Option<(&[u8], &[u8])>
     }
 }
 
-// A part without blanks at both ends.
+/// A part without blanks at both ends.
 fn without_blanks_around(part: &[u8]) -> &[u8]
     ensures { result.now ≡ trimmed part.now }
 {
     without_end(without_front(part))
 }
 
-// Adds bytes without the blanks on both sides of `=`.
+/// Adds bytes without the blanks on both sides of `=`.
 fn add_joined(out: &mut Text, text: &[u8]) -> Result<(), NoMemory>
     ensures { OnOk result (out.new ≡ out.old ++ joined_at_equals text.now) }
 {
@@ -83,7 +83,7 @@ fn add_joined(out: &mut Text, text: &[u8]) -> Result<(), NoMemory>
     out.extend(without_blanks_around(rest))
 }
 
-// The words of the bytes of a card.
+/// The words of the bytes of a card.
 #[tactic(auto, unfolding(crate::specs::Cards::card_words))]
 fn words_of_card(alloc: Global, bytes: &[u8]) -> Result<Seq<Text>, NoMemory>
     ensures { IfOk result (λ words. words ≡ card_words bytes.now) }

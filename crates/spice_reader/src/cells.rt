@@ -25,7 +25,7 @@ pub fn through_end(cards: &[Card]) -> &[Card]
     cards
 }
 
-// The cards before `.ends`.
+/// The cards before `.ends`.
 fn before_ends(cards: &[Card]) -> &[Card]
     ensures { result.now ≡ up_to ends_cell cards.now }
 {
@@ -39,7 +39,7 @@ fn before_ends(cards: &[Card]) -> &[Card]
     cards
 }
 
-// A cell of its first card and the cards before `.ends`.
+/// A cell of its first card and the cards before `.ends`.
 fn cell(alloc: Global, first: &Card, body: &[Card]) -> Result<Cell, NoMemory>
     ensures { IfOk result (λ c. c ≡ cell_of (first.now, body.now)) }
 {
@@ -52,7 +52,7 @@ fn cell(alloc: Global, first: &Card, body: &[Card]) -> Result<Cell, NoMemory>
     })
 }
 
-// Adds a cell.
+/// Adds a cell.
 fn add_cell(cells: &mut Seq<Cell>, cell: Cell) -> Result<(), NoMemory>
     ensures { OnOk result (cells.new ≡ cells.old ++ cell ∷ []) }
 {
@@ -62,7 +62,7 @@ fn add_cell(cells: &mut Seq<Cell>, cell: Cell) -> Result<(), NoMemory>
     }
 }
 
-// Takes a card, with the cards behind it.
+/// Takes a card, with the cards behind it.
 fn take_card(
     alloc: Global,
     cells: &mut Seq<Cell>,

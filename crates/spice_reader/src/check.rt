@@ -12,7 +12,7 @@ use crate::known::{Known, learn};
 use names::Names;
 use std::alloc::Global;
 
-// Judges a card, and learns it if it has no fault.
+/// Judges a card, and learns it if it has no fault.
 fn step(alloc: Global, known: &mut Known, card: &Card) -> Result<(), SpiceFault>
     ensures fault { Judges SpiceFault.NoMemory result (fault_by known.old card.now) }
     ensures next { OnOk result (known.new ≡ learned known.old card.now) }

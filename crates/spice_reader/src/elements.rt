@@ -9,7 +9,7 @@ use crate::words::{first, has_letter, plain, tail, word};
 use std::alloc::Global;
 use vrt_model::{DeviceCard, InstanceCard, NoMemory, Seq, Text};
 
-// The transistor of a card.
+/// The transistor of a card.
 fn device(alloc: Global, card: &Card) -> Result<DeviceCard, NoMemory>
     ensures { IfOk result (λ d. d ≡ device_of card.now) }
 {
@@ -24,7 +24,7 @@ fn device(alloc: Global, card: &Card) -> Result<DeviceCard, NoMemory>
     })
 }
 
-// Adds the transistor of a card, if it is one.
+/// Adds the transistor of a card, if it is one.
 fn add_device(alloc: Global, found: &mut Seq<DeviceCard>, card: &Card) -> Result<(), NoMemory>
     ensures { OnOk result (found.new ≡ found.old ++ map device_of (filter is_device (card.now ∷ []))) }
 {
@@ -63,7 +63,7 @@ pub fn copies(alloc: Global, words: &[Text]) -> Result<Seq<Text>, NoMemory>
     Ok(texts)
 }
 
-// The words but the last.
+/// The words but the last.
 fn front(words: &[Text]) -> &[Text]
     ensures { result.now ≡ but_last words.now }
 {
@@ -73,7 +73,7 @@ fn front(words: &[Text]) -> &[Text]
     }
 }
 
-// The last word, empty where there is none.
+/// The last word, empty where there is none.
 fn end(words: &[Text]) -> &[u8]
     ensures { result.now ≡ last_word words.now }
 {
@@ -83,7 +83,7 @@ fn end(words: &[Text]) -> &[u8]
     }
 }
 
-// Nets without a lone slash behind them.
+/// Nets without a lone slash behind them.
 fn nets_alone(nets: &[Text]) -> &[Text]
     ensures { result.now ≡ without_slash nets.now }
 {
@@ -94,14 +94,14 @@ fn nets_alone(nets: &[Text]) -> &[Text]
     }
 }
 
-// The words of an instance card behind its name.
+/// The words of an instance card behind its name.
 fn tied(card: &Card) -> &[Text]
     ensures { result.now ≡ tied_words card.now }
 {
     tail(plain(card.words.as_slice()))
 }
 
-// The instance of a card.
+/// The instance of a card.
 fn instance(alloc: Global, card: &Card) -> Result<InstanceCard, NoMemory>
     ensures { IfOk result (λ i. i ≡ instance_of card.now) }
 {
@@ -113,7 +113,7 @@ fn instance(alloc: Global, card: &Card) -> Result<InstanceCard, NoMemory>
     })
 }
 
-// Adds the instance of a card, if it is one.
+/// Adds the instance of a card, if it is one.
 fn add_instance(alloc: Global, found: &mut Seq<InstanceCard>, card: &Card) -> Result<(), NoMemory>
     ensures { OnOk result (found.new ≡ found.old ++ map instance_of (filter is_instance (card.now ∷ []))) }
 {

@@ -73,14 +73,14 @@ pub fn is_element_card(card: &Card) -> bool
     has_letter(card, b'm') || has_letter(card, b'x')
 }
 
-// Whether some byte is `=`.
+/// Whether some byte is `=`.
 fn has_equals(text: &[u8]) -> bool
     ensures { result ≡ list_any (λ b. b == 61) text.now }
 {
     text.iter().any(|b| *b == b'=')
 }
 
-// Whether a word is a parameter.
+/// Whether a word is a parameter.
 fn is_parameter_word(text: &[u8]) -> bool
     ensures { result ≡ is_parameter text.now }
 {
@@ -118,7 +118,7 @@ pub fn head(card: &Card) -> &[Text]
     plain(tail(card.words.as_slice()))
 }
 
-// The first of some words, empty where there is none.
+/// The first of some words, empty where there is none.
 fn first_of_words(words: &[Text]) -> &[u8]
     ensures { result.now ≡ word_at words.now 0 }
 {

@@ -6,7 +6,7 @@ use crate::stop::Stop;
 use bdd_core::{H, Spent, Store};
 use std::alloc::Global;
 
-// Two variables, their product, their sum and the product again, in a store with room for five nodes.
+/// Two variables, their product, their sum and the product again, in a store with room for five nodes.
 fn made(alloc: Global) -> Result<[Result<H, Spent>; 3], Stop> {
     let mut store = Store::with_budget(alloc, 5, 0, 2)?;
     let x = bit(&mut store, 0)?;

@@ -36,7 +36,7 @@ struct Filled {
     nodes: u32,
 }
 
-// Adds the products of two variables until one is refused.
+/// Adds the products of two variables until one is refused.
 fn fill(store: &mut Store) -> Result<Option<Spent>, Stop> {
     for v in 1..VARS {
         for u in 0..v {
@@ -48,7 +48,7 @@ fn fill(store: &mut Store) -> Result<Option<Spent>, Stop> {
     Ok(None)
 }
 
-// Fills a store, leaves it and begins anew.
+/// Fills a store, leaves it and begins anew.
 fn fill_and_leave(alloc: Global) -> Result<Filled, Stop> {
     let mut store = Store::with_budget(alloc, BUDGET, VARS, VARS)?;
     let mark = store.mark();

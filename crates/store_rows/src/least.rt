@@ -9,7 +9,7 @@ use std::alloc::Global;
 /// How many variables the store has.
 const VARS: u32 = 1000;
 
-// The variables that are 1 in a span, whose words are bits.
+/// The variables that are 1 in a span, whose words are bits.
 fn ones(alloc: Global, store: &Store, span: Span) -> Result<Vec<u32>, Stop> {
     let mut ones = Vec::new(alloc);
     for at in 0..VARS {
@@ -22,7 +22,7 @@ fn ones(alloc: Global, store: &Store, span: Span) -> Result<Vec<u32>, Stop> {
     Ok(ones)
 }
 
-// Whether the second variable is 1 anywhere, where it is first, and whether the constant 0 is.
+/// Whether the second variable is 1 anywhere, where it is first, and whether the constant 0 is.
 fn found(alloc: Global) -> Result<(bool, Vec<u32>, bool), Stop> {
     let mut store = Store::with_budget(alloc, 65536, VARS, VARS)?;
     let Some(into) = store.take_span(VARS) else {

@@ -5,7 +5,7 @@ use anyhow::Result;
 use std::alloc::Global;
 use vrt_model::{Seq, Text};
 
-// A text of three pieces.
+/// A text of three pieces.
 fn text(alloc: Global) -> Result<Text, Stop> {
     let mut text = Text::from_bytes(alloc, b"ne")?;
     if text.push(b't').is_err() {
@@ -24,7 +24,7 @@ pub(crate) fn tell_text(rt: HostRuntime) -> Result<()> {
     Ok(())
 }
 
-// Three numbers.
+/// Three numbers.
 fn list(alloc: Global) -> Result<Seq<u32>, Stop> {
     let mut list = Seq::new(alloc);
     for number in [3u32, 1, 4] {

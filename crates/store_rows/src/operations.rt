@@ -46,7 +46,7 @@ pub(crate) fn apply(
     })
 }
 
-// The table of an operation.
+/// The table of an operation.
 fn table(operation: Operation, f: u8, g: u8) -> u8 {
     match operation {
         Operation::And => f & g,
@@ -56,14 +56,14 @@ fn table(operation: Operation, f: u8, g: u8) -> u8 {
     }
 }
 
-// Whether an operation makes the handle of its table.
+/// Whether an operation makes the handle of its table.
 fn is_right(tables: &mut Tables, operation: Operation, f: u8, g: u8) -> Result<bool, Stop> {
     let (left, right) = (tables.handle(f), tables.handle(g));
     let made = apply(&mut tables.store, operation, left, right)?;
     Ok(made == Ok(tables.handle(table(operation, f, g))))
 }
 
-// How many operations with one table on the left come out as their tables.
+/// How many operations with one table on the left come out as their tables.
 fn right_for(tables: &mut Tables, f: u8) -> Result<u32, Stop> {
     let mut right = 0u32;
     for g in 0..=255u8 {
@@ -76,8 +76,8 @@ fn right_for(tables: &mut Tables, f: u8) -> Result<u32, Stop> {
     Ok(right)
 }
 
-// How many operations of any two functions come out right in two stores in turn. The second has the functions in another
-// order.
+/// How many operations of any two functions come out right in two stores in turn. The second has the functions in another
+/// order.
 fn right(alloc: Global) -> Result<(u32, u32), Stop> {
     let mut one = Tables::open(alloc, 0)?;
     let mut other = Tables::open(alloc, 255)?;

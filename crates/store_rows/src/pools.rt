@@ -26,7 +26,7 @@ struct Filled {
     another: Option<u32>,
 }
 
-// The node of a number.
+/// The node of a number.
 fn numbered(number: u32) -> Node {
     Node {
         var: number % 7,
@@ -35,7 +35,7 @@ fn numbered(number: u32) -> Node {
     }
 }
 
-// Adds all nodes, and gives how many stand at the places of their numbers.
+/// Adds all nodes, and gives how many stand at the places of their numbers.
 fn add_all(pool: &mut Pool) -> u32 {
     let mut right = 0u32;
     for number in 0..ROOM {
@@ -46,7 +46,7 @@ fn add_all(pool: &mut Pool) -> u32 {
     right
 }
 
-// How many nodes are found at the places of their numbers.
+/// How many nodes are found at the places of their numbers.
 fn found(pool: &Pool) -> u32 {
     let mut right = 0u32;
     for number in 0..ROOM {
@@ -57,7 +57,7 @@ fn found(pool: &Pool) -> u32 {
     right
 }
 
-// Leaves a pool to a mark.
+/// Leaves a pool to a mark.
 fn leave(pool: &mut Pool, mark: Mark) -> Result<(), Stop> {
     let now = pool.mark();
     if mark.nodes > now.nodes || mark.words > now.words {
@@ -67,7 +67,7 @@ fn leave(pool: &mut Pool, mark: Mark) -> Result<(), Stop> {
     Ok(())
 }
 
-// Fills a pool, searches it and leaves it.
+/// Fills a pool, searches it and leaves it.
 fn fill_and_leave(alloc: Global) -> Result<Filled, Stop> {
     let mut pool = Pool::with_room(alloc, ROOM, 8)?;
     let opened = pool.mark();
@@ -110,7 +110,7 @@ struct Words {
     more: bool,
 }
 
-// Takes all words of a pool, writes two of them and reads them.
+/// Takes all words of a pool, writes two of them and reads them.
 fn write_and_read(alloc: Global) -> Result<Words, Stop> {
     let mut pool = Pool::with_room(alloc, 2, 8)?;
     let Some(first) = pool.take_span(3) else {

@@ -27,12 +27,12 @@ impl Drop for Tables {
     }
 }
 
-// The bit of a table at a valuation, which is a number below 8.
+/// The bit of a table at a valuation, which is a number below 8.
 fn bit_at(table: u8, at: u8) -> bool {
     table >> (at & 7) & 1 == 1
 }
 
-// A table with a variable fixed.
+/// A table with a variable fixed.
 fn fixed(table: u8, var: u8, value: bool) -> u8 {
     let here = 4 >> (var & 3);
     let mut fixed = 0;
@@ -49,7 +49,7 @@ fn constant(value: bool) -> H {
     if value { ONE } else { ZERO }
 }
 
-// The function that is `g` where `f` is 1, and `h` elsewhere.
+/// The function that is `g` where `f` is 1, and `h` elsewhere.
 fn choose(store: &mut Store, f: H, g: H, h: H) -> Result<H, Stop> {
     let count = store.node_count();
     if f.0 >= count || g.0 >= count || h.0 >= count {
@@ -58,14 +58,14 @@ fn choose(store: &mut Store, f: H, g: H, h: H) -> Result<H, Stop> {
     Ok(store.ite(f, g, h)?)
 }
 
-// The function of two bits of a table, from one on: of the third variable.
+/// The function of two bits of a table, from one on: of the third variable.
 fn of_two(store: &mut Store, table: u8, from: u8) -> Result<H, Stop> {
     let z = bit(store, 2)?;
     let (lo, hi) = (bit_at(table, from), bit_at(table, from | 1));
     choose(store, z, constant(hi), constant(lo))
 }
 
-// The function of four bits of a table, from one on: of the second and third variables.
+/// The function of four bits of a table, from one on: of the second and third variables.
 fn of_four(store: &mut Store, table: u8, from: u8) -> Result<H, Stop> {
     let y = bit(store, 1)?;
     let lo = of_two(store, table, from)?;
@@ -73,7 +73,7 @@ fn of_four(store: &mut Store, table: u8, from: u8) -> Result<H, Stop> {
     choose(store, y, hi, lo)
 }
 
-// The function of a table.
+/// The function of a table.
 fn of_table(store: &mut Store, table: u8) -> Result<H, Stop> {
     let x = bit(store, 0)?;
     let lo = of_four(store, table, 0)?;
@@ -103,7 +103,7 @@ impl Tables {
         }
     }
 
-    // Whether the complement of a table's function is that of the complement.
+    /// Whether the complement of a table's function is that of the complement.
     fn has_complement(&mut self, table: u8) -> Result<bool, Stop> {
         let f = self.handle(table);
         if f.0 >= self.store.node_count() {
@@ -113,7 +113,7 @@ impl Tables {
         Ok(made == self.handle(!table))
     }
 
-    // Whether a table's function with a variable fixed is that of the table with it fixed.
+    /// Whether a table's function with a variable fixed is that of the table with it fixed.
     fn has_fixed(&mut self, table: u8, var: u8, value: bool) -> Result<bool, Stop> {
         let f = self.handle(table);
         if f.0 >= self.store.node_count() {
@@ -123,8 +123,8 @@ impl Tables {
         Ok(made == self.handle(fixed(table, var, value)))
     }
 
-    // Whether the least valuation of a table's function is the first where the table has 1. The function of no table is
-    // 1 nowhere.
+    /// Whether the least valuation of a table's function is the first where the table has 1. The function of no table is
+    /// 1 nowhere.
     fn has_least(&mut self, table: u8, into: Span) -> Result<bool, Stop> {
         let f = self.handle(table);
         if !least(&mut self.store, f, into)? {
@@ -137,7 +137,7 @@ impl Tables {
         Ok(table != 0 && x && y && z)
     }
 
-    // How many functions have the bits of their tables at a valuation, which is a number below 8.
+    /// How many functions have the bits of their tables at a valuation, which is a number below 8.
     fn right_at(&self, number: u8, at: &Valuation) -> Result<u32, Stop> {
         let mut right = 0u32;
         for table in 0..=255u8 {
@@ -149,7 +149,7 @@ impl Tables {
     }
 }
 
-// How many of all tables a test holds of.
+/// How many of all tables a test holds of.
 fn complements(tables: &mut Tables) -> Result<u32, Stop> {
     let mut right = 0u32;
     for table in 0..=255u8 {
@@ -160,7 +160,7 @@ fn complements(tables: &mut Tables) -> Result<u32, Stop> {
     Ok(right)
 }
 
-// How many functions with each variable fixed at each value come out right.
+/// How many functions with each variable fixed at each value come out right.
 fn fixes(tables: &mut Tables) -> Result<u32, Stop> {
     let mut right = 0u32;
     for table in 0..=255u8 {
@@ -175,7 +175,7 @@ fn fixes(tables: &mut Tables) -> Result<u32, Stop> {
     Ok(right)
 }
 
-// How many least valuations come out right.
+/// How many least valuations come out right.
 fn leasts(tables: &mut Tables) -> Result<u32, Stop> {
     let Some(into) = tables.store.take_span(3) else {
         return Err(Stop::Unfit);
@@ -189,7 +189,7 @@ fn leasts(tables: &mut Tables) -> Result<u32, Stop> {
     Ok(right)
 }
 
-// How many values at all valuations come out right.
+/// How many values at all valuations come out right.
 fn values(alloc: Global, tables: &Tables) -> Result<u32, Stop> {
     let mut right = 0u32;
     for number in 0..8u8 {
@@ -199,7 +199,7 @@ fn values(alloc: Global, tables: &Tables) -> Result<u32, Stop> {
     Ok(right)
 }
 
-// How many complements, functions with a variable fixed, least valuations and values come out right.
+/// How many complements, functions with a variable fixed, least valuations and values come out right.
 fn right(alloc: Global) -> Result<[u32; 4], Stop> {
     let mut tables = Tables::open(alloc, 0)?;
     let complements = complements(&mut tables)?;

@@ -74,7 +74,7 @@ impl MemSink {
     }
 }
 
-// How many bytes a call takes before it fails, if it is to fail.
+/// How many bytes a call takes before it fails, if it is to fail.
 fn kept_by(failures: &[Failure], call: u32) -> Option<u32>
     ensures { result ≡ option_map (λ (f : Failure). f.kept) (find (λ (f : Failure). f.call == call) failures.now) }
 {
