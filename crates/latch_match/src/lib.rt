@@ -1,4 +1,5 @@
-//! Which model a cell pairs with, and how its ports pair with the signals of the model.
+//! Which model a cell pairs with, and how its ports pair with the signals of the model. The groups of holds are those of
+//! `hold_groups`.
 #![tactic(auto)]
 
 mod counts;
@@ -13,5 +14,6 @@ mod signals;
 mod table;
 
 pub use faults::PairFault;
+pub use hold_groups::{MatchFault, groups};
 pub use models::{is_skipped, model_of, model_of_with};
 pub use ports::{pair_ports, pair_ports_with};
