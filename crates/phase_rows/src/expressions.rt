@@ -1,0 +1,90 @@
+//! Expressions over the ports of the first cell, each a variable, and the faults of a net of which they say what is known.
+
+use crate::board::Board;
+use crate::checks::{are_live, is_live};
+use crate::stop::Stop;
+use crate::values::add_bits;
+use anyhow::Result;
+use bdd_core::{H, Store, ZERO};
+use constraints::expr;
+use hold_keep::{KeptFaults, kept_faults};
+use node_pool::Span;
+use std::alloc::Global;
+use vrt_model::{Cell, Design, Rules};
+
+/// The first cell of a netlist.
+fn first_cell(design: &Design) -> Result<&Cell, Stop> {
+    match design.cells.get(0) {
+        Some(cell) => Ok(cell),
+        None => Err(Stop::Unfit),
+    }
+}
+
+/// A store with a variable for each port of a cell.
+fn board_of(alloc: Global, cell: &Cell) -> Result<Board, Stop> {
+    let ports = cell.ports.len();
+    let mut board = Board::open(alloc, ports, ports)?;
+    board.put_all()?;
+    Ok(board)
+}
+
+/// The function of the `assume` line of a number over the ports of a cell.
+fn diagram(
+    store: &mut Store,
+    values: Span,
+    cell: &Cell,
+    rules: &Rules,
+    number: usize,
+) -> Result<H, Stop> {
+    let Some(rule) = rules.assumes.get(number) else {
+        return Err(Stop::NotRead);
+    };
+    if !is_live(store, values) || values.len as usize != cell.ports.len() {
+        return Err(Stop::Unfit);
+    }
+    if !are_live(store, values) {
+        return Err(Stop::Unfit);
+    }
+    Ok(expr(store, &rule.expression, &cell.ports, values)?)
+}
+
+/// The bits of the `assume` line of a number.
+pub(crate) fn told(alloc: Global, design: &Design, rules: &Rules, number: u32) -> Result<String> {
+    let cell = first_cell(design)?;
+    let mut board = board_of(alloc, cell)?;
+    let f = diagram(&mut board.store, board.values, cell, rules, number as usize)?;
+    let mut told = String::new(alloc);
+    add_bits(alloc, &mut told, &board.store, f)?;
+    Ok(told)
+}
+
+/// The functions of the first four `assume` lines.
+fn diagrams(board: &mut Board, cell: &Cell, rules: &Rules) -> Result<[H; 4], Stop> {
+    let mut all = [ZERO; 4];
+    for at in 0..4usize {
+        all[at] = diagram(&mut board.store, board.values, cell, rules, at)?;
+    }
+    Ok(all)
+}
+
+/// Where the faults of a net stand, by where there is care, the wanted bit, and where 0 and 1 reach the net.
+fn faults(store: &mut Store, [care, wanted, zero, one]: [H; 4]) -> Result<KeptFaults, Stop> {
+    let count = store.node_count();
+    if care.0 >= count || wanted.0 >= count || zero.0 >= count || one.0 >= count {
+        return Err(Stop::Unfit);
+    }
+    Ok(kept_faults(store, care, wanted, zero, one)?)
+}
+
+/// Where the faults of a net stand.
+pub(crate) fn kept_told(alloc: Global, design: &Design, rules: &Rules) -> Result<String> {
+    let cell = first_cell(design)?;
+    let mut board = board_of(alloc, cell)?;
+    let known = diagrams(&mut board, cell, rules)?;
+    let kept = faults(&mut board.store, known)?;
+    let mut told = String::from_str(alloc, "fight ")?;
+    add_bits(alloc, &mut told, &board.store, kept.fight)?;
+    told.push_str(", unsettled ")?;
+    add_bits(alloc, &mut told, &board.store, kept.unsettled)?;
+    Ok(told)
+}

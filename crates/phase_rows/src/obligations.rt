@@ -1,0 +1,73 @@
+//! Where the constraints of an instance hold, over the inputs of the circuit.
+
+ghost use Rattle.vrt_model.specs.Hierarchy.{IsOrdered};
+ghost use Rattle.vrt_model.specs.Inputs.{AreRules, IsDesign};
+
+use crate::board::{Board, inputs};
+use crate::checks::{are_below, are_live, is_live, is_tied};
+use crate::drawing::{cut, number};
+use crate::stop::Stop;
+use crate::texts::Given;
+use crate::values::add_bits;
+use anyhow::{Result, bail};
+use bdd_core::{H, Store};
+use constraints::obligation;
+use hierarchy::order;
+use node_pool::Span;
+use std::alloc::Global;
+use vrt_model::{Design, FlatInstance, Rules};
+
+/// The function that says where the constraints of an instance hold.
+#[tactic(auto, using(crate::proofs::CellLaws::ports_apart, crate::proofs::CellLaws::lines_named))]
+fn obliged(
+    store: &mut Store,
+    design: &Design,
+    rules: &Rules,
+    instance: &FlatInstance,
+    phase: u32,
+    values: Span,
+) -> Result<H, Stop>
+    requires netlist { IsDesign design.now }
+    requires ruled { AreRules rules.now }
+    requires ordered { IsOrdered design.now rules.now }
+{
+    if !is_live(store, values) || !are_below(instance.ports.as_slice(), values.len as usize) {
+        return Err(Stop::Unfit);
+    }
+    if !are_live(store, values) || !is_tied(design, instance) {
+        return Err(Stop::Unfit);
+    }
+    Ok(obligation(store, design, rules, instance, phase, values)?)
+}
+
+/// The bits of that function.
+fn bits(alloc: Global, given: Given<'_>, phase: u32, number: usize) -> Result<String>
+    requires netlist { IsDesign given.design.now }
+    requires ruled { AreRules given.rules.now }
+    requires ordered { IsOrdered given.design.now given.rules.now }
+{
+    let Some(instance) = given.circuit.instances.get(number) else {
+        return Err(Stop::NotRead.into());
+    };
+    let mut board = Board::open(alloc, given.circuit.nets.len(), inputs(given.circuit))?;
+    board.put_inputs(given.circuit)?;
+    let values = board.values;
+    let (design, rules) = (given.design, given.rules);
+    let f = obliged(&mut board.store, design, rules, instance, phase, values)?;
+    let mut told = String::new(alloc);
+    add_bits(alloc, &mut told, &board.store, f)?;
+    Ok(told)
+}
+
+/// Where the constraints of an instance hold in a phase, by the numbers of both.
+pub(crate) fn told(alloc: Global, given: Given<'_>, rest: &str) -> Result<String>
+    requires netlist { IsDesign given.design.now }
+    requires ruled { AreRules given.rules.now }
+{
+    let (phase, instance) = cut(rest);
+    let (phase, instance) = (number(phase)?, number(instance)?);
+    match order(alloc, given.design, given.rules) {
+        Ok(_) => bits(alloc, given, phase, instance as usize),
+        Err(_) => bail!("a netlist and rules that do not fit"),
+    }
+}

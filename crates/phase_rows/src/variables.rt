@@ -1,0 +1,82 @@
+//! The variables of the first cell in a phase.
+
+ghost use Rattle.hold_groups.specs.Grouped.{AreGroups};
+ghost use Rattle.vrt_model.specs.Circuits.{IsCircuit};
+
+use crate::held;
+use crate::texts::Given;
+use anyhow::{Result, bail};
+use hold_groups::{VarsFault, variables};
+use row_script::{add_number, shown};
+use std::alloc::Global;
+use vrt_model::{FlatModel, Group, Seq, Source, Vars};
+
+/// What a variable stands for, and its number.
+fn source_of(source: Source) -> (&'static str, u32) {
+    match source {
+        Source::Input(net) => ("input", net.0),
+        Source::Element(element) => ("element", element),
+        Source::Group(group) => ("group", group),
+    }
+}
+
+/// Adds the variable of a place.
+fn add_variable(alloc: Global, told: &mut String, vars: &Vars, at: usize) -> Result<()> {
+    let (Some(name), Some(source)) = (vars.names.get(at), vars.sources.get(at)) else {
+        bail!("a variable without name");
+    };
+    let (kind, number) = source_of(*source);
+    told.push_str(", ")?;
+    told.push_str(shown(name.as_bytes()))?;
+    told.push_str(" is ")?;
+    told.push_str(kind)?;
+    add_number(alloc, told, number)
+}
+
+/// All variables.
+fn all_told(alloc: Global, vars: &Vars) -> Result<String> {
+    let count = vars.sources.len();
+    let mut told = format!(in alloc; "{count} variables")?;
+    for at in 0..count {
+        add_variable(alloc, &mut told, vars, at)?;
+    }
+    Ok(told)
+}
+
+/// What is asked of a phase with its variables.
+fn answered(
+    alloc: Global,
+    given: Given<'_>,
+    groups: &Seq<Group>,
+    vars: &Vars,
+    word: &str,
+    phase: u32,
+) -> Result<String>
+    requires circuit { IsCircuit given.circuit.now }
+    requires groups { AreGroups given.circuit.now groups.now }
+{
+    match word {
+        "variables" => all_told(alloc, vars),
+        "held" => held::told(alloc, given.circuit, groups, vars, phase),
+        _ => bail!("no such line: {word}"),
+    }
+}
+
+/// What is asked of a phase.
+pub(crate) fn told(
+    alloc: Global,
+    given: Given<'_>,
+    flat: &FlatModel,
+    groups: &Seq<Group>,
+    word: &str,
+    phase: u32,
+) -> Result<String>
+    requires circuit { IsCircuit given.circuit.now }
+    requires groups { AreGroups given.circuit.now groups.now }
+{
+    match variables(alloc, given.circuit, flat, groups, phase) {
+        Ok(vars) => answered(alloc, given, groups, &vars, word, phase),
+        Err(VarsFault::TooMany { count }) => Ok(format!(in alloc; "{count} is too many")?),
+        Err(VarsFault::NoMemory) => bail!("memory"),
+    }
+}
