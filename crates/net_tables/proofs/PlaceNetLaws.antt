@@ -1,5 +1,5 @@
 -- The nets of a place by what the names in its cell are.
-use Rattle.std.proofs.Common.{◌≡◌, ◌≤◌, ◌+◌, ◌-◌, ◌∷◌, ◌&&◌, [], ℕ, zero, suc, not, List, Bool, true, false, Option, Some, None, refl, ap, ap₂, sym, subst, ◌∙◌, arith, inl, inr}
+use Rattle.std.proofs.Common.{◌≡◌, ◌≤◌, ◌<◌, ◌+◌, ◌-◌, ◌∷◌, ◌&&◌, ◌||◌, [], ℕ, zero, suc, not, length, List, Bool, true, false, Option, Some, None, refl, ap, ap₂, sym, subst, ◌∙◌, arith, inl, inr}
 use Rattle.std.specs.Prelude.{bytes_eq, is_some, option_map, slice_get, unwrap_or}
 use Rattle.std.specs.List.{list_any}
 use Rattle.std.specs.Option.{option_or}
@@ -168,21 +168,27 @@ module _ (t : Top) (at : Place) (name : List ℕ) where
         sym (ap (λ (o : Option ℕ). unwrap_or (option_map (λ (k : ℕ). first_global t + k) o) (own_net t here at name)) (no_global eg))
 
   -- where it is a global net, it is one of those of the checked cell
-  pub global_there : (j : ℕ) → IsNamedAt t at name → Global j ≡ net_in t.design t.rules here name → (k : ℕ) × (global_place t j ≡ Some k)
+  pub global_there : (j : ℕ) → IsNamedAt t at name → Global j ≡ net_in t.design t.rules here name → (j < length t.design.globals) × (k : ℕ) × (global_place t j ≡ Some k)
   unfolding net_in
   global_there j named is = by_test (supply_of t.rules name) (place_of here.ports name) (place_of t.design.globals name) refl refl refl is where
     by_test : (s : Option Bool) (p g : Option ℕ) → supply_of t.rules name ≡ s → place_of here.ports name ≡ p → place_of t.design.globals name ≡ g
-        → Global j ≡ unwrap_or (by_kind s p g) (Own (unwrap_or (place_of (own_nets t.design t.rules here) name) 0)) → (k : ℕ) × (global_place t j ≡ Some k)
+        → Global j ≡ unwrap_or (by_kind s p g) (Own (unwrap_or (place_of (own_nets t.design t.rules here) name) 0)) → (j < length t.design.globals) × (k : ℕ) × (global_place t j ≡ Some k)
     by_test (Some value) p g es ep eg h = cc
     by_test None (Some k) g es ep eg h = cc
     by_test None None None es ep eg h = cc
     by_test None None (Some i) es ep eg h =
         let same : i ≡ j = cc in
+        let no_port : has_name here.ports name ≡ false = any_placed (bytes_eq name) here.ports ∙ ap is_some ep in
         let there : is_global_in t.design t.rules here name ≡ true =
         ap (λ (b : Bool). (b && not (is_some (supply_of t.rules name))) && not (has_name here.ports name)) (any_placed (bytes_eq name) t.design.globals ∙ ap is_some eg)
-        ∙ ap₂ (λ (s : Option Bool) (b : Bool). not (is_some s) && not b) es (any_placed (bytes_eq name) here.ports ∙ ap is_some ep) in
-        let k = placed (globals_of t) name (global_among t at name named.0 named.1 named.2 (there, named.3)) in
-        (k.0, ap (place_of (globals_of t)) (place_found t.design.globals name j (eg ∙ ap Some same)) ∙ k.1)
+        ∙ ap₂ (λ (s : Option Bool) (b : Bool). not (is_some s) && not b) es no_port in
+        let on_card : has_name (mentions here) name ≡ true = ap (λ (b : Bool). b || has_name (mentions here) name) (sym no_port) ∙ named.3 in
+        let k = placed (globals_of t) name (global_among t at name named.0 named.1 named.2 (there, on_card)) in
+        let found : place_of t.design.globals name ≡ Some j = eg ∙ ap Some same in (
+          (position-Some (bytes_eq name) t.design.globals j [] found).0,
+          k.0,
+          ap (place_of (globals_of t)) (place_found t.design.globals name j found) ∙ k.1,
+        )
 
 -- ---- the net of a net of the cell
 
@@ -193,7 +199,7 @@ module _ (t : Top) (at : Place) (ports : List Net) (base : ℕ) (globals : List 
     by_port None = refl
     by_port (Some n) = refl
 
-  pub global_is : (j k : ℕ) → global_place t j ≡ Some k → (net_or_first globals j).0 ≡ place_net t at (Global j)
-  global_is j k e =
-      ap (λ (o : Option Net). (unwrap_or o (net_id 0)).0) (are.globals_are j k e)
+  pub global_is : (j k : ℕ) → j < length t.design.globals → global_place t j ≡ Some k → (net_or_first globals j).0 ≡ place_net t at (Global j)
+  global_is j k lt e =
+      ap (λ (o : Option Net). (unwrap_or o (net_id 0)).0) (are.globals_are j k lt e)
       ∙ sym (ap (λ (o : Option ℕ). unwrap_or (option_map (λ (n : ℕ). first_global t + n) o) at.base) e)

@@ -15,7 +15,7 @@ returns-in-Port-clause-net c t at name are named is =
 pub returns-in-Global-clause-net : goal.returns-in-Global-clause-net
 returns-in-Global-clause-net c t at name are named is =
     let k = global_there t at name c.in-Global.place named (sym c.in-Global.is ∙ is) in
-    ap (λ (n : Net). n.0) c.net_or_first-in-Global.ensures ∙ global_is t at c.args.ports.now c.args.base c.args.globals.now are c.in-Global.place k.0 k.1
+    ap (λ (n : Net). n.0) c.net_or_first-in-Global.ensures ∙ global_is t at c.args.ports.now c.args.base c.args.globals.now are c.in-Global.place k.1 k.0 k.2
     ∙ ap (place_net t at) (sym c.in-Global.is ∙ is) ∙ net_is t at name
 
 pub returns-in-Own-clause-net : goal.returns-in-Own-clause-net
