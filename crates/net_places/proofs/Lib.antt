@@ -1,0 +1,6 @@
+mod CellLaws
+mod GlobalLaws
+mod LinkLaws
+mod PortLaws
+mod UnrollLaws
+mod WholeLaws

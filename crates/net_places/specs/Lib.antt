@@ -1,0 +1,5 @@
+pub mod Globals
+pub mod Links
+pub mod Places
+pub mod Ports
+pub mod Whole
