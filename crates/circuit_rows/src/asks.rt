@@ -1,5 +1,6 @@
 //! Known nets, parts and signals.
 
+use crate::classes::tell_classes;
 use crate::stop::Stop;
 use crate::words::{Ask, behind, bit, number};
 use anyhow::Result;
@@ -16,13 +17,15 @@ pub(crate) fn ask(rt: HostRuntime, circuit: &Circuit, what: Ask, numbers: &[u32]
         Ask::Parts => tell_parts(rt, circuit, numbers),
         Ask::Order => tell_order(rt, circuit, numbers),
         Ask::Signals => tell_signals(rt, circuit, numbers),
+        Ask::Classes => tell_classes(rt, circuit, numbers),
     }
 }
 
 /// A phase in which the clock is 1.
-fn phase(alloc: Global) -> Result<Phase, Stop> {
+/// A phase in which the clock has this bit.
+pub(crate) fn phase(alloc: Global, bit: bool) -> Result<Phase, Stop> {
     let mut bits = Seq::new(alloc);
-    if bits.push(true).is_err() {
+    if bits.push(bit).is_err() {
         return Err(Stop::NoMemory);
     }
     Ok(Phase {
@@ -37,7 +40,7 @@ fn known(alloc: Global, circuit: &Circuit) -> Result<Vec<Option<bool>>, Stop> {
     if !is_flat(circuit) {
         return Err(Stop::Unfit);
     }
-    let phase = phase(alloc)?;
+    let phase = phase(alloc, true)?;
     Ok(known_nets(alloc, circuit, &phase)?)
 }
 
@@ -106,7 +109,7 @@ fn parts_of(alloc: Global, circuit: &Circuit, bare: bool) -> Result<Found, Stop>
     if !is_flat(circuit) {
         return Err(Stop::Unfit);
     }
-    let phase = phase(alloc)?;
+    let phase = phase(alloc, true)?;
     match parts(alloc, circuit, &phase, bare) {
         Ok(parts) => Ok(Found::Parts(parts)),
         Err(PartFault::Cycle { nets }) => Ok(Found::Cycle(nets)),

@@ -6,6 +6,7 @@
 
 mod asks;
 mod board;
+mod classes;
 mod desk;
 mod drawing;
 mod paths;

@@ -41,6 +41,8 @@ pub enum Ask {
     Order,
     /// `signals NET HELD BIT ..`: strengths of all nets and what one shows, at the bits of the holds and of the nets.
     Signals,
+    /// `classes BIT ..`: the classes of the parts, where the clock has these bits in the phases.
+    Classes,
 }
 
 /// What is asked of the paths of a circuit, whose inputs and holds are variables in their order.
@@ -76,7 +78,7 @@ pub enum Word {
 }
 
 /// All words.
-const WORDS: [(&str, Word); 23] = [
+const WORDS: [(&str, Word); 24] = [
     ("circuit", Word::Circuit),
     ("plain", Word::Drawing(Drawing::Plain)),
     ("input", Word::Drawing(Drawing::Input)),
@@ -93,6 +95,7 @@ const WORDS: [(&str, Word); 23] = [
     ("parts", Word::Ask(Ask::Parts)),
     ("order", Word::Ask(Ask::Order)),
     ("signals", Word::Ask(Ask::Signals)),
+    ("classes", Word::Ask(Ask::Classes)),
     ("solve", Word::Path(Path::Solve)),
     ("product", Word::Path(Path::Product)),
     ("complement", Word::Path(Path::Complement)),
