@@ -21,7 +21,6 @@ pub(crate) fn ask(rt: HostRuntime, circuit: &Circuit, what: Ask, numbers: &[u32]
     }
 }
 
-/// A phase in which the clock is 1.
 /// A phase in which the clock has this bit.
 pub(crate) fn phase(alloc: Global, bit: bool) -> Result<Phase, Stop> {
     let mut bits = Seq::new(alloc);
