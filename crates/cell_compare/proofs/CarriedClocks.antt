@@ -4,9 +4,9 @@ use Rattle.std.specs.Prelude.{filter, filter_map, option_and_then, option_map}
 use Rattle.std.proofs.lemmas.Bool.{false≢true}
 use Rattle.std.proofs.lemmas.Option.{none-some, same_Some}
 use Rattle.cell_compare.proofs.FreePorts.{AreFree, IsInputPort, clock_apart, no_output, one_port, paired_parts, paired_there, signal_there}
-use Rattle.path_fixpoint.proofs.Spreading.{among_filter_map}
 use Rattle.cell_compare.proofs.GivenLists.{given_among, number_among}
 use Rattle.vrt_model.proofs.Filtered.{filter_among}
+use Rattle.vrt_model.proofs.Lists.{among_filter_map}
 use Rattle.vrt_model.proofs.Members.{among_either, among_left, among_map}
 use Rattle.vrt_model.specs.CellRules.{clock_of_port, supply_of}
 use Rattle.vrt_model.specs.Elements.{signal_name}

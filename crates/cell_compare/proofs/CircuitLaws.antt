@@ -27,6 +27,7 @@ use Rattle.path_fixpoint.specs.Solved.{HasRootSpans, network_at}
 use Rattle.vrt_model.proofs.Decidable.{reaches_or_not}
 use Rattle.vrt_model.proofs.GatesGiven.{IsGiven}
 use Rattle.vrt_model.proofs.Members.{all_among}
+use Rattle.vrt_model.proofs.Tests.{some_or_none}
 use Rattle.vrt_model.specs.Circuits.{IsHold, IsFlat}
 use Rattle.vrt_model.specs.Known.{IsKnown}
 use Rattle.vrt_model.specs.Lists.{At, Among}
@@ -58,10 +59,6 @@ net_in (x ∷ xs) n =
 inside_or_not : (part : Part) (n : ℕ) → IsInside part n ⊎ (¬ IsInside part n)
 inside_or_not part n =
     elim (net_in part.nets n) [ inl h ↦ inl (h.0, (h.1, h.2, h.3)) | inr none ↦ inr (λ inside. none inside.0 inside.1.0 inside.1.1 inside.1.2) ]
-
-bit_or_none : (o : Option Bool) → ((v : Bool) × (o ≡ Some v)) ⊎ (o ≡ None)
-bit_or_none None = inr refl
-bit_or_none (Some v) = inl (v, refl)
 
 -- a constant shows its bit
 pub constant_shows : (d : Diagrams) (b : Bool) (v : Valuation) → meaning d.nodes (cond b 1 0) v ≡ b
@@ -117,7 +114,7 @@ module _ (c : Circuit) (phase : Phase) (observed : ℕ → Bool) (known : List (
 
     pub solved_none : Before 0 first now
     solved_none = record {
-      bits = λ v setting a met at n o done. elim (bit_or_none (known_at known n)) [
+      bits = λ v setting a met at n o done. elim (some_or_none (known_at known n)) [
         | inl k ↦
             known_bit c phase observed flat seen (root_at first roots v) (fixed v) setting at.given a at.solves n k.0 o ((are.table n k.0).0 k.1)
             ∙ ap (λ (b : Bool). Some b) (sym (opened_known n k.0 v (seen.nets n o) k.1))
@@ -164,7 +161,7 @@ module _ (c : Circuit) (phase : Phase) (observed : ℕ → Bool) (known : List (
       gate_done d m =
           elim (given_or_plain c d.gate.0 (seen.nets d.gate.0 (seen.gates d (whole.devices d m).0))) [
             | inl g ↦ inl g
-            | inr p ↦ elim (bit_or_none (known_at known d.gate.0)) [
+            | inr p ↦ elim (some_or_none (known_at known d.gate.0)) [
               | inl b ↦ inr (inl (b.0, (are.table d.gate.0 b.0).0 b.1))
               | inr none ↦ inr (inr (are.gates k part d here m p (λ b is. none-some b (sym none ∙ (are.table d.gate.0 b).1 is))))
             ]

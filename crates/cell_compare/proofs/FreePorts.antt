@@ -1,11 +1,11 @@
 -- What is known of the ports and signals of a cell and a model of which none is in the way of pairing them.
 use Rattle.std.proofs.Common.{◌≡◌, ℕ, ◌⊎◌, ◌&&◌, ◌||◌, Bool, true, false, not, cond, List, ◌++◌, Option, Some, None, eqb, nat_lt, ap, ap₂, subst, sym, refl, ◌∙◌, inl, inr}
 use Rattle.std.specs.Prelude.{bytes_eq, count_by, filter, find, is_none, is_some, option_map, slice_get, unwrap_or}
-use Rattle.std.specs.Option.{option_or}
 use Rattle.std.proofs.lemmas.Bool.{false≢true, or_parts}
 use Rattle.std.proofs.lemmas.Option.{none-some}
 use Rattle.cell_compare.proofs.GivenLists.{GivesAll, among_number, given_among, given_once, is_number, number_among}
 use Rattle.vrt_model.proofs.Members.{among_either, among_filter, find_among, find_none}
+use Rattle.vrt_model.proofs.Tests.{map_none, neither}
 use Rattle.vrt_model.specs.CellRules.{clock_of_port, supply_of}
 use Rattle.vrt_model.specs.Comparison.{cell_at}
 use Rattle.vrt_model.specs.Elements.{signal_name}
@@ -27,16 +27,6 @@ pub record AreFree (flat : FlatModel) (rules : Rules) (cell : Cell) : Type 0 whe
   pub ports : (port : List ℕ) → Among cell.ports port → is_port_in_way flat rules cell port ≡ false
   pub signals : (s : ℕ) → Among (interface flat) s → is_signal_in_way flat rules cell s ≡ false
   pub outputs : (s : ℕ) → Among (flat.inputs ++ flat.clocks) s → has_number flat.outputs s ≡ false
-
--- where neither of two finds anything, each finds nothing
-neither : {X : Type 0} (o p : Option X) → option_or o p ≡ None → (o ≡ None) × (p ≡ None)
-neither None p e = (refl, e)
-neither (Some x) p e = absurd (none-some x (sym e))
-
--- what is made of nothing is nothing
-map_none : {X Y : Type 0} (f : X → Y) (o : Option X) → option_map f o ≡ None → o ≡ None
-map_none f None e = refl
-map_none f (Some x) e = absurd (none-some (f x) (sym e))
 
 -- what a pairing without faults says
 pub are_free : (design : Design) (k : ℕ) (flat : FlatModel) (rules : Rules) → ports_fault design k flat rules ≡ None → output_is_input flat ≡ None → AreFree flat rules (cell_at design k)

@@ -34,11 +34,6 @@ given_among {X} {Y} f (z ∷ zs) x y (suc i, here) e = behind (f z) (given_among
     behind None m = m
     behind (Some w) m = among_later w (filter_map f zs) y m
 
--- where no item gives anything, nothing is given
-pub given_nothing : {X Y : Type 0} (f : X → Option Y) (xs : List X) → ((x : X) → f x ≡ None) → filter_map f xs ≡ []
-given_nothing f [] h = refl
-given_nothing {X} {Y} f (x ∷ xs) h = ap (λ (o : Option Y). cons_option o (filter_map f xs)) (h x) ∙ given_nothing f xs h
-
 -- ---- numbers
 
 -- a number that a test finds stands in the list, and the other way round

@@ -3,19 +3,17 @@ use Rattle.std.proofs.Common.{◌≡◌, ℕ, ◌+◌, ◌<◌, cond, List, leng
 use Rattle.std.specs.Prelude.{◌≢◌, option_map, slice_get}
 use Rattle.std.proofs.lemmas.Bool.{cases_eq}
 use Rattle.std.proofs.lemmas.Option.{none-some, same_Some, slice_get_within}
+use Rattle.vrt_model.proofs.Lists.{among_filter_map, at_map, filter_map_among, map_at}
 use Rattle.node_pool.specs.declared.region.Node.{Node}
 use Rattle.node_pool.specs.declared.region.Span.{Span}
 use Rattle.bdd_core.specs.Diagram.{meaning}
 use Rattle.bdd_core.specs.Store.{Diagrams}
 use Rattle.bdd_core.specs.Words.{IsApart, Writes, word_at}
 use Rattle.cell_compare.proofs.CircuitLaws.{constant_shows}
-use Rattle.blif_eval.proofs.Drivers.{at_map as map_at}
-use Rattle.cell_compare.proofs.PortLaws.{at_map}
 use Rattle.cell_compare.specs.Phases.{HasInputBits, HasPairedInputs, HasRootBits, root_bit, variable_at}
 use Rattle.cell_compare.specs.PortLists.{AreTiesWithin, HasOneNet, IsTie, unnamed}
 use Rattle.cell_compare.specs.declared.port_list.Port.{Port}
 use Rattle.bdd_core.proofs.Frames.{word_beside}
-use Rattle.path_fixpoint.proofs.Spreading.{among_filter_map, filter_map_among}
 use Rattle.vrt_model.specs.Assignment.{Tied}
 use Rattle.vrt_model.specs.Comparison.{CellPort, Comparison, input_signal, phase_at, ports_of, tied_inputs}
 use Rattle.vrt_model.specs.Lists.{At, Among}

@@ -2,7 +2,7 @@
 use Rattle.std.proofs.Common.{◌≡◌, ℕ, ◌&&◌, false, List, [], ◌∷◌, ◌++◌, map, Option, Some, None, ap, refl, sym, ◌∙◌}
 use Rattle.std.specs.Prelude.{◌==◌, All, bytes_eq, find, flat_map, slice_get, unwrap_or}
 use Rattle.std.specs.List.{enumerate_from, list_any}
-use Rattle.cell_compare.proofs.GivenLists.{given_nothing}
+use Rattle.vrt_model.proofs.Lists.{filter_map_none}
 use Rattle.vrt_model.proofs.Members.{all_among, among_flat_map, among_map}
 use Rattle.vrt_model.specs.Comparison.{cell_at}
 use Rattle.vrt_model.specs.FlatBlif.{ModelPlace, all_models, flat_latch, flat_model_of, model_at}
@@ -25,7 +25,7 @@ use Rattle.vrt_model.specs.declared.rules.KeeperRule.{KeeperRule}
 -- where a circuit has no holds, none of its nets has one
 no_placed : (c : Circuit) → c.holds ≡ [] → holds_by_net c ≡ []
 no_placed c none =
-    given_nothing (λ (p : ℕ × FlatNet). find (λ (h : Placed). h.hold.net.0 == p.0) (placed c)) (enumerate_from 0 c.nets)
+    filter_map_none (λ (p : ℕ × FlatNet). find (λ (h : Placed). h.hold.net.0 == p.0) (placed c)) (enumerate_from 0 c.nets)
     (λ p. ap (λ (hs : List Hold). find (λ (h : Placed). h.hold.net.0 == p.0) (map (λ (q : ℕ × Hold). let one : Placed = record { place = q.0; hold = q.1 } in one) (enumerate_from 0 hs))) none)
 
 -- without holds there are no groups

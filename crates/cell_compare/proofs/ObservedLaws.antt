@@ -1,12 +1,13 @@
 -- The observed nets of a plain comparison are the gates of its devices and the nets of its observed outputs.
-use Rattle.std.proofs.Common.{◌≡◌, ℕ, Bool, true, false, ◌||◌, ◌&&◌, List, Option, Some, None, ap, ap₂, refl, sym, ◌∙◌}
+use Rattle.std.proofs.Common.{◌≡◌, ℕ, Bool, true, false, ◌||◌, ◌&&◌, List, Option, Some, ap, ap₂, sym, ◌∙◌}
 use Rattle.std.specs.Prelude.{◌==◌, is_some}
 use Rattle.std.specs.List.{list_any}
 use Rattle.std.proofs.Math.Bool.{or-false}
-use Rattle.std.proofs.lemmas.Bool.{and_parts, false≢true}
+use Rattle.std.proofs.lemmas.Bool.{and_parts}
 use Rattle.cell_compare.specs.Phases.{AreSeenOutputs, IsPlainComparison, IsSeenOutput}
 use Rattle.cell_compare.specs.declared.outputs.Output.{Output}
 use Rattle.vrt_model.proofs.Members.{among_any, any_among}
+use Rattle.vrt_model.proofs.Tests.{same_tests, some_of}
 use Rattle.vrt_model.specs.CellRules.{is_constrained, is_observed_port}
 use Rattle.vrt_model.specs.Comparison.{CellPort, Comparison, cell_at, is_observed, output_signal, ports_of}
 use Rattle.vrt_model.specs.declared.circuit.Device.{Device}
@@ -15,17 +16,6 @@ use Rattle.vrt_model.specs.declared.circuit.Hold.{Hold}
 use Rattle.vrt_model.specs.declared.ids.Net.{Net}
 use Rattle.vrt_model.specs.declared.whole.Whole.{Whole}
 use Rattle.vrt_model.specs.declared.whole.WholePin.{WholePin}
-
--- two tests that pass together
-same_test : (a b : Bool) → (a ≡ true → b ≡ true) → (b ≡ true → a ≡ true) → a ≡ b
-same_test true b f g = sym (f refl)
-same_test false true f g = absurd (false≢true (g refl))
-same_test false false f g = refl
-
--- an option that is there
-pub some_of : (o : Option ℕ) → is_some o ≡ true → (signal : ℕ) × (o ≡ Some signal)
-some_of None e = absurd (false≢true e)
-some_of (Some signal) e = (signal, refl)
 
 some_is : (o : Option ℕ) (signal : ℕ) → o ≡ Some signal → is_some o ≡ true
 some_is o signal e = ap is_some e
@@ -43,7 +33,7 @@ module _ (k : Comparison) (phase : ℕ) (n : ℕ) (outputs : List Output) where
   -- a net is that of an output that is seen
   ports_seen : AreSeenOutputs k phase outputs → list_any is_seen_at (ports_of k) ≡ list_any is_at outputs
   ports_seen are =
-      same_test (list_any is_seen_at (ports_of k)) (list_any is_at outputs)
+      same_tests (list_any is_seen_at (ports_of k)) (list_any is_at outputs)
       (λ e.
       let m = any_among is_seen_at (ports_of k) e in
       let p : CellPort = m.0 in

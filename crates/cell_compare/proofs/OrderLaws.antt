@@ -19,9 +19,10 @@ use Rattle.channel_parts.specs.declared.part.Part.{Part}
 use Rattle.channel_parts.specs.declared.part.Parts.{Parts}
 use Rattle.known_nets.proofs.NetKinds.{given_or_plain}
 use Rattle.node_pool.specs.declared.region.Span.{Span}
-use Rattle.path_fixpoint.proofs.Spreading.{among_filter_map, filter_map_among}
 use Rattle.path_fixpoint.specs.Parts.{IsGiven, IsPart, IsPlace, part_devices}
 use Rattle.vrt_model.proofs.Filtered.{device_among}
+use Rattle.vrt_model.proofs.Laws.{turned}
+use Rattle.vrt_model.proofs.Lists.{among_filter_map, filter_map_among}
 use Rattle.vrt_model.proofs.Members.{all_among, among_map}
 use Rattle.vrt_model.proofs.Ranked.{together_plain}
 use Rattle.vrt_model.specs.Circuits.{IsDevice, IsFlat}
@@ -40,10 +41,6 @@ use Rattle.vrt_model.specs.declared.verdict.FaultKind.{FaultKind}
 use Rattle.vrt_model.specs.declared.verdict.FaultKind.TheVariants.{Fight, FightKept, Float, Unsettled, Constraint, Differs, Next, Apart, Enter}
 
 -- ---- numbers in lists
-
-turned : (d : Device) (m n : ℕ) → Joins d m n → Joins d n m
-turned d m n (inl j) = inr j
-turned d m n (inr j) = inl j
 
 place_number : (part : Part) (i n : ℕ) → IsPlace part i n → At (net_numbers part.nets) i n
 place_number part i n p = slice_get-map (λ (net : Net). net.0) part.nets i ∙ ap (option_map (λ (net : Net). net.0)) p.1 ∙ ap Some p.2

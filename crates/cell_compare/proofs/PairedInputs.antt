@@ -2,15 +2,14 @@
 use Rattle.std.proofs.Common.{◌≡◌, ℕ, suc, ◌+◌, ◌<◌, ◌⊎◌, Bool, true, false, cond, List, ◌++◌, map, length, Option, Some, None, arith, ap, subst, sym, refl, ◌∙◌, inl, inr}
 use Rattle.std.specs.Prelude.{filter_map, flat_map, option_map, slice_get}
 use Rattle.std.proofs.lemmas.Option.{none-some, same_Some, slice_get_within}
+use Rattle.vrt_model.proofs.Lists.{among_filter_map, at_front}
 use Rattle.cell_compare.proofs.CarriedClocks.{Carries, carried_apart, carried_input, carried_once, carries, input_given}
 use Rattle.cell_compare.proofs.FreePorts.{AreFree, IsInputPort, all_roles, are_free, input_port, one_port, output_port}
-use Rattle.path_fixpoint.proofs.Spreading.{among_filter_map}
 use Rattle.cell_compare.proofs.GivenLists.{given_among, given_at}
 use Rattle.cell_compare.proofs.PortLists.{number_there, port_flat, port_made, port_parts, port_placed, supply_placed}
 use Rattle.cell_compare.specs.Compared.{comparison}
 use Rattle.cell_compare.specs.Phases.{HasPairedInputs, IsClocked, IsTiedTo}
 use Rattle.cell_compare.specs.declared.flattened.Flattened.{Flattened}
-use Rattle.flatten.proofs.NameLists.{at_left}
 use Rattle.vrt_model.proofs.Members.{all_among, among_either}
 use Rattle.vrt_model.specs.Assignment.{Tied}
 use Rattle.vrt_model.specs.CellRules.{supply_of}
@@ -122,8 +121,8 @@ module _ (design : Design) (rules : Rules) (cell m : ℕ) (f : Flattened) (ports
   -- a flat net of a port stands behind the two supplies
   in_nets : (n : ℕ) (net : FlatNet) → At (port_nets_of rules (cell_at design cell).ports f.pairing.ports) n net → At f.circuit.nets (suc (suc n)) net
   in_nets n net here =
-      let left = at_left port_flats (map plain_net (globals_of top)) n net here in
-      let more = at_left (port_flats ++ map plain_net (globals_of top)) (flat_map (own_flat_nets top) (all_places top)) n net left in
+      let left = at_front port_flats (map plain_net (globals_of top)) n net here in
+      let more = at_front (port_flats ++ map plain_net (globals_of top)) (flat_map (own_flat_nets top) (all_places top)) n net left in
       subst (λ (nets : List FlatNet). At nets (suc (suc n)) net) (sym (circuit_nets design cell f rules circuit_is)) more
 
   -- the net of a port that is no supply has the kind of its role

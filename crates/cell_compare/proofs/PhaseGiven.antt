@@ -16,7 +16,6 @@ use Rattle.blif_eval.specs.Evaluated.{IsEvaluated}
 use Rattle.blif_eval.specs.OneAssignment.{HasOneAssignment, IsAssigned}
 use Rattle.blif_eval.specs.Plans.{HasKnownBits, IsPlan}
 use Rattle.blif_eval.specs.declared.plan.ModelPlan.{ModelPlan}
-use Rattle.cell_compare.proofs.ObservedLaws.{some_of}
 use Rattle.cell_compare.proofs.PhaseBits.{input_bit}
 use Rattle.cell_compare.specs.Faults.{HasFixedBits, IsSettingAt}
 use Rattle.cell_compare.specs.Phases.{HasInputBits, HasKnownClocks, HasOneModel, HasRootBits, HasSignalBits, IsClearPhase, IsPlainComparison, root_bit, variable_at}
@@ -24,6 +23,7 @@ use Rattle.cell_compare.specs.Results.{IsClearCircuit, root_at}
 use Rattle.channel_parts.specs.OneSolution.{AreObserved}
 use Rattle.vrt_model.proofs.Filtered.{device_among}
 use Rattle.vrt_model.proofs.Members.{all_among, among_any, any_among, at_none}
+use Rattle.vrt_model.proofs.Tests.{some_of}
 use Rattle.vrt_model.specs.Assignment.{Assignment, HasInterface, Tied}
 use Rattle.vrt_model.specs.CellRules.{is_constrained, is_observed_port}
 use Rattle.vrt_model.specs.Circuits.{IsDevice}

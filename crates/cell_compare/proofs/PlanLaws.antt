@@ -3,7 +3,7 @@ use Rattle.std.proofs.Common.{◌≡◌, ◌⊎◌, ℕ, ◌+◌, ◌<◌, true,
 use Rattle.std.specs.Prelude.{unwrap_or}
 use Rattle.std.proofs.lemmas.List.{length-append}
 use Rattle.std.proofs.lemmas.Option.{slice_get-get_or}
-use Rattle.graphs.proofs.Lists.{at_split}
+use Rattle.vrt_model.proofs.Lists.{at_split}
 use Rattle.blif_eval.specs.Plans.{IsPlan}
 use Rattle.channel_parts.specs.PartLists.{IsPartList}
 use Rattle.cell_compare.specs.Compared.{IsPhasePlan, comparison, nothing_known}

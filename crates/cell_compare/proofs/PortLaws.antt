@@ -1,10 +1,9 @@
 -- The ports of a cell by their roles, and what stands at them.
-use Rattle.std.proofs.Common.{◌≡◌, ℕ, zero, suc, ◌+◌, Bool, true, false, cond, List, [], ◌∷◌, ◌++◌, length, map, Option, Some, None, append_assoc, append-nil, arith, ap, ap₂, refl, sym, ◌∙◌}
+use Rattle.std.proofs.Common.{◌≡◌, ℕ, suc, ◌+◌, Bool, cond, List, [], ◌∷◌, length, map, Option, Some, None, arith, ap, ap₂, refl, sym, ◌∙◌}
 use Rattle.std.specs.Prelude.{◌↔◌}
-use Rattle.std.specs.List.{cons_option}
-use Rattle.std.proofs.lemmas.Option.{none-some, same_Some}
 use Rattle.cell_compare.specs.PortLists.{net_by, next_by, port_at, ports_by, supply_bit, unnamed}
 use Rattle.cell_compare.specs.declared.port_list.Port.{Port}
+pub use Rattle.vrt_model.proofs.Lists.{chosen, pushed}
 use Rattle.vrt_model.specs.CellRules.{supply_of}
 use Rattle.vrt_model.specs.Comparison.{port_nets, port_nets_from, ports_from}
 use Rattle.vrt_model.specs.Lists.{At}
@@ -14,22 +13,6 @@ use Rattle.vrt_model.specs.declared.pairing.Pairing.{Pairing}
 use Rattle.vrt_model.specs.declared.pairing.PortRole.{PortRole}
 use Rattle.vrt_model.specs.declared.pairing.PortRole.TheVariants.{Supply, Clock, Input, Output}
 use Rattle.vrt_model.specs.declared.rules.Rules.{Rules}
-
--- an item more, and those that are left
-pub pushed : {X : Type 0} (list : List X) (o : Option X) (ys : List X) → (list ++ cons_option o []) ++ ys ≡ list ++ cons_option o ys
-pushed list None ys = ap (λ l. l ++ ys) (append-nil list)
-pushed list (Some x) ys = append_assoc list (x ∷ []) ys
-
--- the same by a test
-pub chosen : {X : Type 0} (list : List X) (b : Bool) (x : X) (ys : List X) → (list ++ cond b (x ∷ []) []) ++ ys ≡ list ++ cond b (x ∷ ys) ys
-chosen list true x ys = append_assoc list (x ∷ []) ys
-chosen list false x ys = ap (λ l. l ++ ys) (append-nil list)
-
--- what stands at a place of a list of images
-pub at_map : {X Y : Type 0} (f : X → Y) (xs : List X) (j : ℕ) (y : Y) → At (map f xs) j y → (x : X) × At xs j x × (f x ≡ y)
-at_map f [] j y e = absurd (none-some y e)
-at_map f (x ∷ xs) zero y e = (x, refl, same_Some (f x) y e)
-at_map f (x ∷ xs) (suc j) y e = at_map f xs j y e
 
 -- ---- the nets of ports
 

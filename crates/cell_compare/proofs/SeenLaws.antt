@@ -3,15 +3,14 @@ use Rattle.std.proofs.Common.{◌≡◌, ℕ, zero, suc, ◌+◌, ◌-◌, ◌<�
 use Rattle.std.specs.Prelude.{filter_map, get_or, option_and_then, slice_get, unwrap_or}
 use Rattle.std.specs.List.{cons_option}
 use Rattle.std.proofs.lemmas.Option.{none-some, same_Some, slice_get-get_or}
-use Rattle.blif_eval.proofs.Drivers.{at_map as map_at}
-use Rattle.cell_compare.proofs.PortLaws.{at_map, ports_shown}
+use Rattle.vrt_model.proofs.Lists.{among_filter_map, at_map, filter_map_among, map_at}
+use Rattle.cell_compare.proofs.PortLaws.{ports_shown}
 use Rattle.cell_compare.specs.Compared.{comparison}
 use Rattle.cell_compare.specs.Phases.{AreSeenOutputs, IsPlainComparison, IsSeenOutput}
 use Rattle.cell_compare.specs.PortLists.{net_by, next_by, output_at, port_at, ports_by, seen_output, supply_bit, unnamed}
 use Rattle.cell_compare.specs.declared.flattened.Flattened.{Flattened}
 use Rattle.cell_compare.specs.declared.outputs.Output.{Output}
 use Rattle.cell_compare.specs.declared.port_list.Port.{Port}
-use Rattle.path_fixpoint.proofs.Spreading.{among_filter_map, filter_map_among}
 use Rattle.vrt_model.proofs.Members.{among_later}
 use Rattle.vrt_model.specs.CellRules.{is_observed_port}
 use Rattle.vrt_model.specs.Comparison.{CellPort, Comparison, cell_at, output_signal, port_nets, ports_from, ports_of}

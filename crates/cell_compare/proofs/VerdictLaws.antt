@@ -1,6 +1,7 @@
 -- The verdict on a cell, its line, and what is known of the cell then, by what the steps of the comparison give.
 use Rattle.std.proofs.Common.{◌≡◌, ℕ, suc, ◌<◌, Bool, true, List, [], ◌∷◌, length, Option, Some, None, arith, ap, subst, sym, refl, ◌∙◌, inl, inr}
 use Rattle.std.specs.Prelude.{All, cond, filter, option_map}
+use Rattle.vrt_model.proofs.Lists.{at_there}
 use Rattle.cell_compare.proofs.Acyclic.{circuit_acyclic, model_acyclic, model_cycle}
 use Rattle.cell_compare.proofs.Causes.{why_many, why_none}
 use Rattle.cell_compare.proofs.Passing.{may_pass}
@@ -10,7 +11,6 @@ use Rattle.cell_compare.specs.Compared.{IsBuilt, IsFlattened, comparison}
 use Rattle.cell_compare.specs.Steps.{ArePlans, AreSoft, IsChecked, IsPhaseCycle, IsPlanned, IsTold, IsToldWhy, is_output_role}
 use Rattle.cell_compare.specs.declared.flattened.Flattened.{Flattened}
 use Rattle.cell_compare.specs.declared.flattened.PhasePlan.{PhasePlan}
-use Rattle.known_nets.proofs.PlaceLaws.{there_at}
 use Rattle.vrt_model.proofs.Members.{all_among}
 use Rattle.vrt_model.specs.CellRules.{supply_of}
 use Rattle.vrt_model.specs.Comparison.{CellPort, Comparison, cell_at, phase_at, port_nets, port_nets_from, ports_from}
@@ -73,7 +73,7 @@ module _ (design : Design) (blif : Blif) (rules : Rules) (cell m : ℕ) (f : Fla
   -- phases with plans have no cycle
   no_cycle : (upto : ℕ) (plans : List PhasePlan) → ArePlans rules f.circuit f.model upto plans → AcyclicBefore (comparison design rules cell f) upto
   no_cycle upto plans are p lt =
-      let plan = there_at plans p (omega (arith, lt, are.count)) in
+      let plan = at_there plans p (omega (arith, lt, are.count)) in
       (circuit_acyclic k p plan.0.parts (are.parts p plan.0 plan.1), model_acyclic k no_latch plan.0.model (are.models p plan.0 plan.1) p)
 
   -- a cell with few inputs and with plans is supported
