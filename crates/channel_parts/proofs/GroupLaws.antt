@@ -5,8 +5,9 @@ use Rattle.std.specs.Prelude.{option_map, unwrap_or}
 use Rattle.std.proofs.lemmas.Option.{none-some, same_Some, slice_get_within}
 use Rattle.channel_parts.specs.Groups.{AreGroups, IsGroup, device_owner, device_owner_at}
 use Rattle.channel_parts.specs.PartLists.{IsRising}
-use Rattle.known_nets.proofs.PlaceLaws.{at_last, below_or_at}
+use Rattle.known_nets.proofs.PlaceLaws.{below_or_at}
 use Rattle.known_nets.specs.Placed.{IsPlaced}
+use Rattle.vrt_model.proofs.Lists.{at_split}
 use Rattle.vrt_model.proofs.Members.{among_either, among_left, among_right}
 use Rattle.vrt_model.specs.Lists.{At, Among}
 use Rattle.vrt_model.specs.declared.circuit.Circuit.{Circuit}
@@ -16,14 +17,14 @@ use Rattle.vrt_model.specs.declared.circuit.Device.{Device}
 
 rising_more : (xs : List ℕ) (n : ℕ) → IsRising xs → ((x : ℕ) → Among xs x → x < n) → IsRising (xs ++ n ∷ [])
 rising_more xs n up low i j a b p q lt =
-    elim (at_last xs n b j q) [
+    elim (at_split xs n j b q) [
       | inl before ↦
-          elim (at_last xs n a i p) [
+          elim (at_split xs n i a p) [
             | inl first ↦ up i j a b first before lt
             | inr last ↦ (let inside = slice_get_within xs j b before in let place = last.0 in absurd (omega (arith, place, inside, lt)))
           ]
       | inr last ↦
-          elim (at_last xs n a i p) [
+          elim (at_split xs n i a p) [
             | inl first ↦ (let below = low a (i, first) in let same = last.1 in omega (arith, below, same))
             | inr also ↦ (let left = also.0 in let right = last.0 in absurd (omega (arith, left, right, lt)))
           ]

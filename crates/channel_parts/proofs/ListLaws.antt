@@ -1,16 +1,17 @@
 -- The plain nets in the order of parts: what is sorted has each plain net once, with its key.
 use Rattle.std.proofs.Common.{◌≡◌, ℕ, zero, suc, ◌+◌, ◌<◌, Bool, true, false, cond, List, [], ◌∷◌, length, map, slice_index, Some, arith, ap, subst, sym, ◌∙◌, inl, inr}
-use Rattle.std.specs.Prelude.{filter, Contains, option_map}
+use Rattle.std.specs.Prelude.{filter, Contains}
 use Rattle.std.specs.List.{IsDistinct, enumerate_from, AllByRecursion}
 use Rattle.std.specs.List.Sorted.{IsPermutation, IsSorted}
 use Rattle.std.proofs.lemmas.Bool.{cases_eq, eq-eqb, ne_eqb}
 use Rattle.std.proofs.lemmas.List.Sorted.{Contains-permutation, IsPermutation-sym}
 use Rattle.std.proofs.lemmas.Map.Keys.{IsDistinct-cons, IsDistinct-IsPermutation}
-use Rattle.std.proofs.lemmas.Option.{get_or_from_slice_get, none-some, same_Some, slice_get-get_or, slice_get-map, slice_get_within}
+use Rattle.std.proofs.lemmas.Option.{get_or_from_slice_get, none-some, same_Some, slice_get-get_or, slice_get_within}
 use Rattle.channel_parts.specs.Listings.{AreInOrder, AreKeys, order_cmp, plain_pairs_of, same_net}
 use Rattle.known_nets.proofs.NetKinds.{is_plain_is, plain_is}
 use Rattle.known_nets.specs.Conduction.{is_plain_at}
 use Rattle.vrt_model.proofs.Filtered.{among_kept, filter_among}
+use Rattle.vrt_model.proofs.Lists.{map_among}
 use Rattle.vrt_model.proofs.Members.{among_later, among_map}
 use Rattle.vrt_model.specs.Known.{IsPlain}
 use Rattle.vrt_model.specs.Lists.{At, Among}
@@ -40,9 +41,6 @@ at_numbered first (x ∷ xs) p (suc i, e) =
     let place = rest.2 in
     (suc rest.0, rest.1, omega (arith, place))
 
-among_image : {X Y : Type 0} (f : X → Y) (xs : List X) (x : X) → Among xs x → Among (map f xs) (f x)
-among_image f xs x m = (m.0, slice_get-map f xs m.0 ∙ ap (option_map f) m.1)
-
 -- ---- the plain nets before they are sorted
 
 abbrev key_of : List ℕ → List ℕ → ℕ → ℕ × ℕ
@@ -54,7 +52,7 @@ pairs_all c ranks least keys len are n p =
     let place : 0 + n ≡ n = omega arith in
     let numbered : Among (enumerate_from 0 keys) (n, key_of ranks least n) =
     subst (λ (m : ℕ). Among (enumerate_from 0 keys) (m, key_of ranks least n)) place (numbered_at 0 n keys (key_of ranks least n) (are.each n (omega (arith, inside, len)))) in
-    among_image (λ (q : ℕ × (ℕ × ℕ)). (q.1, q.0)) (filter (λ (q : ℕ × (ℕ × ℕ)). is_plain_at c q.0) (enumerate_from 0 keys)) (n, key_of ranks least n)
+    map_among (λ (q : ℕ × (ℕ × ℕ)). (q.1, q.0)) (filter (λ (q : ℕ × (ℕ × ℕ)). is_plain_at c q.0) (enumerate_from 0 keys)) (n, key_of ranks least n)
     (among_kept (λ (q : ℕ × (ℕ × ℕ)). is_plain_at c q.0) (enumerate_from 0 keys) (n, key_of ranks least n) numbered (is_plain_is c n p))
 
 pairs_each : (c : Circuit) (ranks least : List ℕ) (keys : List (ℕ × ℕ)) → AreKeys ranks least keys → (p : (ℕ × ℕ) × ℕ) → Among (plain_pairs_of c keys) p → IsPlain c p.1 × (p.0 ≡ key_of ranks least p.1)

@@ -1,5 +1,5 @@
 -- A circuit whose nets have ranks has in a phase exactly one solution, for any bits of the inputs and holds.
-use Rattle.std.proofs.Common.{◌≡◌, ℕ, zero, suc, ◌<◌, ◌≤◌, ◌⊎◌, ◌||◌, ◌&&◌, Bool, true, false, not, List, [], ◌∷◌, length, map, arith, Some, None, Option, slice_get, ap, subst, sym, refl, ◌∙◌, inl, inr}
+use Rattle.std.proofs.Common.{◌≡◌, ℕ, ◌<◌, ◌≤◌, ◌⊎◌, ◌||◌, ◌&&◌, Bool, true, false, not, List, [], length, arith, Some, None, Option, slice_get, ap, subst, sym, refl, ◌∙◌, inl, inr}
 use Rattle.std.specs.Prelude.{◌↔◌, is_some, option_map, unwrap_or}
 use Rattle.std.proofs.lemmas.Bool.{or_cases, or_left, or_right, and_parts, and_from, not-true, not_from_false, false≢true, cases_Bool}
 use Rattle.std.proofs.lemmas.Option.{none-some, same_Some}
@@ -37,13 +37,11 @@ use Rattle.vrt_model.specs.declared.rules.Phase.{Phase}
 use Rattle.vrt_model.specs.declared.whole.Whole.{Whole}
 use Rattle.vrt_model.specs.declared.whole.WholePin.{WholePin}
 use Rattle.vrt_model.proofs.Bounded.{reaches_inside}
+use Rattle.vrt_model.proofs.Laws.{turned}
+use Rattle.vrt_model.proofs.Lists.{at_map}
+use Rattle.vrt_model.proofs.Tests.{some_or_none}
 
 -- ---- lists, bits and kinds
-
-at_map : {X Y : Type 0} (f : X → Y) (xs : List X) (i : ℕ) (y : Y) → At (map f xs) i y → (x : X) × At xs i x × (f x ≡ y)
-at_map f [] i y e = absurd (at_none i y e)
-at_map f (x ∷ xs) zero y e = (x, refl, same_Some (f x) y e)
-at_map f (x ∷ xs) (suc i) y e = at_map f xs i y e
 
 given_found : (o : Option FlatNet) → unwrap_or (option_map (λ (net : FlatNet). is_given net.kind) o) false ≡ true → (net : FlatNet) × (o ≡ Some net) × (is_given net.kind ≡ true)
 given_found None f = absurd (false≢true f)
@@ -53,19 +51,11 @@ some_bit : (o : Option Bool) → is_some o ≡ true → (v : Bool) × (o ≡ Som
 some_bit None f = absurd (false≢true f)
 some_bit (Some v) f = (v, refl)
 
-bit_or_none : (o : Option Bool) → ((v : Bool) × (o ≡ Some v)) ⊎ (o ≡ None)
-bit_or_none None = inr refl
-bit_or_none (Some v) = inl (v, refl)
-
 fixed_is_given : (phase : Phase) (inputs : ℕ → Bool) (kind : NetKind) (n : ℕ) (v : Bool) → HasFixedBit phase kind v → HasGivenBit phase inputs kind n v
 fixed_is_given phase inputs (Supply value) n v h = h
 fixed_is_given phase inputs (Clock clock) n v h = h
 fixed_is_given phase inputs Input n v h = absurd h
 fixed_is_given phase inputs Plain n v h = absurd h
-
-turned : (d : Device) (m n : ℕ) → Joins d m n → Joins d n m
-turned d m n (inl j) = inr j
-turned d m n (inr j) = inl j
 
 -- ---- responses
 
@@ -249,7 +239,7 @@ module _ (c : Circuit) (phase : Phase) (setting : Setting) (ranges : HasRanges c
   -- its gate has the same bit in two readings that are the same below its part
   gate_same : (n : ℕ) (r q : ℕ → Bool) → IsOk r → IsOk q → SameBelow observed rank n r q → (l m : ℕ) (d : Device) → IsOn (seen_at r) d → Joins d l m → IsTogether c phase true n m → r d.gate.0 ≡ q d.gate.0
   gate_same n r q okr okq same l m d on j i =
-      elim (bit_or_none (known d.gate.0)) [
+      elim (some_or_none (known d.gate.0)) [
         | inl k ↦ (let is = (table d.gate.0 k.0).0 k.1 in okr.1 d.gate.0 k.0 (gates d on.0) is ∙ sym (okq.1 d.gate.0 k.0 (gates d on.0) is))
         | inr u ↦ same d.gate.0 (gates d on.0)
             (above d.gate.0 n (d, (m, l, i, channel r okr d on, turned d l m j), refl, λ v k. none-some v (sym u ∙ (table d.gate.0 v).1 k)))

@@ -23,11 +23,11 @@ use Rattle.channel_parts.specs.Listings.{AreInOrder, order_cmp, same_net}
 use Rattle.channel_parts.specs.PartLists.{AreParts, IsBefore, IsPartOf, IsRising, device_numbers, least_of, net_numbers}
 use Rattle.channel_parts.specs.declared.part.Part.{Part}
 use Rattle.known_nets.proofs.NetKinds.{is_plain_is, plain_is}
-use Rattle.known_nets.proofs.PlaceLaws.{at_last, there_at}
 use Rattle.known_nets.specs.Conduction.{conduction_of, is_plain_at}
 use Rattle.known_nets.specs.KnownTables.{IsKnownTable, known_at}
 use Rattle.vrt_model.specs.Circuits.{IsFlat}
 use Rattle.vrt_model.proofs.Filtered.{among_kept, device_among, filter_among}
+use Rattle.vrt_model.proofs.Lists.{at_front, at_last, at_split, at_there}
 use Rattle.vrt_model.proofs.Ranked.{together_first, together_plain}
 use Rattle.vrt_model.specs.Known.{HasRankArc, IsInPart, IsPlain, IsRanking, IsTogether, itself, onward}
 use Rattle.vrt_model.specs.Lists.{At, Among}
@@ -127,25 +127,16 @@ head_inside c ranks least order are i head at =
 
 -- ---- a part more
 
-pub at_front : {X : Type 0} (xs ys : List X) (i : ℕ) (x : X) → At xs i x → At (xs ++ ys) i x
-at_front [] ys i x e = absurd (none-some x e)
-at_front (y ∷ xs) ys zero x e = e
-at_front (y ∷ xs) ys (suc i) x e = at_front xs ys i x e
-
-pub at_end : {X : Type 0} (xs : List X) (x : X) → At (xs ++ x ∷ []) (length xs) x
-at_end [] x = refl
-at_end (y ∷ xs) x = at_end xs x
-
 made_last : (nets devices : List (List ℕ)) (heads : List ((ℕ × ℕ) × ℕ)) (list : List Part) (head : (ℕ × ℕ) × ℕ) (part : Part) → AreMade nets devices heads list → IsMade nets devices head part
     → AreMade nets devices (heads ++ head ∷ []) (list ++ part ∷ [])
 made_last nets devices heads list head part are made = record {
   count = let count = are.count in let left = length-append list (part ∷ []) in let right = length-append heads (head ∷ []) in omega (arith, count, left, right);
-  each = λ i p at. elim (at_last list part p i at) [
+  each = λ i p at. elim (at_split list part i p at) [
     | inl before ↦ (let from = are.each i p before in (from.0, at_front heads (head ∷ []) i from.0 from.1, from.2))
     | inr last ↦ (
       head,
-      subst (λ (k : ℕ). At (heads ++ head ∷ []) k head) (sym (last.0 ∙ are.count)) (at_end heads head),
-      subst (IsMade nets devices head) last.1 made,
+      subst (λ (k : ℕ). At (heads ++ head ∷ []) k head) (sym (last.0 ∙ are.count)) (at_last heads head),
+      subst (IsMade nets devices head) (sym last.1) made,
     )
   ];
 }
@@ -200,7 +191,7 @@ first_least : (xs : List ℕ) (m : ℕ) → IsRising xs → Among xs m → ((x :
 first_least xs m up (zero, e) low = e
 first_least xs m up (suc i, e) low =
     let inside = slice_get_within xs (suc i) m e in
-    let first = there_at xs 0 (omega (arith, inside)) in
+    let first = at_there xs 0 (omega (arith, inside)) in
     let less = up 0 (suc i) first.0 m first.1 e (omega arith) in
     let above = low first.0 (0, first.1) in
     absurd (omega (arith, less, above))
@@ -348,7 +339,7 @@ module _ (c : Circuit) (phase : Phase) (known : List (Option Bool)) (least : Lis
           let kept = among_kept is_head order head (in_order.all m pm) (eq-eqb (slice_index least m) m own) in
           let inside = slice_get_within (filter is_head order) kept.0 head kept.1 in
           let count = made.count in
-          let there = there_at list kept.0 (omega (arith, inside, count)) in
+          let there = at_there list kept.0 (omega (arith, inside, count)) in
           let from = made.each kept.0 there.0 there.1 in
           let same : from.0 ≡ head = same_Some from.0 head (sym from.1 ∙ kept.1) in
           let here : At nets m (net_numbers there.0.nets) = subst (λ (h : (ℕ × ℕ) × ℕ). At nets h.1 (net_numbers there.0.nets)) same from.2.joined in

@@ -12,11 +12,11 @@ use Rattle.known_nets.specs.Conduction.{conduction_of, is_plain_at}
 use Rattle.known_nets.specs.KnownTables.{IsKnownTable, known_at}
 use Rattle.vrt_model.specs.Circuits.{IsFlat}
 use Rattle.vrt_model.proofs.GatesGiven.{IsGiven}
+use Rattle.vrt_model.proofs.Laws.{turned}
 use Rattle.vrt_model.proofs.Members.{at_none}
 use Rattle.vrt_model.proofs.Ranked.{plain_not_given, together_first, together_plain}
 use Rattle.vrt_model.specs.Known.{HasArc, HasGateArc, HasRankArc, IsPlain, IsRanking, IsTogether, IsUnknown, itself, onward}
 use Rattle.vrt_model.specs.Lists.{At, Among}
-use Rattle.vrt_model.specs.Path.{Joins}
 use Rattle.vrt_model.specs.Reading.{conducts_at, is_in}
 use Rattle.vrt_model.specs.declared.circuit.Circuit.{Circuit}
 use Rattle.vrt_model.specs.declared.circuit.Device.{Device}
@@ -34,10 +34,6 @@ rank_given c least t n g =
     (elim (cases_Bool (is_plain_at c n)) [ inl e ↦ absurd (plain_not_given c n (plain_is c n e) g) | inr f ↦ f ])
 
 -- ---- parts
-
-turned : (d : Device) (m n : ℕ) → Joins d m n → Joins d n m
-turned d m n (inl j) = inr j
-turned d m n (inr j) = inl j
 
 pub together_back : (c : Circuit) (phase : Phase) (bare : Bool) (n m : ℕ) → IsTogether c phase bare n m → IsTogether c phase bare m n
 together_back c phase bare n m (itself p) = itself p

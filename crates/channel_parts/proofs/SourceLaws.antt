@@ -21,6 +21,7 @@ use Rattle.known_nets.specs.KnownTables.{IsKnownTable, known_at}
 use Rattle.known_nets.specs.Placed.{IsPlaced}
 use Rattle.vrt_model.specs.Circuits.{IsFlat}
 use Rattle.vrt_model.proofs.Filtered.{device_among}
+use Rattle.vrt_model.proofs.Lists.{at_there}
 use Rattle.vrt_model.proofs.Members.{among_either, among_left, among_right}
 use Rattle.vrt_model.proofs.Ranked.{together_first}
 use Rattle.vrt_model.specs.Known.{HasGateArc, HasRankArc, IsInPart, IsPlain, IsRanking, IsUnknown}
@@ -61,11 +62,6 @@ placed_joined c known least d source old new is placed = record {
     the_source : (q : ℕ) → Among (source ∷ []) q → source ≡ q
     the_source q (zero, e) = same_Some source q e
     the_source q (suc i, e) = absurd (none-some q e)
-
-at_there : {X : Type 0} (xs : List X) (i : ℕ) → i < length xs → (x : X) × At xs i x
-at_there [] i lt = absurd (omega (arith, lt))
-at_there (x ∷ xs) zero lt = (x, refl)
-at_there (x ∷ xs) (suc i) lt = at_there xs i (omega (arith, lt))
 
 pub more_sources : (c : Circuit) (known : List (Option Bool)) (least : List ℕ) (n : ℕ) (d : Device) (old new : List (List ℕ)) → At c.devices n d → HasJoined c known least d old new → AreSources c known least n old
     → AreSources c known least (n + 1) new

@@ -1,7 +1,7 @@
 use Rattle.std.proofs.Common.{◌≡◌, ℕ, Option, length, arith, ap, subst, ◌∙◌}
+use Rattle.vrt_model.proofs.Lists.{item_at}
 use Rattle.channel_parts.proofs.GroupLaws.{device_placed, more_grouped, none_grouped, placed_as}
 use Rattle.channel_parts.specs.Groups.{AreGroups, device_owner_at}
-use Rattle.known_nets.proofs.PlaceLaws.{item_at}
 use Rattle.known_nets.specs.Placed.{IsPlaced}
 use Rattle.vrt_model.specs.Lists.{At}
 use Rattle.channel_parts.proofs.grouping.devices_by_part.Goals as goal

@@ -1,7 +1,7 @@
 use Rattle.std.proofs.Common.{◌≡◌, ℕ, length, arith, ap, subst}
+use Rattle.vrt_model.proofs.Lists.{item_at}
 use Rattle.channel_parts.proofs.SourceLaws.{more_sources, sources_inside}
 use Rattle.channel_parts.specs.Sources.{AreSources}
-use Rattle.known_nets.proofs.PlaceLaws.{item_at}
 use Rattle.vrt_model.specs.Lists.{At}
 use Rattle.channel_parts.proofs.sources.sources_by_part.Goals as goal
 
