@@ -1,16 +1,16 @@
 -- A known net has one bit; and a table that has the supplies and clock ports, and that no shut set adds to, has all known nets.
-use Rattle.std.proofs.Common.{◌≡◌, ℕ, ◌≤◌, ◌&&◌, Bool, true, [], Option, Some, ap, inl, inr, refl, subst, sym, ◌∙◌}
+use Rattle.std.proofs.Common.{◌≡◌, ℕ, ◌≤◌, ◌&&◌, Bool, true, [], Option, Some, ap, inl, inr, subst, sym, ◌∙◌}
 use Rattle.std.proofs.lemmas.Bool.{and_from, and_parts}
 use Rattle.std.proofs.lemmas.Option.{same_Some}
 use Rattle.known_nets.specs.KnownTables.{IsClosedTable}
 use Rattle.vrt_model.proofs.GatesGiven.{shown_by}
 use Rattle.vrt_model.proofs.Laws.{one_response}
-use Rattle.vrt_model.proofs.Locality.{shows_moves}
+use Rattle.vrt_model.proofs.Locality.{fixed_given, shows_moves}
 use Rattle.vrt_model.proofs.Ranked.{plain_not_given}
 use Rattle.vrt_model.specs.Known.{HasFixedBit, IsFixed, IsKnown, IsPlain, IsShut, fixed, settled}
 use Rattle.vrt_model.specs.Lists.{At, Among}
 use Rattle.vrt_model.specs.Path.{Joins}
-use Rattle.vrt_model.specs.Reading.{HasGivenBit, IsReading, conducts_at, devices_of, is_given}
+use Rattle.vrt_model.specs.Reading.{HasGivenBit, IsReading, conducts_at, devices_of}
 use Rattle.vrt_model.specs.Response.{IsResponse, Shows}
 use Rattle.vrt_model.specs.State.{network_of}
 use Rattle.vrt_model.specs.declared.circuit.Circuit.{Circuit}
@@ -20,12 +20,6 @@ use Rattle.vrt_model.specs.declared.circuit.Hold.{Hold}
 use Rattle.vrt_model.specs.declared.circuit.NetKind.{NetKind}
 use Rattle.vrt_model.specs.declared.circuit.NetKind.TheVariants.{Supply, Clock, Input, Plain}
 use Rattle.vrt_model.specs.declared.rules.Phase.{Phase}
-
-fixed_kind : (phase : Phase) (kind : NetKind) (v : Bool) → HasFixedBit phase kind v → is_given kind ≡ true
-fixed_kind phase (Supply value) v h = refl
-fixed_kind phase (Clock clock) v h = refl
-fixed_kind phase Input v h = absurd h
-fixed_kind phase Plain v h = absurd h
 
 bit_once : (phase : Phase) (kind : NetKind) (u v : Bool) → HasFixedBit phase kind u → HasFixedBit phase kind v → u ≡ v
 bit_once phase (Supply value) u v h k = h ∙ sym k
@@ -47,7 +41,7 @@ fixed_once c phase n u v f g =
 
 -- and is not plain
 pub fixed_not_plain : (c : Circuit) (phase : Phase) (n : ℕ) (v : Bool) → IsFixed c phase n v → IsPlain c n → ⊥
-fixed_not_plain c phase n v f plain = plain_not_given c n plain (f.0, f.1, fixed_kind phase f.0.kind v f.2)
+fixed_not_plain c phase n v f plain = plain_not_given c n plain (f.0, f.1, fixed_given phase f.0.kind v f.2)
 
 pub fixed_read : (c : Circuit) (phase : Phase) (inputs reading : ℕ → Bool) → IsReading c phase inputs reading → (n : ℕ) (v : Bool) → IsFixed c phase n v → reading n ≡ v
 fixed_read c phase inputs reading is n v f = bit_read phase inputs f.0.kind n v (reading n) f.2 (is n f.0 f.1)

@@ -8,10 +8,8 @@ use Rattle.known_nets.specs.Regions.{reading_of}
 use Rattle.vrt_model.proofs.GatesGiven.{IsGiven}
 use Rattle.vrt_model.specs.Known.{HasFixedBit, IsPlain}
 use Rattle.vrt_model.specs.Lists.{At}
-use Rattle.vrt_model.specs.Path.{Joins}
 use Rattle.vrt_model.specs.Reading.{HasGivenBit, IsReading, clock_bit, is_given}
 use Rattle.vrt_model.specs.declared.circuit.Circuit.{Circuit}
-use Rattle.vrt_model.specs.declared.circuit.Device.{Device}
 use Rattle.vrt_model.specs.declared.circuit.FlatNet.{FlatNet}
 use Rattle.vrt_model.specs.declared.circuit.NetKind.{NetKind}
 use Rattle.vrt_model.specs.declared.circuit.NetKind.TheVariants.{Supply, Clock, Input, Plain}
@@ -65,13 +63,6 @@ pub given_or_plain : (c : Circuit) (n : ℕ) → n < length c.nets → IsGiven c
 given_or_plain c n lt =
     let at = net_there c.nets n lt in
     elim (cases_Bool (is_given at.0.kind)) [ inl t ↦ inl (at.0, at.1, t) | inr f ↦ inr (at.0, at.1, kind_plain at.0.kind f) ]
-
--- ---- channels
-
--- a channel joins two nets in either direction
-pub turned : (d : Device) (m n : ℕ) → Joins d m n → Joins d n m
-turned d m n (inl j) = inr j
-turned d m n (inr j) = inl j
 
 -- ---- readings
 

@@ -1,34 +1,16 @@
--- Places in lists; and a number that is put at the end of its owner's list is an arc more.
-use Rattle.std.proofs.Common.{◌≡◌, ℕ, zero, suc, ◌+◌, ◌<◌, ◌⊎◌, List, [], ◌∷◌, ◌++◌, length, Some, get_or, arith, ap, subst, sym, refl, ◌∙◌, inl, inr}
+-- A number that is put at the end of its owner's list is an arc more.
+use Rattle.std.proofs.Common.{◌≡◌, ℕ, zero, suc, ◌+◌, ◌<◌, ◌⊎◌, List, [], ◌∷◌, length, Some, arith, ap, subst, sym, refl, ◌∙◌, inl, inr}
 use Rattle.std.proofs.lemmas.Bool.{cases_eq, cases_lt}
-use Rattle.std.proofs.lemmas.Option.{none-some, same_Some, slice_get-get_or, slice_get_within}
+use Rattle.std.proofs.lemmas.Option.{none-some, same_Some, slice_get_within}
+use Rattle.vrt_model.proofs.Lists.{at_there}
 use Rattle.graphs.specs.Graphs.{ArcIn}
 use Rattle.known_nets.specs.Placed.{Adds, IsArc, IsPlaced}
 use Rattle.vrt_model.proofs.Members.{among_either, among_left, among_right}
 use Rattle.vrt_model.specs.Lists.{At, Among}
 
--- ---- places
-
--- an item of a list with one more at the end is one from before, or the last
-pub at_last : {X : Type 0} (xs : List X) (y x : X) (i : ℕ) → At (xs ++ y ∷ []) i x → At xs i x ⊎ ((i ≡ length xs) × (y ≡ x))
-at_last [] y x zero e = inr (refl, same_Some y x e)
-at_last [] y x (suc i) e = absurd (none-some x e)
-at_last (z ∷ xs) y x zero e = inl e
-at_last (z ∷ xs) y x (suc i) e = elim (at_last xs y x i e) [ inl h ↦ inl h | inr h ↦ inr (ap suc h.0, h.1) ]
-
 -- a number below the next bound is below this one, or is this one
 pub below_or_at : (n m : ℕ) → m < n + 1 → (m < n) ⊎ (m ≡ n)
 below_or_at n m lt = elim (cases_lt m n) [ inl low ↦ inl low | inr high ↦ inr (omega (arith, lt, high)) ]
-
--- the item of a turn
-pub item_at : {X : Type 0} (xs ys : List X) (i : ℕ) (x : X) → ys ≡ xs → i < length ys → x ≡ get_or ys i x → At xs i x
-item_at {X} xs ys i x same lt is = subst (λ (zs : List X). At zs i x) same (slice_get-get_or ys i x lt ∙ ap Some (sym is))
-
--- there is an item at each place within
-pub there_at : {X : Type 0} (xs : List X) (i : ℕ) → i < length xs → (x : X) × At xs i x
-there_at [] i lt = absurd (omega (arith, lt))
-there_at (x ∷ xs) zero lt = (x, refl)
-there_at (x ∷ xs) (suc i) lt = there_at xs i (omega (arith, lt))
 
 -- ---- rows
 
@@ -83,4 +65,4 @@ placed_adds from to old new placed = record {
 }
   where
     row_of : (t : ℕ) → t < length old → (row : List ℕ) × At new t row
-    row_of t lt = let count = placed.count in there_at new t (omega (arith, lt, count))
+    row_of t lt = let count = placed.count in at_there new t (omega (arith, lt, count))

@@ -5,7 +5,7 @@ use Rattle.std.specs.Prelude.{◌==◌, ◌↔◌, option_map, slice_index, unwr
 use Rattle.std.proofs.lemmas.Bool.{cases_Bool, eq-eqb, eqb-true, false≢true, lt-ltb, ltb-true}
 use Rattle.std.proofs.lemmas.Option.{none-some, same_Some}
 use Rattle.known_nets.proofs.KnownOnce.{fixed_not_plain}
-use Rattle.known_nets.proofs.NetKinds.{fixed_or_input, given_or_plain, is_plain_is, plain_is, turned}
+use Rattle.known_nets.proofs.NetKinds.{fixed_or_input, given_or_plain, is_plain_is, plain_is}
 use Rattle.known_nets.specs.Conduction.{conduction_of, is_plain_at}
 use Rattle.known_nets.specs.KnownTables.{HasFixedNets, HasGateBits, known_at}
 use Rattle.known_nets.specs.Regions.{IsRegion, IsShutAt, has_amount, known_network, reading_of}
@@ -16,7 +16,7 @@ use Rattle.vrt_model.proofs.Decidable.{strength_at, strength_at_is}
 use Rattle.vrt_model.proofs.Filtered.{among_devices, device_among}
 use Rattle.vrt_model.proofs.GatesGiven.{IsGiven}
 use Rattle.vrt_model.proofs.GivenNets.{clear_from_source, level_most, source_strength}
-use Rattle.vrt_model.proofs.Laws.{one_strength}
+use Rattle.vrt_model.proofs.Laws.{one_strength, turned}
 use Rattle.vrt_model.proofs.Members.{all_among, at_none}
 use Rattle.vrt_model.proofs.Networks.{given_source, network_finite, network_levels, flat_outputs, flat_ranges}
 use Rattle.vrt_model.proofs.PathKinds.{Arrives, arrives_on, arrives_root}

@@ -1,7 +1,7 @@
 -- A search: one step after another.
 use Rattle.std.proofs.Common.{Global, Vec, ◌≡◌, ℕ, ◌⊎◌, Bool, true, false, List, [], ◌∷◌, ◌++◌, Option, inl, inr, subst, sym, ◌∙◌}
 use Rattle.std.proofs.lemmas.Bool.{false≢true}
-use Rattle.known_nets.proofs.PlaceLaws.{at_last}
+use Rattle.vrt_model.proofs.Lists.{at_split}
 use Rattle.known_nets.specs.Conduction.{is_plain_at}
 use Rattle.known_nets.specs.Searches.{HasLearned, HasLookedAround, IsReady, IsSearch}
 use Rattle.known_nets.specs.Waits.{waits}
@@ -23,7 +23,7 @@ learned_then c old mid new one two = record {
 -- what was on the list is on it still, but for the last
 pub popped : (before after : List ℕ) (net n : ℕ) → before ≡ after ++ net ∷ [] → Among before n → Among after n ⊎ (n ≡ net)
 popped before after net n is m =
-    elim (at_last after net n m.0 (subst (λ (l : List ℕ). At l m.0 n) is m.1)) [ inl earlier ↦ inl (m.0, earlier) | inr last ↦ inr (sym last.1) ]
+    elim (at_split after net m.0 n (subst (λ (l : List ℕ). At l m.0 n) is m.1)) [ inl earlier ↦ inl (m.0, earlier) | inr last ↦ inr last.1 ]
 
 -- where a net that does not wait is taken from the list
 pub ready_without : (c : Circuit) (old new : Search) (net : ℕ) → old.waiting.list.items ≡ new.waiting.list.items ++ net ∷ [] → new.waiting.marks ≡ old.waiting.marks

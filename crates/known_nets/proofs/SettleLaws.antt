@@ -4,7 +4,7 @@ use Rattle.std.specs.Prelude.{is_some, option_map}
 use Rattle.std.proofs.lemmas.Bool.{and_from, and_parts, cases_Bool, false≢true, not-true, not_from_false}
 use Rattle.std.proofs.lemmas.Option.{same_Some}
 use Rattle.known_nets.proofs.KnownOnce.{known_once, shows_there}
-use Rattle.known_nets.proofs.NetKinds.{known_reading, turned}
+use Rattle.known_nets.proofs.NetKinds.{known_reading}
 use Rattle.known_nets.proofs.RegionLaws.{region_gates, region_response, region_shut}
 use Rattle.known_nets.proofs.ShutLaws.{has_number_is}
 use Rattle.known_nets.proofs.TableLaws.{bit_is, flat_small, flat_weak}
@@ -20,7 +20,7 @@ use Rattle.vrt_model.specs.Known.{IsKnown, IsPlain, IsShut, settled}
 use Rattle.vrt_model.specs.Lists.{Among, has_number, mark_at}
 use Rattle.vrt_model.specs.Reading.{conducts_at}
 use Rattle.vrt_model.specs.Response.{IsResponse, Shows}
-use Rattle.vrt_model.proofs.Laws.{one_response}
+use Rattle.vrt_model.proofs.Laws.{one_response, turned}
 use Rattle.vrt_model.specs.Signals.{response_by}
 use Rattle.vrt_model.specs.declared.circuit.Circuit.{Circuit}
 use Rattle.vrt_model.specs.declared.rules.Phase.{Phase}

@@ -5,13 +5,14 @@ use Rattle.std.proofs.lemmas.Bool.{cases_eq, eq-eqb, eqb-true, false≢true, lt-
 use Rattle.std.proofs.lemmas.Option.{none-some, same_Some, slice_get_within}
 use Rattle.graphs.specs.Graphs.{ArcIn, sources_at}
 use Rattle.known_nets.proofs.KnownOnce.{fixed_not_plain}
-use Rattle.known_nets.proofs.NetKinds.{is_plain_is, kind_is_input, plain_is, turned}
+use Rattle.known_nets.proofs.NetKinds.{is_plain_is, kind_is_input, plain_is}
 use Rattle.known_nets.specs.Conduction.{conduction_of, is_input_at, is_input_kind, is_plain_at}
 use Rattle.known_nets.specs.Incidence.{AreHeldMarks, HasEnds}
 use Rattle.known_nets.specs.Regions.{GoTogether, IsInput, IsOpenAt, IsRegion, IsShutAt, KeepsOpen, KeepsShut, has_amount}
 use Rattle.known_nets.specs.Spreads.{HasArrived, IsZero, IsKnownOn, IsPassedOn, before, given, onward}
 use Rattle.known_nets.specs.declared.spread.Spread.TheVariants.{Joined}
 use Rattle.vrt_model.proofs.Filtered.{among_devices}
+use Rattle.vrt_model.proofs.Laws.{turned}
 use Rattle.vrt_model.proofs.Members.{among_any, any_among}
 use Rattle.vrt_model.specs.Known.{HasFixedBit, IsFixed, IsPlain}
 use Rattle.vrt_model.specs.Lists.{At, Among, has_number, mark_at}
@@ -175,20 +176,6 @@ has_number_is nets n = (
   λ e. (let found = any_among (λ x. x == n) nets e in subst (Among nets) (eqb-true found.0 n found.2) found.1),
   λ m. among_any (λ x. x == n) nets n m (eq-eqb n n refl),
 )
-
--- what has come from one net is nothing but at the nets of the list
-pub raised_from : (clear : List ℕ) (first : ℕ) (old new table : List ℕ) → IsZero clear → At old 0 first
-    → ((n : ℕ) → Among old n → Among new n)
-    → ((n : ℕ) → (slice_index table n ≡ slice_index (set clear first 1) n) ⊎ Among new n)
-    → (n : ℕ) → (slice_index table n ≡ 0) ⊎ Among new n
-raised_from clear first old new table none at stays raised n =
-    elim (raised n) [
-      | inr m ↦ inr m
-      | inl same ↦ elim (cases_eq n first) [
-        | inl is ↦ inr (subst (Among new) (sym is) (stays first (0, at)))
-        | inr other ↦ inl (same ∙ (get_or-set_other clear first n 1 0 other ∙ none n))
-      ]
-    ]
 
 -- amounts that have come from one net, to the nets of a list, have a region
 pub region_of : (c : Circuit) (known : List (Option Bool)) (nets table : List ℕ) → ((n : ℕ) → Among nets n → is_plain_at c n ≡ true) → ((n : ℕ) → (has_amount table n ≡ true) ↔ Among nets n)

@@ -1,13 +1,14 @@
 -- A spread: what one step does, what two do, and what holds when the list of nets to be looked at has come to its end.
-use Rattle.std.proofs.Common.{◌≡◌, ℕ, ◌<◌, ◌≤◌, ◌+◌, ◌++◌, ◌∷◌, ◌⊎◌, inl, inr, [], zero, suc, List, Bool, true, false, length, set, arith, ap, subst, sym, refl, ◌∙◌}
+use Rattle.std.proofs.Common.{◌≡◌, ℕ, ◌<◌, ◌≤◌, ◌+◌, ◌++◌, ◌∷◌, ◌⊎◌, inl, inr, [], List, Bool, true, false, length, set, arith, ap, subst, sym, refl, ◌∙◌}
 use Rattle.std.specs.Prelude.{None, Option, Some, not, option_map, slice_index, unwrap_or, ◌-◌}
 use Rattle.std.proofs.lemmas.Bool.{cases_eq, cases_lt, false≢true}
 use Rattle.std.proofs.lemmas.List.{get_or-set_other, get_or-set_same, get_or_past, length-append, length-set}
 use Rattle.std.proofs.lemmas.List.Sums.{sum_by-set}
-use Rattle.std.proofs.lemmas.Option.{none-some, same_Some, slice_get-get_or, slice_get_past, slice_get_within}
+use Rattle.std.proofs.lemmas.Option.{slice_get-get_or, slice_get_past, slice_get_within}
+use Rattle.vrt_model.proofs.Laws.{turned}
+use Rattle.vrt_model.proofs.Lists.{at_front, at_last, at_split, one_at}
 use Rattle.graphs.specs.Graphs.{sources_at}
-use Rattle.known_nets.proofs.NetKinds.{turned}
-use Rattle.known_nets.proofs.PlaceLaws.{at_last, below_or_at}
+use Rattle.known_nets.proofs.PlaceLaws.{below_or_at}
 use Rattle.known_nets.specs.Conduction.{conduction_of, is_plain_at, is_plain_kind}
 use Rattle.known_nets.specs.Incidence.{HasEnds, IsOtherEnd}
 use Rattle.known_nets.specs.Spreads.{ArePlain, HasArrived, HasCrossed, HasGone, HasGrown, HasPassedAll, HasPassedFirst, HasPassedOver, IsZero, IsEndOver, IsKnownOn, IsListedFrom, IsPassedOn, IsRaised, before, given, given_amount, onward, passed}
@@ -19,19 +20,6 @@ use Rattle.vrt_model.specs.declared.circuit.Device.{Device}
 use Rattle.vrt_model.specs.declared.circuit.FlatNet.{FlatNet}
 
 -- ---- lists
-
-at_front : {X : Type 0} (xs ys : List X) (i : ℕ) (x : X) → At xs i x → At (xs ++ ys) i x
-at_front [] ys i x e = absurd (none-some x e)
-at_front (y ∷ xs) ys zero x e = e
-at_front (y ∷ xs) ys (suc i) x e = at_front xs ys i x e
-
-at_end : {X : Type 0} (xs : List X) (x : X) → At (xs ++ x ∷ []) (length xs) x
-at_end [] x = refl
-at_end (y ∷ xs) x = at_end xs x
-
--- two items at one place are one
-same_at : {X : Type 0} (xs : List X) (i : ℕ) (x y : X) → At xs i x → At xs i y → x ≡ y
-same_at xs i x y e f = same_Some x y (sym e ∙ f)
 
 -- a plain net is one of the nets
 pub plain_within : (c : Circuit) (n : ℕ) → is_plain_at c n ≡ true → n < length c.nets
@@ -78,7 +66,7 @@ grown_then r s t p q l first second = record {
   amount i n le e (inr ge) = second.some i n ge e
   amount i n le e (inl lt) =
       let old = slice_get-get_or q i 0 lt in
-      let same : slice_index q i ≡ n = same_at l i (slice_index q i) n (second.stays i (slice_index q i) old) e in
+      let same : slice_index q i ≡ n = one_at l i (slice_index q i) n (second.stays i (slice_index q i) old) e in
       let has = first.some i n le (subst (At q i) same old) in
       let more = second.grown n in
       omega (arith, has, more)
@@ -101,10 +89,10 @@ raised_one net a t met lt less most = record {
     longer = (let e = length-append met (net ∷ []) in omega (arith, e));
     stays = λ i n e. at_front met (net ∷ []) i n e;
     listed = λ n. lists n (cases_eq n net);
-    some = λ i n le e. subst (λ (x : ℕ). 0 < slice_index (set t net a) x) (sym (last i n le (at_last met net n i e))) (omega (arith, here, less));
+    some = λ i n le e. subst (λ (x : ℕ). 0 < slice_index (set t net a) x) (sym (last i n le (at_split met net i n e))) (omega (arith, here, less));
     room = (let e = length-append met (net ∷ []) in let s = sum_by-set (λ (x : ℕ). 255 - x) t net a 0 lt in omega (arith, e, s));
   };
-  only = λ i n le e. last i n le (at_last met net n i e);
+  only = λ i n le e. last i n le (at_split met net i n e);
   is = λ n. at_one n (cases_eq n net);
   reached = λ l. (omega (arith, here));
 } where
@@ -122,16 +110,16 @@ raised_one net a t met lt less most = record {
   grows n (inr ne) = let same = other n ne in omega (arith, same)
 
   lists : (n : ℕ) → (n ≡ net) ⊎ (n ≡ net → ⊥) → (slice_index (set t net a) n ≡ slice_index t n) ⊎ IsListedFrom (length met) (met ++ net ∷ []) n
-  lists n (inl e) = inr (length met, omega arith, subst (At (met ++ net ∷ []) (length met)) (sym e) (at_end met net))
+  lists n (inl e) = inr (length met, omega arith, subst (At (met ++ net ∷ []) (length met)) (sym e) (at_last met net))
   lists n (inr ne) = inl (other n ne)
 
   at_one : (n : ℕ) → (n ≡ net) ⊎ (n ≡ net → ⊥) → (slice_index (set t net a) n ≡ slice_index t n) ⊎ ((n ≡ net) × (slice_index (set t net a) n ≡ a))
   at_one n (inl e) = inr (e, there n e)
   at_one n (inr ne) = inl (other n ne)
 
-  last : (i n : ℕ) → length met ≤ i → At met i n ⊎ ((i ≡ length met) × (net ≡ n)) → n ≡ net
+  last : (i n : ℕ) → length met ≤ i → At met i n ⊎ ((i ≡ length met) × (n ≡ net)) → n ≡ net
   last i n le (inl e) = let lt = slice_get_within met i n e in absurd (omega arith)
-  last i n le (inr e) = sym e.1
+  last i n le (inr e) = e.1
 
 -- ---- what passes over devices
 
@@ -151,7 +139,7 @@ module _ (spread : Spread) (c : Circuit) (known : List (Option Bool)) (levels : 
   more_passed t t' numbers amount m i k grown here so_far over j l d lt at there n on joins = elim (below_or_at i j lt) [
     | inl earlier ↦ crossed_later t t' amount m n d grown (so_far j l d earlier at there n on joins)
     | inr last ↦
-        let same : l ≡ k = same_at numbers i l k (subst (λ (x : ℕ). At numbers x l) last at) here in
+        let same : l ≡ k = one_at numbers i l k (subst (λ (x : ℕ). At numbers x l) last at) here in
         over d (subst (λ (x : ℕ). At c.devices x d) same there) n on joins
   ]
 
@@ -183,7 +171,7 @@ module _ (spread : Spread) (c : Circuit) (known : List (Option Bool)) (levels : 
     which i n le e (inr ge) = second.plain i n ge e
     which i n le e (inl lt) =
         let old = slice_get-get_or q i 0 lt in
-        let same : slice_index q i ≡ n = same_at l i (slice_index q i) n (second.growth.stays i (slice_index q i) old) e in
+        let same : slice_index q i ≡ n = one_at l i (slice_index q i) n (second.growth.stays i (slice_index q i) old) e in
         first.plain i n le (subst (At q i) same old)
 
   by_raise : (amount m to a : ℕ) (old new p q : List ℕ) → is_plain_at c to ≡ true
@@ -282,7 +270,7 @@ module _ (spread : Spread) (c : Circuit) (known : List (Option Bool)) (levels : 
     which i n e = elim (cases_lt i (length met)) [
       | inl lt ↦
           let was : At met i (slice_index met i) = slice_get-get_or met i 0 lt in
-          let same : slice_index met i ≡ n = same_at met' i (slice_index met i) n (gone.growth.stays i (slice_index met i) was) e in
+          let same : slice_index met i ≡ n = one_at met' i (slice_index met i) n (gone.growth.stays i (slice_index met i) was) e in
           inl (subst (At met i) same was)
       | inr ge ↦ inr ge
     ]
@@ -307,7 +295,7 @@ module _ (spread : Spread) (c : Circuit) (known : List (Option Bool)) (levels : 
       | inl e ↦ elim (so_far.closed n (a.0, e)) [
         | inl has ↦ inl (keeps n same has)
         | inr l ↦ elim (cases_eq l.0 at) [
-          | inl last ↦ inl (now n (same_at met at net n here (subst (λ (x : ℕ). At met x n) last l.2)) same)
+          | inl last ↦ inl (now n (one_at met at net n here (subst (λ (x : ℕ). At met x n) last l.2)) same)
           | inr ne ↦ inr (l.0, (let le = l.1 in omega arith), gone.growth.stays l.0 n l.2)
         ]
       ]
@@ -344,7 +332,7 @@ zeroed table nets at net here but n = which (but n)
       | inr ne ↦ inl (get_or-set_other table net n 0 0 ne ∙ e)
     ]
     which (inr l) = elim (cases_eq l.0 at) [
-      | inl last ↦ inl (ap (slice_index (set table net 0)) (same_at nets at n net (subst (λ (x : ℕ). At nets x n) last l.2) here) ∙ none)
+      | inl last ↦ inl (ap (slice_index (set table net 0)) (one_at nets at n net (subst (λ (x : ℕ). At nets x n) last l.2) here) ∙ none)
       | inr ne ↦ inr (l.0, (let le = l.1 in omega arith), l.2)
     ]
 

@@ -1,6 +1,6 @@
 use Rattle.std.proofs.Common.{◌≡◌, ℕ, length, arith, ap, subst, ◌∙◌}
+use Rattle.vrt_model.proofs.Lists.{item_at}
 use Rattle.known_nets.proofs.IncidenceLaws.{more_ends}
-use Rattle.known_nets.proofs.PlaceLaws.{item_at}
 use Rattle.known_nets.specs.Incidence.{HasEnds}
 use Rattle.known_nets.specs.Placed.{Adds, IsArc}
 use Rattle.vrt_model.specs.Lists.{At}

@@ -1,6 +1,6 @@
 use Rattle.std.proofs.Common.{ℕ, ◌≡◌, get_or, length, arith, ap, subst, sym, ◌∙◌, below_more}
 use Rattle.std.proofs.lemmas.Option.{same_Some, slice_get-get_or, slice_get_within}
-use Rattle.known_nets.proofs.PlaceLaws.{item_at}
+use Rattle.vrt_model.proofs.Lists.{item_at}
 use Rattle.known_nets.proofs.region.all_keep_shut.Goals.{then-number-devices+else-not-shut, else-number-devices}
 use Rattle.known_nets.specs.Regions.{KeepsShut}
 use Rattle.vrt_model.specs.Lists.{At}

@@ -1,6 +1,6 @@
 use Rattle.std.proofs.Common.{◌≡◌, ℕ, true, get_or, length, arith, ap, inl, inr, subst, sym, ◌∙◌, below_more}
 use Rattle.std.proofs.lemmas.Option.{same_Some, slice_get-get_or, slice_get_within}
-use Rattle.known_nets.proofs.PlaceLaws.{item_at}
+use Rattle.vrt_model.proofs.Lists.{item_at}
 use Rattle.known_nets.proofs.WaitLaws.{waited_none, waited_then}
 use Rattle.known_nets.proofs.waiting.Waiting.put_ends.Goals.{then-number-devices+in_ok-put+in_ok-put-2, else-number-devices}
 use Rattle.known_nets.specs.Waits.{HasWaited, waits}
