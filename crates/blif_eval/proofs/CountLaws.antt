@@ -1,9 +1,10 @@
 -- How many operations rows, covers and models take, and that they read no more variables than the handles given.
-use Rattle.std.proofs.Common.{◌≡◌, ℕ, zero, suc, ◌+◌, ◌<◌, ◌≤◌, ◌||◌, Bool, true, false, List, [], ◌∷◌, Result, drop, take, get_or, length, arith, ap, ap₂, refl, ◌∙◌}
+use Rattle.std.proofs.Common.{◌≡◌, ℕ, zero, suc, ◌+◌, ◌<◌, ◌≤◌, ◌||◌, Bool, true, false, List, [], ◌∷◌, Result, drop, take, get_or, length, arith, ap, ◌∙◌}
 use Rattle.std.specs.Prelude.{sum_by, ◌==◌}
 use Rattle.std.proofs.lemmas.Bool.{true≢false}
 use Rattle.std.proofs.lemmas.List.{length-take-le}
 use Rattle.std.proofs.lemmas.List.Sums.{length-filter, sum_by-drop_more, sum_by-take-drop, sum_by-take-le, sum_by_more}
+use Rattle.vrt_model.proofs.Assignments.{row_same, rows_same}
 use Rattle.bdd_core.specs.Diagram.{Function, IsWithin, meaning}
 use Rattle.bdd_core.specs.Store.{Diagrams, function_of, Gives}
 use Rattle.bdd_core.specs.Words.{IsFilled, word_at}
@@ -11,7 +12,6 @@ use Rattle.bdd_core.specs.declared.handle.H.{H}
 use Rattle.bdd_core.specs.declared.handle.Spent.{Spent}
 use Rattle.bdd_ops.proofs.WithinLaws.{within_same}
 use Rattle.bdd_ops.specs.Counting.{IsSpanWithin}
-use Rattle.blif_eval.proofs.CoverRows.{row_same}
 use Rattle.blif_eval.proofs.RowLaws.{bits_kept}
 use Rattle.blif_eval.specs.Settled.{bits_in}
 use Rattle.blif_eval.specs.Operations.{literal_count, rows_operations}
@@ -28,10 +28,6 @@ among_drop : {X : Type 0} (n : ℕ) (xs : List X) (x : X) → Among (drop n xs) 
 among_drop zero xs x m = m
 among_drop (suc n) [] x m = m
 among_drop (suc n) (y ∷ xs) x m = let rest = among_drop n xs x m in among_later y xs x rest
-
-rows_same : (b d : ℕ → Bool) (inputs : List ℕ) (rows : List (List ℕ)) → ((s : ℕ) → Among inputs s → b s ≡ d s) → some_row_fits b inputs rows ≡ some_row_fits d inputs rows
-rows_same b d inputs [] same = refl
-rows_same b d inputs (row ∷ rows) same = ap₂ (λ (x y : Bool). x || y) (row_same b d inputs row same) (rows_same b d inputs rows same)
 
 module _ (u : ℕ) (a : Diagrams) (span : Span) (reads : IsSpanWithin u a span) (inputs : List ℕ) (low : (s : ℕ) → Among inputs s → s < span.len) where
   pub row_within : (row : List ℕ) → IsWithin u (λ v. row_fits (bits_in a span v) inputs row)

@@ -2,14 +2,15 @@
 use Rattle.std.proofs.Common.{◌≡◌, ℕ, zero, suc, ◌+◌, ◌<◌, ◌⊎◌, ◌++◌, ◌∷◌, [], List, Bool, true, false, not, length, length-append, set, replicate, arith, ap, subst, sym, refl, ◌∙◌, inl, inr}
 use Rattle.std.proofs.lemmas.Bool.{cases_lt}
 use Rattle.std.proofs.lemmas.List.Sums.{sum_by_more}
-use Rattle.std.proofs.lemmas.Option.{get_or_from_slice_get, none-some, same_Some}
+use Rattle.std.proofs.lemmas.Option.{get_or_from_slice_get, none-some, same_Some, slice_get_within}
+use Rattle.std.proofs.lemmas.List.{length-set}
+use Rattle.vrt_model.proofs.Lists.{at_front, one_at}
 use Rattle.blif_eval.proofs.Drivers.{driven}
 use Rattle.blif_eval.proofs.LatchLaws.{latch_of, latch_part, names_before, numbered_at, part_latch}
 use Rattle.blif_eval.specs.Drivers.{AreDrivers, AreMade, AreNoted, HasElement, IsDriver, IsStorage, count_before, edge_elements, elements_by, level_elements}
 use Rattle.blif_eval.specs.declared.driver_table.Driver.{Driver}
 use Rattle.blif_eval.specs.declared.driver_table.Driver.TheVariants.{Given, Covered, Stored, Element}
 use Rattle.blif_eval.specs.declared.driver_table.Storage.{Storage}
-use Rattle.graphs.proofs.Lists.{at_front, at_within, one_at, set_size}
 use Rattle.vrt_model.specs.Elements.{Numbered, element_count, numbered_latches}
 use Rattle.vrt_model.specs.FlatModels.{IsFlatModel}
 use Rattle.vrt_model.specs.Lists.{At, Among}
@@ -81,7 +82,7 @@ set_not_given drivers signal d not_given n e = elim (at_set drivers signal d n G
 noted_more : (flat : FlatModel) (covers latches : ℕ) (drivers : List Driver) (signal : ℕ) (d : Driver) → ¬ IsGiven d → IsDriver flat signal d → AreNoted flat covers latches drivers
     → AreNoted flat covers latches (set drivers signal d)
 noted_more flat covers latches drivers signal d not_given is noted = record {
-  size = set_size drivers signal d ∙ noted.size;
+  size = length-set drivers signal d ∙ noted.size;
   each = λ n driver e. elim (at_set drivers signal d n driver e) [
     | inl p ↦ inr (subst (λ (x : Driver). IsDriver flat n x) (sym p.1) (subst (λ (k : ℕ). IsDriver flat k d) (sym p.0) is))
     | inr p ↦ noted.each n driver p.1
@@ -273,7 +274,7 @@ module _ (flat : FlatModel) (at : ℕ) (latch : FlatLatch) (elements : List Driv
       let joined = length-append elements own in
       let few = own_count (length flat.signals) (length elements) latch latch.kind in
       let before = made.count in
-      let sum = sum_by_more (λ (l : FlatLatch). element_count l.kind) flat.latches at latch (at_within flat.latches at latch there) in
+      let sum = sum_by_more (λ (l : FlatLatch). element_count l.kind) flat.latches at latch (slice_get_within flat.latches at latch there) in
       let is = ap (λ (l : FlatLatch). element_count l.kind) (get_or_from_slice_get flat.latches at latch latch there) in
       omega (arith, joined, few, before, sum, is)
 
@@ -294,7 +295,7 @@ drivers_joined flat model table elements drivers is noted made = subst (AreDrive
       omega (arith, joined, signals, count, names);
   each = λ n d e. elim (at_either table elements n d e) [
     | inl here ↦ elim (noted.each n d here) [
-      | inl g ↦ subst (IsDriver flat n) (sym g) (given n (let low = at_within table n d here in let size = noted.size in omega (arith, low, size)) (subst (At table n) g here))
+      | inl g ↦ subst (IsDriver flat n) (sym g) (given n (let low = slice_get_within table n d here in let size = noted.size in omega (arith, low, size)) (subst (At table n) g here))
       | inr h ↦ h
     ]
     | inr p ↦
@@ -303,7 +304,7 @@ drivers_joined flat model table elements drivers is noted made = subst (AreDrive
   ];
   parts = λ part m.
       let q = part_latch flat part m in
-      let low = at_within flat.latches q.1.0 q.0.latch (latch_of flat q.1.0 q.0 q.1.1) in
+      let low = slice_get_within flat.latches q.1.0 q.0.latch (latch_of flat q.1.0 q.0 q.1.1) in
       let h = made.parts q.1.0 q.0 part low q.1.1 q.2 in
       let place : part.number ≡ length table + h.0 = (let size = noted.size in let at = h.2 in omega (arith, size, at)) in
       (h.1, at_behind table elements h.0 part.number (Element h.1) place h.3, h.4);
@@ -312,7 +313,7 @@ drivers_joined flat model table elements drivers is noted made = subst (AreDrive
   given n lt e = elim (driven flat model n lt) [
     | inl m ↦ m
     | inr other ↦ elim other [
-      | inl c ↦ absurd (noted.of_covers c.1.0 c.0 (at_within flat.covers c.1.0 c.0 c.1.1) c.1.1 (subst (λ (k : ℕ). At table k Given) (sym c.2) e))
-      | inr l ↦ absurd (noted.of_latches l.1.0 l.0 (at_within flat.latches l.1.0 l.0 l.1.1) l.1.1 (subst (λ (k : ℕ). At table k Given) (sym l.2) e))
+      | inl c ↦ absurd (noted.of_covers c.1.0 c.0 (slice_get_within flat.covers c.1.0 c.0 c.1.1) c.1.1 (subst (λ (k : ℕ). At table k Given) (sym c.2) e))
+      | inr l ↦ absurd (noted.of_latches l.1.0 l.0 (slice_get_within flat.latches l.1.0 l.0 l.1.1) l.1.1 (subst (λ (k : ℕ). At table k Given) (sym l.2) e))
     ]
   ]

@@ -2,8 +2,9 @@
 use Rattle.std.proofs.Common.{◌≡◌, ℕ, zero, suc, ◌+◌, ◌<◌, ◌≤◌, ◌⊎◌, ◌++◌, ◌∷◌, [], List, Bool, cond, map, length, eqb, ap, arith, subst, sym, refl, ◌∙◌, inl, inr, Some}
 use Rattle.std.specs.Prelude.{count_by, slice_get, ◌==◌}
 use Rattle.std.proofs.lemmas.Bool.{cases_Bool, cases_lt, eq-eqb, eqb-true, ne_eqb}
-use Rattle.std.proofs.lemmas.List.Sums.{sum_by-cons}
+use Rattle.std.proofs.lemmas.List.Sums.{sum_by-append, sum_by-cons}
 use Rattle.std.proofs.lemmas.Option.{same_Some, none-some}
+use Rattle.vrt_model.proofs.Lists.{map_at}
 use Rattle.vrt_model.proofs.Members.{among_either, among_later, among_map, all_among}
 use Rattle.vrt_model.specs.FlatModels.{IsCover, IsFlatModel, IsLatch, drivers_of}
 use Rattle.vrt_model.specs.Lists.{At, Among}
@@ -24,12 +25,7 @@ pub times_more : (s x : ℕ) (xs : List ℕ) → times s (x ∷ xs) ≡ counts s
 times_more s x xs = sum_by-cons (λ (d : ℕ). cond (d == s) 1 0) x xs
 
 pub times_joined : (s : ℕ) (xs ys : List ℕ) → times s (xs ++ ys) ≡ times s xs + times s ys
-times_joined s [] ys = omega arith
-times_joined s (x ∷ xs) ys =
-    let rest = times_joined s xs ys in
-    let one = times_more s x (xs ++ ys) in
-    let two = times_more s x xs in
-    omega (arith, rest, one, two)
+times_joined s xs ys = sum_by-append (λ (d : ℕ). cond (d == s) 1 0) xs ys
 
 pub test_one : (s x : ℕ) → x ≡ s → counts s x ≡ 1
 test_one s x e = let amount : Bool → ℕ = λ b. cond b 1 0 in ap amount (eq-eqb x s e)
@@ -79,11 +75,6 @@ times_once s (x ∷ xs) le (suc i) (suc j) e f =
     ap suc (times_once s xs (omega (arith, more, le)) i j e f)
 
 -- ---- the image of a list
-
-pub at_map : {X Y : Type 0} (f : X → Y) (xs : List X) (i : ℕ) (x : X) → At xs i x → At (map f xs) i (f x)
-at_map f [] i x e = absurd (none-some x e)
-at_map f (y ∷ ys) zero x e = ap (λ z. Some (f z)) (same_Some y x e)
-at_map f (y ∷ ys) (suc i) x e = at_map f ys i x e
 
 pub same_at : {X : Type 0} (xs : List X) (i j : ℕ) (x y : X) → At xs i x → At xs j y → i ≡ j → x ≡ y
 same_at xs i j x y e f same = same_Some x y (sym e ∙ ap (λ k. slice_get xs k) same ∙ f)
@@ -138,10 +129,10 @@ module _ (flat : FlatModel) (model : IsFlatModel flat) where
       ]
 
   cover_counts : (c : Cover) → Among flat.covers c → 1 ≤ times c.output (outputs_of flat.covers)
-  cover_counts c m = times_among c.output (outputs_of flat.covers) (m.0, at_map (λ (k : Cover). k.output) flat.covers m.0 c m.1)
+  cover_counts c m = times_among c.output (outputs_of flat.covers) (m.0, map_at (λ (k : Cover). k.output) flat.covers m.0 c m.1)
 
   latch_counts : (l : FlatLatch) → Among flat.latches l → 1 ≤ times l.output (latch_outputs flat.latches)
-  latch_counts l m = times_among l.output (latch_outputs flat.latches) (m.0, at_map (λ (k : FlatLatch). k.output) flat.latches m.0 l m.1)
+  latch_counts l m = times_among l.output (latch_outputs flat.latches) (m.0, map_at (λ (k : FlatLatch). k.output) flat.latches m.0 l m.1)
 
   -- the output of a cover is no input and no clock
   pub apart : (c : Cover) → Among flat.covers c → ¬ Among (flat.inputs ++ flat.clocks) c.output
@@ -176,8 +167,8 @@ module _ (flat : FlatModel) (model : IsFlatModel flat) where
       let one = model.one_driver c.output (covered_below c (i, e)) in
       let sum = drivers_are c.output in
       times_once c.output (outputs_of flat.covers) (omega (arith, one, sum)) i j
-      (at_map (λ (k : Cover). k.output) flat.covers i c e)
-      (subst (λ (n : ℕ). At (outputs_of flat.covers) j n) (sym same) (at_map (λ (k : Cover). k.output) flat.covers j d f))
+      (map_at (λ (k : Cover). k.output) flat.covers i c e)
+      (subst (λ (n : ℕ). At (outputs_of flat.covers) j n) (sym same) (map_at (λ (k : Cover). k.output) flat.covers j d f))
 
   pub one_cover : (c d : Cover) → Among flat.covers c → Among flat.covers d → c.output ≡ d.output → c ≡ d
   one_cover c d m n same = same_at flat.covers m.0 n.0 c d m.1 n.1 (one_place m.0 n.0 c d m.1 n.1 same)
@@ -188,5 +179,5 @@ module _ (flat : FlatModel) (model : IsFlatModel flat) where
       let one = model.one_driver l.output (latch_is l (i, e)).output in
       let sum = drivers_are l.output in
       times_once l.output (latch_outputs flat.latches) (omega (arith, one, sum)) i j
-      (at_map (λ (x : FlatLatch). x.output) flat.latches i l e)
-      (subst (λ (n : ℕ). At (latch_outputs flat.latches) j n) (sym same) (at_map (λ (x : FlatLatch). x.output) flat.latches j k f))
+      (map_at (λ (x : FlatLatch). x.output) flat.latches i l e)
+      (subst (λ (n : ℕ). At (latch_outputs flat.latches) j n) (sym same) (map_at (λ (x : FlatLatch). x.output) flat.latches j k f))

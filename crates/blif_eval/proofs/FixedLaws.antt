@@ -2,8 +2,8 @@
 use Rattle.std.proofs.Common.{◌≡◌, ℕ, zero, suc, ◌+◌, ◌<◌, ◌≤◌, Bool, false, cond, List, length, get_or, eqb, arith, ap, subst, sym, refl, ◌∙◌, inl, inr}
 use Rattle.std.proofs.lemmas.Bool.{cases_eq, eq-eqb, ne_eqb}
 use Rattle.std.proofs.lemmas.Option.{slice_get-get_or}
+use Rattle.vrt_model.proofs.Lists.{one_at}
 use Rattle.blif_eval.specs.Settled.{Agree, AreFixed}
-use Rattle.graphs.proofs.Lists.{one_at}
 use Rattle.vrt_model.specs.Lists.{At}
 
 -- a value looks only at what stands before, where that is settled

@@ -2,14 +2,14 @@
 use Rattle.std.proofs.Common.{◌≡◌, ℕ, zero, suc, ◌+◌, ◌<◌, ◌≤◌, ◌++◌, ◌∷◌, [], Bool, true, false, List, Option, Some, None, length, get_or, set, arith, ap, subst, sym, refl, ◌∙◌, inl, inr}
 use Rattle.std.specs.Prelude.{is_none, is_some, unwrap_or}
 use Rattle.std.proofs.lemmas.Bool.{and_from, and_parts, cases_eq, cases_lt, true≢false}
-use Rattle.std.proofs.lemmas.List.{get_or-set_other, get_or-set_same}
+use Rattle.std.proofs.lemmas.List.{get_or-set_other, get_or-set_same, length-set}
 use Rattle.std.proofs.lemmas.List.Sums.{sum_by-set}
-use Rattle.std.proofs.lemmas.Option.{none-some, same_Some, unwrap_or-slice_get}
+use Rattle.std.proofs.lemmas.Option.{none-some, same_Some, slice_get_within, unwrap_or-slice_get}
 use Rattle.blif_eval.proofs.Drivers.{apart, covered_below, input_below, one_cover}
 use Rattle.blif_eval.specs.KnownBits.{AreKnown, HasLearned, IsDone, IsLearned, IsSpread, all_entries, bit_in, is_entry, missing, teaches, unknown}
 use Rattle.blif_eval.specs.Plans.{entry_of}
-use Rattle.graphs.proofs.Lists.{at_within, one_at, set_size}
 use Rattle.vrt_model.proofs.Assignments.{cover_same}
+use Rattle.vrt_model.proofs.Lists.{one_at}
 use Rattle.vrt_model.proofs.Members.{among_later}
 use Rattle.vrt_model.specs.Covers.{cover_bit}
 use Rattle.vrt_model.specs.FlatModels.{IsFlatModel}
@@ -98,7 +98,7 @@ module _ (flat : FlatModel) (model : IsFlatModel flat) (known bits new : List (O
   pub spread_more : IsSpread flat known new
   unfolding bit
   spread_more = record {
-    size = ap (λ (t : List (Option Bool)). length t) learned.list ∙ (set_size bits cover.output (Some (cover_bit (bit_in bits) cover)) ∙ spread.size);
+    size = ap (λ (t : List (Option Bool)). length t) learned.list ∙ (length-set bits cover.output (Some (cover_bit (bit_in bits) cover)) ∙ spread.size);
     kept = λ s v e. let before = spread.kept s v e in stays s (is_entry_of bits s v before) ∙ before;
     sound = λ s v e. elim (cases_eq s cover.output) [
       | inl is ↦
@@ -189,7 +189,7 @@ module _ (flat : FlatModel) (model : IsFlatModel flat) (first old new : List (Op
   pub next_size : length new ≡ length flat.signals + 1
   next_size = elim has [
     | inl same ↦ ap (λ (t : List (Option Bool)). length t) same.1 ∙ size
-    | inr l ↦ ap (λ (t : List (Option Bool)). length t) l.1.list ∙ (set_size old cover.output (Some (cover_bit (bit_in old) cover)) ∙ size)
+    | inr l ↦ ap (λ (t : List (Option Bool)). length t) l.1.list ∙ (length-set old cover.output (Some (cover_bit (bit_in old) cover)) ∙ size)
   ]
 
   pub next_spread : (known : List (Option Bool)) → IsSpread flat known old → IsSpread flat known new
@@ -231,5 +231,5 @@ module _ (flat : FlatModel) (model : IsFlatModel flat) (first old new : List (Op
 pub round_done : (covers : List Cover) (first new : List (Option Bool)) (upto : ℕ) → length covers ≤ upto
     → (new ≡ first) × ((i : ℕ) (c : Cover) → i < upto → At covers i c → IsDone first c) → (c : Cover) → Among covers c → IsDone new c
 round_done covers first new upto le q c m =
-    let within = at_within covers m.0 c m.1 in
+    let within = slice_get_within covers m.0 c m.1 in
     subst (λ (t : List (Option Bool)). IsDone t c) (sym q.0) (q.1 m.0 c (omega (arith, within, le)) m.1)

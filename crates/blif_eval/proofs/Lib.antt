@@ -12,4 +12,3 @@ pub mod EvalLaws
 pub mod OperationLaws
 pub mod RowLaws
 pub mod CountLaws
-pub mod CoverRows

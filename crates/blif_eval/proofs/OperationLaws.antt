@@ -4,6 +4,7 @@ use Rattle.std.specs.Prelude.{slice_get, sum_by}
 use Rattle.std.proofs.lemmas.Bool.{cases_eq, cases_lt}
 use Rattle.std.proofs.lemmas.List.Sums.{sum_by-cons}
 use Rattle.std.proofs.lemmas.Option.{none-some, same_Some}
+use Rattle.vrt_model.proofs.Lists.{at_there, one_at}
 use Rattle.blif_eval.proofs.Drivers.{among_times, test_one, test_other, times, times_more}
 use Rattle.blif_eval.proofs.FoundDrivers.{driver_there}
 use Rattle.blif_eval.proofs.LatchLaws.{names_few, part_ranges}
@@ -12,7 +13,6 @@ use Rattle.blif_eval.specs.Operations.{driver_operations, number_operations, ope
 use Rattle.blif_eval.specs.Settled.{driver_at}
 use Rattle.blif_eval.specs.declared.driver_table.Driver.{Driver}
 use Rattle.blif_eval.specs.declared.driver_table.Driver.TheVariants.{Given, Covered, Stored, Element}
-use Rattle.graphs.proofs.Lists.{one_at}
 use Rattle.vrt_model.proofs.Members.{among_later}
 use Rattle.vrt_model.specs.Budget.{literals_in, model_size}
 use Rattle.vrt_model.specs.Elements.{element_names}
@@ -143,11 +143,6 @@ at_of_map : (f : ℕ → ℕ) (xs : List ℕ) (i n : ℕ) → At (map f xs) i n 
 at_of_map f [] i n e = absurd (none-some n e)
 at_of_map f (x ∷ xs) zero n e = (x, refl, same_Some (f x) n e)
 at_of_map f (x ∷ xs) (suc i) n e = at_of_map f xs i n e
-
-at_there : {X : Type 0} (xs : List X) (n : ℕ) → n < length xs → (x : X) × At xs n x
-at_there [] n lt = absurd (omega (arith, lt))
-at_there (x ∷ xs) zero lt = (x, refl)
-at_there (x ∷ xs) (suc n) lt = at_there xs n (omega (arith, lt))
 
 sum_map : (g f : ℕ → ℕ) (xs : List ℕ) → sum_by g (map f xs) ≡ sum_by (λ x. g (f x)) xs
 sum_map g f [] = refl

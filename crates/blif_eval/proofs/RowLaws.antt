@@ -3,9 +3,9 @@ use Rattle.std.proofs.Common.{◌≡◌, ℕ, suc, ◌+◌, ◌<◌, ◌≤◌, 
 use Rattle.std.specs.Prelude.{All}
 use Rattle.std.proofs.Math.Seq.{drop-cons}
 use Rattle.std.proofs.lemmas.List.Folds.{list_any_more}
+use Rattle.vrt_model.proofs.Assignments.{row_same}
 use Rattle.bdd_ops.specs.Ops.{not_of, or_of}
 use Rattle.bdd_core.proofs.Frames.{gives_made, gives_next, gives_none, word_added}
-use Rattle.blif_eval.proofs.CoverRows.{row_same}
 use Rattle.vrt_model.proofs.Members.{all_among}
 use Rattle.bdd_core.proofs.Meaning.{meaning_one, meaning_zero}
 use Rattle.bdd_core.specs.Diagram.{Function, IsReduced, Valuation, meaning}

@@ -6,8 +6,8 @@ use Rattle.bdd_ops.proofs.CountingLaws.{counted_more, counted_none, counted_then
 use Rattle.bdd_ops.proofs.WithinLaws.{within_same}
 use Rattle.bdd_ops.specs.Counting.{Counts, IsSpanWithin}
 use Rattle.std.proofs.lemmas.Option.{get_or_from_slice_get}
+use Rattle.vrt_model.proofs.Lists.{item_at}
 use Rattle.blif_eval.proofs.CountLaws.{rows_more, rows_take, rows_within, span_within}
-use Rattle.graphs.proofs.Lists.{item_at}
 use Rattle.bdd_core.proofs.Frames.{filled_added, gives_refused}
 use Rattle.blif_eval.proofs.RowLaws.{rows_next, rows_none, rows_upto}
 use Rattle.blif_eval.specs.Settled.{bits_in}

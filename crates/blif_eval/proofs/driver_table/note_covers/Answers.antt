@@ -1,8 +1,8 @@
 use Rattle.std.proofs.Common.{◌+◌, arith, sym, subst}
+use Rattle.vrt_model.proofs.Lists.{item_at}
 use Rattle.blif_eval.proofs.DriverLaws.{noted_cover, noted_none}
 use Rattle.blif_eval.proofs.Drivers.{covered_below}
 use Rattle.blif_eval.specs.Drivers.{AreNoted}
-use Rattle.graphs.proofs.Lists.{item_at}
 use Rattle.vrt_model.specs.Lists.{At}
 use Rattle.blif_eval.proofs.driver_table.note_covers.Goals as goal
 

@@ -1,8 +1,8 @@
 use Rattle.std.proofs.Common.{◌≡◌, length, refl, arith, ap, sym}
 use Rattle.std.proofs.lemmas.Bool.{true≢false}
+use Rattle.vrt_model.proofs.Lists.{item_at}
 use Rattle.blif_eval.proofs.Drivers.{cover_is, covered_below}
 use Rattle.blif_eval.proofs.KnownLaws.{next_fewer, next_most, next_quiet, next_size, next_spread, round_done}
-use Rattle.graphs.proofs.Lists.{item_at}
 use Rattle.vrt_model.specs.Lists.{At}
 use Rattle.vrt_model.specs.declared.flat_model.Cover.{Cover}
 use Rattle.blif_eval.proofs.known.round.Goals as goal
