@@ -1,13 +1,13 @@
 -- Looking at the waiters one by one gives levels, until each number without one has a source without one.
-use Rattle.std.proofs.Common.{◌≡◌, ℕ, zero, suc, ◌+◌, ◌<◌, ◌≤◌, ◌⊎◌, true, false, cond, List, [], ◌∷◌, ◌++◌, length, Some, get_or, replicate, slice_index, arith, ap, subst, sym, refl, ◌∙◌, inl, inr}
+use Rattle.std.proofs.Common.{◌≡◌, ℕ, zero, suc, ◌+◌, ◌<◌, ◌≤◌, ◌⊎◌, true, false, cond, List, [], ◌∷◌, ◌++◌, length, get_or, replicate, slice_index, arith, ap, subst, sym, refl, ◌∙◌, inl, inr}
 use Rattle.std.specs.Prelude.{◌==◌, nat_lt}
 use Rattle.std.specs.List.{list_all}
 use Rattle.std.proofs.Math.ListN.{set}
 use Rattle.std.proofs.lemmas.Bool.{and_cases, and_parts, cases_eq, cases_lt, cond-false, false≢true, ltb-false, ltb-true, ne_eqb}
-use Rattle.std.proofs.lemmas.List.{get_or-set_other, get_or-set_same}
+use Rattle.std.proofs.lemmas.List.{get_or-set_other, get_or-set_same, length-set}
 use Rattle.std.proofs.lemmas.List.Sums.{sum_by-set}
-use Rattle.std.proofs.lemmas.Option.{get_or_from_slice_get, none-some, same_Some, slice_get-get_or, slice_get_within}
-use Rattle.graphs.proofs.Lists.{at_front, at_last, set_size}
+use Rattle.std.proofs.lemmas.Option.{none-some, same_Some, slice_get_within}
+use Rattle.vrt_model.proofs.Lists.{at_back, at_front, at_last}
 use Rattle.graphs.specs.Graphs.{sources_at}
 use Rattle.graphs.specs.Levels.{AreLevels, AreStuck, HasPassed, IsLevelled, IsLevelling, IsListed, IsWaitingAt, without_level}
 use Rattle.graphs.specs.declared.levels.Waiter.{Waiter}
@@ -130,12 +130,6 @@ look_waits sources t waiting wider queue at q place waiter so here source none p
           λ i s lt a. elim (cases_lt i waiter.from) [ inl before ↦ was.1 i s before a | inr after ↦ passed i s after lt a ],
         )
 
-at_back : {X : Type 0} (xs ys : List X) (i : ℕ) (y : X) → At ys i y → At (xs ++ ys) (length xs + i) y
-at_back {X} [] ys i y e = (let place : i ≡ length {A = X} [] + i = omega arith in subst (λ (k : ℕ). At ys k y) place e)
-at_back {X} (x ∷ xs) ys i y e =
-    let place : suc (length xs + i) ≡ length (x ∷ xs) + i = omega arith in
-    subst (λ (k : ℕ). At (x ∷ (xs ++ ys)) k y) place (at_back xs ys i y e)
-
 -- a waiter that gets its level, and what waited for it
 pub look_settles : (sources : List (List ℕ)) (t u : List ℕ) (waiting : List (List Waiter)) (queue row : List Waiter) (at : ℕ) (waiter : Waiter) → IsLevelling sources t waiting queue at → At queue at waiter
     → IsLevelled sources waiter.node t u → At waiting waiter.node row → IsLevelling sources u waiting (queue ++ row) (at + 1)
@@ -232,23 +226,6 @@ last_look sources t waiting queue at so end n lt none =
 
 -- ---- tables
 
-set_same : {X : Type 0} (xs : List X) (i : ℕ) (x : X) → i < length xs → At (set xs i x) i x
-set_same xs i x lt =
-    let size = set_size xs i x in
-    slice_get-get_or (set xs i x) i x (omega (arith, size, lt)) ∙ ap Some (get_or-set_same xs i x x lt)
-
-set_other : {X : Type 0} (xs : List X) (i k : ℕ) (x y : X) → (k ≡ i → ⊥) → At xs k y → At (set xs i x) k y
-set_other xs i k x y ne a =
-    let size = set_size xs i x in
-    let inside = slice_get_within xs k y a in
-    slice_get-get_or (set xs i x) k y (omega (arith, size, inside)) ∙ ap Some (get_or-set_other xs i k x y ne ∙ get_or_from_slice_get xs k y y a)
-
-other_set : {X : Type 0} (xs : List X) (i k : ℕ) (x y : X) → (k ≡ i → ⊥) → At (set xs i x) k y → At xs k y
-other_set xs i k x y ne a =
-    let size = set_size xs i x in
-    let inside = slice_get_within (set xs i x) k y a in
-    slice_get-get_or xs k y (omega (arith, size, inside)) ∙ ap Some (sym (get_or-set_other xs i k x y ne) ∙ get_or_from_slice_get (set xs i x) k y y a)
-
 abbrev count_without : ℕ → ℕ
 count_without level = cond (level == 0) 1 0
 
@@ -267,7 +244,7 @@ pub levelled_set : (sources : List (List ℕ)) (n best : ℕ) (t : List ℕ) →
     → IsLevelled sources n t (set t n (best + 1))
 levelled_set sources n best t lt none some most one =
     let here : slice_index (set t n (best + 1)) n ≡ best + 1 = get_or-set_same t n (best + 1) 0 lt in record {
-      size = set_size t n (best + 1);
+      size = length-set t n (best + 1);
       none = none;
       others = λ m ne. get_or-set_other t n m (best + 1) 0 ne;
       above = λ q a. (some q a, let le = most q a in omega (arith, here, le));

@@ -3,10 +3,12 @@ use Rattle.std.proofs.Common.{◌≡◌, ℕ, ◌<◌, ◌⊎◌, true, false, L
 use Rattle.std.specs.Prelude.{nat_lt}
 use Rattle.std.specs.List.{list_all}
 use Rattle.std.proofs.lemmas.Bool.{cases_eq}
+use Rattle.std.proofs.lemmas.Option.{slice_get_within}
+use Rattle.vrt_model.proofs.Lists.{at_front, at_last, at_split}
 use Rattle.graphs.proofs.Acyclic.{none_behind}
 use Rattle.graphs.proofs.GroupLaws.{arc_within}
 use Rattle.graphs.proofs.LevelLaws.{level_stays, levels_all, levels_none, zero_level}
-use Rattle.graphs.proofs.Lists.{at_front, at_last, at_split, at_within, index_within}
+use Rattle.graphs.proofs.Lists.{index_within}
 use Rattle.graphs.proofs.Walks.{rises_acyclic}
 use Rattle.graphs.specs.Graphs.{ArcIn, AreInside, sources_at}
 use Rattle.graphs.specs.Levels.{AreLevels, AreStuck, IsLevelled}
@@ -62,7 +64,7 @@ placed_next sources n t u steps made so = record {
     comes from to k (inr p) arc =
         let own : Among (sources_at sources n) from = subst (λ (x : ℕ). ArcIn sources from x) p.1 arc in
         let q = so.listed from (made.above from own).0 in
-        let less = at_within steps q.0 from q.1 in
+        let less = slice_get_within steps q.0 from q.1 in
         let place = p.0 in
         (q.0, omega (arith, less, place), at_front steps (n ∷ []) q.0 from q.1)
 

@@ -2,9 +2,9 @@
 use Rattle.std.proofs.Common.{◌≡◌, ℕ, zero, suc, ◌<◌, ◌≤◌, ◌+◌, ◌⊎◌, ◌++◌, ◌∷◌, [], List, length, get_or, set, replicate, take, Option, None, Some, arith, ap, subst, sym, refl, ◌∙◌, inl, inr, length-append}
 use Rattle.std.specs.Prelude.{slice_get, IfSome}
 use Rattle.std.proofs.lemmas.Bool.{cases_eq, cases_lt}
-use Rattle.std.proofs.lemmas.List.{get_or-set_same, get_or-set_other, take_more}
-use Rattle.std.proofs.lemmas.Option.{none-some}
-use Rattle.graphs.proofs.Lists.{at_front, at_last, at_split, at_within, one_at, set_size}
+use Rattle.std.proofs.lemmas.List.{get_or-set_same, get_or-set_other, take_more, length-set}
+use Rattle.std.proofs.lemmas.Option.{none-some, slice_get_within}
+use Rattle.vrt_model.proofs.Lists.{at_front, at_last, at_split, one_at}
 use Rattle.graphs.proofs.Walks.{walk_further}
 use Rattle.graphs.specs.Graphs.{ArcIn, AreInside, sources_at}
 use Rattle.graphs.specs.Trails.{AreDone, AreFalling, HasMet, IsAround, IsTrail, IsWay, LeadOn, LeadsOn, count_met, place_at}
@@ -110,13 +110,13 @@ met_now places met met' entry lt new less is =
 
     added : HasMet places (set places entry.node (length met)) met (met ++ entry ∷ []) (entry.node ∷ []) entry.next
     added = record {
-      size = set_size places entry.node (length met);
+      size = length-set places entry.node (length met);
       grows = omega (arith, longer);
       kept = keeps;
       found = λ n a l. only n a.0 a.1;
       before = λ k e at. at_front met (entry ∷ []) k e at;
       trail = λ sources first to at arcs t. record {
-        size = set_size places entry.node (length met) ∙ t.size;
+        size = length-set places entry.node (length met) ∙ t.size;
         count = ap suc (more_at places entry.node (length met) lt new some) ∙ ap suc t.count ∙ sym longer;
         start = λ e a. starts sources first t e (at_split met entry 0 e a);
         entry = λ n there. enters sources first t n there;
@@ -230,13 +230,13 @@ goes_on sources first at entry places places' met met' numbers inside there are 
         let low = inside n e.node arc in
         step.found n (subst (λ (xs : List ℕ). Among xs n) (sym are) (subst (λ (x : Met). ArcIn sources n x.node) (sym is) arc)) (omega (arith, size, low))
   ];
-  most = let within = at_within met at entry there in let grows = step.grows in omega (arith, within, grows);
+  most = let within = slice_get_within met at entry there in let grows = step.grows in omega (arith, within, grows);
 } where
   earlier : (k : ℕ) (e : Met) → k < at → At met' k e → At met k e
   earlier k e before here = by_get (slice_get met k) refl
     where
       by_get : (o : Option Met) → slice_get met k ≡ o → At met k e
-      by_get None none = let within = at_within met at entry there in absurd (no_end met k (omega (arith, before, within)) none)
+      by_get None none = let within = slice_get_within met at entry there in absurd (no_end met k (omega (arith, before, within)) none)
       by_get (Some x) some = some ∙ ap Some (one_at met' k x e (step.before k x some) here)
 
 -- ---- no cycle begins with a number that was not met
@@ -262,7 +262,7 @@ none_around sources first places met t done none others cycle =
     source_met : (n m : ℕ) → ArcIn sources n m → 0 < place_at places m → 0 < place_at places n
     source_met n m arc there =
         let q = t.entry m there in
-        done (place_at places m) q.0 (at_within met (place_at places m) q.0 q.1) q.1 n (subst (λ x. ArcIn sources n x) (sym q.2) arc)
+        done (place_at places m) q.0 (slice_get_within met (place_at places m) q.0 q.1) q.1 n (subst (λ x. ArcIn sources n x) (sym q.2) arc)
 
     back : (nodes : List ℕ) (n last : ℕ) → IsWalk (ArcIn sources) n nodes last → 0 < place_at places last → 0 < place_at places n
     back [] n last e there = subst (λ x. 0 < place_at places x) (sym e) there

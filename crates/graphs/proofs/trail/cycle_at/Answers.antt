@@ -1,5 +1,5 @@
 use Rattle.std.proofs.Common.{arith, List, length, subst, sym, ap}
-use Rattle.graphs.proofs.Lists.{at_within}
+use Rattle.std.proofs.lemmas.Option.{slice_get_within}
 use Rattle.graphs.proofs.TrailLaws.{falls, none_around}
 use Rattle.graphs.specs.Trails.{AreFalling, place_at}
 use Rattle.graphs.specs.declared.trail.Met.{Met}
@@ -12,7 +12,7 @@ returns-then-place-eq0-clause-none c =
 pub way_from-requires-clause-there : goal.way_from-requires-clause-there
 way_from-requires-clause-there c =
     let q = c.in_ok-trail.ensures.trail.entry c.args.first (omega arith) in
-    let within = at_within c.in_ok-trail.trail.met (place_at c.in_ok-trail.trail.places.items c.args.first) q.0 q.1 in
+    let within = slice_get_within c.in_ok-trail.trail.met (place_at c.in_ok-trail.trail.places.items c.args.first) q.0 q.1 in
     let same = ap (λ (xs : List Met). length xs) c.as_slice.ensures in
     omega (arith, within, same)
 
