@@ -5,7 +5,7 @@ use Rattle.std.specs.Option.{option_or}
 use Rattle.std.proofs.lemmas.List.Quantifiers.{position-Some}
 use Rattle.std.proofs.lemmas.List.Sums.{sum_by-cons}
 use Rattle.std.proofs.lemmas.Option.{slice_get-map}
-use Rattle.net_places.specs.Places.{AreWithin, all_own, nets_at, own_at, own_below}
+use Rattle.net_places.specs.Places.{AreWithin, all_own, nets_at, own_below}
 use Rattle.net_places.specs.Whole.{all_own_of}
 use Rattle.net_tables.specs.Nets.{instance_in, net_in, nets_in}
 use Rattle.net_tables.specs.Tables.{AreNetTables}

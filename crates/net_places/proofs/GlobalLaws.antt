@@ -4,7 +4,6 @@ use Rattle.std.specs.Prelude.{bytes_eq, filter, is_some, option_map, slice_get, 
 use Rattle.std.specs.List.{list_any}
 use Rattle.std.specs.Option.{option_or}
 use Rattle.std.proofs.lemmas.Bool.Decides.{nat_tests}
-use Rattle.std.proofs.lemmas.List.{length-map}
 use Rattle.std.proofs.lemmas.List.Folds.{list_any-append}
 use Rattle.std.proofs.lemmas.List.Quantifiers.{position-Some}
 use Rattle.std.proofs.lemmas.Option.{none-some, same_Some, slice_get-get_or, slice_get_within}
@@ -17,7 +16,6 @@ use Rattle.net_places.specs.Globals.{HasMarked, IsMarking, all_nets, card_nets, 
 use Rattle.net_places.specs.Links.{AreGlobalNets, AreNoOthers}
 use Rattle.net_places.specs.Places.{nets_at}
 use Rattle.net_tables.specs.Nets.{device_in, instance_in, net_in, nets_in}
-use Rattle.net_tables.specs.Places.{global_place}
 use Rattle.net_tables.specs.Tables.{AreNetTables}
 use Rattle.net_tables.specs.declared.tables.NetTables.{NetTables}
 use Rattle.net_tables.specs.declared.types.CellNet.{CellNet}

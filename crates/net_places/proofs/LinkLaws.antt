@@ -1,6 +1,6 @@
 -- The places of an unrolled netlist by tables are those of the definition.
-use Rattle.std.proofs.Common.{◌≡◌, ◌≤◌, ◌<◌, ◌+◌, ◌-◌, ◌++◌, ◌∷◌, [], ℕ, zero, suc, List, Bool, true, map, flat_map, length, Option, Some, None, refl, ap, ap₂, sym, subst, ◌∙◌, arith, inl, inr, append-nil}
-use Rattle.std.specs.Prelude.{bytes_eq, slice_get, unwrap_or}
+use Rattle.std.proofs.Common.{◌≡◌, ◌≤◌, ◌<◌, ◌+◌, ◌-◌, ◌++◌, ◌∷◌, [], ℕ, zero, suc, List, true, map, flat_map, length, Option, refl, ap, ap₂, sym, subst, ◌∙◌, arith, inl, inr}
+use Rattle.std.specs.Prelude.{bytes_eq, unwrap_or}
 use Rattle.std.proofs.lemmas.Bool.{cases_lt, or_right}
 use Rattle.std.proofs.lemmas.List.{length-map, map-append}
 use Rattle.std.proofs.lemmas.Option.{none-some, same_Some}
@@ -22,7 +22,7 @@ use Rattle.vrt_model.proofs.Lists.{at_back, at_front, one_at}
 use Rattle.vrt_model.proofs.Members.{among_any, among_later, among_left, among_right}
 use Rattle.vrt_model.specs.Comparison.{cell_at}
 use Rattle.vrt_model.specs.Lists.{Among, At, has_name, path_name}
-use Rattle.vrt_model.specs.Unrolled.{Place as FlatPlace, Top, all_places, cell_named, deepest, instances_at, instances_from, mentions, net_at, own_count, own_nets, path_text, places_in, supply_net, top_place}
+use Rattle.vrt_model.specs.Unrolled.{Place as FlatPlace, Top, all_places, cell_named, deepest, instances_at, instances_from, mentions, net_at, own_count, own_nets, path_text, places_in, top_place}
 use Rattle.vrt_model.specs.declared.design.Cell.{Cell}
 use Rattle.vrt_model.specs.declared.design.DeviceCard.{DeviceCard}
 use Rattle.vrt_model.specs.declared.design.InstanceCard.{InstanceCard}

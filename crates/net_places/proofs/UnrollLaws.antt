@@ -1,5 +1,5 @@
 -- Places that are unrolled card by card.
-use Rattle.std.proofs.Common.{◌≡◌, ◌<◌, ◌≤◌, ◌+◌, ◌++◌, ◌∷◌, ◌^◌, [], ℕ, zero, suc, List, map, length, get_or, drop, Option, Some, None, refl, ap, ap₂, sym, subst, ◌∙◌, arith, add-one, append-nil, append_assoc, length-append}
+use Rattle.std.proofs.Common.{◌≡◌, ◌<◌, ◌≤◌, ◌+◌, ◌++◌, ◌∷◌, ◌^◌, [], ℕ, zero, suc, List, length, drop, Option, Some, None, refl, ap, ap₂, sym, subst, ◌∙◌, arith, add-one, append-nil, append_assoc, length-append}
 use Rattle.std.specs.Prelude.{slice_get, sum_by, unwrap_or}
 use Rattle.std.proofs.lemmas.List.{drop_all, drop_more}
 use Rattle.std.proofs.lemmas.List.Sums.{sum_by-cons}

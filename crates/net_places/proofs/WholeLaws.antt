@@ -1,11 +1,11 @@
 -- A whole: how many nets it has, and its places.
-use Rattle.std.proofs.Common.{◌≡◌, ◌<◌, ◌≤◌, ◌+◌, ◌++◌, ◌^◌, ◌∷◌, [], ℕ, zero, suc, Bool, true, false, get_or, List, map, flat_map, length, Option, Some, None, refl, ap, ap₂, sym, subst, ◌∙◌, arith}
+use Rattle.std.proofs.Common.{◌≡◌, ◌<◌, ◌≤◌, ◌+◌, ◌++◌, ◌^◌, ◌∷◌, [], ℕ, zero, suc, Bool, true, false, get_or, List, map, length, Option, Some, None, refl, ap, ap₂, sym, subst, ◌∙◌, arith}
 use Rattle.std.specs.Prelude.{bytes_eq, filter, is_none, Result, Ok, Err, IfOk, position, sum_by, unwrap_or}
 use Rattle.std.specs.List.{list_any}
 use Rattle.std.proofs.lemmas.List.Sums.{sum_by-cons}
 use Rattle.std.proofs.lemmas.Option.{none-some, same_Some}
 use Rattle.flat_sizes.proofs.PlaceLaws.{nets_counted}
-use Rattle.flat_sizes.specs.Totals.{inside, over, within}
+use Rattle.flat_sizes.specs.Totals.{inside, within}
 use Rattle.names.proofs.PlaceLaws.{placed_within}
 use Rattle.net_places.proofs.CellLaws.{all_own_is}
 use Rattle.net_places.proofs.GlobalLaws.{count_is, globals_are, others_are}
@@ -23,11 +23,11 @@ use Rattle.net_tables.specs.declared.tables.NetTables.{NetTables}
 use Rattle.vrt_model.proofs.Lists.{at_there, map_at, one_at}
 use Rattle.vrt_model.proofs.Members.{all_among, among_flat_map}
 use Rattle.vrt_model.specs.CellRules.{supply_of}
-use Rattle.vrt_model.specs.Comparison.{cell_at, port_nets}
+use Rattle.vrt_model.specs.Comparison.{cell_at}
 use Rattle.vrt_model.specs.FlatCircuit.{flat_nets}
 use Rattle.vrt_model.specs.Inputs.{IsCell, IsDesign}
 use Rattle.vrt_model.specs.Lists.{Among, At}
-use Rattle.vrt_model.specs.Unrolled.{Place as FlatPlace, Top, all_places, cell_named, deepest, first_global, globals_of, instances_at, instances_from, net_at, own_count, own_nets, places_in, top_cell, top_place}
+use Rattle.vrt_model.specs.Unrolled.{Place as FlatPlace, Top, all_places, cell_named, deepest, first_global, globals_of, instances_at, instances_from, own_count, own_nets, places_in, top_cell, top_place}
 use Rattle.vrt_model.specs.Unsupported.{top_before}
 use Rattle.vrt_model.specs.declared.design.Cell.{Cell}
 use Rattle.vrt_model.specs.declared.design.Design.{Design}

@@ -3,10 +3,14 @@
 #![tactic(auto)]
 
 mod globals;
+mod instances;
+mod nets;
 mod places;
 mod ports;
 mod unrolled;
 mod whole;
 
+pub use instances::flat_instances;
+pub use nets::add_inner_nets;
 pub use places::Place;
 pub use whole::{Unrolled, unroll};

@@ -43,7 +43,7 @@ impl Drop for Place {
 }
 
 /// A copy of nets.
-fn copy_nets(alloc: Global, nets: &[Net]) -> Result<Seq<Net>, NoMemory>
+pub(crate) fn copy_nets(alloc: Global, nets: &[Net]) -> Result<Seq<Net>, NoMemory>
     ensures { IfOk result (λ copy. copy ≡ nets.now) }
 {
     let mut copy = Seq::new(alloc);
@@ -102,7 +102,7 @@ fn instance_name(design: &Design, cell: usize, card: usize) -> &[u8]
 }
 
 /// The path of something in an instance.
-fn inner_path(alloc: Global, path: &Text, name: &[u8]) -> Result<Text, NoMemory>
+pub(crate) fn inner_path(alloc: Global, path: &Text, name: &[u8]) -> Result<Text, NoMemory>
     ensures { IfOk result (λ text. text ≡ path_name path.now name.now) }
 {
     if path.is_empty() {

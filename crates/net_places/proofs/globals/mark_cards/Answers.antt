@@ -1,4 +1,3 @@
-use Rattle.std.proofs.Common.{ap, ap₂, flat_map, subst, List, Bool}
 use Rattle.net_places.proofs.GlobalLaws.{cards_by}
 use Rattle.net_places.proofs.globals.mark_cards.Goals as goal
 

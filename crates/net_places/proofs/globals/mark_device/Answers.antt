@@ -1,4 +1,3 @@
-use Rattle.std.proofs.Common.{◌∷◌, []}
 use Rattle.net_places.proofs.GlobalLaws.{three}
 use Rattle.net_places.proofs.globals.mark_device.Goals as goal
 

@@ -1,4 +1,4 @@
-use Rattle.std.proofs.Common.{◌≡◌, flat_map, subst, List, Bool}
+use Rattle.std.proofs.Common.{flat_map, subst, List}
 use Rattle.net_places.proofs.GlobalLaws.{begun, ended, more, no_items}
 use Rattle.net_places.specs.Globals.{HasMarked}
 use Rattle.net_tables.specs.declared.types.CellNet.{CellNet}

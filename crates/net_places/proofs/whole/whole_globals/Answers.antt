@@ -1,5 +1,4 @@
-use Rattle.std.proofs.Common.{◌≡◌, ◌∙◌, ◌<◌, ◌+◌, ◌^◌, ap, arith, length, sym, subst, ℕ}
-use Rattle.net_places.proofs.GlobalLaws.{count_is, globals_are, others_are}
+use Rattle.std.proofs.Common.{◌∙◌, ◌<◌, sym, subst, ℕ}
 use Rattle.net_places.proofs.WholeLaws.{both_ok, numbered_is, numbered_room}
 use Rattle.net_places.proofs.whole.whole_globals.Goals as goal
 

@@ -1,4 +1,4 @@
-use Rattle.std.proofs.Common.{◌≡◌, ◌∙◌, ◌≤◌, List, ℕ, ap, length, sym, subst}
+use Rattle.std.proofs.Common.{◌∙◌, ◌≤◌, List, ℕ, ap, length, sym, subst}
 use Rattle.std.proofs.lemmas.Result.{IfOk-weaker}
 use Rattle.net_places.proofs.WholeLaws.{few_ports}
 use Rattle.net_places.specs.Ports.{IsNumbered}
