@@ -1,0 +1,3 @@
+-- What nets show at one valuation.
+pub mod LookLaws
+pub mod PartResponses
