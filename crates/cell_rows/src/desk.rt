@@ -6,8 +6,9 @@
 //! | `pair` | the pairing of the first cell with the first model |
 //! | `circuit ROLE ..`, `sizes`, `structure` | of the first cell (`circuits`) |
 //! | `order` | of all cells, under the rules (`orders`) |
+//! | `generate N` | the texts of this size (`made`) |
 
-use crate::{circuits, orders, pairings};
+use crate::{circuits, made, orders, pairings};
 use anyhow::Result;
 use row_script::{Script, number};
 use std::alloc::Global;
@@ -28,6 +29,7 @@ fn told(alloc: Global, script: &Script, asked: &str) -> Result<String> {
         "model" => pairings::told(alloc, script, Some(number(rest)?)),
         "pair" => pairings::told(alloc, script, None),
         "order" => orders::told(alloc, script),
+        "generate" => made::told(alloc, number(rest)?),
         _ => circuits::told(alloc, script, word, rest),
     }
 }

@@ -6,10 +6,12 @@
 //! | `pairings` | the model of a cell, and the signals of its ports |
 //! | `circuits` | the flat circuit of a cell, its sizes, and what stands in its way |
 //! | `orders` | the order of cells in cells, or the first fault of a netlist and its rules |
+//! | `made` | the texts of a size |
 #![tactic(auto)]
 
 mod circuits;
 mod desk;
+mod made;
 mod orders;
 mod pairings;
 
