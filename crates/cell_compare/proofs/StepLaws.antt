@@ -5,8 +5,8 @@ use Rattle.std.specs.Prelude.{Ok}
 use Rattle.std.proofs.lemmas.Option.{none-some, same_Some}
 use Rattle.cell_compare.proofs.Causes.{circuit_count, device_model, model_count, output_in_way, port_in_way, tied_supply}
 use Rattle.cell_compare.specs.Steps.{CircuitTells, IsEarlyWhy, IsFoundBy, Stops, circuit_why, device_why, model_why, pairing_why}
-use Rattle.cell_compare.specs.declared.unchecked.Unchecked.{Unchecked}
-use Rattle.cell_compare.specs.declared.unchecked.Unchecked.TheVariants.{Because, NoMemory}
+use Rattle.cell_compare.specs.declared.hindrance.Hindrance.{Hindrance}
+use Rattle.cell_compare.specs.declared.hindrance.Hindrance.TheVariants.{Because, NoMemory}
 use Rattle.flatten.specs.Structures.{IsStructured}
 use Rattle.vrt_model.specs.FlatBlif.{flat_model_of}
 use Rattle.vrt_model.specs.PairedPorts.{Model, output_is_input, paired_model, ports_fault}
@@ -31,7 +31,7 @@ found_or g h None q P why e first other = found_by h q P why e (λ y same. other
 found_or g h (Some x) q P why e first other = subst P (same_Some (g x) why e) (first x refl)
 
 -- what is known of a cause may say less
-pub stops_for : (P Q : Why → Type 0) → ((why : Why) → P why → Q why) → (stop : Unchecked) → Stops P stop → Stops Q stop
+pub stops_for : (P Q : Why → Type 0) → ((why : Why) → P why → Q why) → (stop : Hindrance) → Stops P stop → Stops Q stop
 stops_for P Q less (Because why) is = less why is
 stops_for P Q less NoMemory is = tt
 

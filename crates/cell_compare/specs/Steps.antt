@@ -9,8 +9,8 @@ use Rattle.cell_compare.specs.Phases.{IsPlainComparison, input_count}
 use Rattle.cell_compare.specs.declared.flattened.Comparison.{Comparison as CellComparison}
 use Rattle.cell_compare.specs.declared.flattened.Flattened.{Flattened}
 use Rattle.cell_compare.specs.declared.flattened.PhasePlan.{PhasePlan}
-use Rattle.cell_compare.specs.declared.unchecked.Unchecked.{Unchecked}
-use Rattle.cell_compare.specs.declared.unchecked.Unchecked.TheVariants.{Because, NoMemory}
+use Rattle.cell_compare.specs.declared.hindrance.Hindrance.{Hindrance}
+use Rattle.cell_compare.specs.declared.hindrance.Hindrance.TheVariants.{Because, NoMemory}
 use Rattle.flatten.specs.Structures.{IsStructured}
 use Rattle.latch_match.specs.Paired.{IsPairing}
 use Rattle.vrt_model.specs.Circuits.{IsFlat, IsCircuit}
@@ -43,7 +43,7 @@ use Rattle.vrt_model.specs.declared.whole.Drive.{Drive}
 use Rattle.vrt_model.specs.declared.whole.Drive.TheVariants.{Soft}
 
 -- a step stops for a cause of which this holds, or for want of memory
-abbrev pub Stops : (Why → Type 0) → Unchecked → Type 0
+abbrev pub Stops : (Why → Type 0) → Hindrance → Type 0
 Stops P (Because why) = P why
 Stops P NoMemory = Unit {0}
 
@@ -82,16 +82,16 @@ pairing_why design cell flat rules =
     option_or (why_of (λ name. Ports name) (ports_fault design cell flat rules)) (why_of (λ signal. OutputIsInput signal) (output_is_input flat))
 
 -- the counts of a circuit are tested first; a device or a tie is kept
-abbrev pub CircuitTells : Top → Result (Option Why) Unchecked → Type 0
+abbrev pub CircuitTells : Top → Result (Option Why) Hindrance → Type 0
 CircuitTells t (Ok None) = IsStructured t
 CircuitTells t (Ok (Some why)) = (too_large (circuit_limits t) ≡ None) × IsFoundBy (device_why t) why
 CircuitTells t (Err stop) = Stops (IsFoundBy (circuit_why t)) stop
 
-abbrev pub ModelTells : Blif → ℕ → Result FlatModel Unchecked → Type 0
+abbrev pub ModelTells : Blif → ℕ → Result FlatModel Hindrance → Type 0
 ModelTells blif m (Ok flat) = (too_large (model_limits blif m) ≡ None) × (flat ≡ flat_model_of blif m) × IsFlatModel flat
 ModelTells blif m (Err stop) = Stops (IsFoundBy (model_why blif m)) stop
 
-abbrev pub PairingTells : Design → ℕ → ℕ → FlatModel → Rules → Result Pairing Unchecked → Type 0
+abbrev pub PairingTells : Design → ℕ → ℕ → FlatModel → Rules → Result Pairing Hindrance → Type 0
 PairingTells design cell m flat rules (Ok pairing) = IsPairing design cell m flat rules pairing
 PairingTells design cell m flat rules (Err stop) = Stops (IsFoundBy (pairing_why design cell flat rules)) stop
 
@@ -100,7 +100,7 @@ abbrev pub IsEarlyWhy : Design → Blif → Rules → ℕ → Why → Type 0
 IsEarlyWhy design blif rules cell = IsFoundBy (why_early design blif rules cell (paired_model design blif rules cell))
 
 -- all of these
-abbrev pub FlattenedTells : Design → Blif → Rules → ℕ → ℕ → Result Flattened Unchecked → Type 0
+abbrev pub FlattenedTells : Design → Blif → Rules → ℕ → ℕ → Result Flattened Hindrance → Type 0
 FlattenedTells design blif rules cell m (Ok f) = IsFlattened design blif rules cell m f
 FlattenedTells design blif rules cell m (Err stop) = Stops (IsEarlyWhy design blif rules cell) stop
 
@@ -118,7 +118,7 @@ IsPhaseCycle c flat phase number why =
     ⊎ ((signals : List ℕ) × (why ≡ ModelCycle number signals) × ((parts : Parts) × IsPartList c phase true parts) × IsFirstCycle (ArcOf flat (nothing_known flat)) signals)
 
 -- a plan of a phase, or its cycle
-abbrev pub PlanTells : Circuit → FlatModel → Phase → ℕ → Result PhasePlan Unchecked → Type 0
+abbrev pub PlanTells : Circuit → FlatModel → Phase → ℕ → Result PhasePlan Hindrance → Type 0
 PlanTells c flat phase number (Ok plan) = IsPartList c phase true plan.parts × IsPlan flat (nothing_known flat) plan.model
 PlanTells c flat phase number (Err stop) = Stops (IsPhaseCycle c flat phase number) stop
 
@@ -137,7 +137,7 @@ pub record IsPlannedTo (rules : Rules) (c : Circuit) (flat : FlatModel) (why : W
   pub cycle : IsPhaseCycle c flat (phase_at rules phase) phase why
 
 -- a plan for each phase, or the first cycle
-abbrev pub PlansTell : Rules → Circuit → FlatModel → Result (List PhasePlan) Unchecked → Type 0
+abbrev pub PlansTell : Rules → Circuit → FlatModel → Result (List PhasePlan) Hindrance → Type 0
 PlansTell rules c flat (Ok plans) = ArePlans rules c flat (length rules.phases) plans
 PlansTell rules c flat (Err stop) = Stops (IsPlannedTo rules c flat) stop
 

@@ -16,8 +16,8 @@ ghost use Rattle.vrt_model.specs.Variables.{is_input};
 ghost use Rattle.vrt_model.specs.declared.circuit.FlatNet.{FlatNet as NetValue};
 
 use crate::flattened::Flattened;
+use crate::hindrance::Hindrance;
 use crate::ports::cell_of;
-use crate::unchecked::Unchecked;
 use blif_flat::{FlatModelFault, ModelTables, flat_model_with};
 use flatten::{FlatFault, flat_with, structure_with};
 use latch_match::{PairFault, pair_ports_with};
@@ -34,7 +34,7 @@ fn circuit_cause(
     design: &Design,
     rules: &Rules,
     cell: u32,
-) -> Result<Option<Why>, Unchecked>
+) -> Result<Option<Why>, Hindrance>
     requires netlist { IsDesign design.now }
     requires indexed { AreIndexed design.now rules.now index.now }
     requires there { cell < length design.now.cells }
@@ -44,8 +44,8 @@ fn circuit_cause(
         Ok(()) => Ok(None),
         Err(FlatFault::DeviceModel { model }) => Ok(Some(Why::DeviceModel { model })),
         Err(FlatFault::SupplyTie { path }) => Ok(Some(Why::SupplyTie { path })),
-        Err(FlatFault::Limit { count }) => Err(Unchecked::Because(Why::TooLarge { count })),
-        Err(FlatFault::NoMemory) => Err(Unchecked::NoMemory),
+        Err(FlatFault::Limit { count }) => Err(Hindrance::Because(Why::TooLarge { count })),
+        Err(FlatFault::NoMemory) => Err(Hindrance::NoMemory),
     }
 }
 
@@ -55,7 +55,7 @@ fn flat_model_of(
     tables: &ModelTables,
     blif: &Blif,
     model: u32,
-) -> Result<FlatModel, Unchecked>
+) -> Result<FlatModel, Hindrance>
     requires tables { AreModelTables blif.now tables.now }
     requires blif { IsBlif blif.now }
     requires models { AreModels blif.now }
@@ -63,8 +63,8 @@ fn flat_model_of(
 {
     match flat_model_with(alloc, tables, blif, model) {
         Ok(flat) => Ok(flat),
-        Err(FlatModelFault::Limit { count }) => Err(Unchecked::Because(Why::TooLarge { count })),
-        Err(FlatModelFault::NoMemory) => Err(Unchecked::NoMemory),
+        Err(FlatModelFault::Limit { count }) => Err(Hindrance::Because(Why::TooLarge { count })),
+        Err(FlatModelFault::NoMemory) => Err(Hindrance::NoMemory),
     }
 }
 
@@ -95,7 +95,7 @@ fn pairing_of(
     model: u32,
     flat: &FlatModel,
     rules: &Rules,
-) -> Result<Pairing, Unchecked>
+) -> Result<Pairing, Hindrance>
     requires indexed { AreIndexed design.now rules.now index.now }
     requires cell { cell < length design.now.cells }
     requires rules { AreRules rules.now }
@@ -103,11 +103,11 @@ fn pairing_of(
 {
     match ports_paired(alloc, index, design, cell, model, flat, rules) {
         Ok(pairing) => Ok(pairing),
-        Err(PairFault::Ports { name }) => Err(Unchecked::Because(Why::Ports { name })),
+        Err(PairFault::Ports { name }) => Err(Hindrance::Because(Why::Ports { name })),
         Err(PairFault::OutputIsInput { signal }) => {
-            Err(Unchecked::Because(Why::OutputIsInput { signal }))
+            Err(Hindrance::Because(Why::OutputIsInput { signal }))
         }
-        Err(PairFault::NoMemory) => Err(Unchecked::NoMemory),
+        Err(PairFault::NoMemory) => Err(Hindrance::NoMemory),
     }
 }
 
@@ -121,7 +121,7 @@ pub(crate) fn flatten_cell(
     rules: &Rules,
     cell: u32,
     model: u32,
-) -> Result<Flattened, Unchecked>
+) -> Result<Flattened, Hindrance>
     requires prepared { ArePrepared design.now blif.now rules.now prepared.now }
     requires design { IsDesign design.now }
     requires blif { IsBlif blif.now }
@@ -136,7 +136,7 @@ pub(crate) fn flatten_cell(
     let cause = circuit_cause(alloc, index, design, rules, cell)?;
     let flat_model = flat_model_of(alloc, &prepared.models, blif, model)?;
     if let Some(why) = cause {
-        return Err(Unchecked::Because(why));
+        return Err(Hindrance::Because(why));
     }
     let pairing = pairing_of(alloc, index, design, cell, model, &flat_model, rules)?;
     match flat_with(alloc, index, design, rules, cell, &pairing) {
@@ -145,7 +145,7 @@ pub(crate) fn flatten_cell(
             circuit,
             model: flat_model,
         }),
-        Err(_) => Err(Unchecked::NoMemory),
+        Err(_) => Err(Hindrance::NoMemory),
     }
 }
 

@@ -1,16 +1,16 @@
 //! A cell compared with its model by decision diagrams: the verdict on the cell, the faults of a phase place by place.
 #![tactic(auto)]
 
-mod checks;
 mod circuit;
-mod compared;
 mod flattened;
 mod flattening;
+mod hindrance;
 mod known_facts;
 mod least;
 mod net;
 mod outputs;
 mod phase;
+mod phase_search;
 mod phase_words;
 mod plans;
 mod port_list;
@@ -19,12 +19,12 @@ mod roots;
 mod scan;
 mod solve;
 mod told_faults;
-mod unchecked;
+mod verdict;
 
 pub use circuit::circuit_fault;
-pub use compared::{Compared, compare, compare_prepared};
 pub use flattened::{Flattened, PhaseFound, PhasePlan};
 pub use least::least_valuation;
 pub use net::CircuitFault;
 pub use outputs::{Output, OutputFault, output_fault};
 pub use roots::open_roots;
+pub use verdict::{Compared, compare, compare_prepared};

@@ -7,7 +7,7 @@ ghost use Rattle.vrt_model.specs.Circuits.{IsFlat};
 ghost use Rattle.vrt_model.specs.FlatModels.{IsFlatModel};
 
 use crate::flattened::PhasePlan;
-use crate::unchecked::Unchecked;
+use crate::hindrance::Hindrance;
 use blif_eval::{PlanFault, model_plan};
 use channel_parts::{PartFault, parts};
 use std::alloc::Global;
@@ -54,7 +54,7 @@ fn phase_plan(
     phase: &Phase,
     number: u32,
     known: &Seq<Option<bool>>,
-) -> Result<PhasePlan, Unchecked>
+) -> Result<PhasePlan, Hindrance>
     requires circuit { IsFlat circuit.now }
     requires model { IsFlatModel model.now }
     requires latchless { model.now.latches ≡ [] }
@@ -64,20 +64,20 @@ fn phase_plan(
     let parts = match parts(alloc, circuit, phase, true) {
         Ok(parts) => parts,
         Err(PartFault::Cycle { nets }) => {
-            return Err(Unchecked::Because(Why::Cycle {
+            return Err(Hindrance::Because(Why::Cycle {
                 phase: number,
                 nets,
             }));
         }
-        Err(PartFault::NoMemory) => return Err(Unchecked::NoMemory),
+        Err(PartFault::NoMemory) => return Err(Hindrance::NoMemory),
     };
     match model_plan(alloc, model, known) {
         Ok(model) => Ok(PhasePlan { parts, model }),
-        Err(PlanFault::ModelCycle { signals }) => Err(Unchecked::Because(Why::ModelCycle {
+        Err(PlanFault::ModelCycle { signals }) => Err(Hindrance::Because(Why::ModelCycle {
             phase: number,
             signals,
         })),
-        Err(PlanFault::NoMemory) => Err(Unchecked::NoMemory),
+        Err(PlanFault::NoMemory) => Err(Hindrance::NoMemory),
     }
 }
 
@@ -87,7 +87,7 @@ pub(crate) fn plans(
     rules: &Rules,
     circuit: &Circuit,
     model: &FlatModel,
-) -> Result<Seq<PhasePlan>, Unchecked>
+) -> Result<Seq<PhasePlan>, Hindrance>
     requires phases { length rules.now.phases ≤ 16 }
     requires circuit { IsFlat circuit.now }
     requires model { IsFlatModel model.now }

@@ -1,4 +1,4 @@
-use Rattle.cell_compare.proofs.checks.check_cell.Goals as goal
+use Rattle.cell_compare.proofs.phase_search.check_cell.Goals as goal
 
 pub too_many_inputs-requires : goal.too_many_inputs-requires
 too_many_inputs-requires c = c.requires.comparable.circuit

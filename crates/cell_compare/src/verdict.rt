@@ -9,11 +9,11 @@ ghost use Rattle.vrt_model.specs.Models.{AreModels};
 ghost use Rattle.vrt_model.specs.PairedPorts.{Model, model_of_paired, paired_model};
 ghost use Rattle.vrt_model.specs.Verdicts.{IsVerdict};
 
-use crate::checks::check_cell;
 use crate::flattened::{Comparison, Flattened};
 use crate::flattening::flatten_cell;
+use crate::hindrance::Hindrance;
 use crate::known_facts::{facts_of, no_facts};
-use crate::unchecked::Unchecked;
+use crate::phase_search::check_cell;
 use prepared_tables::{Prepared, is_skipped_with, model_of_with, prepare};
 use std::alloc::Global;
 use vrt_model::{Blif, CellFacts, Design, NoMemory, Rules, Seq, Verdict, Why};
@@ -62,8 +62,8 @@ fn compare_with(
 {
     let flattened = match flatten_cell(alloc, prepared, design, blif, rules, cell, model) {
         Ok(flattened) => flattened,
-        Err(Unchecked::Because(why)) => return Ok(without(alloc, Verdict::Unsupported(why))),
-        Err(Unchecked::NoMemory) => return Err(NoMemory),
+        Err(Hindrance::Because(why)) => return Ok(without(alloc, Verdict::Unsupported(why))),
+        Err(Hindrance::NoMemory) => return Err(NoMemory),
     };
     let compared = Comparison {
         design,

@@ -6,19 +6,19 @@ use vrt_model::{NoMemory, Why};
 
 /// What stops a step of a comparison.
 #[derive(Drop)]
-pub(crate) enum Unchecked {
+pub(crate) enum Hindrance {
     /// The cell cannot be checked.
     Because(Why),
     /// Memory could not be had.
     NoMemory,
 }
 
-impl From<NoMemory> for Unchecked {
-    ghost use Rattle.cell_compare.specs.declared.unchecked.Unchecked.TheVariants.{NoMemory};
+impl From<NoMemory> for Hindrance {
+    ghost use Rattle.cell_compare.specs.declared.hindrance.Hindrance.TheVariants.{NoMemory};
 
     ghost from_gives = { λ _ r. r ≡ NoMemory };
 
-    fn from(_: NoMemory) -> Unchecked {
-        Unchecked::NoMemory
+    fn from(_: NoMemory) -> Hindrance {
+        Hindrance::NoMemory
     }
 }

@@ -7,9 +7,9 @@ ghost use Rattle.cell_compare.specs.Steps.{ArePlans, IsChecked, IsComparable, Is
 
 use crate::flattened::{Comparison, PhaseFound, PhasePlan};
 use crate::flattening::too_many_inputs;
+use crate::hindrance::Hindrance;
 use crate::phase::check_phase;
 use crate::plans::plans;
-use crate::unchecked::Unchecked;
 use std::alloc::Global;
 use vrt_model::{NoMemory, Verdict, Why};
 
@@ -61,7 +61,7 @@ pub(crate) fn check_cell(
     let flattened = compared.flattened;
     match plans(alloc, compared.rules, &flattened.circuit, &flattened.model) {
         Ok(plans) => check_phases(alloc, budget, compared, plans.as_slice()),
-        Err(Unchecked::Because(why)) => Ok(Verdict::Unsupported(why)),
-        Err(Unchecked::NoMemory) => Err(NoMemory),
+        Err(Hindrance::Because(why)) => Ok(Verdict::Unsupported(why)),
+        Err(Hindrance::NoMemory) => Err(NoMemory),
     }
 }

@@ -5,7 +5,7 @@ use Rattle.cell_compare.proofs.PlanLaws.{plan_of, read_at}
 use Rattle.cell_compare.specs.Compared.{PhaseGives, comparison_in}
 use Rattle.cell_compare.specs.declared.flattened.PhaseFound.TheVariants.{Fault}
 use Rattle.vrt_model.specs.Equal.{IsPhaseEqual}
-use Rattle.cell_compare.proofs.checks.check_phases.Goals as goal
+use Rattle.cell_compare.proofs.phase_search.check_phases.Goals as goal
 
 pub check_phase-requires-clause-cell : goal.check_phase-requires-clause-cell
 check_phase-requires-clause-cell c = c.requires.comparable.cell

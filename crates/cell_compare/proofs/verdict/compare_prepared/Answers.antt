@@ -1,4 +1,4 @@
-use Rattle.cell_compare.proofs.compared.compare_prepared.Goals as goal
+use Rattle.cell_compare.proofs.verdict.compare_prepared.Goals as goal
 
 pub compare_with-requires-clause-inputs : goal.compare_with-requires-clause-inputs
 compare_with-requires-clause-inputs c = record {

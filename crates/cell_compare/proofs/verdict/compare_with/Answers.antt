@@ -4,7 +4,7 @@ use Rattle.cell_compare.proofs.PlainComparison.{latchless, plain_comparison}
 use Rattle.cell_compare.proofs.VerdictLaws.{facts_with, line_with, told}
 use Rattle.cell_compare.specs.Steps.{AreSoft}
 use Rattle.vrt_model.specs.declared.pairing.PortRole.{PortRole}
-use Rattle.cell_compare.proofs.compared.compare_with.Goals as goal
+use Rattle.cell_compare.proofs.verdict.compare_with.Goals as goal
 
 pub flatten_cell-requires-clause-design : goal.flatten_cell-requires-clause-design
 flatten_cell-requires-clause-design c = c.requires.inputs.netlist

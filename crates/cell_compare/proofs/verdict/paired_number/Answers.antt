@@ -1,4 +1,4 @@
-use Rattle.cell_compare.proofs.compared.paired_number.Goals as goal
+use Rattle.cell_compare.proofs.verdict.paired_number.Goals as goal
 
 pub model_of_with-requires : goal.model_of_with-requires
 model_of_with-requires c = c.requires.index_is.rules_are
