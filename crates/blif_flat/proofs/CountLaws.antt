@@ -1,13 +1,13 @@
 -- How much stands in models, by tables and by the unrolled model.
-use Rattle.std.proofs.Common.{◌≡◌, ◌<◌, ◌+◌, ◌-◌, ◌++◌, ◌∷◌, [], ℕ, zero, suc, not, List, map, flat_map, length, get_or, take, Option, Some, None, Bool, true, false, refl, ap, ap₂, sym, ◌∙◌, arith, add-one, cond}
+use Rattle.std.proofs.Common.{◌≡◌, ◌<◌, ◌+◌, ◌-◌, ◌++◌, ◌∷◌, [], ℕ, zero, suc, not, List, map, flat_map, length, get_or, take, Some, None, Bool, true, false, refl, ap, ap₂, sym, ◌∙◌, arith, add-one, cond}
 use Rattle.std.specs.Prelude.{bytes_eq, find, position, slice_get, unwrap_or, is_none}
 use Rattle.std.specs.List.{sum_by}
-use Rattle.std.specs.Option.{option_or}
 use Rattle.std.proofs.lemmas.Bool.{or_parts}
 use Rattle.std.proofs.lemmas.List.{length-map, take_more}
 use Rattle.std.proofs.lemmas.List.Concat.{length-flat_map}
 use Rattle.std.proofs.lemmas.List.Sums.{sum_by-append, sum_by-cons}
 use Rattle.std.proofs.lemmas.Option.{get_or_from_slice_get}
+use Rattle.vrt_model.proofs.Tests.{is_none_is, neither}
 use Rattle.vrt_model.specs.FlatBlif.{ModelPlace, all_models, flat_cover, flat_model_of, flat_signals_at, formals, inner_count, inner_signals, model_at, model_numbered, models_in, signals_of, subs_at, subs_from, top_model}
 use Rattle.vrt_model.specs.Lists.{At, path_name}
 use Rattle.vrt_model.specs.Models.{bad_formal, bad_sub, interface_of, is_bad_sub, is_model}
@@ -140,14 +140,6 @@ count_places blif (p ∷ places) = let rest = count_places blif places in let mo
 
 -- ---- tables of sub-models
 
-pub both_none : {X : Type 0} (a b : Option X) → option_or a b ≡ None → (a ≡ None) × (b ≡ None)
-both_none None b e = (refl, e)
-both_none (Some x) b e = cc
-
-pub is_none_is : {X : Type 0} (o : Option X) → not (is_none o) ≡ false → o ≡ None
-is_none_is None e = refl
-is_none_is (Some x) e = cc
-
 not_found : {X : Type 0} (p : X → Bool) (x : X) (xs : List X) → find p (x ∷ xs) ≡ None → (p x ≡ false) × (find p xs ≡ None)
 not_found {X} p x xs e = by_test (p x) refl e where
   by_test : (b : Bool) → p x ≡ b → cond b (Some x) (find p xs) ≡ None → (p x ≡ false) × (find p xs ≡ None)
@@ -167,7 +159,7 @@ no_subs : (i : ℕ) (s : SubLine) → At [] i s → ⊥
 no_subs i s e = cc
 
 pub all_fit : (blif : Blif) → bad_sub blif ≡ None → AllFit blif
-all_fit blif none m i s h = record { formals = (both_none _ _ (is_none_is (bad_formal blif s) (or_parts (not (is_model blif s.model)) (not (is_none (bad_formal blif s))) (good blif.models none m h)).1)).0 } where
+all_fit blif none m i s h = record { formals = (neither _ _ (is_none_is (bad_formal blif s) (or_parts (not (is_model blif s.model)) (not (is_none (bad_formal blif s))) (good blif.models none m h)).1)).0 } where
   good : (ms : List BlifModel) → find (is_bad_sub blif) (flat_map (λ (m : BlifModel). m.subs) ms) ≡ None → (m : ℕ)
       → At (unwrap_or (slice_get ms m) (record { line = 0; name = []; inputs = []; input_lines = []; clocks = []; clock_lines = []; outputs = []; output_lines = []; covers = []; latches = []; subs = [] })).subs i s
       → is_bad_sub blif s ≡ false

@@ -1,14 +1,15 @@
 -- Names that stand once, and those of them that are not tied.
 use Rattle.std.proofs.Common.{◌≡◌, ◌+◌, ◌++◌, ◌∷◌, ◌||◌, ◌&&◌, [], ℕ, suc, not, List, Bool, true, false, cond, filter, length, Some, None, Option, refl, ap, ap₂, sym, ◌∙◌, subst, arith}
 use Rattle.std.specs.Prelude.{bytes_eq}
-use Rattle.std.proofs.lemmas.Bool.{or_parts}
+use Rattle.std.proofs.lemmas.Bool.{or_left, or_parts}
 use Rattle.std.proofs.lemmas.List.Folds.{list_any-append}
 use Rattle.std.proofs.lemmas.Slice.Eq.{bytes_eq-Decides}
+use Rattle.vrt_model.proofs.Tests.{bytes_eq-sym}
 use Rattle.names.specs.Names.{distinct_from, with_names}
 use Rattle.vrt_model.specs.Lists.{distinct, has_name}
 use Rattle.names.proofs.ApartLaws.{NoRepeat, once_apart}
 use Rattle.names.proofs.FilterLaws.{filter_new}
-use Rattle.names.proofs.NameLaws.{bytes_eq-sym, names_once, once_has_same}
+use Rattle.names.proofs.NameLaws.{names_once, once_has_same}
 use Rattle.vrt_model.specs.FlatBlif.{signals_of}
 use Rattle.vrt_model.specs.Models.{bad_formal_after, interface_of}
 use Rattle.vrt_model.specs.declared.blif.BlifModel.{BlifModel}
@@ -102,12 +103,8 @@ left_untied signals seen (f ∷ fs) xs n there e =
       not_not true e = refl
       not_not false e = cc
 
-or_more : (a b : Bool) → a ≡ true → (a || b) ≡ true
-or_more true b e = refl
-or_more false b e = cc
-
 among_more : (xs ys : List (List ℕ)) (n : List ℕ) → has_name xs n ≡ true → has_name (xs ++ ys) n ≡ true
-among_more xs ys n e = list_any-append (bytes_eq n) xs ys ∙ or_more (has_name xs n) (has_name ys n) e
+among_more xs ys n e = list_any-append (bytes_eq n) xs ys ∙ or_left (has_name xs n) (has_name ys n) e
 
 -- the signals of an interface are signals of the model
 pub interface_among : (m : BlifModel) (n : List ℕ) → has_name (interface_of m) n ≡ true → has_name (signals_of m) n ≡ true

@@ -6,12 +6,12 @@ use Rattle.std.proofs.lemmas.Bool.{and_parts, cases_eq}
 use Rattle.std.proofs.lemmas.List.Recursion.{is_count_by}
 use Rattle.std.proofs.lemmas.List.Sums.{sum_by-cons}
 use Rattle.std.proofs.lemmas.Slice.Eq.{bytes_eq-Decides}
+use Rattle.vrt_model.proofs.Tests.{bytes_eq-sym}
 use Rattle.vrt_model.specs.Lists.{At, has_name, place_of}
 use Rattle.names.proofs.ApartLaws.{NoRepeat}
 use Rattle.names.proofs.FilterLaws.{has_name_filter}
 use Rattle.blif_checks.specs.Mentions.{number_among}
 use Rattle.names.proofs.PlaceLaws.{any_placed, at_among}
-use Rattle.names.proofs.NameLaws.{bytes_eq-sym}
 use Rattle.blif_checks.proofs.NoteLaws.{eq_no, eq_yes}
 
 -- how many items pass

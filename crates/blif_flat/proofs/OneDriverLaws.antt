@@ -20,7 +20,8 @@ use Rattle.vrt_model.specs.declared.flat_model.Cover.{Cover}
 use Rattle.vrt_model.specs.declared.flat_model.FlatLatch.{FlatLatch}
 use Rattle.vrt_model.specs.declared.flat_model.FlatModel.{FlatModel}
 use Rattle.vrt_model.proofs.Members.{among_left, among_right, at_none, find_none}
-use Rattle.blif_flat.proofs.CountLaws.{both_none, is_none_is, signals_in}
+use Rattle.vrt_model.proofs.Tests.{is_none_is, neither}
+use Rattle.blif_flat.proofs.CountLaws.{signals_in}
 use Rattle.blif_flat.proofs.OneDriverCounts.{hits, hits_flat, hits_is, hits_join, hits_map, span_within, total, total_both, total_same}
 use Rattle.blif_flat.proofs.OneDriverDepths.{Ends, ends_upto, models_end}
 use Rattle.blif_flat.proofs.OneDriverLines.{none_told}
@@ -70,7 +71,7 @@ sub_fits blif none n s a =
     let good : is_bad_sub blif s ≡ false = find_none (is_bad_sub blif) (flat_map (λ (m : BlifModel). m.subs) blif.models) s none (sub_there blif.models n s a) in
     let formal : bad_formal blif s ≡ None = is_none_is (bad_formal blif s) (or_parts (not (is_model blif s.model)) (not (is_none (bad_formal blif s))) good).1 in
     let m : BlifModel = model_at blif (model_numbered blif s.model) in
-    let parts = both_none (bad_formal_after (interface_of m) [] (formals s)) (find (λ name. not (has_name (formals s) name)) (m.inputs ++ m.clocks)) formal in
+    let parts = neither (bad_formal_after (interface_of m) [] (formals s)) (find (λ name. not (has_name (formals s) name)) (m.inputs ++ m.clocks)) formal in
     record { fitting = parts.0; whole = parts.1 }
 
 -- good models are driven once throughout

@@ -3,10 +3,10 @@ use Rattle.std.proofs.Common.{◌≡◌, ◌<◌, ◌++◌, ◌∷◌, ◌||◌,
 use Rattle.std.specs.Prelude.{◌⊎◌, ◌==◌, bytes_eq, filter, find, is_none, min, option_to_list, unwrap_or}
 use Rattle.std.specs.List.{list_any}
 use Rattle.std.proofs.lemmas.Bool.{cases_lt, eqb-true}
-use Rattle.std.proofs.lemmas.Option.{same_Some, slice_get-map}
+use Rattle.std.proofs.lemmas.Option.{same_Some}
 use Rattle.std.proofs.lemmas.Slice.Eq.{bytes_eq-Decides}
 use Rattle.vrt_model.specs.Lists.{Among, At, has_name}
-use Rattle.names.proofs.NameLaws.{bytes_eq-sym, names_once, once_has_same}
+use Rattle.names.proofs.NameLaws.{names_once, once_has_same}
 use Rattle.vrt_model.specs.FlatBlif.{cover_signals, latch_signals, signals_of, sub_signals}
 use Rattle.vrt_model.specs.Inputs.{IsModel}
 use Rattle.vrt_model.specs.Models.{OnLine, driver_fault_in, drivers_in, drivers_of_name, is_driven_twice_on, is_driving, is_reading, is_undriven_on, line_in, listed_inputs, names_on, on_line, on_lines, ties_on, uses_in, uses_of_name}
@@ -17,7 +17,9 @@ use Rattle.vrt_model.specs.declared.blif.LatchLine.{LatchLine}
 use Rattle.vrt_model.specs.declared.blif.SubLine.{SubLine}
 use Rattle.vrt_model.specs.declared.blif.Tie.{Tie}
 use Rattle.vrt_model.proofs.Filtered.{among_kept, filter_among}
+use Rattle.vrt_model.proofs.Lists.{map_among}
 use Rattle.vrt_model.proofs.Members.{among_either, among_filter, among_flat_map, among_left, among_map, among_right, any_among, at_none, find_among}
+use Rattle.vrt_model.proofs.Tests.{bytes_eq-sym}
 use Rattle.blif_checks.specs.Signals.{named_in}
 use Rattle.blif_checks.proofs.NoteLaws.{eq_yes}
 use Rattle.blif_flat.proofs.OnceLaws.{signals_once}
@@ -25,9 +27,6 @@ use Rattle.blif_flat.proofs.OneDriverLines.{not_twice, not_undriven, twice_there
 use Rattle.blif_flat.proofs.RangeLaws.{among_flat, clock_named, cover_named, input_named, latch_named, output_named, tie_named}
 
 -- ---- lists
-
-pub mapped : {X Y : Type 0} (f : X → Y) (xs : List X) (x : X) → Among xs x → Among (map f xs) (f x)
-mapped f xs x a = (a.0, slice_get-map f xs a.0 ∙ ap (option_map f) a.1)
 
 kept_cond : (b : Bool) (xs : List (List ℕ)) (n : List ℕ) → Among (cond b xs []) n → Among xs n
 kept_cond true xs n a = a
@@ -69,7 +68,7 @@ IsNamed m o = Among (names_on m o.line) o.name
 head_named : (m : BlifModel) (o : OnLine) → Among (on_lines m.inputs m.input_lines ++ on_lines m.clocks m.clock_lines ++ on_lines m.outputs m.output_lines) o → IsNamed m o
 head_named m o a =
     among_left _ _ o.name (among_left _ _ o.name (among_left _ _ o.name
-    (mapped (λ (p : OnLine). p.name) (filter (λ (p : OnLine). p.line == o.line) (on_lines m.inputs m.input_lines ++ on_lines m.clocks m.clock_lines ++ on_lines m.outputs m.output_lines)) o
+    (map_among (λ (p : OnLine). p.name) (filter (λ (p : OnLine). p.line == o.line) (on_lines m.inputs m.input_lines ++ on_lines m.clocks m.clock_lines ++ on_lines m.outputs m.output_lines)) o
     (among_kept (λ (p : OnLine). p.line == o.line) (on_lines m.inputs m.input_lines ++ on_lines m.clocks m.clock_lines ++ on_lines m.outputs m.output_lines) o a (eq_yes o.line o.line refl)))))
 
 on_card : (l : ℕ) (signals : List (List ℕ)) (n : List ℕ) → Among signals n → Among (cond (l == l) signals []) n
@@ -141,7 +140,7 @@ tie_on : (m : BlifModel) (test : SubLine → Tie → Bool) (o : OnLine) → Amon
 tie_on m test o a =
     let s = among_flat_map (λ (s : SubLine). ties_on (test s) s) m.subs o a in
     let t = among_map (λ (t : Tie). on_line s.0.line t.actual) (filter (test s.0) s.0.ties) o s.2 in
-    subst (λ (p : OnLine). IsNamed m p) t.2 (sub_on m s.0 t.0.actual s.1 (mapped (λ (t : Tie). t.actual) s.0.ties t.0 (among_filter (test s.0) s.0.ties t.0 t.1)))
+    subst (λ (p : OnLine). IsNamed m p) t.2 (sub_on m s.0 t.0.actual s.1 (map_among (λ (t : Tie). t.actual) s.0.ties t.0 (among_filter (test s.0) s.0.ties t.0 t.1)))
 
 driver_named : (blif : Blif) (m : BlifModel) (o : OnLine) → Among (drivers_in blif m) o → IsNamed m o
 driver_named blif m o a =
@@ -229,7 +228,7 @@ input_driver blif m o a =
     let l : ℕ = min o.line (unwrap_or (line_in (on_lines m.clocks m.clock_lines) o.name) o.line) in (
       l,
       listed_driver blif m (on_line l o.name) (among_left _ _ (on_line l o.name)
-          (mapped (λ (p : OnLine). on_line (min p.line (unwrap_or (line_in (on_lines m.clocks m.clock_lines) p.name) p.line)) p.name) (on_lines m.inputs m.input_lines) o a)),
+          (map_among (λ (p : OnLine). on_line (min p.line (unwrap_or (line_in (on_lines m.clocks m.clock_lines) p.name) p.line)) p.name) (on_lines m.inputs m.input_lines) o a)),
     )
 
 clock_driver : (blif : Blif) (m : BlifModel) (o : OnLine) → Among (on_lines m.clocks m.clock_lines) o → (l : ℕ) × Among (drivers_in blif m) (on_line l o.name)
@@ -252,14 +251,14 @@ cover_touched : (blif : Blif) (m : BlifModel) (c : CoverLine) (n : List ℕ) →
 cover_touched blif m c n a b = elim (among_either c.inputs (c.output ∷ []) n b) [
   | inl input ↦
       as_use blif m c.line n (among_left _ _ (on_line c.line n) (among_left _ _ (on_line c.line n) (among_left _ _ (on_line c.line n)
-      (among_flat (λ (c : CoverLine). map (on_line c.line) c.inputs) m.covers a.0 c (on_line c.line n) a.1 (mapped (on_line c.line) c.inputs n input)))))
+      (among_flat (λ (c : CoverLine). map (on_line c.line) c.inputs) m.covers a.0 c (on_line c.line n) a.1 (map_among (on_line c.line) c.inputs n input)))))
   | inr output ↦ by_place output.0 output.1
 ] where
   by_place : (i : ℕ) → At (c.output ∷ []) i n → IsTouched blif m n
   by_place zero e = subst (λ (x : List ℕ). IsTouched blif m x) (same_Some c.output n e) (as_driver blif m c.output (
     c.line,
     among_left _ _ (on_line c.line c.output) (among_left _ _ (on_line c.line c.output) (among_right (listed_inputs m) _ (on_line c.line c.output)
-        (mapped (λ (c : CoverLine). on_line c.line c.output) m.covers c a))),
+        (map_among (λ (c : CoverLine). on_line c.line c.output) m.covers c a))),
   ))
   by_place (suc i) e = absurd (at_none i n e)
 
@@ -269,14 +268,14 @@ latch_touched blif m c n a b = by_place b.0 b.1 where
   used u =
       as_use blif m c.line n (among_left _ _ (on_line c.line n) (among_left _ _ (on_line c.line n)
       (among_right (flat_map (λ (c : CoverLine). map (on_line c.line) c.inputs) m.covers) _ (on_line c.line n)
-      (among_flat (λ (l : LatchLine). map (on_line l.line) (l.input ∷ option_to_list l.control)) m.latches a.0 c (on_line c.line n) a.1 (mapped (on_line c.line) (c.input ∷ option_to_list c.control) n u)))))
+      (among_flat (λ (l : LatchLine). map (on_line l.line) (l.input ∷ option_to_list l.control)) m.latches a.0 c (on_line c.line n) a.1 (map_among (on_line c.line) (c.input ∷ option_to_list c.control) n u)))))
 
   by_place : (i : ℕ) → At (latch_signals c) i n → IsTouched blif m n
   by_place zero e = used (0, e)
   by_place (suc zero) e = subst (λ (x : List ℕ). IsTouched blif m x) (same_Some c.output n e) (as_driver blif m c.output (
     c.line,
     among_left _ _ (on_line c.line c.output) (among_right (listed_inputs m ++ map (λ (c : CoverLine). on_line c.line c.output) m.covers) _ (on_line c.line c.output)
-        (mapped (λ (l : LatchLine). on_line l.line l.output) m.latches c a)),
+        (map_among (λ (l : LatchLine). on_line l.line l.output) m.latches c a)),
   ))
   by_place (suc (suc i)) e = used (suc i, e)
 
@@ -285,7 +284,7 @@ tie_touched blif m s t a b tied = by_test (is_driving blif s t) refl tied where
   card : (test : SubLine → Tie → Bool) → test s t ≡ true → Among (flat_map (λ (s : SubLine). ties_on (test s) s) m.subs) (on_line s.line t.actual)
   card test e =
       among_flat (λ (s : SubLine). ties_on (test s) s) m.subs a.0 s (on_line s.line t.actual) a.1
-      (mapped (λ (t : Tie). on_line s.line t.actual) (filter (test s) s.ties) t (among_kept (test s) s.ties t b e))
+      (map_among (λ (t : Tie). on_line s.line t.actual) (filter (test s) s.ties) t (among_kept (test s) s.ties t b e))
 
   by_test : (d : Bool) → is_driving blif s t ≡ d → (d || is_reading blif s t) ≡ true → IsTouched blif m t.actual
   by_test true e h = as_driver blif m t.actual (
@@ -349,7 +348,7 @@ not_two blif m n none two =
     let t = twice_there blif m n two in
     let o : Among (drivers_in blif m) (on_line t.0 n) = line_named (drivers_in blif m) n t.0 t.2 in
     clash (is_driven_twice_on blif m t.0 n) t.1
-    (not_twice blif m t.0 n none (mapped (λ (o : OnLine). o.line) (drivers_in blif m ++ uses_in blif m) (on_line t.0 n) (among_left _ _ (on_line t.0 n) o)) (driver_named blif m (on_line t.0 n) o))
+    (not_twice blif m t.0 n none (map_among (λ (o : OnLine). o.line) (drivers_in blif m ++ uses_in blif m) (on_line t.0 n) (among_left _ _ (on_line t.0 n) o)) (driver_named blif m (on_line t.0 n) o))
 
 not_none : (blif : Blif) (m : BlifModel) (n : List ℕ) → driver_fault_in blif m ≡ None → IsTouched blif m n → drivers_of_name blif m n ≡ [] → ⊥
 not_none blif m n none touched empty = elim touched.1 [
@@ -364,7 +363,7 @@ not_none blif m n none touched empty = elim touched.1 [
       let t = undriven_there blif m n empty some in
       let o : Among (uses_in blif m) (on_line t.0 n) = line_named (uses_in blif m) n t.0 t.2 in
       clash (is_undriven_on blif m t.0 n) t.1
-      (not_undriven blif m t.0 n none (mapped (λ (o : OnLine). o.line) (drivers_in blif m ++ uses_in blif m) (on_line t.0 n) (among_right (drivers_in blif m) (uses_in blif m) (on_line t.0 n) o)) (use_named blif m (on_line t.0 n) o))
+      (not_undriven blif m t.0 n none (map_among (λ (o : OnLine). o.line) (drivers_in blif m ++ uses_in blif m) (on_line t.0 n) (among_right (drivers_in blif m) (uses_in blif m) (on_line t.0 n) o)) (use_named blif m (on_line t.0 n) o))
 ]
 
 one_of : {X : Type 0} (xs : List X) → (1 < length xs → ⊥) → (xs ≡ [] → ⊥) → length xs ≡ 1

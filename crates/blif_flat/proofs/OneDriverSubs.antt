@@ -1,10 +1,11 @@
 -- The ties of a sub-model: those of inputs and clocks, and those that the sub-model drives.
 use Rattle.std.proofs.Common.{◌≡◌, ◌+◌, ◌++◌, ◌∷◌, ◌&&◌, ◌||◌, [], ℕ, List, Bool, true, false, cond, not, map, refl, ap, ap₂, sym, ◌∙◌, subst, arith}
-use Rattle.std.proofs.lemmas.Bool.{and_parts}
+use Rattle.std.proofs.lemmas.Bool.{and_parts, or_right}
 use Rattle.std.specs.Prelude.{◌==◌, bytes_eq, filter}
 use Rattle.std.proofs.lemmas.List.{length-map}
 use Rattle.std.proofs.lemmas.List.Folds.{list_any-append}
 use Rattle.std.proofs.lemmas.Slice.Eq.{bytes_eq-Decides}
+use Rattle.vrt_model.proofs.Lists.{map_among}
 use Rattle.vrt_model.specs.Lists.{Among, has_name}
 use Rattle.names.proofs.ApartLaws.{NoRepeat, kept_apart, once_by}
 use Rattle.vrt_model.specs.FlatBlif.{ModelPlace, formals, model_at, model_numbered, signal_at, sub_signals}
@@ -20,20 +21,15 @@ use Rattle.blif_flat.proofs.OnceLaws.{formals_apart, interface_among}
 use Rattle.names.proofs.PlaceLaws.{at_among}
 use Rattle.names.proofs.FilterLaws.{has_name_filter}
 use Rattle.blif_flat.proofs.OneDriverCounts.{hits, hits_apart, hits_map, hits_same, hits_split}
-use Rattle.blif_flat.proofs.OneDriverNames.{mapped}
 use Rattle.blif_flat.proofs.OneDriverPlaces.{IsSubTied, IsTied, formal_known, gives, heads, sub_hits, tie_number, tied_signal}
 
 -- ---- inputs and clocks
-
-or_second : (a b : Bool) → b ≡ true → (a || b) ≡ true
-or_second true b e = refl
-or_second false b e = e
 
 joined_apart : (a b : List (List ℕ)) → NoRepeat a → NoRepeat b → ((n : List ℕ) → has_name a n ≡ true → has_name b n ≡ false) → NoRepeat (a ++ b)
 joined_apart [] b na nb out = nb
 joined_apart (x ∷ a) b na nb out = (
   list_any-append (bytes_eq x) a b ∙ ap₂ (λ p q. p || q) na.0 (out x (ap (λ (c : Bool). c || has_name a x) ((bytes_eq-Decides x x).1 refl))),
-  joined_apart a b na.1 nb (λ n e. out n (or_second (bytes_eq n x) (has_name a n) e)),
+  joined_apart a b na.1 nb (λ n e. out n (or_right (bytes_eq n x) (has_name a n) e)),
 )
 
 heads_apart : (m : BlifModel) → IsModel m → NoRepeat (heads m)
@@ -104,7 +100,7 @@ read_hits blif s g is good =
 pub tie_kind : (blif : Blif) (s : SubLine) (t : Tie) → IsSubTied blif s → Among s.ties t → (is_driving blif s t || is_reading blif s t) ≡ true
 tie_kind blif s t is a =
     let m : BlifModel = model_at blif (model_numbered blif s.model) in
-    let f = mapped (λ (t : Tie). t.formal) s.ties t a in
+    let f = map_among (λ (t : Tie). t.formal) s.ties t a in
     by_tests (has_name (m.inputs ++ m.clocks) t.formal) (has_name m.outputs t.formal)
     (known_kind m t.formal (formal_known (interface_of m) [] (formals s) t.formal is.fitting (at_among (formals s) f.0 t.formal f.1))) where
       by_tests : (i o : Bool) → (i || o) ≡ true → ((o && not i) || i) ≡ true
@@ -142,6 +138,6 @@ sub_ties blif p x number base s is good =
 
       within : (t : Tie) → Among s.ties t → signal_at blif (placed blif p number base s) t.formal ≡ signal_at blif p t.actual
       within t a =
-          let f = mapped (λ (t : Tie). t.formal) s.ties t a in
+          let f = map_among (λ (t : Tie). t.formal) s.ties t a in
           tied_signal blif (placed blif p number base s) t.formal (at_among (formals s) f.0 t.formal f.1)
           ∙ tie_number (signal_at blif p) s.ties (formals_apart (interface_of (model_at blif (model_numbered blif s.model))) [] (formals s) is.fitting) a.0 t a.1

@@ -2,6 +2,7 @@
 use Rattle.std.proofs.Common.{◌≡◌, ◌+◌, ◌∷◌, [], ℕ, zero, suc, List, map, length, refl, ap, ◌∙◌, arith}
 use Rattle.std.specs.Prelude.{◌==◌}
 use Rattle.std.proofs.lemmas.List.Sums.{sum_by-cons}
+use Rattle.vrt_model.proofs.Lists.{map_among}
 use Rattle.vrt_model.specs.FlatBlif.{ModelPlace, formals, inner_count, inner_signals, model_at, model_numbered, models_in, subs_at, subs_from}
 use Rattle.vrt_model.specs.Inputs.{IsModel}
 use Rattle.vrt_model.specs.Lists.{Among}
@@ -11,7 +12,7 @@ use Rattle.vrt_model.specs.declared.blif.SubLine.{SubLine}
 use Rattle.blif_flat.specs.Places.{placed, signals_left}
 use Rattle.blif_flat.proofs.OneDriverCounts.{hits, span, span_join, total, total_flat}
 use Rattle.blif_flat.proofs.OneDriverDepths.{Ends}
-use Rattle.blif_flat.proofs.OneDriverNames.{IsDriven, mapped}
+use Rattle.blif_flat.proofs.OneDriverNames.{IsDriven}
 use Rattle.blif_flat.proofs.OneDriverPlaces.{IsSubTied, IsTied, card_hits, gives, heads, place_hits, sub_hits}
 use Rattle.blif_flat.proofs.OneDriverSubs.{sub_tied, sub_ties}
 
@@ -63,7 +64,7 @@ counted blif x (suc depth) p are tied ends =
     joined _ _ _ _ _ _ _ _ (place_hits blif p x tied (are.models p.model) (are.driven p.model))
     (total_flat (card_hits blif x) (models_in blif depth) (subs_at blif depth p)
     ∙ subs_counted blif x depth p are (λ q t e. counted blif x depth q are t e) 0 (p.base + size) subs
-    (λ s a. (are.tied p.model s a, ends (model_numbered blif s.model) (mapped (λ (s : SubLine). model_numbered blif s.model) subs s a))))
+    (λ s a. (are.tied p.model s a, ends (model_numbered blif s.model) (map_among (λ (s : SubLine). model_numbered blif s.model) subs s a))))
     (span_join size (signals_left blif depth subs) p.base x) where
       joined : (head card driven ties own inside left all : ℕ) → head + card + driven ≡ ties + own → inside ≡ driven + left → all ≡ own + left → head + (card + inside) ≡ ties + all
       joined head card driven ties own inside left all a b c = omega (arith, a, b, c)

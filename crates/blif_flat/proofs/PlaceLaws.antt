@@ -3,9 +3,10 @@ use Rattle.std.proofs.Common.{◌≡◌, ◌<◌, ◌≤◌, ◌+◌, ◌++◌, 
 use Rattle.std.proofs.lemmas.Grind.{flat_map-append}
 use Rattle.std.proofs.lemmas.List.Elements.{filter-append, filter_agree}
 use Rattle.std.specs.Prelude.{bytes_eq, decimal, position, slice_get, unwrap_or, option_map}
-use Rattle.std.proofs.lemmas.List.{drop_all, drop_more, length-map, map-append, take_more}
+use Rattle.std.proofs.lemmas.List.{drop_all, drop_more, length-map, map-append}
 use Rattle.std.proofs.lemmas.List.Sums.{sum_by-cons}
 use Rattle.std.proofs.lemmas.Option.{get_or_from_slice_get}
+use Rattle.vrt_model.proofs.Lists.{take_one}
 use Rattle.vrt_model.specs.Lists.{has_name, path_name, place_of}
 use Rattle.names.specs.Names.{with_names}
 use Rattle.names.proofs.NameLaws.{names_once, once_has_same, with_names-append}
@@ -36,22 +37,19 @@ use Rattle.blif_flat.proofs.OnceLaws.{formals_apart, signals_apart}
 
 -- ---- lists
 
-one_further : {X : Type 0} (xs : List X) (i : ℕ) (x : X) → i < length xs → slice_get xs i ≡ Some x → take (i + 1) xs ≡ take i xs ++ x ∷ []
-one_further xs i x lt here = take_more xs i x lt ∙ ap (λ t. take i xs ++ t ∷ []) (get_or_from_slice_get xs i x x here)
-
 -- the names that pass, and one more
 pub named_more : (p : List ℕ → Bool) (xs : List (List ℕ)) (i : ℕ) (x : List ℕ) (names new : List (List ℕ)) → i < length xs → slice_get xs i ≡ Some x
     → names ≡ with_names [] (filter p (take i xs)) → new ≡ with_names names (filter p (x ∷ [])) → new ≡ with_names [] (filter p (take (i + 1) xs))
 named_more p xs i x names new lt here e n =
     n ∙ ap (λ ns. with_names ns (filter p (x ∷ []))) e ∙ sym (with_names-append [] (filter p (take i xs)) (filter p (x ∷ [])))
-    ∙ ap (with_names []) (sym (filter-append p (take i xs) (x ∷ [])) ∙ ap (filter p) (sym (one_further xs i x lt here)))
+    ∙ ap (with_names []) (sym (filter-append p (take i xs) (x ∷ [])) ∙ ap (filter p) (sym (take_one xs i x here)))
 
 -- the numbers of those that pass, and one more
 pub passed_more : (f : List ℕ → ℕ) (p : List ℕ → Bool) (xs : List (List ℕ)) (i : ℕ) (x : List ℕ) (numbers new : List ℕ) → i < length xs → slice_get xs i ≡ Some x
     → numbers ≡ map f (filter p (take i xs)) → new ≡ numbers ++ map f (filter p (x ∷ [])) → new ≡ map f (filter p (take (i + 1) xs))
 passed_more f p xs i x numbers new lt here e n =
     n ∙ ap (λ ns. ns ++ map f (filter p (x ∷ []))) e ∙ sym (map-append f (filter p (take i xs)) (filter p (x ∷ [])))
-    ∙ ap (map f) (sym (filter-append p (take i xs) (x ∷ [])) ∙ ap (filter p) (sym (one_further xs i x lt here)))
+    ∙ ap (map f) (sym (filter-append p (take i xs) (x ∷ [])) ∙ ap (filter p) (sym (take_one xs i x here)))
 
 -- those that are not among names, where each name stands once in a table of them
 pub clocks_are : (f : List ℕ → ℕ) (names inputs clocks given : List (List ℕ)) (numbers : List ℕ) → names ≡ with_names [] inputs → given ≡ clocks

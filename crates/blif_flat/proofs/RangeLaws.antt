@@ -7,6 +7,7 @@ use Rattle.std.proofs.lemmas.List.Quantifiers.{position-Some}
 use Rattle.std.proofs.lemmas.List.Sums.{sum_by-cons}
 use Rattle.std.proofs.lemmas.Option.{get_or_from_slice_get, same_Some}
 use Rattle.std.proofs.lemmas.Slice.Eq.{bytes_eq-Decides}
+use Rattle.vrt_model.proofs.Lists.{at_there}
 use Rattle.vrt_model.specs.Lists.{Among, At, has_name, place_of}
 use Rattle.vrt_model.specs.FlatBlif.{ModelPlace, all_models, cover_signals, flat_cover, flat_latch, flat_model_of, formals, inner_count, inner_signals, latch_signals, model_at, model_numbered, models_in, flat_signals_at, signal_at, signals_of, sub_signals, subs_at, subs_from, top_model}
 use Rattle.vrt_model.specs.FlatModels.{IsControl, IsCover, IsFlatModel, IsLatch, IsRow, drivers_of}
@@ -30,13 +31,8 @@ use Rattle.names.proofs.FilterLaws.{has_name_filter}
 
 -- ---- lists
 
-pub there : {X : Type 0} (xs : List X) (n : ℕ) → n < length xs → (x : X) × At xs n x
-there [] n lt = absurd (omega arith)
-there (x ∷ xs) zero lt = (x, refl)
-there (x ∷ xs) (suc n) lt = there xs n (omega arith)
-
 pub all_by : {X : Type 0} (P : X → Type 0) (xs : List X) → ((x : X) → Among xs x → P x) → All P xs
-all_by P xs h = λ k d lt. let t = there xs k lt in subst P (sym (get_or_from_slice_get xs k t.0 d t.1)) (h t.0 (k, t.1))
+all_by P xs h = λ k d lt. let t = at_there xs k lt in subst P (sym (get_or_from_slice_get xs k t.0 d t.1)) (h t.0 (k, t.1))
 
 pub among_flat : {X Y : Type 0} (f : X → List Y) (xs : List X) (i : ℕ) (x : X) (y : Y) → At xs i x → Among (f x) y → Among (flat_map f xs) y
 among_flat f [] i x y a b = absurd (at_none i x a)
@@ -76,7 +72,7 @@ own_below blif total depth p same tied room n among = by_tie (place_of p.tied n)
       → unwrap_or (option_map (λ (k : ℕ). unwrap_or (slice_get p.ties k) 0) o) (p.base + unwrap_or (place_of (inner_signals (model_at blif p.model) p.tied) n) 0) < total
   by_tie (Some k) e =
       let lt : k < length p.tied = (position-Some (bytes_eq n) p.tied k n e).0 in
-      let t = there p.ties k (omega (arith, lt, same)) in
+      let t = at_there p.ties k (omega (arith, lt, same)) in
       subst (λ o. unwrap_or o 0 < total) (sym t.1) (tied k t.0 t.1)
   by_tie None e = by_own (place_of (inner_signals (model_at blif p.model) p.tied) n) refl (any_placed (bytes_eq n) p.tied ∙ ap is_some e)
 
