@@ -1,10 +1,11 @@
 -- Each hold of a well-formed circuit stands at exactly one place of the groups.
-use Rattle.std.proofs.Common.{◌≡◌, ℕ, zero, suc, ◌+◌, ◌++◌, ◌∷◌, [], Bool, true, false, cond, List, Some, None, length, map, set, get_or, length-append, append_assoc, append-nil, option_map, arith, ap, refl, sym, subst, ◌∙◌}
+use Rattle.std.proofs.Common.{◌≡◌, ℕ, zero, suc, ◌+◌, ◌++◌, ◌∷◌, [], Bool, true, false, cond, List, Some, None, length, set, get_or, length-append, append_assoc, append-nil, option_map, arith, ap, refl, sym, subst, ◌∙◌}
 use Rattle.std.specs.Prelude.{slice_get, sum_by}
 use Rattle.std.specs.List.{cons_option, list_any}
 use Rattle.std.proofs.lemmas.Bool.{false≢true}
 use Rattle.std.proofs.lemmas.List.Sums.{sum_by-append, sum_by-set}
 use Rattle.std.proofs.lemmas.Option.{get_or_from_slice_get, none-some, same_Some, slice_get-map, slice_get_within}
+use Rattle.vrt_model.proofs.Lists.{at_map, at_there}
 use Rattle.vrt_model.proofs.Members.{among_any, among_later, any_among}
 use Rattle.vrt_model.specs.Circuits.{IsCircuit}
 use Rattle.vrt_model.specs.Groups.{Placed, holds_by_net, leaders, same_end}
@@ -14,7 +15,6 @@ use Rattle.vrt_model.specs.declared.circuit.Hold.{Hold}
 use Rattle.vrt_model.specs.declared.circuit.HoldEnd.{HoldEnd}
 use Rattle.vrt_model.specs.declared.groups.Group.{Group}
 use Rattle.vrt_model.specs.declared.groups.Member.{Member}
-use Rattle.hold_groups.proofs.GroupingLaws.{at_low}
 use Rattle.hold_groups.proofs.KeyLaws.{same_ends, same_itself}
 use Rattle.hold_groups.proofs.LeaderLaws.{AreApart, among_leaders, begun, joined, leaders_apart, same, turned}
 use Rattle.hold_groups.proofs.NetOrder.{mark}
@@ -22,11 +22,6 @@ use Rattle.hold_groups.proofs.PlacedLaws.{AreRising, above, holds_among, holds_c
 use Rattle.hold_groups.specs.Grouped.{AreGroups, IsMemberAt, group_in, groups_in, member_of, members_in, new_group, with_member}
 
 -- ---- lists
-
-at_map : {X Y : Type 0} (f : X → Y) (xs : List X) (i : ℕ) (y : Y) → At (map f xs) i y → (x : X) × At xs i x × (f x ≡ y)
-at_map f [] i y e = absurd (none-some y e)
-at_map f (x ∷ xs) zero y e = (x, refl, same_Some (f x) y e)
-at_map f (x ∷ xs) (suc i) y e = at_map f xs i y e
 
 -- ---- members
 
@@ -156,7 +151,7 @@ module _ (elements : List (List ℕ)) where
   pub are_groups : (c : Circuit) → IsCircuit c → AreGroups c (groups_in elements (holds_by_net c))
   are_groups c circuit = record {
     some = λ hold lt.
-        let h = at_low c.holds hold lt in
+        let h = at_there c.holds hold lt in
         let x : Placed = mark (hold, h.0) in
         let among = holds_among c circuit hold h.0 h.1 in
         let lead = any_among (same x) (leaders (holds_by_net c)) (among_leaders x (holds_by_net c) ∙ among_any (same x) (holds_by_net c) x among (same_itself x.hold.end)) in

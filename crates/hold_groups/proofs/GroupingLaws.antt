@@ -3,9 +3,10 @@ use Rattle.std.proofs.Common.{◌≡◌, ℕ, zero, suc, ◌+◌, ◌<◌, ◌�
 use Rattle.std.specs.Prelude.{bytes_eq, slice_get}
 use Rattle.std.specs.List.{list_any}
 use Rattle.std.proofs.lemmas.Bool.{cases_lt, false≢true}
-use Rattle.std.proofs.lemmas.Option.{get_or_from_slice_get, same_Some, none-some, slice_get-map, slice_get_within}
-use Rattle.std.proofs.lemmas.List.{length-map, map-append, take_more}
+use Rattle.std.proofs.lemmas.Option.{get_or_from_slice_get, same_Some, none-some, slice_get-map}
+use Rattle.std.proofs.lemmas.List.{length-map, map-append}
 use Rattle.std.proofs.lemmas.Slice.Eq.{bytes_eq-Decides}
+use Rattle.vrt_model.proofs.Lists.{at_there, take_one}
 use Rattle.names.specs.Names.{with_name}
 use Rattle.vrt_model.specs.Lists.{has_name, Among, At}
 use Rattle.vrt_model.proofs.Members.{among_any, among_either, among_filter, among_later, among_left, among_right}
@@ -23,14 +24,6 @@ at_before : {X : Type 0} (xs ys : List X) (n : ℕ) (x : X) → n < length xs �
 at_before [] ys n x lt e = absurd (omega (arith, lt))
 at_before (z ∷ xs) ys zero x lt e = e
 at_before (z ∷ xs) ys (suc n) x lt e = at_before xs ys n x (omega (arith, lt)) e
-
-pub at_low : {X : Type 0} (xs : List X) (i : ℕ) → i < length xs → (x : X) × At xs i x
-at_low [] i lt = absurd (omega (arith, lt))
-at_low (x ∷ xs) zero lt = (x, refl)
-at_low (x ∷ xs) (suc i) lt = at_low xs i (omega (arith, lt))
-
-one_further : {X : Type 0} (xs : List X) (i : ℕ) (x : X) → At xs i x → take (i + 1) xs ≡ take i xs ++ x ∷ []
-one_further xs i x e = take_more xs i x (slice_get_within xs i x e) ∙ ap (λ y. take i xs ++ y ∷ []) (get_or_from_slice_get xs i x x e)
 
 -- a leader is one of the holds
 pub leader_among : (hs : List Placed) (x : Placed) → Among (leaders hs) x → Among hs x
@@ -141,8 +134,8 @@ pub next_place : (c : Circuit) (elements : List (List ℕ)) (i : ℕ) (places : 
 next_place c elements i places place keys keys' groups groups' are lt is so_far step =
     let hs = holds_by_net c in
     let low : i < length hs = (let len : length places ≡ length hs = ap (λ (xs : List ℕ). length xs) are ∙ length-map hs (λ (h : Placed). h.place) in omega (arith, lt, len)) in
-    let found = at_low hs i low in
+    let found = at_there hs i low in
     let h : Placed = found.0 in
     let here : place ≡ h.place =
     sym is ∙ ap (λ (xs : List ℕ). get_or xs i 0) are ∙ get_or_from_slice_get (map (λ (x : Placed). x.place) hs) i h.place 0 (slice_get-map (λ (x : Placed). x.place) hs i ∙ ap (option_map (λ (x : Placed). x.place)) found.1) in
-    subst (λ (xs : List Placed). AreGrouped elements xs keys' groups') (sym (one_further hs i h found.1)) (step (take i hs) h so_far here (hold_there c h (i, found.1)))
+    subst (λ (xs : List Placed). AreGrouped elements xs keys' groups') (sym (take_one hs i h found.1)) (step (take i hs) h so_far here (hold_there c h (i, found.1)))

@@ -4,7 +4,6 @@ pub mod GroupingLaws
 pub mod KeyLaws
 pub mod LeaderLaws
 pub mod LineLaws
-pub mod ListLaws
 pub mod MarkLaws
 pub mod NetOrder
 pub mod PlacedLaws

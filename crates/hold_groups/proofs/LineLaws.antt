@@ -6,6 +6,7 @@ use Rattle.std.specs.Option.{option_or}
 use Rattle.std.proofs.lemmas.Bool.Decides.{nat_tests}
 use Rattle.std.proofs.lemmas.List.{drop_all}
 use Rattle.std.proofs.lemmas.List.Elements.{filter-append}
+use Rattle.names.proofs.FilterLaws.{find_same}
 use Rattle.hold_groups.specs.Steps.{earlier, earliest, instance_line, line_without, lines_without, net_line, unmatched_in}
 use Rattle.vrt_model.specs.Elements.{element_names}
 use Rattle.vrt_model.specs.Lists.{has_name}
@@ -94,10 +95,6 @@ by_earliest (m ∷ ms) line = turn (earliest ms) (list_any (λ (other : Line). n
     by_tests false false true rest p q r e = absurd (grind (arith, nat_tests))
     by_tests false false false rest p q r e = e ∙ ap not (sym p)
 
-same_find : {X : Type 0} (p q : X → Bool) → ((x : X) → p x ≡ q x) → (xs : List X) → find p xs ≡ find q xs
-same_find p q same [] = refl
-same_find p q same (x ∷ xs) = ap₂ (λ t o. cond t (Some x) o) (same x) (same_find p q same xs)
-
 -- a line, if it is not behind this
 abbrev within : ℕ → Option Line → Option Line
 within limit None = None
@@ -155,7 +152,7 @@ first_is ms = by_earliest_of (earliest ms) refl where
       let P : List Line → Type 0 = λ xs. find (λ (m : Line). not (list_any (λ (other : Line). nat_lt other.line m.line) xs)) xs ≡ earliest xs in
       subst P (sym (nothing ms e)) refl
   by_earliest_of (Some b) e =
-      same_find _ (λ (m : Line). not (nat_lt b.line m.line)) (λ x. by_earliest ms x.line ∙ ap (λ o. not_before o x.line) e) ms
+      find_same _ (λ (m : Line). not (nat_lt b.line m.line)) (λ x. by_earliest ms x.line ∙ ap (λ o. not_before o x.line) e) ms
       ∙ found_within b.line ms (ap (λ o. not_before o b.line) e ∙ ap not (not_less b.line))
       ∙ ap (within b.line) e ∙ ap (λ t. cond t None (Some b)) (not_less b.line) ∙ sym e
 

@@ -1,24 +1,15 @@
 -- Names and the set of them.
-use Rattle.std.proofs.Common.{◌≡◌, ℕ, suc, ◌+◌, ◌≤◌, ◌++◌, ◌∷◌, ◌||◌, [], List, Bool, true, false, cond, length, length-append, append_assoc, append-nil, arith, refl, ap, sym, ◌∙◌}
+use Rattle.std.proofs.Common.{◌≡◌, ℕ, suc, ◌+◌, ◌++◌, ◌∷◌, ◌||◌, [], List, Bool, true, false, cond, length, length-append, append_assoc, append-nil, arith, refl, ap, sym, ◌∙◌}
 use Rattle.std.specs.Prelude.{bytes_eq, position}
 use Rattle.std.proofs.lemmas.List.Folds.{list_any-append}
 use Rattle.std.proofs.lemmas.Slice.Eq.{bytes_eq-Decides}
-use Rattle.names.proofs.NameLaws.{among_names}
-use Rattle.names.specs.Names.{with_name, with_names}
+use Rattle.names.proofs.NameLaws.{among_names, length-with_names}
+use Rattle.names.specs.Names.{with_names}
 use Rattle.vrt_model.specs.Lists.{has_name}
 
 -- the set has the names of the list
 pub has_same : (list names : List (List ℕ)) (name : List ℕ) → names ≡ with_names [] list → has_name names name ≡ has_name list name
 has_same list names name e = ap (λ (ns : List (List ℕ)). has_name ns name) e ∙ among_names [] list name
-
-few : (names xs : List (List ℕ)) → length (with_names names xs) ≤ length names + length xs
-few names [] = omega arith
-few names (x ∷ xs) = by_test (has_name names x) (few (with_name names x) xs)
-  where
-    by_test : (b : Bool) → length (with_names (cond b names (names ++ x ∷ [])) xs) ≤ length (cond b names (names ++ x ∷ [])) + length xs
-        → length (with_names (cond b names (names ++ x ∷ [])) xs) ≤ length names + suc (length xs)
-    by_test true h = omega (arith, h)
-    by_test false h = let len = length-append names (x ∷ []) in omega (arith, h, len)
 
 -- as many names as there are in the list are the list
 all_new : (names xs : List (List ℕ)) → length (with_names names xs) ≡ length names + length xs → with_names names xs ≡ names ++ xs
@@ -29,7 +20,7 @@ all_new names (x ∷ xs) e = by_test (has_name names x) (all_new (names ++ x ∷
         → (length (with_names (names ++ x ∷ []) xs) ≡ length (names ++ x ∷ []) + length xs → with_names (names ++ x ∷ []) xs ≡ (names ++ x ∷ []) ++ xs)
         → length (with_names (cond b names (names ++ x ∷ [])) xs) ≡ length names + suc (length xs)
         → with_names (cond b names (names ++ x ∷ [])) xs ≡ names ++ x ∷ xs
-    by_test true rest e = let h = few names xs in absurd (omega (arith, h, e))
+    by_test true rest e = let h = length-with_names names xs in absurd (omega (arith, h, e))
     by_test false rest e = let len = length-append names (x ∷ []) in rest (omega (arith, e, len)) ∙ append_assoc names (x ∷ []) xs
 
 pub place_same : (list names : List (List ℕ)) (name : List ℕ) → names ≡ with_names [] list → length names ≡ length list → position (bytes_eq name) names ≡ position (bytes_eq name) list

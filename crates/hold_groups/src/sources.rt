@@ -20,7 +20,7 @@ fn input_at(number: u32, kind: NetKind) -> Option<Source>
 }
 
 /// Adds the inputs.
-#[tactic(auto, using(crate::proofs::ListLaws::pushed))]
+#[tactic(auto, using(vrt_model::proofs::Lists::pushed))]
 fn add_inputs(sources: &mut Seq<Source>, nets: &[FlatNet]) -> Result<(), NoMemory>
     ensures { OnOk result (sources.new ≡ sources.old ++ input_sources 0 nets.now) }
 {
@@ -35,7 +35,7 @@ fn add_inputs(sources: &mut Seq<Source>, nets: &[FlatNet]) -> Result<(), NoMemor
 }
 
 /// Adds the latch elements.
-#[tactic(auto, using(crate::proofs::ListLaws::pushed))]
+#[tactic(auto, using(vrt_model::proofs::Lists::pushed))]
 fn add_elements(sources: &mut Seq<Source>, elements: &[Text]) -> Result<(), NoMemory>
     ensures { OnOk result (sources.new ≡ sources.old ++ element_sources 0 elements.now) }
 {
@@ -61,7 +61,7 @@ fn group_at(circuit: &Circuit, phase: u32, number: u32, group: &Group) -> Option
 }
 
 /// Adds the groups that have a variable.
-#[tactic(auto, using(crate::proofs::ListLaws::pushed))]
+#[tactic(auto, using(vrt_model::proofs::Lists::pushed))]
 fn add_groups(
     sources: &mut Seq<Source>,
     circuit: &Circuit,
