@@ -6,7 +6,7 @@ use Rattle.std.proofs.lemmas.List.{drop_all}
 use Rattle.std.proofs.lemmas.List.Sums.{sum_by-cons, sum_by-take-drop}
 use Rattle.std.proofs.lemmas.Bool.{cases_eq, cases_lt, true≢false}
 use Rattle.std.proofs.lemmas.Bool.Decides.{Decides-eqb}
-use Rattle.std.proofs.lemmas.Option.{none-some, same_Some, slice_get-get_or}
+use Rattle.std.proofs.lemmas.Option.{none-some, same_Some}
 use Rattle.node_pool.specs.declared.region.Node.{Node}
 use Rattle.node_pool.specs.declared.region.Span.{Span}
 use Rattle.bdd_core.proofs.Meaning.{meaning_zero}
@@ -31,10 +31,6 @@ use Rattle.vrt_model.specs.declared.groups.Group.{Group as HoldGroup}
 use Rattle.vrt_model.specs.declared.groups.Member.{Member}
 use Rattle.vrt_model.specs.declared.groups.Source.{Source}
 use Rattle.hold_keep.specs.Rooted.{AreRoots, HaveWords, IsRoot, Rewrites, WritesHolds, bits_at, group_function, held_function, members_in, with_groups, with_hold, with_holds}
-
--- an item of a list, as a loop has it
-pub item_at : {X : Type 0} (xs ys : List X) (i : ℕ) (x : X) → ys ≡ xs → i < length ys → x ≡ get_or ys i x → At xs i x
-item_at xs ys i x e lt is = ap (λ zs. slice_get zs i) (sym e) ∙ slice_get-get_or ys i x lt ∙ ap Some (sym is)
 
 -- ---- functions of holds
 

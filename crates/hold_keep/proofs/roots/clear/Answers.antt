@@ -1,7 +1,8 @@
 use Rattle.std.proofs.Common.{length, arith, ap, ◌∙◌}
 use Rattle.std.proofs.lemmas.Option.{slice_get_within}
+use Rattle.vrt_model.proofs.Lists.{item_at}
 use Rattle.bdd_core.specs.Store.{Diagrams}
-use Rattle.hold_keep.proofs.RewriteLaws.{clear_next, item_at, zero_next, zero_roots}
+use Rattle.hold_keep.proofs.RewriteLaws.{clear_next, zero_next, zero_roots}
 use Rattle.hold_keep.proofs.roots.clear.Goals as goal
 
 pub loop-hold-preserved : goal.loop-hold-preserved
