@@ -48,14 +48,18 @@ fn diagram(
     Ok(expr(store, &rule.expression, &cell.ports, values)?)
 }
 
-/// The bits of the `assume` line of a number.
-pub(crate) fn told(alloc: Global, design: &Design, rules: &Rules, number: u32) -> Result<String> {
+/// Tells the bits of the `assume` line of a number.
+pub(crate) fn tell(
+    alloc: Global,
+    told: &mut String,
+    design: &Design,
+    rules: &Rules,
+    number: u32,
+) -> Result<()> {
     let cell = first_cell(design)?;
     let mut board = board_of(alloc, cell)?;
     let f = diagram(&mut board.store, board.values, cell, rules, number as usize)?;
-    let mut told = String::new(alloc);
-    add_bits(alloc, &mut told, &board.store, f)?;
-    Ok(told)
+    add_bits(alloc, told, &board.store, f)
 }
 
 /// The functions of the first four `assume` lines.
@@ -76,15 +80,24 @@ fn faults(store: &mut Store, [care, wanted, zero, one]: [H; 4]) -> Result<KeptFa
     Ok(kept_faults(store, care, wanted, zero, one)?)
 }
 
-/// Where the faults of a net stand.
-pub(crate) fn kept_told(alloc: Global, design: &Design, rules: &Rules) -> Result<String> {
+/// Tells the bits of the two faults.
+fn tell_faults(alloc: Global, told: &mut String, store: &Store, faults: KeptFaults) -> Result<()> {
+    told.push_str("fight ")?;
+    add_bits(alloc, told, store, faults.fight)?;
+    told.push_str(", unsettled ")?;
+    add_bits(alloc, told, store, faults.unsettled)
+}
+
+/// Tells where the faults of a net stand.
+pub(crate) fn tell_kept(
+    alloc: Global,
+    told: &mut String,
+    design: &Design,
+    rules: &Rules,
+) -> Result<()> {
     let cell = first_cell(design)?;
     let mut board = board_of(alloc, cell)?;
     let known = diagrams(&mut board, cell, rules)?;
-    let kept = faults(&mut board.store, known)?;
-    let mut told = String::from_str(alloc, "fight ")?;
-    add_bits(alloc, &mut told, &board.store, kept.fight)?;
-    told.push_str(", unsettled ")?;
-    add_bits(alloc, &mut told, &board.store, kept.unsettled)?;
-    Ok(told)
+    let faults = faults(&mut board.store, known)?;
+    tell_faults(alloc, told, &board.store, faults)
 }

@@ -44,57 +44,59 @@ fn add_group(alloc: Global, told: &mut String, circuit: &Circuit, group: &Group)
     Ok(())
 }
 
-/// All groups.
-fn all_told(alloc: Global, circuit: &Circuit, groups: &[Group]) -> Result<String> {
-    let count = groups.len();
-    let mut told = format!(in alloc; "{count} groups")?;
+/// Tells all groups.
+fn tell_all(alloc: Global, told: &mut String, circuit: &Circuit, groups: &[Group]) -> Result<()> {
+    let count = groups.len().min(u32::MAX as usize) as u32;
+    told.push_str("groups")?;
+    add_number(alloc, told, count)?;
     for group in groups {
-        add_group(alloc, &mut told, circuit, group)?;
+        add_group(alloc, told, circuit, group)?;
     }
-    Ok(told)
+    Ok(())
 }
 
-/// Why there are no groups.
-fn refused(alloc: Global, fault: &MatchFault) -> Result<String> {
-    match fault {
-        MatchFault::Unmatched { name } => {
-            let name = shown(name.as_bytes());
-            Ok(format!(in alloc; "{fault}: {name}")?)
-        }
-        MatchFault::NoMemory => bail!("memory"),
-    }
+/// Tells why there are no groups.
+fn tell_fault(told: &mut String, fault: &MatchFault) -> Result<()> {
+    let MatchFault::Unmatched { name } = fault else {
+        bail!("memory");
+    };
+    told.push_str("unmatched ")?;
+    told.push_str(shown(name.as_bytes()))?;
+    Ok(())
 }
 
-/// The groups, or what is asked of a phase with them.
-fn answered(
+/// Tells the groups, or what is asked of a phase with them.
+fn tell_with(
     alloc: Global,
+    told: &mut String,
     given: Given<'_>,
     flat: &FlatModel,
     groups: &Seq<Group>,
     asked: &str,
-) -> Result<String>
+) -> Result<()>
     requires circuit { IsCircuit given.circuit.now }
     requires groups { AreGroups given.circuit.now groups.now }
 {
     let (word, rest) = cut(asked);
     if word == "groups" {
-        return all_told(alloc, given.circuit, groups.as_slice());
+        return tell_all(alloc, told, given.circuit, groups.as_slice());
     }
-    variables::told(alloc, given, flat, groups, word, number(rest)?)
+    variables::tell(alloc, told, given, flat, groups, word, number(rest)?)
 }
 
-/// What is asked of the first cell with a model.
-pub(crate) fn told(
+/// Tells what is asked of the first cell with a model.
+pub(crate) fn tell(
     alloc: Global,
+    told: &mut String,
     given: Given<'_>,
     flat: &FlatModel,
     asked: &str,
-) -> Result<String> {
+) -> Result<()> {
     if !is_circuit(given.circuit) {
         bail!("a circuit that is not well formed");
     }
     match groups(alloc, given.design, given.circuit, flat, given.rules, 0) {
-        Ok(groups) => answered(alloc, given, flat, &groups, asked),
-        Err(fault) => refused(alloc, &fault),
+        Ok(groups) => tell_with(alloc, told, given, flat, &groups, asked),
+        Err(fault) => tell_fault(told, &fault),
     }
 }

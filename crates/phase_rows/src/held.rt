@@ -12,6 +12,7 @@ use anyhow::Result;
 use bdd_core::Store;
 use hold_keep::held_roots;
 use node_pool::Span;
+use row_script::add_number;
 use std::alloc::Global;
 use vrt_model::{Circuit, Group, Seq, Vars};
 
@@ -51,23 +52,24 @@ fn add_held(
     add_bits(alloc, told, &board.store, held)
 }
 
-/// The held value of each hold in a phase.
-pub(crate) fn told(
+/// Tells the held value of each hold in a phase.
+pub(crate) fn tell(
     alloc: Global,
+    told: &mut String,
     circuit: &Circuit,
     groups: &Seq<Group>,
     vars: &Vars,
     phase: u32,
-) -> Result<String>
+) -> Result<()>
     requires circuit { IsCircuit circuit.now }
     requires groups { AreGroups circuit.now groups.now }
 {
-    let count = vars.sources.len();
-    let mut board = Board::open(alloc, circuit.nets.len(), count)?;
+    let mut board = Board::open(alloc, circuit.nets.len(), vars.sources.len())?;
     write(&mut board.store, board.values, circuit, groups, vars, phase)?;
-    let mut told = format!(in alloc; "{count} variables")?;
+    told.push_str("variables")?;
+    add_number(alloc, told, board.store.vars())?;
     for hold in circuit.holds.as_slice() {
-        add_held(alloc, &mut told, circuit, &board, hold.net.0)?;
+        add_held(alloc, told, circuit, &board, hold.net.0)?;
     }
-    Ok(told)
+    Ok(())
 }

@@ -21,26 +21,36 @@ use anyhow::Result;
 use drawing::{cut, draw, empty};
 use row_script::Script;
 use std::alloc::Global;
-use texts::told;
+use texts::tell;
 use vrt_model::Circuit;
 
-/// Takes a line, and gives what is to be printed of it.
-fn take(alloc: Global, script: &mut Script, circuit: &mut Circuit, line: &str) -> Result<String> {
+/// Takes a line, and adds what is to be printed of it.
+fn answer(
+    alloc: Global,
+    told: &mut String,
+    script: &mut Script,
+    circuit: &mut Circuit,
+    line: &str,
+) -> Result<()> {
     let (word, rest) = cut(line);
     if draw(alloc, circuit, word, rest)? {
-        return Ok(String::new(alloc));
+        return Ok(());
     }
     let Some((asked, name)) = script.take(alloc, line)? else {
-        return Ok(String::new(alloc));
+        return Ok(());
     };
-    let told = told(alloc, script, circuit, asked)?;
-    Ok(format!(in alloc; "{name}: {told}\n")?)
+    told.push_str(name)?;
+    told.push_str(": ")?;
+    tell(alloc, told, script, circuit, asked)?;
+    told.push('\n')?;
+    Ok(())
 }
 
-/// Prints what a line asked for, where it was answered.
-fn show(rt: HostRuntime, answered: Result<String>) -> Result<()> {
-    let text = answered?;
-    print!(rt; "{text}")?;
+/// Takes a line, and prints what it asks for.
+fn follow(rt: HostRuntime, script: &mut Script, circuit: &mut Circuit, line: &str) -> Result<()> {
+    let mut told = String::new(rt.alloc());
+    answer(rt.alloc(), &mut told, script, circuit, line)?;
+    print!(rt; "{told}")?;
     Ok(())
 }
 
@@ -48,10 +58,7 @@ fn main(rt: HostRuntime) -> Result<()> {
     let mut script = Script::new(rt.alloc());
     let mut circuit = empty(rt.alloc());
     for line in rt.lines(rt.alloc()) {
-        show(
-            rt,
-            take(rt.alloc(), &mut script, &mut circuit, line?.as_str()),
-        )?;
+        follow(rt, &mut script, &mut circuit, line?.as_str())?;
     }
     Ok(())
 }

@@ -40,13 +40,19 @@ fn obliged(
     Ok(obligation(store, design, rules, instance, phase, values)?)
 }
 
-/// The bits of that function.
-fn bits(alloc: Global, given: Given<'_>, phase: u32, number: usize) -> Result<String>
+/// Tells the bits of that function.
+fn tell_bits(
+    alloc: Global,
+    told: &mut String,
+    given: Given<'_>,
+    phase: u32,
+    number: u32,
+) -> Result<()>
     requires netlist { IsDesign given.design.now }
     requires ruled { AreRules given.rules.now }
     requires ordered { IsOrdered given.design.now given.rules.now }
 {
-    let Some(instance) = given.circuit.instances.get(number) else {
+    let Some(instance) = given.circuit.instances.get(number as usize) else {
         return Err(Stop::NotRead.into());
     };
     let mut board = Board::open(alloc, given.circuit.nets.len(), inputs(given.circuit))?;
@@ -54,20 +60,18 @@ fn bits(alloc: Global, given: Given<'_>, phase: u32, number: usize) -> Result<St
     let values = board.values;
     let (design, rules) = (given.design, given.rules);
     let f = obliged(&mut board.store, design, rules, instance, phase, values)?;
-    let mut told = String::new(alloc);
-    add_bits(alloc, &mut told, &board.store, f)?;
-    Ok(told)
+    add_bits(alloc, told, &board.store, f)
 }
 
-/// Where the constraints of an instance hold in a phase, by the numbers of both.
-pub(crate) fn told(alloc: Global, given: Given<'_>, rest: &str) -> Result<String>
+/// Tells where the constraints of an instance hold in a phase, by the numbers of both.
+pub(crate) fn tell(alloc: Global, told: &mut String, given: Given<'_>, rest: &str) -> Result<()>
     requires netlist { IsDesign given.design.now }
     requires ruled { AreRules given.rules.now }
 {
     let (phase, instance) = cut(rest);
     let (phase, instance) = (number(phase)?, number(instance)?);
     match order(alloc, given.design, given.rules) {
-        Ok(_) => bits(alloc, given, phase, instance as usize),
+        Ok(_) => tell_bits(alloc, told, given, phase, instance),
         Err(_) => bail!("a netlist and rules that do not fit"),
     }
 }

@@ -36,52 +36,71 @@ pub(crate) struct Given<'a> {
     pub circuit: &'a Circuit,
 }
 
-/// What is told of the first model, where all are as they are to be.
-fn with_blif(alloc: Global, given: Given<'_>, blif: &Blif, asked: &str) -> Result<String>
+/// Tells what is asked of the first model, where all are as they are to be.
+fn with_blif(
+    alloc: Global,
+    told: &mut String,
+    given: Given<'_>,
+    blif: &Blif,
+    asked: &str,
+) -> Result<()>
     requires { IsBlif blif.now }
 {
     if check_models(alloc, blif).is_err() {
         bail!("models that can not be unrolled");
     }
     match flat_model(alloc, blif, 0) {
-        Ok(flat) => groups::told(alloc, given, &flat, asked),
+        Ok(flat) => groups::tell(alloc, told, given, &flat, asked),
         Err(_) => bail!("a model that is not unrolled"),
     }
 }
 
 /// The same with the text of the models.
-fn with_models(alloc: Global, given: Given<'_>, text: &[u8], asked: &str) -> Result<String> {
+fn with_models(
+    alloc: Global,
+    told: &mut String,
+    given: Given<'_>,
+    text: &[u8],
+    asked: &str,
+) -> Result<()> {
     if text.len() > MOST_BYTES {
         bail!("more than {MOST_BYTES} bytes");
     }
     match read_blif(alloc, text) {
-        Ok(blif) => with_blif(alloc, given, &blif, asked),
+        Ok(blif) => with_blif(alloc, told, given, &blif, asked),
         Err(_) => bail!("models that are not read"),
     }
 }
 
-/// What is told of a design, rules and a circuit.
-fn answered(alloc: Global, given: Given<'_>, models: &[u8], asked: &str) -> Result<String>
+/// Tells what is asked of a design, rules and a circuit.
+fn answered(
+    alloc: Global,
+    told: &mut String,
+    given: Given<'_>,
+    models: &[u8],
+    asked: &str,
+) -> Result<()>
     requires netlist { IsDesign given.design.now }
     requires ruled { AreRules given.rules.now }
 {
     let (word, rest) = cut(asked);
     match word {
-        "expression" => expressions::told(alloc, given.design, given.rules, number(rest)?),
-        "kept" => expressions::kept_told(alloc, given.design, given.rules),
-        "obligation" => obligations::told(alloc, given, rest),
-        _ => with_models(alloc, given, models, asked),
+        "expression" => expressions::tell(alloc, told, given.design, given.rules, number(rest)?),
+        "kept" => expressions::tell_kept(alloc, told, given.design, given.rules),
+        "obligation" => obligations::tell(alloc, told, given, rest),
+        _ => with_models(alloc, told, given, models, asked),
     }
 }
 
 /// The same with the text of the rules.
 fn with_rules(
     alloc: Global,
+    told: &mut String,
     design: &Design,
     script: &Script,
     circuit: &Circuit,
     asked: &str,
-) -> Result<String>
+) -> Result<()>
     requires { IsDesign design.now }
 {
     if script.rules.len() > MOST_BYTES {
@@ -94,24 +113,25 @@ fn with_rules(
                 rules: &rules,
                 circuit,
             };
-            answered(alloc, given, script.models.as_slice(), asked)
+            answered(alloc, told, given, script.models.as_slice(), asked)
         }
         Err(_) => bail!("rules that are not read"),
     }
 }
 
-/// What is told of the texts and the circuit.
-pub(crate) fn told(
+/// Tells what is asked of the texts and the circuit.
+pub(crate) fn tell(
     alloc: Global,
+    told: &mut String,
     script: &Script,
     circuit: &Circuit,
     asked: &str,
-) -> Result<String> {
+) -> Result<()> {
     if script.netlist.len() > MOST_BYTES {
         bail!("more than {MOST_BYTES} bytes");
     }
     match read_spice(alloc, script.netlist.as_slice()) {
-        Ok(design) => with_rules(alloc, &design, script, circuit, asked),
+        Ok(design) => with_rules(alloc, told, &design, script, circuit, asked),
         Err(_) => bail!("a netlist that is not read"),
     }
 }

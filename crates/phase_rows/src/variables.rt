@@ -33,50 +33,56 @@ fn add_variable(alloc: Global, told: &mut String, vars: &Vars, at: usize) -> Res
     add_number(alloc, told, number)
 }
 
-/// All variables.
-fn all_told(alloc: Global, vars: &Vars) -> Result<String> {
+/// Tells all variables.
+fn tell_all(alloc: Global, told: &mut String, vars: &Vars) -> Result<()> {
     let count = vars.sources.len();
-    let mut told = format!(in alloc; "{count} variables")?;
+    told.push_str("variables")?;
+    add_number(alloc, told, count.min(u32::MAX as usize) as u32)?;
     for at in 0..count {
-        add_variable(alloc, &mut told, vars, at)?;
+        add_variable(alloc, told, vars, at)?;
     }
-    Ok(told)
+    Ok(())
 }
 
-/// What is asked of a phase with its variables.
-fn answered(
+/// Tells what is asked of a phase with its variables.
+fn tell_with(
     alloc: Global,
+    told: &mut String,
     given: Given<'_>,
     groups: &Seq<Group>,
     vars: &Vars,
     word: &str,
     phase: u32,
-) -> Result<String>
+) -> Result<()>
     requires circuit { IsCircuit given.circuit.now }
     requires groups { AreGroups given.circuit.now groups.now }
 {
     match word {
-        "variables" => all_told(alloc, vars),
-        "held" => held::told(alloc, given.circuit, groups, vars, phase),
+        "variables" => tell_all(alloc, told, vars),
+        "held" => held::tell(alloc, told, given.circuit, groups, vars, phase),
         _ => bail!("no such line: {word}"),
     }
 }
 
-/// What is asked of a phase.
-pub(crate) fn told(
+/// Tells what is asked of a phase.
+pub(crate) fn tell(
     alloc: Global,
+    told: &mut String,
     given: Given<'_>,
     flat: &FlatModel,
     groups: &Seq<Group>,
     word: &str,
     phase: u32,
-) -> Result<String>
+) -> Result<()>
     requires circuit { IsCircuit given.circuit.now }
     requires groups { AreGroups given.circuit.now groups.now }
 {
     match variables(alloc, given.circuit, flat, groups, phase) {
-        Ok(vars) => answered(alloc, given, groups, &vars, word, phase),
-        Err(VarsFault::TooMany { count }) => Ok(format!(in alloc; "{count} is too many")?),
+        Ok(vars) => tell_with(alloc, told, given, groups, &vars, word, phase),
+        Err(VarsFault::TooMany { count }) => {
+            told.push_str("too many")?;
+            add_number(alloc, told, count)
+        }
         Err(VarsFault::NoMemory) => bail!("memory"),
     }
 }
