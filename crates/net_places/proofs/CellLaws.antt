@@ -30,6 +30,23 @@ empty_cell = record { line = 0; name = []; ports = []; devices = []; instances =
 abbrev empty_nets : CellNets
 empty_nets = record { names = record { ports = []; own = [] }; devices = []; instances = [] }
 
+module _ (design : Design) (rules : Rules) where
+  -- the place of an own net
+  pub own_bound : (cell : Cell) (name : List ℕ) (j : ℕ) → net_in design rules cell name ≡ Own j → j ≤ length (own_nets design rules cell)
+  unfolding net_in
+  own_bound cell name j is = by_test (supply_of rules name) (place_of cell.ports name) (place_of design.globals name) is where
+    by_place : (o : Option ℕ) → place_of (own_nets design rules cell) name ≡ o → (let one : CellNet = Own (unwrap_or o 0) in one) ≡ Own j → j ≤ length (own_nets design rules cell)
+    by_place None e h = let same : 0 ≡ j = cc in omega (arith, same)
+    by_place (Some k) e h = let same : k ≡ j = cc in let lt = (position-Some (bytes_eq name) (own_nets design rules cell) k [] e).0 in omega (arith, same, lt)
+
+    by_test : (s : Option Bool) (p g : Option ℕ)
+        → unwrap_or (option_or (option_map (λ (value : Bool). Supply value) s) (option_or (option_map (λ (k : ℕ). Port k) p) (option_map (λ (j : ℕ). Global j) g)))
+        (Own (unwrap_or (place_of (own_nets design rules cell) name) 0)) ≡ Own j → j ≤ length (own_nets design rules cell)
+    by_test (Some value) p g h = cc
+    by_test None (Some k) g h = cc
+    by_test None None (Some i) h = cc
+    by_test None None None h = by_place (place_of (own_nets design rules cell) name) refl h
+
 module _ (design : Design) (rules : Rules) (tables : NetTables) (are : AreNetTables design rules tables) where
   empty_is : empty_nets ≡ nets_in design rules empty_cell
   unfolding own_nets
@@ -66,26 +83,11 @@ module _ (design : Design) (rules : Rules) (tables : NetTables) (are : AreNetTab
 
   -- ---- own nets at instances are of the cell
 
-  own_bound : (cell : Cell) (name : List ℕ) (j : ℕ) → net_in design rules cell name ≡ Own j → j ≤ length (own_nets design rules cell)
-  unfolding net_in
-  own_bound cell name j is = by_test (supply_of rules name) (place_of cell.ports name) (place_of design.globals name) is where
-    by_place : (o : Option ℕ) → place_of (own_nets design rules cell) name ≡ o → (let one : CellNet = Own (unwrap_or o 0) in one) ≡ Own j → j ≤ length (own_nets design rules cell)
-    by_place None e h = let same : 0 ≡ j = cc in omega (arith, same)
-    by_place (Some k) e h = let same : k ≡ j = cc in let lt = (position-Some (bytes_eq name) (own_nets design rules cell) k [] e).0 in omega (arith, same, lt)
-
-    by_test : (s : Option Bool) (p g : Option ℕ)
-        → unwrap_or (option_or (option_map (λ (value : Bool). Supply value) s) (option_or (option_map (λ (k : ℕ). Port k) p) (option_map (λ (j : ℕ). Global j) g)))
-        (Own (unwrap_or (place_of (own_nets design rules cell) name) 0)) ≡ Own j → j ≤ length (own_nets design rules cell)
-    by_test (Some value) p g h = cc
-    by_test None (Some k) g h = cc
-    by_test None None (Some i) h = cc
-    by_test None None None h = by_place (place_of (own_nets design rules cell) name) refl h
-
   pub are_within : AreWithin tables
   are_within k i there n m j e =
       let nets = nets_are k in
       let card = among_map (instance_in design rules (cell_at design k)) (cell_at design k).instances i (subst (λ (x : CellNets). Among x.instances i) nets there) in
       let name = among_map (net_in design rules (cell_at design k)) card.0.nets n (subst (λ (x : InstanceNets). Among x.nets n) (sym card.2) m) in
-      let le = own_bound (cell_at design k) name.0 j (name.2 ∙ e) in
+      let le = own_bound design rules (cell_at design k) name.0 j (name.2 ∙ e) in
       let same = ap (λ (x : CellNets). length x.names.own) nets in
       omega (arith, le, same)
