@@ -56,38 +56,10 @@ some_there None e = absurd (false≢true (sym e))
 some_there (Some v) e = (v, refl)
 
 module _ (c : Circuit) (phase : Phase) (flat : IsFlat c) (setting : Setting) (which : Bool) (bits : List (Option Bool)) (given : HasGivenBits c phase setting.inputs (known_at bits))
-    (known : HasKnownNets c phase (known_at bits)) (part : Part) (rank : ℕ → ℕ) (is : IsPartOf c phase which rank part) (n : ℕ) (there : Among (net_numbers part.nets) n) where
-  linked : IsTogether c phase which (least_of part) n
-  linked = (is.nets n).0 there
-
-  to_part : (d : Device) → IsInPart c phase which n d → IsInPart c phase which (least_of part) d
-  to_part d p = (p.0, p.1, together_further c phase which (least_of part) n p.0 linked p.2, p.3, p.4)
-
-  from_part : (d : Device) → IsInPart c phase which (least_of part) d → IsInPart c phase which n d
-  from_part d p = (p.0, p.1, together_further c phase which n (least_of part) p.0 (together_back c phase which (least_of part) n linked) p.2, p.3, p.4)
-
-  blocked_is : is_stopped c bits part.devices ≡ true → IsBlocked c phase (known_at bits) which n
-  blocked_is t =
-      let some = any_among (is_stopped_at c bits) part.devices t in
-      let d = stopped_there c bits some.0 some.2 in
-      let own = (is.devices some.0.0).0 (map_among (λ (k : Dev). k.0) part.devices some.0 some.1) in
-      (d.0, subst (IsInPart c phase which n) (one_at c.devices some.0.0 own.0 d.0 own.1 d.1) (from_part own.0 own.2), d.2)
-
-  gate_there : is_stopped c bits part.devices ≡ false → (d : Device) → IsInPart c phase which n d → (v : Bool) × (known_at bits d.gate.0 ≡ Some v)
-  gate_there f d p =
-      let place = (device_among which c d p.3.0).0 in
-      let from = among_map (λ (k : Dev). k.0) part.devices place.0 ((is.devices place.0).1 (d, place.1, to_part d p)) in
-      elim (cases_Bool (is_none (known_at bits d.gate.0))) [
-        | inl none ↦ (
-            let here : At c.devices from.0.0 d = subst (λ (x : ℕ). At c.devices x d) (sym from.2) place.1 in
-            let stopped : is_stopped_at c bits from.0 ≡ true = ap (λ (o : Option Device). unwrap_or (option_map (λ (x : Device). is_none (known_at bits x.gate.0)) o) false) here ∙ none in
-            absurd (false≢true (sym f ∙ among_any (is_stopped_at c bits) part.devices from.0 from.1 stopped)))
-        | inr some ↦ some_there (known_at bits d.gate.0) some
-      ]
-
+    (known : HasKnownNets c phase (known_at bits)) where
   -- ---- the reading with the bits, and 0 where there is none
 
-  filled_is : (m : ℕ) (v : Bool) → known_at bits m ≡ Some v → filled bits m ≡ v
+  pub filled_is : (m : ℕ) (v : Bool) → known_at bits m ≡ Some v → filled bits m ≡ v
   filled_is m v e = ap (λ (o : Option Bool). unwrap_or o false) e
 
   filled_reading : IsReading c phase setting.inputs (filled bits)
@@ -99,33 +71,63 @@ module _ (c : Circuit) (phase : Phase) (flat : IsFlat c) (setting : Setting) (wh
         | inr g ↦ plain_any phase setting.inputs net.kind m (filled bits m) g
       ]
 
-  module _ (driven : ℕ → Bool) where
-    abbrev filled_state : State
-    filled_state = record { reading = filled bits; driven = driven }
+  abbrev pub filled_state : (ℕ → Bool) → State
+  filled_state driven = record { reading = filled bits; driven = driven }
 
-    filled_state_is : IsState c phase setting.inputs filled_state
-    filled_state_is = record { reading = filled_reading; driven = λ at out e. absurd (no_pin c flat at out e) }
+  pub filled_state_is : (driven : ℕ → Bool) → IsState c phase setting.inputs (filled_state driven)
+  filled_state_is driven = record { reading = filled_reading; driven = λ at out e. absurd (no_pin c flat at out e) }
 
-    responds : is_stopped c bits part.devices ≡ false → (r : Response) → IsResponse (network_of c which setting.held filled_state) n r → Responds c phase setting (known_at bits) which n r
-    responds f r h s state has =
-        same_response c phase flat setting which n filled_state s filled_state_is state (λ m v k. filled_is m v (known m v k)) (λ m v k. has m v (known m v k))
+  -- a part of which the net is one
+  module _ (part : Part) (rank : ℕ → ℕ) (is : IsPartOf c phase which rank part) (n : ℕ) (there : Among (net_numbers part.nets) n) where
+    pub linked : IsTogether c phase which (least_of part) n
+    linked = (is.nets n).0 there
+
+    to_part : (d : Device) → IsInPart c phase which n d → IsInPart c phase which (least_of part) d
+    to_part d p = (p.0, p.1, together_further c phase which (least_of part) n p.0 linked p.2, p.3, p.4)
+
+    from_part : (d : Device) → IsInPart c phase which (least_of part) d → IsInPart c phase which n d
+    from_part d p = (p.0, p.1, together_further c phase which n (least_of part) p.0 (together_back c phase which (least_of part) n linked) p.2, p.3, p.4)
+
+    pub blocked_is : is_stopped c bits part.devices ≡ true → IsBlocked c phase (known_at bits) which n
+    blocked_is t =
+        let some = any_among (is_stopped_at c bits) part.devices t in
+        let d = stopped_there c bits some.0 some.2 in
+        let own = (is.devices some.0.0).0 (map_among (λ (k : Dev). k.0) part.devices some.0 some.1) in
+        (d.0, subst (IsInPart c phase which n) (one_at c.devices some.0.0 own.0 d.0 own.1 d.1) (from_part own.0 own.2), d.2)
+
+    gate_there : is_stopped c bits part.devices ≡ false → (d : Device) → IsInPart c phase which n d → (v : Bool) × (known_at bits d.gate.0 ≡ Some v)
+    gate_there f d p =
+        let place = (device_among which c d p.3.0).0 in
+        let from = among_map (λ (k : Dev). k.0) part.devices place.0 ((is.devices place.0).1 (d, place.1, to_part d p)) in
+        elim (cases_Bool (is_none (known_at bits d.gate.0))) [
+          | inl none ↦ (
+              let here : At c.devices from.0.0 d = subst (λ (x : ℕ). At c.devices x d) (sym from.2) place.1 in
+              let stopped : is_stopped_at c bits from.0 ≡ true = ap (λ (o : Option Device). unwrap_or (option_map (λ (x : Device). is_none (known_at bits x.gate.0)) o) false) here ∙ none in
+              absurd (false≢true (sym f ∙ among_any (is_stopped_at c bits) part.devices from.0 from.1 stopped)))
+          | inr some ↦ some_there (known_at bits d.gate.0) some
+        ]
+
+    responds : (driven : ℕ → Bool) → is_stopped c bits part.devices ≡ false → (r : Response) → IsResponse (network_of c which setting.held (filled_state driven)) n r
+        → Responds c phase setting (known_at bits) which n r
+    responds driven f r h s state has =
+        same_response c phase flat setting which n (filled_state driven) s (filled_state_is driven) state (λ m v k. filled_is m v (known m v k)) (λ m v k. has m v (known m v k))
         (λ d p. let bit = gate_there f d p in filled_is d.gate.0 bit.0 bit.1 ∙ sym (has d.gate.0 bit.0 bit.1))
         n r (alone (together_plain c phase which (least_of part) n linked)) h
 
     open_is : is_stopped c bits part.devices ≡ false → ¬ IsBlocked c phase (known_at bits) which n
     open_is f b = let bit = gate_there f b.0 b.1 in none-some bit.0 (sym b.2 ∙ bit.1)
 
-    seen_is : is_stopped c bits part.devices ≡ false → (zero one : Bool) → IsResponse (network_of c which setting.held filled_state) n (response_by zero one)
-        → HasSeen c phase setting (known_at bits) which n (seen_by zero one)
-    seen_is f true true h = (open_is f, responds f FightThere h)
-    seen_is f true false h = (open_is f, responds f (Shows false) h)
-    seen_is f false true h = (open_is f, responds f (Shows true) h)
-    seen_is f false false h = (open_is f, responds f FloatThere h)
+    pub seen_is : (driven : ℕ → Bool) → is_stopped c bits part.devices ≡ false → (zero one : Bool)
+        → IsResponse (network_of c which setting.held (filled_state driven)) n (response_by zero one) → HasSeen c phase setting (known_at bits) which n (seen_by zero one)
+    seen_is driven f true true h = (open_is f, responds driven f FightThere h)
+    seen_is driven f true false h = (open_is f, responds driven f (Shows false) h)
+    seen_is driven f false true h = (open_is f, responds driven f (Shows true) h)
+    seen_is driven f false false h = (open_is f, responds driven f FloatThere h)
 
-    pub look_is : (t : List ℕ) (zeros ones : List Bool) → AreSignals (network_of c which setting.held filled_state) t zeros ones
+    pub look_is : (driven : ℕ → Bool) (t : List ℕ) (zeros ones : List Bool) → AreSignals (network_of c which setting.held (filled_state driven)) t zeros ones
         → HasSeen c phase setting (known_at bits) which n (look c bits part.devices zeros ones n)
-    look_is t zeros ones signals = pick (is_stopped c bits part.devices) refl
+    look_is driven t zeros ones signals = pick (is_stopped c bits part.devices) refl
       where
         pick : (b : Bool) → is_stopped c bits part.devices ≡ b → HasSeen c phase setting (known_at bits) which n (cond b Blocked (seen_by (bit_at zeros n) (bit_at ones n)))
         pick true e = blocked_is e
-        pick false e = seen_is e (bit_at zeros n) (bit_at ones n) (signal_response (network_of c which setting.held filled_state) t zeros ones signals n)
+        pick false e = seen_is driven e (bit_at zeros n) (bit_at ones n) (signal_response (network_of c which setting.held (filled_state driven)) t zeros ones signals n)

@@ -1,8 +1,8 @@
 -- What a part shows depends on its gates alone: two states that have the same bits there and the bits of the known nets
 -- have the same responses in the part. It holds of any states, and needs no solution.
-use Rattle.std.proofs.Common.{◌≡◌, ℕ, ◌<◌, Bool, true, length, refl, sym, subst, ◌∙◌, inl, inr}
+use Rattle.std.proofs.Common.{◌≡◌, ℕ, ◌<◌, Bool, true, false, length, refl, sym, subst, ◌∙◌, inl, inr}
 use Rattle.known_nets.proofs.NetKinds.{given_or_plain, turned}
-use Rattle.vrt_model.proofs.Bounded.{response_inside}
+use Rattle.vrt_model.proofs.Bounded.{clear_inside, response_inside}
 use Rattle.vrt_model.proofs.Filtered.{device_among}
 use Rattle.vrt_model.proofs.GatesGiven.{IsGiven, given_once}
 use Rattle.vrt_model.proofs.Members.{all_among, at_none}
@@ -13,7 +13,7 @@ use Rattle.vrt_model.specs.Lists.{At}
 use Rattle.vrt_model.specs.Networks.{Covers}
 use Rattle.vrt_model.specs.Path.{IsOn, Joins, Network}
 use Rattle.vrt_model.specs.Reading.{conducts_at}
-use Rattle.vrt_model.specs.Response.{IsResponse, Response}
+use Rattle.vrt_model.specs.Response.{Fight, Float, IsResponse, Reaches, Response, Shows}
 use Rattle.vrt_model.specs.State.{IsState, Setting, State, network_of}
 use Rattle.vrt_model.specs.declared.circuit.Circuit.{Circuit}
 use Rattle.vrt_model.specs.declared.circuit.Device.{Device}
@@ -71,3 +71,32 @@ module _ (c : Circuit) (phase : Phase) (flat : IsFlat c) (setting : Setting) (wh
   same_response s t is it ks kt same m r i h =
       response_inside (view s) (view t) (IsTogether c phase which n) (IsGiven c) (network_levels c which setting.held s (flat_ranges c flat))
       (network_levels c which setting.held t (flat_ranges c flat)) (covers s t is it ks same) (covers t s it is kt (λ d p. sym (same d p))) m r i h
+
+  -- ---- a net with a given value responds in one state as in the other
+
+  edge_covers : (s t : State) → IsState c phase setting.inputs s → IsState c phase setting.inputs t → Covers (view s) (view t) (λ m. ⊥) (IsGiven c)
+  edge_covers s t is it = record {
+    source = refl;
+    roots = λ r from in_it. elim from [
+      | inl g ↦ inl (g.0, g.1, g.2, g.3, g.4 ∙ same_given s t is it r.net (g.0, g.1, g.2))
+      | inr other ↦ elim other [
+        | inl h ↦ inr (inl h)
+        | inr o ↦ absurd (no_output s o.0 o.1 o.2)
+      ]
+    ];
+    devices = λ m l d on j i. absurd i;
+    bounded = λ m l d on j i. absurd i;
+    edge = λ m g. given_source c which setting.held s (flat_ranges c flat) m g.0 g.1 g.2;
+  }
+
+  reaches_edge : (s t : State) → IsState c phase setting.inputs s → IsState c phase setting.inputs t → (m : ℕ) (v : Bool) → IsGiven c m → Reaches (view s) m v → Reaches (view t) m v
+  reaches_edge s t is it m v g r =
+      let h = clear_inside (view s) (view t) (λ l. ⊥) (IsGiven c) (network_levels c which setting.held s (flat_ranges c flat)) (network_levels c which setting.held t (flat_ranges c flat))
+      (edge_covers s t is it) (edge_covers t s it is) r.0 r.1 r.2 r.3 (inr (subst (IsGiven c) (sym r.4) g)) in
+      (r.0, r.1, h.0, h.1, r.4, r.5)
+
+  pub given_response : (s t : State) → IsState c phase setting.inputs s → IsState c phase setting.inputs t → (m : ℕ) (r : Response) → IsGiven c m → IsResponse (view s) m r → IsResponse (view t) m r
+  given_response s t is it m Fight g h = (reaches_edge s t is it m true g h.0, reaches_edge s t is it m false g h.1)
+  given_response s t is it m Float g h = (λ r. h.0 (reaches_edge t s it is m true g r), λ r. h.1 (reaches_edge t s it is m false g r))
+  given_response s t is it m (Shows true) g h = (reaches_edge s t is it m true g h.0, λ r. h.1 (reaches_edge t s it is m false g r))
+  given_response s t is it m (Shows false) g h = (reaches_edge s t is it m false g h.0, λ r. h.1 (reaches_edge t s it is m true g r))

@@ -3,6 +3,8 @@
 
 mod looking;
 mod seen;
+mod viewing;
 
 pub use looking::look;
 pub use seen::Seen;
+pub use viewing::view_all;

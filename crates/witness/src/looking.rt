@@ -28,7 +28,7 @@ fn is_stopped_at(circuit: &Circuit, bits: &[Option<bool>], device: Dev) -> bool
 }
 
 /// Whether the gate of some device has no bit.
-fn is_stopped(circuit: &Circuit, bits: &[Option<bool>], devices: &[Dev]) -> bool
+pub(crate) fn is_stopped(circuit: &Circuit, bits: &[Option<bool>], devices: &[Dev]) -> bool
     ensures { result ≡ is_stopped circuit.now bits.now devices.now }
 {
     devices
@@ -37,7 +37,7 @@ fn is_stopped(circuit: &Circuit, bits: &[Option<bool>], devices: &[Dev]) -> bool
 }
 
 /// What is seen of a net that the values 0 and 1 reach or do not.
-fn seen_by(zero: bool, one: bool) -> Seen
+pub(crate) fn seen_by(zero: bool, one: bool) -> Seen
     ensures { result ≡ seen_by zero one }
 {
     if zero {
