@@ -1,0 +1,5 @@
+pub mod KeeperNotes
+pub mod NetLaws
+pub mod PlaceLaws
+pub mod SaidLaws
+pub mod StrengthNotes

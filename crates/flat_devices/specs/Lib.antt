@@ -1,0 +1,2 @@
+pub mod DeviceTables
+pub mod Devices
