@@ -1,2 +1,3 @@
 pub mod CellLaws
 pub mod CircuitLaws
+pub mod InputLaws

@@ -3,7 +3,7 @@
 //! | line | what it draws |
 //! |---|---|
 //! | `circuit` | a new circuit begins, of the supplies alone: the nets `0` and `1` |
-//! | `net NAME KIND COUNT` | a net, `input` or `plain`, or so many of one name |
+//! | `net NAME KIND COUNT` | a net, `input`, `plain`, or with the first `clock` or its inverse, `!clock`, or so many of one name |
 //! | `hold NET END PHASE=BIT ..` | a hold, and the bits with which it enters phases |
 //! | `instance CELL NET ..` | an instance of the cell of this number, with the nets of its ports |
 //!
@@ -12,7 +12,9 @@
 
 use crate::stop::Stop;
 use std::alloc::Global;
-use vrt_model::{Circuit, Enter, FlatInstance, FlatNet, Hold, HoldEnd, Net, NetKind, Seq, Text};
+use vrt_model::{
+    Circuit, ClockRef, Enter, FlatInstance, FlatNet, Hold, HoldEnd, Net, NetKind, Seq, Text,
+};
 
 /// More nets than a circuit has.
 const MOST_NETS: usize = 100_000;
@@ -41,11 +43,18 @@ pub(crate) fn cut(line: &str) -> (&str, &str) {
     line.split_once(' ').unwrap_or((line, ""))
 }
 
+/// The kind of a net with the first clock.
+fn clock(inverted: bool) -> NetKind {
+    NetKind::Clock(ClockRef { clock: 0, inverted })
+}
+
 /// The kind of nets that a word says.
 fn kind_of(word: &str) -> Result<NetKind, Stop> {
     match word {
         "low" => Ok(NetKind::Supply(false)),
         "high" => Ok(NetKind::Supply(true)),
+        "clock" => Ok(clock(false)),
+        "!clock" => Ok(clock(true)),
         "input" => Ok(NetKind::Input),
         "plain" => Ok(NetKind::Plain),
         _ => Err(Stop::NotRead),

@@ -6,11 +6,13 @@
 #![tactic(auto)]
 
 mod board;
+mod care;
 mod checks;
 mod drawing;
 mod expressions;
 mod groups;
 mod held;
+mod inputs;
 mod obligations;
 mod stop;
 mod texts;

@@ -7,6 +7,7 @@
 //! | `obligation PHASE N` | where the constraints of the instance of this number hold, over the inputs |
 //! | `groups` | the groups of holds, or the first latch without one |
 //! | `variables PHASE` | the variables and what they stand for, or how many too many there are |
+//! | `care PHASE` | where the constraints of the first cell hold, over the variables |
 //! | `held PHASE` | the held value of each hold, over the variables |
 
 ghost use Rattle.vrt_model.specs.Inputs.{AreRules, IsBlif, IsDesign};

@@ -3,8 +3,8 @@
 ghost use Rattle.hold_groups.specs.Grouped.{AreGroups};
 ghost use Rattle.vrt_model.specs.Circuits.{IsCircuit};
 
-use crate::held;
 use crate::texts::Given;
+use crate::{care, held};
 use anyhow::{Result, bail};
 use hold_groups::{VarsFault, variables};
 use row_script::{add_number, shown};
@@ -59,6 +59,7 @@ fn tell_with(
 {
     match word {
         "variables" => tell_all(alloc, told, vars),
+        "care" => care::tell(alloc, told, given, groups, vars, phase),
         "held" => held::tell(alloc, told, given.circuit, groups, vars, phase),
         _ => bail!("no such line: {word}"),
     }

@@ -1,0 +1,61 @@
+//! The care set of a phase, over its variables.
+
+ghost use Rattle.hold_groups.specs.Grouped.{AreGroups};
+
+use crate::board::Board;
+use crate::checks::{are_live, is_live};
+use crate::inputs::has_inputs;
+use crate::stop::Stop;
+use crate::texts::Given;
+use crate::values::add_bits;
+use anyhow::Result;
+use bdd_core::{H, Store};
+use constraints::care;
+use node_pool::Span;
+use row_script::add_number;
+use std::alloc::Global;
+use vrt_model::{Group, Seq, Vars};
+
+/// The care set of the first cell.
+fn cared(
+    store: &mut Store,
+    roots: Span,
+    given: Given<'_>,
+    groups: &Seq<Group>,
+    vars: &Vars,
+    phase: u32,
+) -> Result<H, Stop>
+    requires { AreGroups given.circuit.now groups.now }
+{
+    if !is_live(store, roots) || roots.len as usize != given.circuit.nets.len() {
+        return Err(Stop::Unfit);
+    }
+    if vars.sources.len() > store.vars() as usize || !are_live(store, roots) {
+        return Err(Stop::Unfit);
+    }
+    if !has_inputs(store, given.circuit, vars.sources.as_slice(), roots) {
+        return Err(Stop::Unfit);
+    }
+    let (design, rules, circuit) = (given.design, given.rules, given.circuit);
+    Ok(care(store, design, rules, 0, circuit, groups, vars, phase, roots)?)
+}
+
+/// Tells the bits of the care set in a phase.
+pub(crate) fn tell(
+    alloc: Global,
+    told: &mut String,
+    given: Given<'_>,
+    groups: &Seq<Group>,
+    vars: &Vars,
+    phase: u32,
+) -> Result<()>
+    requires { AreGroups given.circuit.now groups.now }
+{
+    let mut board = Board::open(alloc, given.circuit.nets.len(), vars.sources.len())?;
+    board.put_inputs(given.circuit)?;
+    let f = cared(&mut board.store, board.values, given, groups, vars, phase)?;
+    told.push_str("variables")?;
+    add_number(alloc, told, board.store.vars())?;
+    told.push_str(", care ")?;
+    add_bits(alloc, told, &board.store, f)
+}

@@ -1,0 +1,110 @@
+//! Whether the words of the inputs of a circuit have the handles of their variables.
+
+ghost use Rattle.std.specs.Prelude.{◌≡◌, ℕ, ◌<◌, IsTrue, length, position};
+ghost use Rattle.bdd_core.specs.Diagram.{Valuation};
+ghost use Rattle.bdd_core.specs.Store.{IsLive, IsSpan, function_of};
+ghost use Rattle.bdd_core.specs.Words.{IsFilled};
+ghost use Rattle.constraints.specs.Cared.{HasInputs};
+ghost use Rattle.phase_rows.specs.Given.{HasInput, is_input_at};
+ghost use Rattle.hold_keep.specs.Rooted.{bit_by};
+ghost use Rattle.vrt_model.specs.Held.{is_input_of};
+ghost use Rattle.vrt_model.specs.Variables.{is_input};
+
+use bdd_core::{H, Store};
+use node_pool::Span;
+use vrt_model::{Circuit, NetKind, Source};
+
+/// Whether a variable is that of an input net.
+fn is_input_of(source: Source, net: u32) -> bool
+    ensures { result ≡ is_input_of net source }
+{
+    match source {
+        Source::Input(other) => other.0 == net,
+        Source::Element(_) => false,
+        Source::Group(_) => false,
+    }
+}
+
+/// The place of the variable of an input.
+fn input_place(sources: &[Source], net: u32) -> Option<usize>
+    ensures { result ≡ position (is_input_of net) sources.now }
+{
+    sources.iter().position(|source| is_input_of(*source, net))
+}
+
+/// Whether a handle is that of the variable of a place, or the constant 0 where there is none.
+#[tactic(auto, using(crate::proofs::InputLaws::none_is))]
+fn is_bit(store: &Store, handle: H, place: Option<usize>) -> bool
+    requires { IsLive store.now handle }
+    ensures { IsTrue result → (v : Valuation) → function_of store.now handle v ≡ bit_by place v }
+{
+    store.sound();
+    let Some(at) = place else {
+        return handle.0 == 0;
+    };
+    let Some(node) = store.node(handle) else {
+        return false;
+    };
+    if node.var as usize != at {
+        return false;
+    }
+    if node.lo != 0 {
+        return false;
+    }
+    if node.hi != 1 {
+        return false;
+    }
+    true
+}
+
+/// Whether a kind of nets is that of inputs.
+fn is_input(kind: NetKind) -> bool
+    ensures { result ≡ is_input kind }
+{
+    match kind {
+        NetKind::Supply(_) => false,
+        NetKind::Clock(_) => false,
+        NetKind::Input => true,
+        NetKind::Plain => false,
+    }
+}
+
+/// Whether a net of a circuit is an input.
+fn is_input_at(circuit: &Circuit, net: u32) -> bool
+    ensures { result ≡ is_input_at circuit.now net }
+{
+    match circuit.nets.get(net as usize) {
+        Some(net) => is_input(net.kind),
+        None => false,
+    }
+}
+
+/// Whether a word of a net, if it is an input, has the handle of its variable.
+fn has_input(store: &Store, circuit: &Circuit, sources: &[Source], roots: Span, net: u32) -> bool
+    requires span { IsSpan store.now roots }
+    requires live { IsFilled store.now roots }
+    requires within { net < roots.len }
+    ensures { IsTrue result → HasInput circuit.now sources.now store.now roots net }
+{
+    if !is_input_at(circuit, net) {
+        return true;
+    }
+    let handle = H(store.read(roots, net));
+    is_bit(store, handle, input_place(sources, net))
+}
+
+/// Whether the words of the inputs of a circuit have the handles of their variables.
+#[tactic(auto, using(crate::proofs::InputLaws::inputs_are))]
+pub(crate) fn has_inputs(store: &Store, circuit: &Circuit, sources: &[Source], roots: Span) -> bool
+    requires span { IsSpan store.now roots }
+    requires live { IsFilled store.now roots }
+    requires len { roots.len ≡ length circuit.now.nets }
+    ensures { IsTrue result → HasInputs circuit.now sources.now store.now roots }
+{
+    for net in 0..roots.len {
+        if !has_input(store, circuit, sources, roots, net) {
+            return false;
+        }
+    }
+    true
+}
