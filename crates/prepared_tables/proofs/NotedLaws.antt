@@ -3,15 +3,16 @@ use Rattle.std.proofs.Common.{◌≡◌, ◌<◌, ◌≤◌, ◌+◌, ◌++◌, 
 use Rattle.std.specs.Prelude.{bytes_eq, filter, is_some, ◌==◌}
 use Rattle.std.specs.List.{position}
 use Rattle.std.specs.Option.{option_or}
+use Rattle.std.proofs.Math.Bool.{or-false}
 use Rattle.std.proofs.lemmas.Bool.Decides.{nat_tests}
 use Rattle.std.proofs.lemmas.List.{take_all, take_more}
 use Rattle.std.proofs.lemmas.List.Elements.{filter-append}
 use Rattle.std.proofs.lemmas.Slice.Eq.{bytes_eq-Decides}
-use Rattle.names.proofs.NameLaws.{bytes_eq-sym, or_none, with_front}
+use Rattle.names.proofs.NameLaws.{bytes_eq-sym, with_front}
+use Rattle.names.proofs.PlaceLaws.{place_cons}
 use Rattle.names.specs.Names.{with_name}
 use Rattle.prepared_tables.specs.ModelNames.{AreNoted, IsEmpty, Notes, low_name}
 use Rattle.prepared_tables.specs.declared.by_name.NameTable.{NameTable}
-use Rattle.rule_index.proofs.NameLaws.{place_cons}
 use Rattle.rule_index.specs.Firsts.{value_in}
 use Rattle.vrt_model.specs.Lists.{has_name}
 use Rattle.vrt_model.specs.PairedPorts.{has_lower_name}
@@ -80,7 +81,7 @@ count_end : {X : Type 0} (b : Bool) (x : X) (xs : List X) → nat_lt 1 (length (
 count_end true x [] = refl
 count_end false x [] = refl
 count_end true x (y ∷ xs) = two_there x xs ∙ or_true (nat_lt 1 (suc (length xs)))
-count_end {X} false x (y ∷ xs) = ap (λ (ys : List X). nat_lt 1 (suc (length ys))) (append-nil xs) ∙ sym (or_none (nat_lt 1 (suc (length xs))))
+count_end {X} false x (y ∷ xs) = ap (λ (ys : List X). nat_lt 1 (suc (length ys))) (append-nil xs) ∙ sym (or-false (nat_lt 1 (suc (length xs))))
 
 -- ---- a model more
 

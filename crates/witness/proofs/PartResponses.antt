@@ -1,7 +1,8 @@
 -- What a part shows depends on its gates alone: two states that have the same bits there and the bits of the known nets
 -- have the same responses in the part. It holds of any states, and needs no solution.
 use Rattle.std.proofs.Common.{◌≡◌, ℕ, ◌<◌, Bool, true, false, length, refl, sym, subst, ◌∙◌, inl, inr}
-use Rattle.known_nets.proofs.NetKinds.{given_or_plain, turned}
+use Rattle.known_nets.proofs.NetKinds.{given_or_plain}
+use Rattle.vrt_model.proofs.Laws.{turned}
 use Rattle.vrt_model.proofs.Bounded.{clear_inside, response_inside}
 use Rattle.vrt_model.proofs.Filtered.{device_among}
 use Rattle.vrt_model.proofs.GatesGiven.{IsGiven, given_once}
