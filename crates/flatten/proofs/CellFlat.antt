@@ -7,21 +7,20 @@ use Rattle.std.proofs.Math.Path.{fun_ext}
 use Rattle.std.proofs.lemmas.List.{length-map, map-append}
 use Rattle.std.proofs.lemmas.Slice.Eq.{bytes_eq-Decides}
 use Rattle.vrt_model.specs.Lists.{At, has_name}
+use Rattle.flat_devices.proofs.SaidLaws.{kind_is, level_is}
 use Rattle.flatten.proofs.CellNets.{IsLeaf, all_names, cell, global_names, is_plain, named, names_are, own_names, port_names, ports_are, shared_names}
 use Rattle.flatten.proofs.NetNumbers.{number_is}
 use Rattle.rule_index.specs.Firsts.{value_in}
 use Rattle.flatten.specs.NetTables.{IsNetTable, Supplies, device_in, names_table, nets_in, nets_named, number_in, of_parts, port_nets_in, port_table}
-use Rattle.rule_index.specs.Tables.{AreModels, card_kind, declared_by, declared_supply, kind_in, supply_in}
-use Rattle.flatten.specs.DeviceTables.{AreTables, declared_level, device_level}
-use Rattle.flatten.specs.declared.device_tables.DeviceTable.{DeviceTable}
+use Rattle.rule_index.specs.Tables.{declared_supply, supply_in}
+use Rattle.flat_devices.specs.DeviceTables.{AreTables}
+use Rattle.flat_devices.specs.declared.device_tables.DeviceTable.{DeviceTable}
 use Rattle.rule_index.specs.declared.firsts.FirstValues.{FirstValues}
 use Rattle.flatten.specs.declared.net_names.NetTable.{NetTable}
-use Rattle.rule_index.specs.declared.models.Declared.{Declared}
-use Rattle.rule_index.specs.declared.models.ModelTable.{ModelTable}
 use Rattle.rule_index.specs.declared.index.RuleIndex.{RuleIndex}
 use Rattle.vrt_model.specs.CellRules.{supply_of}
 use Rattle.vrt_model.specs.Comparison.{cell_at}
-use Rattle.vrt_model.specs.FlatCircuit.{Ruled, falls_on, flat_circuit_of, flat_device, flat_devices, flat_hold, flat_holds, flat_instance, flat_instances, flat_nets, is_outermost, kind_by, kind_of, level_of, net_id, own_flat_nets, plain_net, port_nets_of, rule_on, supply_flat}
+use Rattle.vrt_model.specs.FlatCircuit.{Ruled, falls_on, flat_circuit_of, flat_device, flat_devices, flat_hold, flat_holds, flat_instance, flat_instances, flat_nets, is_outermost, kind_by, net_id, own_flat_nets, plain_net, port_nets_of, rule_on, supply_flat}
 use Rattle.vrt_model.specs.Unrolled.{Place, Top, all_places, deepest, instances_from, net_at, own_nets, places_in, top_place}
 use Rattle.vrt_model.specs.declared.circuit.Circuit.{Circuit}
 use Rattle.vrt_model.specs.declared.circuit.Device.{Device}
@@ -34,7 +33,6 @@ use Rattle.vrt_model.specs.declared.design.InstanceCard.{InstanceCard}
 use Rattle.vrt_model.specs.declared.design.Kind.{Kind}
 use Rattle.vrt_model.specs.declared.design.Kind.TheVariants.{N}
 use Rattle.vrt_model.specs.declared.pairing.PortRole.{PortRole}
-use Rattle.vrt_model.specs.declared.rules.DeviceRule.{DeviceRule}
 use Rattle.vrt_model.specs.declared.rules.HoldRule.{HoldRule}
 use Rattle.vrt_model.specs.declared.rules.Rules.{Rules}
 
@@ -56,26 +54,10 @@ behind_first (x ∷ a) b c = behind_first a b c
 
 -- ---- what tables say
 
-option_twice : {X Y Z : Type 0} (f : Y → Z) (g : X → Y) (o : Option X) → option_map f (option_map g o) ≡ option_map (λ (x : X). f (g x)) o
-option_twice f g None = refl
-option_twice f g (Some x) = refl
-
 -- which supply a name is
 pub supplies_are : (rules : Rules) (supplies : FirstValues Bool) → ((name : List ℕ) → value_in supplies name ≡ declared_supply rules.supplies name)
     → supply_in supplies ≡ supply_of rules
 supplies_are rules supplies are = fun_ext (λ name. ap (λ (o : Option Bool). option_or o (cond (bytes_eq name (codes "0")) (Some false) None)) (are name))
-
-pub kind_is : (design : Design) (rules : Rules) (models : ModelTable) (model : List ℕ) → AreModels design rules models → kind_in models model ≡ kind_of design rules model
-kind_is design rules models model are =
-    ap₂ (λ (o : Option Declared) (p : Option Kind). option_or (option_map (λ (d : Declared). d.kind) o) p) (are.rules_are model) (are.cards_are model)
-    ∙ ap (λ (o : Option Kind). option_or o (card_kind design.models model)) (option_twice (λ (d : Declared). d.kind) declared_by (find (λ (r : DeviceRule). bytes_eq r.model model) rules.devices))
-
-pub level_is : (design : Design) (rules : Rules) (name : List ℕ) (index : RuleIndex) (own : DeviceTable) (device model : List ℕ) → AreTables design rules name index own
-    → device_level index.models own device model ≡ level_of rules name device model
-level_is design rules name index own device model are =
-    ap₂ (λ (o : Option ℕ) (p : Option Declared). unwrap_or (option_or o (option_map (λ (d : Declared). d.level) p)) 6) (are.devices_are.strengths_are device) (are.index_is.models_are.rules_are model)
-    ∙ ap (λ (p : Option ℕ). unwrap_or (option_or (declared_level rules.strengths name device) p) 6)
-    (option_twice (λ (d : Declared). d.level) declared_by (find (λ (r : DeviceRule). bytes_eq r.model model) rules.devices))
 
 -- ---- the cell is the one place
 

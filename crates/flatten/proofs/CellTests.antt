@@ -6,7 +6,8 @@ use Rattle.std.proofs.Math.Path.{fun_ext}
 use Rattle.std.proofs.lemmas.Bool.Decides.{nat_tests}
 use Rattle.std.proofs.lemmas.List.{length-map}
 use Rattle.std.proofs.lemmas.List.Elements.{All-cons, All-nil}
-use Rattle.flatten.proofs.CellFlat.{circuit_of, device_count, devices_are, instances_are, kind_is, level_is, net_count, nets_by, one_place, over_places, table_names, top, within}
+use Rattle.flat_devices.proofs.SaidLaws.{kind_is, level_is}
+use Rattle.flatten.proofs.CellFlat.{circuit_of, device_count, devices_are, instances_are, net_count, nets_by, one_place, over_places, table_names, top, within}
 use Rattle.flatten.proofs.CellNets.{IsLeaf, all_names, cell}
 use Rattle.flatten.proofs.NetNumbers.{number_within}
 use Rattle.flatten.specs.Circuits.{IsFlatCircuit}
@@ -14,8 +15,8 @@ use Rattle.rule_index.specs.Firsts.{value_in}
 use Rattle.flatten.specs.NetTables.{IsNetTable, device_in, nets_in, of_parts}
 use Rattle.flatten.specs.Structures.{IsFault, IsStructured, IsTestFault, StructureGives, TestGives, model_without_kind}
 use Rattle.rule_index.specs.Tables.{AreModels, declared_supply, kind_in, supply_in}
-use Rattle.flatten.specs.DeviceTables.{AreTables}
-use Rattle.flatten.specs.declared.device_tables.DeviceTable.{DeviceTable}
+use Rattle.flat_devices.specs.DeviceTables.{AreTables}
+use Rattle.flat_devices.specs.declared.device_tables.DeviceTable.{DeviceTable}
 use Rattle.flatten.specs.declared.faults.FlatFault.{FlatFault}
 use Rattle.flatten.specs.declared.faults.FlatFault.TheVariants.{DeviceModel, SupplyTie, Limit as LimitFault, NoMemory}
 use Rattle.rule_index.specs.declared.firsts.FirstValues.{FirstValues}

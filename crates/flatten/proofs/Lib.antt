@@ -2,10 +2,8 @@ pub mod CellFlat
 pub mod CellNets
 pub mod CellTests
 pub mod CircuitParts
-pub mod KeeperNotes
 pub mod NameLists
 pub mod NetNumbers
 pub mod NetTurns
-pub mod StrengthNotes
 pub mod StructureLaws
 pub mod WalkLaws

@@ -5,7 +5,8 @@ use Rattle.std.proofs.lemmas.Bool.{cases_lt}
 use Rattle.std.proofs.lemmas.Bool.Decides.{nat_tests}
 use Rattle.flat_sizes.specs.Sizes.{AreSizes}
 use Rattle.flat_sizes.specs.declared.counts.FlatSizes.{FlatSizes}
-use Rattle.flatten.proofs.CellFlat.{kind_is, supplies_are}
+use Rattle.flat_devices.proofs.SaidLaws.{kind_is}
+use Rattle.flatten.proofs.CellFlat.{supplies_are}
 use Rattle.flatten.proofs.CellTests.{find_same}
 use Rattle.flatten.proofs.WalkLaws.{cards_unrolled, ties_unrolled}
 use Rattle.rule_index.specs.Firsts.{value_in}

@@ -1,6 +1,6 @@
 -- The tables of one cell.
 use Rattle.std.specs.Prelude.{◌≡◌, []}
-use Rattle.flatten.specs.DeviceTables.{AreDevices, AreFreshDevices}
+use Rattle.flat_devices.specs.DeviceTables.{AreDevices, AreFreshDevices}
 use Rattle.flatten.specs.NetTables.{IsNetTable}
 use Rattle.flatten.specs.declared.tables.CellTables.{CellTables}
 use Rattle.rule_index.specs.Tables.{supply_in}

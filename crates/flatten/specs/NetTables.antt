@@ -3,8 +3,8 @@ use Rattle.std.specs.Prelude.{◌≡◌, ℕ, ◌+◌, List, [], ◌∷◌, ◌+
 use Rattle.vrt_model.specs.Lists.{has_name}
 use Rattle.names.specs.Names.{with_name}
 use Rattle.rule_index.specs.Tables.{kind_in, supply_in}
-use Rattle.flatten.specs.DeviceTables.{device_level}
-use Rattle.flatten.specs.declared.device_tables.DeviceTable.{DeviceTable}
+use Rattle.flat_devices.specs.DeviceTables.{device_level}
+use Rattle.flat_devices.specs.declared.device_tables.DeviceTable.{DeviceTable}
 use Rattle.flatten.specs.declared.net_names.NetTable.{NetTable}
 use Rattle.rule_index.specs.declared.index.RuleIndex.{RuleIndex}
 use Rattle.vrt_model.specs.FlatCircuit.{kind_by, net_id, plain_net, supply_flat}

@@ -1,6 +1,7 @@
 -- The unrolled cells of a cell, by what is told of them: their devices, and which supplies their ports are tied to.
 use Rattle.std.specs.Prelude.{◌≡◌, ℕ, zero, suc, List, [], ◌∷◌, map, find, is_none, Bool, true, false, cond, Option, Some, None, unwrap_or, slice_get, position, bytes_eq, ◌==◌}
 use Rattle.std.specs.Option.{option_or}
+use Rattle.flat_devices.specs.DeviceTables.{first_some}
 use Rattle.flatten.specs.NetTables.{Supplies}
 use Rattle.rule_index.specs.Firsts.{value_in}
 use Rattle.rule_index.specs.Tables.{cell_numbered, kind_in}
@@ -17,11 +18,6 @@ use Rattle.vrt_model.specs.declared.design.InstanceCard.{InstanceCard}
 -- a table has the number of each cell under its name
 abbrev pub AreNumbered : Design → FirstValues ℕ → Type 0
 AreNumbered design cells = (name : List ℕ) → value_in cells name ≡ cell_numbered design.cells name
-
--- the first that is found of some items
-abbrev pub first_some : {X Y : Type 0} → (X → Option Y) → List X → Option Y
-first_some f [] = None
-first_some f (x ∷ xs) = option_or (f x) (first_some f xs)
 
 -- ---- devices
 

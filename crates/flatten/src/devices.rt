@@ -1,18 +1,18 @@
 //! The devices of a circuit.
 
-ghost use Rattle.std.specs.Prelude.{◌≡◌, ◌≤◌, ◌+◌, ◌++◌, ◌∷◌, [], IfOk, OnOk, find, is_none, length, map, unwrap_or};
+ghost use Rattle.std.specs.Prelude.{◌≡◌, ◌≤◌, ◌+◌, ◌++◌, ◌∷◌, [], IfOk, OnOk, find, is_none, length, map};
 ghost use Rattle.std.specs.Option.{option_copied};
 ghost use Rattle.flatten.specs.NetTables.{device_in};
 ghost use Rattle.rule_index.specs.Tables.{kind_in};
 ghost use Rattle.vrt_model.specs.declared.design.DeviceCard.{DeviceCard as CardValue};
 
-use crate::device_tables::{DeviceTable, level};
 use crate::lists::append;
 use crate::net_names::net;
+use flat_devices::{DeviceTable, kind_or_n, level};
 use names::Names;
 use rule_index::{ModelTable, RuleIndex};
 use std::alloc::Global;
-use vrt_model::{Device, DeviceCard, Kind, NoMemory, Seq, Text};
+use vrt_model::{Device, DeviceCard, NoMemory, Seq, Text};
 
 /// Whether the model of a card has no kind.
 fn has_no_kind(models: &ModelTable, card: &DeviceCard) -> bool
@@ -26,13 +26,6 @@ pub fn without_kind<'a>(models: &ModelTable, cards: &'a [DeviceCard]) -> Option<
     ensures { option_copied result ≡ find (λ (d : CardValue). is_none (kind_in models.now d.model)) cards.entry.now }
 {
     cards.iter().find(|card| has_no_kind(models, card))
-}
-
-/// The kind of the devices of a model, N where it has none.
-fn kind_or_n(models: &ModelTable, model: &[u8]) -> Kind
-    ensures { result ≡ unwrap_or (kind_in models.now model.now) Kind.N }
-{
-    models.kind(model).unwrap_or(Kind::N)
 }
 
 /// The device of a card, by the names of nets.

@@ -3,7 +3,6 @@
 
 mod cells;
 mod circuit;
-mod device_tables;
 mod devices;
 mod faults;
 mod kinds;

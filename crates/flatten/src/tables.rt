@@ -4,8 +4,8 @@ ghost use Rattle.std.specs.Prelude.{OnOk};
 ghost use Rattle.flatten.specs.CellTables.{AreCellTables, AreFreshCellTables};
 ghost use Rattle.rule_index.specs.Tables.{AreIndexed};
 
-use crate::device_tables::DeviceTable;
 use crate::net_names::NetTable;
+use flat_devices::DeviceTable;
 use rule_index::RuleIndex;
 use std::alloc::Global;
 use vrt_model::{Cell, Design, NoMemory, Rules};
