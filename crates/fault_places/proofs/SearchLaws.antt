@@ -1,0 +1,71 @@
+-- The first fault of a list of places is the first of its phase.
+use Rattle.std.proofs.Common.{◌≡◌, ℕ, zero, suc, ◌+◌, ◌⊎◌, Bool, true, List, [], ◌∷◌, ◌++◌, length, arith, subst, sym, ◌∙◌, inl, inr, ap}
+use Rattle.std.specs.Prelude.{slice_get}
+use Rattle.std.proofs.lemmas.Bool.{cases_lt, cases_eq}
+use Rattle.vrt_model.specs.Comparison.{Comparison}
+use Rattle.vrt_model.specs.Lists.{At}
+use Rattle.vrt_model.specs.Places.{Finding, IsFinding, IsFirstInPhase, IsNoLater, comes_before, standing}
+use Rattle.fault_places.specs.Searches.{AreSpots, IsClearOf, IsFoundFirst, IsFoundIn, Spot, finding_at}
+use Rattle.vrt_model.specs.declared.verdict.FaultKind.{FaultKind}
+use Rattle.std.proofs.lemmas.Option.{same_Some}
+
+-- a finding at a place, in other words
+moved : (k : Comparison) (phase : ℕ) (y : Spot) (other : Finding) → IsFinding k other → other.phase ≡ phase → y.kind ≡ other.kind → y.at ≡ other.at → IsFinding k (finding_at phase y other.bits)
+moved k phase y other g same kind at =
+    subst (λ (q : FaultKind). IsFinding k (record { phase = phase; kind = q; at = y.at; bits = other.bits })) (sym kind)
+    (subst (λ (n : ℕ). IsFinding k (record { phase = phase; kind = other.kind; at = n; bits = other.bits })) (sym at)
+    (subst (λ (p : ℕ). IsFinding k (record { phase = p; kind = other.kind; at = other.at; bits = other.bits })) same g))
+
+pub first_spot : (k : Comparison) (phase : ℕ) (rank least : ℕ → ℕ) (spots : List Spot) (x : Spot) (bits : List Bool)
+    → AreSpots k phase rank least spots → IsFoundFirst k phase spots x bits → IsFirstInPhase k (finding_at phase x bits)
+first_spot k phase rank least spots x bits are f = record { found = f.found; first = (rank, least, are.order, λ other g same. no_later other g same) }
+  where
+    no_later : (other : Finding) → IsFinding k other → other.phase ≡ phase → IsNoLater k phase rank least (finding_at phase x bits) other
+    no_later other g same =
+        let there = are.all other g same in
+        let y : Spot = there.1 in
+        let here : IsFinding k (finding_at phase y other.bits) = moved k phase y other g same there.3 there.4 in
+        elim (cases_lt there.0 f.place) [
+          | inl lt ↦ absurd (f.before there.0 y other.bits lt there.2 here)
+          | inr ge ↦ elim (cases_eq f.place there.0) [
+            | inl e ↦
+                let one : x ≡ y = same_Some x y (sym f.stands ∙ ap (slice_get spots) e ∙ there.2) in
+                inr (
+                  ap (λ (z : Spot). z.kind) one ∙ there.3,
+                  ap (λ (z : Spot). z.at) one ∙ there.4,
+                  f.least other.bits (subst (λ (z : Spot). IsFinding k (finding_at phase z other.bits)) (sym one) here),
+                )
+            | inr ne ↦ inl (
+                subst (λ (q : FaultKind). comes_before (standing k phase rank least x.kind x.at) (standing k phase rank least q other.at) ≡ true) there.3
+                (subst (λ (n : ℕ). comes_before (standing k phase rank least x.kind x.at) (standing k phase rank least y.kind n) ≡ true) there.4
+                (are.sorted f.place there.0 x y f.stands there.2 (omega (arith, ge, ne))))
+                )
+          ]
+        ]
+
+-- ---- stages
+
+-- what stands at a place of two lists
+place_of_two : (xs ys : List Spot) (i : ℕ) (y : Spot) → At (xs ++ ys) i y → At xs i y ⊎ ((j : ℕ) × (i ≡ length xs + j) × At ys j y)
+place_of_two [] ys i y e = inr (i, omega arith, e)
+place_of_two (x ∷ xs) ys zero y e = inl e
+place_of_two (x ∷ xs) ys (suc i) y e = elim (place_of_two xs ys i y e) [ inl a ↦ inl a | inr b ↦ inr (b.0, (let is = b.1 in omega (arith, is)), b.2) ]
+
+behind : (xs ys : List Spot) (j : ℕ) (y : Spot) → At ys j y → At (xs ++ ys) (length xs + j) y
+behind [] ys j y e = (let is : j ≡ 0 + j = omega arith in subst (λ (i : ℕ). At ys i y) is e)
+behind (x ∷ xs) ys j y e =
+    let is : suc (length xs + j) ≡ suc (length xs) + j = omega arith in
+    subst (λ (i : ℕ). At (x ∷ (xs ++ ys)) i y) is (behind xs ys j y e)
+
+pub later_stage : (W : Type 0) (Fault : Spot → W → Type 0) (care f : W → Bool) (xs ys : List Spot) (x : Spot)
+    → IsClearOf Fault care xs → IsFoundIn Fault care f ys x → IsFoundIn Fault care f (xs ++ ys) x
+later_stage W Fault care f xs ys x clear found = record {
+  place = length xs + found.place;
+  stands = behind xs ys found.place x found.stands;
+  exact = found.exact;
+  before = λ i y v lt e met.
+      elim (place_of_two xs ys i y e) [
+        | inl a ↦ clear i y v a met
+        | inr b ↦ found.before b.0 y v (let is = b.1 in omega (arith, is, lt)) b.2 met
+      ];
+}
