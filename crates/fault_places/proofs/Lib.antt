@@ -1,1 +1,4 @@
+mod Floats
+mod PhaseOrder
 mod SearchLaws
+mod SortedLists

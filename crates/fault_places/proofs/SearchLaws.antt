@@ -1,13 +1,15 @@
 -- The first fault of a list of places is the first of its phase.
-use Rattle.std.proofs.Common.{◌≡◌, ℕ, zero, suc, ◌+◌, ◌⊎◌, Bool, true, List, [], ◌∷◌, ◌++◌, length, arith, subst, sym, ◌∙◌, inl, inr, ap}
+use Rattle.std.proofs.Common.{◌≡◌, ℕ, ◌+◌, Bool, false, true, List, ◌++◌, length, arith, subst, sym, ◌∙◌, inl, inr, ap}
 use Rattle.std.specs.Prelude.{slice_get}
 use Rattle.std.proofs.lemmas.Bool.{cases_lt, cases_eq}
 use Rattle.vrt_model.specs.Comparison.{Comparison}
-use Rattle.vrt_model.specs.Lists.{At}
 use Rattle.vrt_model.specs.Places.{Finding, IsFinding, IsFirstInPhase, IsNoLater, comes_before, standing}
-use Rattle.fault_places.specs.Searches.{AreSpots, IsClearOf, IsFoundFirst, IsFoundIn, Spot, finding_at}
+use Rattle.fault_places.proofs.SortedLists.{split}
+use Rattle.fault_places.specs.Searches.{AreSpots, IsClearOf, IsFoundAt, IsFoundFirst, IsFoundIn, Spot, finding_at}
+use Rattle.vrt_model.proofs.Lists.{at_back, at_front}
+use Rattle.vrt_model.specs.Variables.{is_less}
 use Rattle.vrt_model.specs.declared.verdict.FaultKind.{FaultKind}
-use Rattle.std.proofs.lemmas.Option.{same_Some}
+use Rattle.std.proofs.lemmas.Option.{same_Some, slice_get_within}
 
 -- a finding at a place, in other words
 moved : (k : Comparison) (phase : ℕ) (y : Spot) (other : Finding) → IsFinding k other → other.phase ≡ phase → y.kind ≡ other.kind → y.at ≡ other.at → IsFinding k (finding_at phase y other.bits)
@@ -43,29 +45,47 @@ first_spot k phase rank least spots x bits are f = record { found = f.found; fir
           ]
         ]
 
+-- what is found at its least valuation
+pub least_found : (k : Comparison) (phase : ℕ) (care f : List Bool → Bool) (spots : List Spot) (x : Spot) (bits : List Bool)
+    → IsFoundIn (IsFoundAt k phase) care f spots x → ((y : Spot) (more : List Bool) → IsFoundAt k phase y more → care more ≡ true)
+    → f bits ≡ true → ((more : List Bool) → IsFoundAt k phase x more → f more ≡ true → is_less more bits ≡ false) → IsFoundFirst k phase spots x bits
+least_found k phase care f spots x bits found covers holds least = record {
+  place = found.place;
+  stands = found.stands;
+  found = ((found.exact bits).0 holds).1;
+  least = λ more g. least more g ((found.exact more).1 (covers x more g, g));
+  before = λ i y more lt e g. found.before i y more lt e (covers y more g) g;
+}
+
 -- ---- stages
-
--- what stands at a place of two lists
-place_of_two : (xs ys : List Spot) (i : ℕ) (y : Spot) → At (xs ++ ys) i y → At xs i y ⊎ ((j : ℕ) × (i ≡ length xs + j) × At ys j y)
-place_of_two [] ys i y e = inr (i, omega arith, e)
-place_of_two (x ∷ xs) ys zero y e = inl e
-place_of_two (x ∷ xs) ys (suc i) y e = elim (place_of_two xs ys i y e) [ inl a ↦ inl a | inr b ↦ inr (b.0, (let is = b.1 in omega (arith, is)), b.2) ]
-
-behind : (xs ys : List Spot) (j : ℕ) (y : Spot) → At ys j y → At (xs ++ ys) (length xs + j) y
-behind [] ys j y e = (let is : j ≡ 0 + j = omega arith in subst (λ (i : ℕ). At ys i y) is e)
-behind (x ∷ xs) ys j y e =
-    let is : suc (length xs + j) ≡ suc (length xs) + j = omega arith in
-    subst (λ (i : ℕ). At (x ∷ (xs ++ ys)) i y) is (behind xs ys j y e)
 
 pub later_stage : (W : Type 0) (Fault : Spot → W → Type 0) (care f : W → Bool) (xs ys : List Spot) (x : Spot)
     → IsClearOf Fault care xs → IsFoundIn Fault care f ys x → IsFoundIn Fault care f (xs ++ ys) x
 later_stage W Fault care f xs ys x clear found = record {
   place = length xs + found.place;
-  stands = behind xs ys found.place x found.stands;
+  stands = at_back xs ys found.place x found.stands;
   exact = found.exact;
   before = λ i y v lt e met.
-      elim (place_of_two xs ys i y e) [
+      elim (split xs ys i y e) [
         | inl a ↦ clear i y v a met
         | inr b ↦ found.before b.0 y v (let is = b.1 in omega (arith, is, lt)) b.2 met
       ];
 }
+
+pub earlier_stage : (W : Type 0) (Fault : Spot → W → Type 0) (care f : W → Bool) (xs ys : List Spot) (x : Spot)
+    → IsFoundIn Fault care f xs x → IsFoundIn Fault care f (xs ++ ys) x
+earlier_stage W Fault care f xs ys x found = record {
+  place = found.place;
+  stands = at_front xs ys found.place x found.stands;
+  exact = found.exact;
+  before = λ i y v lt e met.
+      elim (split xs ys i y e) [
+        | inl a ↦ found.before i y v lt a met
+        | inr b ↦ absurd (let within = slice_get_within xs found.place x found.stands in let is = b.1 in omega (arith, within, is, lt))
+      ];
+}
+
+pub clear_stages : (W : Type 0) (Fault : Spot → W → Type 0) (care : W → Bool) (xs ys : List Spot)
+    → IsClearOf Fault care xs → IsClearOf Fault care ys → IsClearOf Fault care (xs ++ ys)
+clear_stages W Fault care xs ys one two i y v e met =
+    elim (split xs ys i y e) [ inl a ↦ one i y v a met | inr b ↦ two b.0 y v b.2 met ]

@@ -1,1 +1,2 @@
+pub mod PhaseSpots
 pub mod Searches

@@ -2,6 +2,8 @@
 //! function that does nothing.
 #![tactic(auto)]
 
+mod orders;
 mod searches;
 
-pub use searches::{first_spot, later_stage};
+pub use orders::{floats_are_plain, phase_spots};
+pub use searches::{clear_stages, earlier_stage, first_spot, later_stage, least_found};
