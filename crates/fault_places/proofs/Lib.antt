@@ -1,4 +1,5 @@
 mod Floats
+mod PartRanks
 mod PhaseOrder
 mod SearchLaws
 mod SortedLists

@@ -1,12 +1,15 @@
 -- The list of a phase is sorted by where its places stand, and leaves out no place at which a fault is found.
 use Rattle.std.proofs.Common.{◌≡◌, ℕ, suc, Bool, List, [], ◌∷◌, ◌++◌, arith, ap, refl, sym, subst, ◌∙◌, inl, inr}
 use Rattle.std.specs.Prelude.{flat_map}
+use Rattle.fault_places.proofs.PartRanks.{one_least, same_rank}
 use Rattle.fault_places.proofs.SortedLists.{IsStage, IsUnder, flat_map_among, nested, one_stage, pair, rising_sorted, single, stages}
 use Rattle.fault_places.specs.PhaseSpots.{AreSites, HasConstraint, IsRising, Sites, Step, OfInstance, OfPart, spots_at, spots_each, spots_in, spots_of, step_key}
 use Rattle.fault_places.specs.Searches.{AreSpots, IsFoundAt, Spot}
 use Rattle.vrt_model.proofs.Lists.{map_among}
+use Rattle.vrt_model.proofs.Ranked.{together_first}
+use Rattle.vrt_model.specs.Reading.{bare}
 use Rattle.vrt_model.proofs.Members.{among_left, among_right}
-use Rattle.vrt_model.specs.Comparison.{Comparison}
+use Rattle.vrt_model.specs.Comparison.{Comparison, phase_at}
 use Rattle.vrt_model.specs.Faults.{HoldAt}
 use Rattle.vrt_model.specs.Known.{IsPlain}
 use Rattle.vrt_model.specs.Lists.{Among}
@@ -30,8 +33,13 @@ module _ (k : Comparison) (phase : ℕ) (rank least : ℕ → ℕ) (s : Sites) (
   part_key : (first : ℕ) (nets : List ℕ) (n last : ℕ) → Among s.steps (OfPart first nets) → Among nets n
       → stage_solved ∷ rank n ∷ of_net ∷ least n ∷ n ∷ last ∷ [] ≡ stage_solved ∷ rank first ∷ of_net ∷ first ∷ n ∷ last ∷ []
   part_key first nets n last m i =
-      ap (λ (r : ℕ). stage_solved ∷ r ∷ of_net ∷ least n ∷ n ∷ last ∷ []) (are.steps.ranks first nets n m i)
-      ∙ ap (λ (l : ℕ). stage_solved ∷ rank first ∷ of_net ∷ l ∷ n ∷ last ∷ []) (are.steps.leasts first nets n m i)
+      let c = k.circuit in
+      let at = phase_at k.rules phase in
+      let of = are.steps.leasts first nets n m i in
+      let rank_is : rank n ≡ rank first = same_rank c at rank are.order.ranking n first of.together in
+      let least_is : least n ≡ first = one_least c at n (least n) first (are.order.plain n (together_first c at bare n first of.together)) of in
+      ap (λ (r : ℕ). stage_solved ∷ r ∷ of_net ∷ least n ∷ n ∷ last ∷ []) rank_is
+      ∙ ap (λ (l : ℕ). stage_solved ∷ rank first ∷ of_net ∷ l ∷ n ∷ last ∷ []) least_is
 
   step_spots : (x : Step) → Among s.steps x → IsUnder key (stage_solved ∷ step_key k phase rank x) (spots_of x)
   step_spots (OfPart first nets) m =

@@ -2,8 +2,8 @@
 use Rattle.std.specs.Prelude.{◌≡◌, ℕ, ◌<◌, ◌⊎◌, Bool, true, List, [], ◌∷◌, ◌++◌, Some, map, flat_map}
 use Rattle.fault_places.specs.Searches.{IsFoundAt, Spot}
 use Rattle.vrt_model.specs.CellRules.{assumed, clock_of_port, is_observed_port}
-use Rattle.vrt_model.specs.Comparison.{CellPort, Comparison, cell_at, is_observed, output_signal, ports_of}
-use Rattle.vrt_model.specs.Known.{IsPlain}
+use Rattle.vrt_model.specs.Comparison.{CellPort, Comparison, cell_at, is_observed, output_signal, phase_at, ports_of}
+use Rattle.vrt_model.specs.Known.{IsLeastOfPart, IsPlain}
 use Rattle.vrt_model.specs.Lists.{At, Among}
 use Rattle.vrt_model.specs.Places.{IsOrder, comes_before, greatest_rank, named_nets, of_instance, of_net}
 use Rattle.vrt_model.specs.declared.circuit.FlatInstance.{FlatInstance}
@@ -41,12 +41,13 @@ HasConstraint k phase i =
     ((e : Expr) × Among (assumed k.rules (cell_at k.design i.cell).name phase) e)
     ⊎ ((name : List ℕ) × (clock : ClockRef) × Among (cell_at k.design i.cell).ports name × (clock_of_port k.rules (cell_at k.design i.cell).name name ≡ Some clock))
 
--- all parts, and all instances with a constraint, in their order; the nets of a part have one rank and one least net
-pub record AreSteps (k : Comparison) (phase : ℕ) (rank least : ℕ → ℕ) (steps : List Step) : Type 0 where
+-- all parts, and all instances with a constraint, in their order
+pub record AreSteps (k : Comparison) (phase : ℕ) (rank : ℕ → ℕ) (steps : List Step) : Type 0 where
   pub sorted : IsSortedBy (step_key k phase rank) steps
   pub rising : (first : ℕ) (nets : List ℕ) → Among steps (OfPart first nets) → IsRising nets
-  pub ranks : (first : ℕ) (nets : List ℕ) (n : ℕ) → Among steps (OfPart first nets) → Among nets n → rank n ≡ rank first
-  pub leasts : (first : ℕ) (nets : List ℕ) (n : ℕ) → Among steps (OfPart first nets) → Among nets n → least n ≡ first
+  pub leasts :
+      (first : ℕ) (nets : List ℕ) (n : ℕ) → Among steps (OfPart first nets) → Among nets n
+      → IsLeastOfPart k.circuit (phase_at k.rules phase) n first
   pub parts : (n : ℕ) → IsPlain k.circuit n → (first : ℕ) × (nets : List ℕ) × Among steps (OfPart first nets) × Among nets n
   pub instances : (at : ℕ) (i : FlatInstance) → At k.circuit.instances at i → HasConstraint k phase i → Among steps (OfInstance at)
 
@@ -87,7 +88,7 @@ spots_in s =
 -- since it needs a state that agrees with the solution.
 pub record AreSites (k : Comparison) (phase : ℕ) (rank least : ℕ → ℕ) (s : Sites) : Type 0 where
   pub order : IsOrder k phase rank least
-  pub steps : AreSteps k phase rank least s.steps
+  pub steps : AreSteps k phase rank s.steps
   pub nets_rise : IsRising s.nets
   pub plain_nets : (n : ℕ) → IsPlain k.circuit n → Among s.nets n
   pub seen_nets : (n : ℕ) → is_observed k phase n ≡ true → Among s.nets n
