@@ -1,11 +1,12 @@
 -- The first fault of a list of places is the first of its phase.
-use Rattle.std.proofs.Common.{◌≡◌, ℕ, ◌+◌, Bool, false, true, List, ◌++◌, length, arith, subst, sym, ◌∙◌, inl, inr, ap}
+use Rattle.std.proofs.Common.{◌<◌, ◌≡◌, ℕ, ◌+◌, Bool, false, true, List, ◌++◌, length, arith, subst, sym, ◌∙◌, inl, inr, ap}
 use Rattle.std.specs.Prelude.{slice_get}
 use Rattle.std.proofs.lemmas.Bool.{cases_lt, cases_eq}
 use Rattle.vrt_model.specs.Comparison.{Comparison}
 use Rattle.vrt_model.specs.Places.{Finding, IsFinding, IsFirstInPhase, IsNoLater, comes_before, standing}
 use Rattle.fault_places.proofs.SortedLists.{split}
-use Rattle.fault_places.specs.Searches.{AreSpots, IsClearOf, IsFoundAt, IsFoundFirst, IsFoundIn, Spot, finding_at}
+use Rattle.fault_places.specs.Searches.{AreSpots, Case, HasCases, IsCare, IsClearOf, IsFoundAt, IsFoundFirst, IsFoundIn, IsLeastOf, Spot, StandsIn, finding_at}
+use Rattle.vrt_model.specs.Held.{IsValuation}
 use Rattle.vrt_model.proofs.Lists.{at_back, at_front}
 use Rattle.vrt_model.specs.Variables.{is_less}
 use Rattle.vrt_model.specs.declared.verdict.FaultKind.{FaultKind}
@@ -56,6 +57,38 @@ least_found k phase care f spots x bits found covers holds least = record {
   least = λ more g. least more g ((found.exact more).1 (covers x more g, g));
   before = λ i y more lt e g. found.before i y more lt e (covers y more g) g;
 }
+
+-- what is found over cases, at its least valuation
+pub case_found : (k : Comparison) (phase : ℕ) (care f : List Bool → Bool) (spots : List Spot) (x : Spot) (bits : List Bool) → phase < length k.rules.phases
+    → IsCare k phase care → HasCases k phase → IsFoundIn (StandsIn k phase) (λ (v : Case k phase). care v.bits) (λ (v : Case k phase). f v.bits) spots x
+    → IsLeastOf k phase f bits → IsFoundFirst k phase spots x bits
+case_found k phase care f spots x bits range is_care cases found least = record {
+  place = found.place;
+  stands = found.stands;
+  found = found_here;
+  least = λ more g. least.least more g.meets.valuation ((found.exact (case_of x more g)).1 (cared x more g, g.stands.4));
+  before = λ i y more lt e g. found.before i y (case_of y more g) lt e (cared y more g) g.stands.4;
+}
+  where
+    -- the case of a finding
+    case_of : (y : Spot) (more : List Bool) → IsFoundAt k phase y more → Case k phase
+    case_of y more g = record { bits = more; solution = g.stands.0; assignment = g.stands.1; solves = g.stands.2; assigns = g.stands.3 }
+
+    cared : (y : Spot) (more : List Bool) → IsFoundAt k phase y more → care more ≡ true
+    cared y more g = (is_care more g.meets.valuation).1 g.meets
+
+    found_in : (v : Case k phase) → v.bits ≡ bits → IsFoundAt k phase x v.bits
+    found_in v same =
+        let width : IsValuation k phase v.bits = subst (IsValuation k phase) (sym same) least.width in
+        let there = (found.exact v).0 (ap f same ∙ least.holds) in
+        record {
+          phase = range;
+          meets = (is_care v.bits width).0 there.0;
+          stands = (v.solution, v.assignment, v.solves, v.assigns, there.1);
+        }
+
+    found_here : IsFoundAt k phase x bits
+    found_here = (let v = cases bits least.width in subst (IsFoundAt k phase x) v.1 (found_in v.0 v.1))
 
 -- ---- stages
 

@@ -2,11 +2,12 @@
 use Rattle.std.specs.Prelude.{◌≡◌, ℕ, ◌<◌, ◌↔◌, Bool, true, false, List}
 use Rattle.vrt_model.specs.Assignment.{Assignment}
 use Rattle.vrt_model.specs.Comparison.{Comparison}
-use Rattle.vrt_model.specs.Faults.{Stands}
+use Rattle.vrt_model.specs.Faults.{Assigns, Solves, Stands}
+use Rattle.vrt_model.specs.Constraints.{Meets}
+use Rattle.vrt_model.specs.Held.{IsValuation, setting_of}
 use Rattle.vrt_model.specs.Lists.{At}
 use Rattle.vrt_model.specs.Places.{Finding, IsFinding, IsOrder, comes_before, standing}
 use Rattle.vrt_model.specs.Reading.{Partial}
-use Rattle.vrt_model.specs.State.{Setting}
 use Rattle.vrt_model.specs.Variables.{is_less}
 use Rattle.vrt_model.specs.declared.verdict.FaultKind.{FaultKind}
 
@@ -50,12 +51,28 @@ pub record IsFoundIn {W : Type 0} (Fault : Spot → W → Type 0) (care f : W �
 abbrev pub IsFoundAt : Comparison → ℕ → Spot → List Bool → Type 0
 IsFoundAt k phase x bits = IsFinding k (finding_at phase x bits)
 
--- a setting, with what a solution and an assignment give there
-pub record Case : Type 0 where
-  pub setting : Setting
+-- a valuation of the phase's sources, with a solution of the circuit and an assignment of the model there
+pub record Case (k : Comparison) (phase : ℕ) : Type 0 where
+  pub bits : List Bool
   pub solution : Partial
   pub assignment : Assignment
+  pub solves : Solves k phase (setting_of k phase bits) solution
+  pub assigns : Assigns k phase (setting_of k phase bits) assignment
 
 -- the fault stands at the place in such a case
-abbrev pub StandsIn : Comparison → ℕ → Spot → Case → Type 0
-StandsIn k phase x v = Stands k phase v.setting v.solution v.assignment x.kind x.at
+abbrev pub StandsIn : (k : Comparison) (phase : ℕ) → Spot → Case k phase → Type 0
+StandsIn k phase x v = Stands k phase (setting_of k phase v.bits) v.solution v.assignment x.kind x.at
+
+-- the function is the care set: it is 1 at the valuations that meet the constraints of the phase
+abbrev pub IsCare : Comparison → ℕ → (List Bool → Bool) → Type 0
+IsCare k phase care = (bits : List Bool) → IsValuation k phase bits → (care bits ≡ true) ↔ Meets k phase bits
+
+-- there is a case at each valuation
+abbrev pub HasCases : Comparison → ℕ → Type 0
+HasCases k phase = (bits : List Bool) → IsValuation k phase bits → (v : Case k phase) × (v.bits ≡ bits)
+
+-- the least valuation at which the function is 1
+pub record IsLeastOf (k : Comparison) (phase : ℕ) (f : List Bool → Bool) (bits : List Bool) : Type 0 where
+  pub width : IsValuation k phase bits
+  pub holds : f bits ≡ true
+  pub least : (more : List Bool) → IsValuation k phase more → f more ≡ true → is_less more bits ≡ false

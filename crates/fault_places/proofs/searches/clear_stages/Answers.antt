@@ -7,4 +7,4 @@ pub returns-clause-findings : goal.returns-clause-findings
 returns-clause-findings c k phase = clear_stages (List Bool) (IsFoundAt k phase)
 
 pub returns-clause-faults : goal.returns-clause-faults
-returns-clause-faults c k phase = clear_stages Case (StandsIn k phase)
+returns-clause-faults c k phase = clear_stages (Case k phase) (StandsIn k phase)

@@ -7,4 +7,4 @@ pub returns-clause-findings : goal.returns-clause-findings
 returns-clause-findings c k phase = later_stage (List Bool) (IsFoundAt k phase)
 
 pub returns-clause-faults : goal.returns-clause-faults
-returns-clause-faults c k phase = later_stage Case (StandsIn k phase)
+returns-clause-faults c k phase = later_stage (Case k phase) (StandsIn k phase)
