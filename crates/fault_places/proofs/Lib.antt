@@ -3,3 +3,4 @@ mod PartRanks
 mod PhaseOrder
 mod SearchLaws
 mod SortedLists
+mod StepOrder

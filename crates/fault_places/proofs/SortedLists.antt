@@ -25,13 +25,13 @@ front_before (x ∷ xs) (y ∷ ys) us vs e =
     ]
 
 -- behind the same front the rest decides
-behind_front : (p xs ys : List ℕ) → comes_before xs ys ≡ true → comes_before (p ++ xs) (p ++ ys) ≡ true
+pub behind_front : (p xs ys : List ℕ) → comes_before xs ys ≡ true → comes_before (p ++ xs) (p ++ ys) ≡ true
 behind_front [] xs ys e = e
 behind_front (n ∷ p) xs ys e =
     or_right (nat_lt n n) (nat_eq n n && comes_before (p ++ xs) (p ++ ys))
     (and_from (nat_eq n n) (comes_before (p ++ xs) (p ++ ys)) (eq-eqb n n refl) (behind_front p xs ys e))
 
-lesser_before : (x y : ℕ) (xs ys : List ℕ) → x < y → comes_before (x ∷ xs) (y ∷ ys) ≡ true
+pub lesser_before : (x y : ℕ) (xs ys : List ℕ) → x < y → comes_before (x ∷ xs) (y ∷ ys) ≡ true
 lesser_before x y xs ys lt = or_left (nat_lt x y) (nat_eq x y && comes_before xs ys) (lt-ltb x y lt)
 
 pub rising_sorted : (xs : List ℕ) → IsRising xs → IsSortedBy (λ (n : ℕ). n ∷ []) xs

@@ -35,6 +35,24 @@ abbrev pub step_key : Comparison → ℕ → (ℕ → ℕ) → Step → List ℕ
 step_key k phase rank (OfPart first nets) = rank first ∷ of_net ∷ first ∷ []
 step_key k phase rank (OfInstance at) = greatest_rank rank (named_nets k phase at) ∷ of_instance ∷ at ∷ []
 
+-- the rank at which a step stands
+abbrev pub step_rank : Comparison → ℕ → (ℕ → ℕ) → Step → ℕ
+step_rank k phase rank (OfPart first nets) = rank first
+step_rank k phase rank (OfInstance at) = greatest_rank rank (named_nets k phase at)
+
+-- within a rank: parts before instances, parts by least net, and instances by number
+abbrev pub IsSooner : Step → Step → Type 0
+IsSooner (OfPart first nets) (OfPart second others) = first < second
+IsSooner (OfPart first nets) (OfInstance at) = Unit {0}
+IsSooner (OfInstance at) (OfPart first nets) = ⊥
+IsSooner (OfInstance at) (OfInstance there) = at < there
+
+-- one step before another, by rank and within a rank
+abbrev pub IsStepBefore : Comparison → ℕ → (ℕ → ℕ) → Step → Step → Type 0
+IsStepBefore k phase rank x y =
+    (step_rank k phase rank x < step_rank k phase rank y)
+    ⊎ ((step_rank k phase rank x ≡ step_rank k phase rank y) × IsSooner x y)
+
 -- the cell of the instance has an `assume` for the phase, or a clock port
 abbrev pub HasConstraint : Comparison → ℕ → FlatInstance → Type 0
 HasConstraint k phase i =

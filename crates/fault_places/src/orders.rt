@@ -1,11 +1,12 @@
 //! The list of all places of a phase.
 
 ghost use Rattle.std.specs.Prelude.{◌≡◌, ℕ, ◌<◌, Bool, List, length, true};
-ghost use Rattle.fault_places.specs.PhaseSpots.{AreSites, Sites, spots_in};
+ghost use Rattle.fault_places.specs.PhaseSpots.{AreSites, IsSortedBy, IsStepBefore, Sites, Step, spots_in, step_key};
 ghost use Rattle.fault_places.specs.Searches.{AreSpots, IsFoundAt};
 ghost use Rattle.vrt_model.specs.Circuits.{IsFlat};
 ghost use Rattle.vrt_model.specs.Comparison.{Comparison, is_observed};
 ghost use Rattle.vrt_model.specs.Known.{IsPlain};
+ghost use Rattle.vrt_model.specs.Lists.{At};
 ghost use Rattle.vrt_model.specs.declared.verdict.FaultKind.TheVariants.{Float};
 
 /// The list that is made stage by stage from the steps, the nets, the output ports and the nets of holds is sorted by where
@@ -17,4 +18,10 @@ pub fn phase_spots()
 /// In a circuit without whole instances, whose observed nets are in range, floats are found at plain nets alone.
 pub fn floats_are_plain()
     ensures { (k : Comparison) (phase : ℕ) → IsFlat k.circuit → ((n : ℕ) → is_observed k phase n ≡ true → n < length k.circuit.nets) → (n : ℕ) (bits : List Bool) → IsFoundAt k phase (record { kind = Float; at = n }) bits → IsPlain k.circuit n }
+{}
+
+/// Steps that stand by rank, in a rank the parts by least net and behind them the instances by number, are sorted by their
+/// keys.
+pub fn step_order()
+    ensures { (k : Comparison) (phase : ℕ) (rank : ℕ → ℕ) (steps : List Step) → ((i j : ℕ) (x y : Step) → At steps i x → At steps j y → i < j → IsStepBefore k phase rank x y) → IsSortedBy (step_key k phase rank) steps }
 {}
