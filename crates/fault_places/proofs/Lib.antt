@@ -1,3 +1,4 @@
+mod CountedSites
 mod Floats
 mod PartRanks
 mod PhaseOrder

@@ -1,5 +1,6 @@
 -- The list of all places of a phase at which a fault may stand, made stage by stage.
-use Rattle.std.specs.Prelude.{◌≡◌, ℕ, ◌<◌, ◌⊎◌, Bool, true, List, [], ◌∷◌, ◌++◌, Some, map, flat_map}
+use Rattle.std.specs.Prelude.{length, ◌≡◌, ℕ, ◌<◌, ◌⊎◌, Bool, true, List, [], ◌∷◌, ◌++◌, Some, map, flat_map}
+use Rattle.std.specs.List.{range_with_len}
 use Rattle.fault_places.specs.Searches.{IsFoundAt, Spot}
 use Rattle.vrt_model.specs.CellRules.{assumed, clock_of_port, is_observed_port}
 use Rattle.vrt_model.specs.Comparison.{CellPort, Comparison, cell_at, is_observed, output_signal, phase_at, ports_of}
@@ -117,3 +118,12 @@ pub record AreSites (k : Comparison) (phase : ℕ) (rank least : ℕ → ℕ) (s
   pub held_rise : IsRising s.held
   pub held_nets : (place : ℕ) (h : Hold) → At k.circuit.holds place h → Among s.held h.net.0
   pub floats : (n : ℕ) (bits : List Bool) → IsFoundAt k phase (record { kind = Float; at = n }) bits → IsPlain k.circuit n
+
+-- the steps, with the lists of all numbers of nets and of ports
+abbrev pub counted : Comparison → List Step → Sites
+counted k steps = record {
+  steps = steps;
+  nets = range_with_len 0 (length k.circuit.nets);
+  ports = range_with_len 0 (length (ports_of k));
+  held = range_with_len 0 (length k.circuit.nets);
+}

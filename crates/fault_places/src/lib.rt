@@ -5,5 +5,5 @@
 mod orders;
 mod searches;
 
-pub use orders::{floats_are_plain, phase_spots, step_order};
+pub use orders::{counted_sites, floats_are_plain, phase_spots, step_order};
 pub use searches::{case_found, clear_stages, earlier_stage, first_spot, later_stage, least_found};

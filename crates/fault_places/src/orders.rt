@@ -1,12 +1,13 @@
 //! The list of all places of a phase.
 
 ghost use Rattle.std.specs.Prelude.{◌≡◌, ℕ, ◌<◌, Bool, List, length, true};
-ghost use Rattle.fault_places.specs.PhaseSpots.{AreSites, IsSortedBy, IsStepBefore, Sites, Step, spots_in, step_key};
+ghost use Rattle.fault_places.specs.PhaseSpots.{AreSites, AreSteps, IsSortedBy, IsStepBefore, Sites, Step, counted, spots_in, step_key};
 ghost use Rattle.fault_places.specs.Searches.{AreSpots, IsFoundAt};
 ghost use Rattle.vrt_model.specs.Circuits.{IsFlat};
 ghost use Rattle.vrt_model.specs.Comparison.{Comparison, is_observed};
 ghost use Rattle.vrt_model.specs.Known.{IsPlain};
 ghost use Rattle.vrt_model.specs.Lists.{At};
+ghost use Rattle.vrt_model.specs.Places.{IsOrder};
 ghost use Rattle.vrt_model.specs.declared.verdict.FaultKind.TheVariants.{Float};
 
 /// The list that is made stage by stage from the steps, the nets, the output ports and the nets of holds is sorted by where
@@ -24,4 +25,10 @@ pub fn floats_are_plain()
 /// keys.
 pub fn step_order()
     ensures { (k : Comparison) (phase : ℕ) (rank : ℕ → ℕ) (steps : List Step) → ((i j : ℕ) (x y : Step) → At steps i x → At steps j y → i < j → IsStepBefore k phase rank x y) → IsSortedBy (step_key k phase rank) steps }
+{}
+
+/// In a circuit without whole instances, whose observed nets are in range, all numbers of nets and of ports serve as the
+/// lists beside the steps.
+pub fn counted_sites()
+    ensures { (k : Comparison) (phase : ℕ) (rank least : ℕ → ℕ) (steps : List Step) → IsFlat k.circuit → ((n : ℕ) → is_observed k phase n ≡ true → n < length k.circuit.nets) → IsOrder k phase rank least → AreSteps k phase rank steps → AreSites k phase rank least (counted k steps) }
 {}
