@@ -1,3 +1,5 @@
 pub mod Looks
+pub mod ReplayAnswers
 pub mod Replays
+pub mod Settling
 pub mod Views
