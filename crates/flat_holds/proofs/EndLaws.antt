@@ -1,10 +1,10 @@
 -- From an element of a place's model up, by the places around it.
-use Rattle.std.proofs.Common.{◌≡◌, ◌<◌, ◌≤◌, ◌+◌, ◌∷◌, [], ℕ, zero, suc, Bool, true, false, List, length, Option, Some, None, get_or, refl, ap, ap₂, sym, subst, ◌∙◌, arith, inl, inr}
-use Rattle.std.specs.Prelude.{◌&&◌, drop, filter_map, find, nat_lt, cond, position, slice_get, unwrap_or}
-use Rattle.std.proofs.lemmas.Bool.{cases_Bool, lt-ltb}
-use Rattle.std.proofs.lemmas.List.Sums.{position_or_len_is}
-use Rattle.std.proofs.lemmas.Option.{get_or_from_slice_get, none-some, slice_get-get_or, slice_get_within}
+use Rattle.std.proofs.Common.{◌≡◌, ◌<◌, ◌≤◌, ◌+◌, ◌∷◌, [], ℕ, zero, suc, Bool, true, List, Option, Some, None, refl, ap, ap₂, sym, subst, ◌∙◌, arith, inl, inr}
+use Rattle.std.specs.Prelude.{◌&&◌, drop, filter_map, find, slice_get, unwrap_or}
+use Rattle.std.proofs.lemmas.Bool.{cases_Bool}
+use Rattle.std.proofs.lemmas.Option.{none-some}
 use Rattle.std.proofs.lemmas.Slice.Eq.{bytes_eq-Decides}
+use Rattle.flat_holds.proofs.ListLaws.{position_is}
 use Rattle.flat_holds.proofs.PathLaws.{all_differ, first_path}
 use Rattle.flat_holds.specs.Ends.{AllLead, HasElement, IsHold, IsReached, end_from, enter_by, instance_by, inverted_from, is_line_of, is_match_of, line_above, line_from}
 use Rattle.flat_holds.specs.declared.elements.Element.{Element}
@@ -129,14 +129,6 @@ module _ (design : Design) (rules : Rules) (unrolled : Unrolled) where
   )
 
   -- ---- the number of an instance
-
-  position_is : {X : Type 0} (test : X → Bool) (xs : List X) (i : ℕ) (x : X) → At xs i x → test x ≡ true → ((j : ℕ) (y : X) → j < i → At xs j y → test y ≡ false) → position test xs ≡ Some i
-  position_is {X} test xs i x here passes before =
-      let lt = slice_get_within xs i x here in
-      let first = position_or_len_is test xs i x (omega (arith, lt))
-      (λ k less. before k (get_or xs k x) less (slice_get-get_or xs k x (omega (arith, less, lt))))
-      (λ under. ap test (get_or_from_slice_get xs i x x here) ∙ passes) in
-      ap (λ (n : ℕ). cond (nat_lt n (length xs)) (Some n) None) first ∙ ap (λ (b : Bool). cond b (Some i) None) (lt-ltb i (length xs) lt)
 
   same_self : (path : List Step) → same_path path path ≡ true
   same_self [] = refl

@@ -1,3 +1,5 @@
 mod EndLaws
+mod FallLaws
 mod ListLaws
 mod PathLaws
+mod RuleLaws

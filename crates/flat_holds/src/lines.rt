@@ -47,7 +47,7 @@ fn line_of<'a>(
 }
 
 /// The name of a cell, empty where there is none.
-fn cell_name(design: &Design, cell: usize) -> &[u8]
+pub(crate) fn cell_name(design: &Design, cell: usize) -> &[u8]
     ensures { result.now ≡ (cell_at design.now cell).name }
 {
     match design.cells.get(cell) {
