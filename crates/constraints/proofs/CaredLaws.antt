@@ -71,13 +71,13 @@ module _ (design : Design) (rules : Rules) (cell : ℕ) (c : Circuit) (groups : 
   reads : (u : ℕ) → IsSpanWithin u old roots → AreWithin u old handle
   reads u within = given_within old roots u c rules (cell_at design cell).ports (phase_bits rules phase) len within
 
-  few : sum_by (assume_operations name phase) rules.assumes + 3 * members_in groups ≤ 20 * (assumed_size rules name phase + length c.holds + 1)
+  few : sum_by (assume_operations name phase) rules.assumes + 3 * members_in groups ≤ 20 * (assumed_size rules name phase + length c.holds)
   few = let assumed = assumes_few name phase rules.assumes in let held = are.count in omega (arith, assumed, held)
 
   pub care_refused : (mid : Diagrams) (e : Spent) → Assumed mid (Err e) → (u : ℕ) → length sources ≤ u → IsSpanWithin u old roots
-      → Counts {A = H} u (20 * (assumed_size rules name phase + length c.holds + 1)) old mid (Err e)
+      → Counts {A = H} u (20 * (assumed_size rules name phase + length c.holds)) old mid (Err e)
   care_refused mid e first u most within =
-      counts_more u (sum_by (assume_operations name phase) rules.assumes) (20 * (assumed_size rules name phase + length c.holds + 1)) old mid (Err e)
+      counts_more u (sum_by (assume_operations name phase) rules.assumes) (20 * (assumed_size rules name phase + length c.holds)) old mid (Err e)
       (let both = few in omega (arith, both)) (first.counts u (reads u within) (within_one u old))
 
   module _ (mid new : Diagrams) (p : H) (r : Result H Spent) (first : Assumed mid (Ok p)) (second : AddsHeld sources (3 * members_in groups) (function_of mid p) enters mid new r) where
@@ -90,10 +90,10 @@ module _ (design : Design) (rules : Rules) (cell : ℕ) (c : Circuit) (groups : 
         ∙ ap (λ (t : Bool). (t && assumes v) && enters (bits_at sources v)) (meaning_one old.nodes v)
         ∙ ap₂ (λ (s t : Bool). s && t) (assumes_are old c rules sources phase roots inputs v design cell) (enters_same c phase sources (bits_at sources v) groups are))
 
-    pub care_counts : (u : ℕ) → length sources ≤ u → IsSpanWithin u old roots → Counts u (20 * (assumed_size rules name phase + length c.holds + 1)) old new r
+    pub care_counts : (u : ℕ) → length sources ≤ u → IsSpanWithin u old roots → Counts u (20 * (assumed_size rules name phase + length c.holds)) old new r
     care_counts u most within =
         let start : IsWithin u (function_of mid p) =
         within_same u (λ v. meaning old.nodes 1 v && assumes v) (function_of mid p) first.gives.ok.same
         (within_and u (meaning old.nodes 1) assumes (within_one u old) (assumes_within u old handle (reads u within) name phase rules.assumes)) in
-        counts_more u (sum_by (assume_operations name phase) rules.assumes + 3 * members_in groups) (20 * (assumed_size rules name phase + length c.holds + 1)) old new r few
+        counts_more u (sum_by (assume_operations name phase) rules.assumes + 3 * members_in groups) (20 * (assumed_size rules name phase + length c.holds)) old new r few
         (counts_then u (sum_by (assume_operations name phase) rules.assumes) (3 * members_in groups) old mid new r (first.counts u (reads u within) (within_one u old)).added (second.counts u most start))

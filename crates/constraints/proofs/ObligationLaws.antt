@@ -48,9 +48,9 @@ module _ (design : Design) (rules : Rules) (i : FlatInstance) (phase : ℕ) (val
 
   -- the assumptions were refused
   pub first_counts : (mid : Diagrams) (s : Spent) → Assumed old mid values phase (Err s) (cell_at design i.cell).ports i.ports (cell_at design i.cell).name rules.assumes
-      → (u : ℕ) → IsSpanWithin u old values → Counts {A = H} u (20 * (obligation_size design rules i phase + 1)) old mid (Err s)
+      → (u : ℕ) → IsSpanWithin u old values → Counts {A = H} u (20 * obligation_size design rules i phase) old mid (Err s)
   first_counts mid s first u reads =
-      counts_more u (sum_by (assume_operations (cell_at design i.cell).name phase) rules.assumes) (20 * (obligation_size design rules i phase + 1)) old mid (Err s)
+      counts_more u (sum_by (assume_operations (cell_at design i.cell).name phase) rules.assumes) (20 * obligation_size design rules i phase) old mid (Err s)
       (assumes_most rules (cell_at design i.cell).name phase) (first.counts u (reads_ports u reads) (within_one u old))
 
   module _ (mid new : Diagrams) (p : H) (r : Result H Spent) (live : AreLive old (handle_tied old.words (cell_at design i.cell).ports i.ports values))
@@ -85,7 +85,7 @@ module _ (design : Design) (rules : Rules) (i : FlatInstance) (phase : ℕ) (val
         gives_same old new (λ v. meaning old.nodes 1 v && (assumes v && clocks v)) (obliged_at old design rules i phase values) r
         (λ v. ap (λ (x : Bool). x && (assumes v && clocks v)) (meaning_one old.nodes v)) whole.gives
 
-    pub whole_counts : (u : ℕ) → IsSpanWithin u old values → Counts u (20 * (obligation_size design rules i phase + 1)) old new r
+    pub whole_counts : (u : ℕ) → IsSpanWithin u old values → Counts u (20 * obligation_size design rules i phase) old new r
     whole_counts u reads =
-        counts_more u (sum_by (assume_operations cell phase) rules.assumes + sum_by (clock_operations cell) rules.clockports) (20 * (obligation_size design rules i phase + 1)) old new r
+        counts_more u (sum_by (assume_operations cell phase) rules.assumes + sum_by (clock_operations cell) rules.clockports) (20 * obligation_size design rules i phase) old new r
         (tests_most rules cell phase) (whole.counts u (reads_ports u reads) (within_one u old))

@@ -96,11 +96,11 @@ clocks_few cell (rule ∷ rules) = by_test (clocks_few cell rules) (bytes_eq rul
         let right = ap (λ (rs : List ClockportRule). length rs) head in
         omega (arith, left, cost, right, rest)
 
-pub assumes_most : (rules : Rules) (cell : List ℕ) (phase : ℕ) → sum_by (assume_operations cell phase) rules.assumes ≤ 20 * (size_of rules cell phase + 1)
+pub assumes_most : (rules : Rules) (cell : List ℕ) (phase : ℕ) → sum_by (assume_operations cell phase) rules.assumes ≤ 20 * size_of rules cell phase
 assumes_most rules cell phase = let few = assumes_few cell phase rules.assumes in omega (arith, few)
 
 pub tests_most : (rules : Rules) (cell : List ℕ) (phase : ℕ)
-    → sum_by (assume_operations cell phase) rules.assumes + sum_by (clock_operations cell) rules.clockports ≤ 20 * (size_of rules cell phase + 1)
+    → sum_by (assume_operations cell phase) rules.assumes + sum_by (clock_operations cell) rules.clockports ≤ 20 * size_of rules cell phase
 tests_most rules cell phase =
     let few = assumes_few cell phase rules.assumes in
     let clocks = clocks_few cell rules.clockports in

@@ -116,7 +116,7 @@ fn add_groups(
 ///
 /// Handles from before keep their functions and no word changes, also after `Spent`, which has the budget and comes only
 /// where as many nodes are there. Where the handles and the variables are among the first `u` variables, at most
-/// `2 ^ u * 20 * (e + h + 1)` nodes are added, for `e` operators and names of these lines and `h` holds, and they test these
+/// `2 ^ u * 20 * (e + h)` nodes are added, for `e` operators and names of these lines and `h` holds, and they test these
 /// variables. `Spent` comes only where the budget is less than all of these with the nodes that were there; and, where `u` is
 /// at most 4 and the nodes that were there test the first four variables, only where the budget is less than 65,536.
 pub fn care(
@@ -137,7 +137,7 @@ pub fn care(
     requires len { roots.len ≡ length circuit.now.nets }
     requires inputs { HasInputs circuit.now vars.now.sources store.old roots }
     ensures gives { Gives store.old store.new (λ v. meets_by design.now rules.now cell circuit.now groups.now vars.now.sources phase (bits_at vars.now.sources v)) result }
-    ensures counts { (u : ℕ) → length vars.now.sources ≤ u → IsSpanWithin u store.old roots → Counts u (20 * (assumed_size rules.now (cell_at design.now cell).name phase + length circuit.now.holds + 1)) store.old store.new result }
+    ensures counts { (u : ℕ) → length vars.now.sources ≤ u → IsSpanWithin u store.old roots → Counts u (20 * (assumed_size rules.now (cell_at design.now cell).name phase + length circuit.now.holds)) store.old store.new result }
 {
     store.sound();
     let ports = Ports::Given(GivenPorts {

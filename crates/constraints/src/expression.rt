@@ -66,7 +66,7 @@ pub(crate) fn diagram(store: &mut Store, e: &Expr, ports: Ports<'_>) -> Result<H
 /// that stands nowhere among them is 0.
 ///
 /// Handles from before keep their functions and no word changes, also after `Spent`, which has the budget and comes only
-/// where as many nodes are there. Where the handles read only the first `u` variables, at most `2 ^ u * 20 * (s + 1)` nodes
+/// where as many nodes are there. Where the handles read only the first `u` variables, at most `2 ^ u * 20 * s` nodes
 /// are added, for `s` operators and names of the expression, and they test these variables. `Spent` comes only where the
 /// budget is less than all of these with the nodes that were there; and, where `u` is at most 4 and the nodes that were
 /// there test the first four variables, only where the budget is less than 65,536.
@@ -75,7 +75,7 @@ pub fn expr(store: &mut Store, e: &Expr, names: &Seq<Text>, values: Span) -> Res
     requires live { IsFilled store.old values }
     requires len { values.len ≡ length names.now }
     ensures gives { Gives store.old store.new (value_listed store.old names.now values e.now) result }
-    ensures counts { (u : ℕ) → IsSpanWithin u store.old values → Counts u (20 * (expression_size e.now + 1)) store.old store.new result }
+    ensures counts { (u : ℕ) → IsSpanWithin u store.old values → Counts u (20 * expression_size e.now) store.old store.new result }
 {
     store.sound();
     let names = names.as_slice();

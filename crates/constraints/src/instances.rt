@@ -79,7 +79,7 @@ fn add_clocks(
 /// it is 0 exactly where the fault Constraint stands at the instance.
 ///
 /// Handles from before keep their functions and no word changes, also after `Spent`, which has the budget and comes only
-/// where as many nodes are there. Where the handles read only the first `u` variables, at most `2 ^ u * 20 * (s + 1)` nodes
+/// where as many nodes are there. Where the handles read only the first `u` variables, at most `2 ^ u * 20 * s` nodes
 /// are added, for `s` operators and names of these lines, clock ports among them, and they test these variables. `Spent`
 /// comes only where the budget is less than all of these with the nodes that were there; and, where `u` is at most 4 and
 /// the nodes that were there test the first four variables, only where the budget is less than 65,536.
@@ -100,7 +100,7 @@ pub fn obligation(
     requires live { IsFilled store.old values }
     ensures gives { Gives store.old store.new (obliged_at store.old design.now rules.now instance.now phase values) result }
     ensures exact { (v : Valuation) (a : ℕ → Option Bool) → HasPortBits store.old values instance.now.ports v a → (obliged_at store.old design.now rules.now instance.now phase values v ≡ false) ↔ BreaksConstraint design.now rules.now phase a instance.now }
-    ensures counts { (u : ℕ) → IsSpanWithin u store.old values → Counts u (20 * (obligation_size design.now rules.now instance.now phase + 1)) store.old store.new result }
+    ensures counts { (u : ℕ) → IsSpanWithin u store.old values → Counts u (20 * obligation_size design.now rules.now instance.now phase) store.old store.new result }
 {
     store.sound();
     let ports = Ports::Tied {

@@ -13,5 +13,5 @@ returns-clause-counts c u reads =
     let count = ap (λ (ns : List (List ℕ)). length ns) c.as_slice-names.ensures in
     let len = c.requires.len in
     let within : AreWithin u old (handle_listed old.words names c.args.values) = listed_within old c.args.values u names (omega (arith, count, len)) reads in
-    counts_more u (2 * operators_in c.args.e.now) (20 * (expression_size c.args.e.now + 1)) old c.diagram.new.store c.diagram.result (omega arith)
+    counts_more u (2 * operators_in c.args.e.now) (20 * expression_size c.args.e.now) old c.diagram.new.store c.diagram.result (omega arith)
     (c.diagram.ensures.counts u within)
