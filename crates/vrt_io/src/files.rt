@@ -10,7 +10,7 @@ use std::alloc::Global;
 pub const MAX_FILE_LEN: usize = 16_777_216;
 
 /// How a load ended.
-#[derive(Clone, Copy, Debug, PartialEq, Eq)]
+#[derive(Clone, Copy, Debug)]
 pub enum Loaded {
     /// The whole file was read.
     Done,

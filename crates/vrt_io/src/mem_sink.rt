@@ -8,7 +8,7 @@ use crate::sink::{Put, Sink};
 use std::alloc::Global;
 
 /// The call that fails, counted from 1, and how many bytes it takes before.
-#[derive(Clone, Copy, Debug)]
+#[derive(Clone, Copy)]
 pub struct Failure {
     /// Which call of `put` fails, counted from 1.
     pub call: u32,
