@@ -11,7 +11,7 @@ use crate::request::FileWords;
 use clap::ArgMatches;
 
 /// What the checker does.
-#[derive(Clone, Copy, Debug, PartialEq, Eq)]
+#[derive(Clone, Copy)]
 pub enum Mode {
     /// `check`: the verdict on each cell.
     Check,
@@ -43,7 +43,7 @@ pub struct Choices<'a> {
 }
 
 /// A value is none that its option takes.
-#[derive(Clone, Copy, Debug, PartialEq, Eq)]
+#[derive(Clone, Copy)]
 pub struct Misfit;
 
 fn value<'a>(matches: &ArgMatches<'a>, name: &str) -> Option<&'a str>

@@ -14,7 +14,7 @@ use clap::error::ErrorKind;
 use std::alloc::Global;
 
 /// Why the words ask for nothing.
-#[derive(Clone, Copy, Debug, PartialEq, Eq)]
+#[derive(Clone, Copy)]
 pub enum WordsFault {
     /// They are not understood.
     Usage,
