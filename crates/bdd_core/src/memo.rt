@@ -8,7 +8,7 @@ use std::alloc::{AllocError, Global};
 use std::marker::Model;
 
 /// What was asked, in three numbers, and the place that was answered. `f` is 0 in an entry that is empty.
-#[derive(Clone, Copy, PartialEq, Eq)]
+#[derive(Clone, Copy)]
 pub struct Entry {
     /// The handle of the function that was asked about.
     pub f: u32,
