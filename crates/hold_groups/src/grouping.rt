@@ -32,10 +32,7 @@ fn element_number(elements: &ElementTable, end: &HoldEnd) -> Result<Option<u32>,
 fn add_to(group: &mut Group, member: Member) -> Result<(), NoMemory>
     ensures { OnOk result (group.new ≡ with_member group.old member) }
 {
-    match group.members.push(member) {
-        Ok(()) => Ok(()),
-        Err(_) => Err(NoMemory),
-    }
+    group.members.append(member)
 }
 
 /// Adds a member to the group of a number.
@@ -56,9 +53,7 @@ fn add_new(
     ensures { OnOk result (groups.new.items ≡ groups.old.items ++ (record { members = member ∷ []; element = element }) ∷ []) }
 {
     let mut members = Seq::new(alloc);
-    if members.push(member).is_err() {
-        return Err(NoMemory);
-    }
+    members.append(member)?;
     match groups.push(Group { members, element }) {
         Ok(()) => Ok(()),
         Err(_) => Err(NoMemory),
@@ -166,22 +161,12 @@ fn make_groups(
     add_holds(groups, &mut keys, alloc, circuit, elements, places)
 }
 
-/// Adds a group at the end of a list.
-fn append(list: &mut Seq<Group>, group: Group) -> Result<(), NoMemory>
-    ensures { OnOk result (list.new ≡ list.old ++ group ∷ []) }
-{
-    match list.push(group) {
-        Ok(()) => Ok(()),
-        Err(_) => Err(NoMemory),
-    }
-}
-
 /// Adds all groups at the end of a list.
 fn append_all(list: &mut Seq<Group>, groups: Vec<Group>) -> Result<(), NoMemory>
     ensures { OnOk result (list.new ≡ list.old ++ groups.items) }
 {
     for group in groups {
-        append(list, group)?;
+        list.append(group)?;
     }
     Ok(())
 }

@@ -19,22 +19,12 @@ pub(crate) fn add_some<T: Copy>(list: &mut Seq<T>, item: Option<T>) -> Result<()
     }
 }
 
-/// Adds a text at the end.
-fn append(list: &mut Seq<Text>, text: Text) -> Result<(), NoMemory>
-    ensures { OnOk result (list.new ≡ list.old ++ text ∷ []) }
-{
-    match list.push(text) {
-        Ok(()) => Ok(()),
-        Err(_) => Err(NoMemory),
-    }
-}
-
 /// Adds a copy of a name.
 pub(crate) fn add_name(alloc: Global, list: &mut Seq<Text>, name: &[u8]) -> Result<(), NoMemory>
     ensures { OnOk result (list.new ≡ list.old ++ name.now ∷ []) }
 {
     let text = Text::from_bytes(alloc, name)?;
-    append(list, text)
+    list.append(text)
 }
 
 /// Adds a copy of a name with more bytes at its end.
@@ -48,7 +38,7 @@ pub(crate) fn add_longer(
 {
     let mut text = Text::from_bytes(alloc, name)?;
     text.extend(more)?;
-    append(list, text)
+    list.append(text)
 }
 
 /// The number after a number. Where it needs more than 32 bits, it is refused as want of memory.
