@@ -8,9 +8,8 @@ ghost use Rattle.vrt_model.specs.Lists.{has_name};
 ghost use Rattle.vrt_model.specs.PairedPorts.{has_lower_name};
 ghost use Rattle.vrt_model.specs.declared.blif.BlifModel.{BlifModel as ModelValue};
 
-use crate::lower_names::lowered_name;
 use names::Names;
-use rule_index::FirstValues;
+use rule_index::{FirstValues, lowered_name};
 use std::alloc::Global;
 use vrt_model::{Blif, BlifModel, NoMemory};
 

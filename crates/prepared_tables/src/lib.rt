@@ -2,7 +2,6 @@
 #![tactic(auto)]
 
 mod by_name;
-mod lower_names;
 mod pairs;
 mod prepared;
 

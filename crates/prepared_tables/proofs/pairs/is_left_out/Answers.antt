@@ -1,5 +1,5 @@
 -- A rule that is found decides by its model; where none is, no cell is skipped.
-use Rattle.latch_match.proofs.PairLaws.{ruled_skipped, unruled_kept}
+use Rattle.rule_index.proofs.PairLaws.{ruled_skipped, unruled_kept}
 use Rattle.prepared_tables.proofs.pairs.is_left_out.Goals as goal
 
 pub returns-in-Some : goal.returns-in-Some

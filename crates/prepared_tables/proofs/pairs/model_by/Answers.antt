@@ -1,5 +1,5 @@
 use Rattle.std.proofs.Common.{refl}
-use Rattle.latch_match.proofs.PairLaws.{place_some}
+use Rattle.rule_index.proofs.PairLaws.{place_some}
 use Rattle.prepared_tables.proofs.pairs.model_by.Goals as goal
 
 pub returns-in-Some : goal.returns-in-Some
