@@ -1,7 +1,6 @@
 -- Lists that are made item by item.
-use Rattle.std.proofs.Common.{◌≡◌, ◌++◌, ◌∷◌, ◌||◌, [], ℕ, not, List, Bool, true, false, cond, Option, Some, None, append_assoc, append-nil, ap, ap₂, sym, ◌∙◌}
+use Rattle.std.proofs.Common.{◌≡◌, ◌++◌, ◌||◌, [], ℕ, not, List, Bool, append_assoc, ap, ap₂, sym, ◌∙◌}
 use Rattle.std.specs.Prelude.{bytes_eq, filter, filter_map}
-use Rattle.std.specs.List.{cons_option}
 use Rattle.std.proofs.Math.Bool.{or_assoc}
 use Rattle.std.proofs.lemmas.List.Elements.{filter-append, filter_map-append}
 use Rattle.std.proofs.lemmas.List.Folds.{list_any-append}
@@ -11,16 +10,6 @@ use Rattle.vrt_model.specs.declared.flat_model.FlatModel.{FlatModel}
 use Rattle.vrt_model.specs.declared.pairing.ClockedSignal.{ClockedSignal}
 use Rattle.vrt_model.specs.declared.rules.Rules.{Rules}
 use Rattle.latch_match.specs.Paired.{clocked_without_port}
-
--- an item more, and those that are left
-pub pushed : {X : Type 0} (list : List X) (o : Option X) (ys : List X) → (list ++ cons_option o []) ++ ys ≡ list ++ cons_option o ys
-pushed list None ys = ap (λ l. l ++ ys) (append-nil list)
-pushed list (Some x) ys = append_assoc list (x ∷ []) ys
-
--- the same by a test
-pub chosen : {X : Type 0} (list : List X) (b : Bool) (x : X) (ys : List X) → (list ++ cond b (x ∷ []) []) ++ ys ≡ list ++ cond b (x ∷ ys) ys
-chosen list true x ys = append_assoc list (x ∷ []) ys
-chosen list false x ys = ap (λ l. l ++ ys) (append-nil list)
 
 -- names that are added, and more
 pub names_joined : (a b : List (List ℕ)) (name : List ℕ) (p q r : Bool) → q ≡ (p || has_name a name) → r ≡ (q || has_name b name) → r ≡ (p || has_name (a ++ b) name)

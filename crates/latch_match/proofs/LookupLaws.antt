@@ -1,10 +1,11 @@
 -- What the tables of a cell say is what the rules and the signals say.
-use Rattle.std.proofs.Common.{◌≡◌, ◌∷◌, [], ℕ, List, Bool, true, false, cond, map, Option, Some, None, option_map, refl, ap, subst, ◌∙◌}
-use Rattle.std.specs.Prelude.{bytes_eq, codes, filter, filter_map, find, is_some, slice_get, unwrap_or}
+use Rattle.std.proofs.Common.{◌≡◌, ℕ, List, Bool, false, cond, map, Option, Some, None, option_map, refl, ap, subst, ◌∙◌}
+use Rattle.std.specs.Prelude.{bytes_eq, codes, filter_map, find, is_some, slice_get, unwrap_or}
 use Rattle.std.specs.List.{list_any}
 use Rattle.std.specs.Option.{option_or}
 use Rattle.std.specs.Str.{str_to_ascii_lowercase}
 use mathlib.Core.Path.{fun_ext}
+use Rattle.names.proofs.FilterLaws.{first_is_found}
 use Rattle.rule_index.proofs.PlacedLaws.{any_placed, values_placed}
 use Rattle.rule_index.specs.Firsts.{value_in}
 use Rattle.rule_index.specs.Lines.{ArePortLines, places_in}
@@ -34,17 +35,10 @@ some_mapped : {X Y : Type 0} (f : X → Y) (o : Option X) → is_some (option_ma
 some_mapped f None = refl
 some_mapped f (Some x) = refl
 
-head_found : {X : Type 0} (p : X → Bool) (xs : List X) → slice_get (filter p xs) 0 ≡ find p xs
-head_found p [] = refl
-head_found {X} p (x ∷ xs) = by_test (p x) (filter p xs) (find p xs) (head_found p xs) where
-  by_test : (b : Bool) (ys : List X) (o : Option X) → slice_get ys 0 ≡ o → slice_get (cond b (x ∷ ys) ys) 0 ≡ cond b (Some x) o
-  by_test true ys o e = refl
-  by_test false ys o e = e
-
 -- a name finds the interface signal of that name
 pub signals_named : (flat : FlatModel) (signals : List ℕ) (names : Table ℕ) → signals ≡ interface flat → IsTable (map (by_name flat) signals) names → first_in names ≡ signal_at flat
 signals_named flat signals names e is =
-    fun_ext (λ name. first_kept (signal_name flat) signals names name is ∙ head_found (λ s. bytes_eq (signal_name flat s) name) signals ∙ ap (find (λ s. bytes_eq (signal_name flat s) name)) e)
+    fun_ext (λ name. first_kept (signal_name flat) signals names name is ∙ first_is_found (λ s. bytes_eq (signal_name flat s) name) signals ∙ ap (find (λ s. bytes_eq (signal_name flat s) name)) e)
 
 -- the signal of a port, by its rule or by its name
 signal_is : (flat : FlatModel) (port : List ℕ) (rule : Option PortRule) (ruled : Option (Option ℕ)) (like : Option ℕ) → ruled ≡ option_map (λ (r : PortRule). signal_at flat r.signal) rule

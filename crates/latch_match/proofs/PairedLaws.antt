@@ -29,8 +29,8 @@ use Rattle.latch_match.specs.declared.facts.PortFacts.{PortFacts}
 use Rattle.latch_match.specs.declared.lookups.Lookups.{Lookups}
 use Rattle.latch_match.specs.declared.numbers.NumberSet.{NumberSet}
 use Rattle.latch_match.specs.declared.signals.Paired.{Paired}
+use Rattle.names.proofs.PlaceLaws.{place_cons}
 use Rattle.latch_match.proofs.LookupLaws.{facts_are}
-use Rattle.latch_match.proofs.TableLaws.{place_cons}
 
 -- ---- what is made of the ports
 

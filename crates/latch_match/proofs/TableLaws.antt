@@ -1,65 +1,22 @@
 -- Tables of values by name.
-use Rattle.std.proofs.Common.{◌≡◌, ◌++◌, ◌∷◌, ◌||◌, ◌+◌, [], ℕ, suc, not, nat_lt, List, Bool, true, false, cond, map, take, length, Option, Some, None, option_map, refl, ap, ap₂, sym, subst, ◌∙◌, append-nil, length-append, arith}
-use Rattle.std.specs.Prelude.{bytes_eq, find, filter, filter_map, slice_get, is_some, option_and_then, ◌&&◌}
-use Rattle.std.specs.List.{cons_option, position, position_or_len}
+use Rattle.std.proofs.Common.{◌≡◌, ◌++◌, ◌∷◌, ◌||◌, ◌+◌, [], ℕ, suc, nat_lt, List, Bool, true, false, cond, map, take, length, Option, Some, None, option_map, refl, ap, ap₂, sym, subst, ◌∙◌, append-nil, length-append, arith}
+use Rattle.std.specs.Prelude.{bytes_eq, find, filter, filter_map, slice_get, is_some, ◌&&◌}
+use Rattle.std.specs.List.{cons_option}
 use Rattle.std.specs.Option.{option_or}
 use Rattle.std.proofs.lemmas.Bool.Decides.{nat_tests}
-use Rattle.std.proofs.lemmas.List.{take_more}
 use Rattle.std.proofs.lemmas.List.Elements.{filter_map-append}
-use Rattle.std.proofs.lemmas.Option.{get_or_from_slice_get, slice_get_within}
-use Rattle.std.proofs.lemmas.List.Folds.{list_any-append}
 use Rattle.std.proofs.lemmas.Slice.Eq.{bytes_eq-Decides}
+use Rattle.rule_index.proofs.FirstNotes.{first_is, noted_new}
+use Rattle.rule_index.specs.Firsts.{first_in as beside}
+use Rattle.vrt_model.proofs.Lists.{take_one}
 use Rattle.vrt_model.specs.Lists.{has_name}
 use Rattle.names.specs.Names.{with_name}
 use Rattle.names.proofs.NameLaws.{bytes_eq-sym, with_front}
 use Rattle.latch_match.specs.Looked.{Grows}
-use Rattle.latch_match.specs.Tables.{HasEntries, IsTable, Named, first_in, first_of, named, values_of}
+use Rattle.latch_match.specs.Tables.{HasEntries, IsTable, Named, first_in, named, values_of}
 use Rattle.latch_match.specs.declared.table.Table.{Table}
 
--- ---- places
-
-shifted : (t : Bool) (n : ℕ) → cond t (Some (1 + n)) None ≡ option_map suc (cond t (Some n) None)
-shifted true n = ap Some (omega arith)
-shifted false n = refl
-
-lt_shifted : (n count : ℕ) → nat_lt (1 + n) (suc count) ≡ nat_lt n count
-lt_shifted n count = grind (arith, nat_tests)
-
-lt_first : (count : ℕ) → nat_lt 0 (suc count) ≡ true
-lt_first count = grind (arith, nat_tests)
-
-pub place_cons : {X : Type 0} (p : X → Bool) (x : X) (xs : List X) → position p (x ∷ xs) ≡ cond (p x) (Some 0) (option_map suc (position p xs))
-place_cons p x xs = by_test (p x) (position_or_len p xs) (length xs) where
-  by_test : (b : Bool) (n count : ℕ) → cond (nat_lt (cond (not b) (1 + n) 0) (suc count)) (Some (cond (not b) (1 + n) 0)) None ≡ cond b (Some 0) (option_map suc (cond (nat_lt n count) (Some n) None))
-  by_test true n count = ap (λ (t : Bool). cond t (Some 0) None) (lt_first count)
-  by_test false n count = ap (λ (t : Bool). cond t (Some (1 + n)) None) (lt_shifted n count) ∙ shifted (nat_lt n count) n
-
--- the value beside the first name that is sought
-abbrev beside : {V : Type 0} → List (List ℕ) → List V → List ℕ → Option V
-beside [] fs name = None
-beside (n ∷ ns) [] name = None
-beside (n ∷ ns) (f ∷ fs) name = cond (bytes_eq name n) (Some f) (beside ns fs name)
-
-beside_is : {V : Type 0} (ns : List (List ℕ)) (fs : List V) (name : List ℕ) → length fs ≡ length ns → first_of ns fs name ≡ beside ns fs name
-beside_is [] fs name e = refl
-beside_is (n ∷ ns) [] name e = absurd (omega arith)
-beside_is {V} (n ∷ ns) (f ∷ fs) name e =
-    ap (option_and_then (slice_get (f ∷ fs))) (place_cons (bytes_eq name) n ns) ∙ by_test (bytes_eq name n) (position (bytes_eq name) ns) (beside ns fs name) (beside_is ns fs name (omega arith)) where
-      by_test : (b : Bool) (o : Option ℕ) (l : Option V) → option_and_then (slice_get fs) o ≡ l → option_and_then (slice_get (f ∷ fs)) (cond b (Some 0) (option_map suc o)) ≡ cond b (Some f) l
-      by_test true o l e = refl
-      by_test false None l e = e
-      by_test false (Some i) l e = e
-
-beside_more : {V : Type 0} (ns : List (List ℕ)) (fs : List V) (n : List ℕ) (v : V) (name : List ℕ) → length fs ≡ length ns
-    → beside (ns ++ n ∷ []) (fs ++ v ∷ []) name ≡ option_or (beside ns fs name) (cond (bytes_eq name n) (Some v) None)
-beside_more [] [] n v name e = refl
-beside_more [] (f ∷ fs) n v name e = absurd (omega arith)
-beside_more (m ∷ ns) [] n v name e = absurd (omega arith)
-beside_more {V} (m ∷ ns) (f ∷ fs) n v name e =
-    ap (λ (o : Option V). cond (bytes_eq name m) (Some f) o) (beside_more ns fs n v name (omega arith)) ∙ by_test (bytes_eq name m) (beside ns fs name) (cond (bytes_eq name n) (Some v) None) where
-      by_test : (b : Bool) (l o : Option V) → cond b (Some f) (option_or l o) ≡ option_or (cond b (Some f) l) o
-      by_test true l o = refl
-      by_test false l o = refl
+-- ---- the value beside the first name that is sought
 
 beside_among : {V : Type 0} (ns : List (List ℕ)) (fs : List V) (name : List ℕ) → length fs ≡ length ns → is_some (beside ns fs name) ≡ has_name ns name
 beside_among [] fs name e = refl
@@ -80,7 +37,7 @@ value_more {V} entries n v name = filter_map-append (λ (e : Named V). cond (byt
 pub has_value : {V : Type 0} (entries : List (Named V)) (names : List (List ℕ)) (firsts : List V) (seconds : List (List ℕ)) (name : List ℕ) → HasEntries entries names firsts seconds
     → is_some (slice_get (values_of entries name) 0) ≡ has_name names name
 has_value entries names firsts seconds name t =
-    ap is_some (sym (t.first name) ∙ beside_is names firsts name t.count) ∙ beside_among names firsts name t.count
+    ap is_some (sym (t.first name) ∙ first_is names firsts name) ∙ beside_among names firsts name t.count
 
 -- so too where the name is another that is the same
 same_value : {V : Type 0} (entries : List (Named V)) (names : List (List ℕ)) (firsts : List V) (seconds : List (List ℕ)) (n name : List ℕ) (b : Bool) → HasEntries entries names firsts seconds
@@ -129,8 +86,8 @@ added {V} entries names firsts seconds n v h t =
     subst (λ (ns : List (List ℕ)). HasEntries (entries ++ named n v ∷ []) ns (firsts ++ v ∷ []) seconds) (ap (λ (b : Bool). cond b names (names ++ n ∷ [])) (sym h)) record {
       count = longer;
       first = λ name.
-          beside_is (names ++ n ∷ []) (firsts ++ v ∷ []) name longer ∙ beside_more names firsts n v name t.count
-          ∙ ap₂ (λ (o p : Option V). option_or o p) (sym (beside_is names firsts name t.count) ∙ t.first name) (ap (λ (b : Bool). cond b (Some v) None) (bytes_eq-sym name n))
+          first_is (names ++ n ∷ []) (firsts ++ v ∷ []) name ∙ noted_new names firsts n name v (sym t.count)
+          ∙ ap (λ (o : Option V). option_or o (cond (bytes_eq n name) (Some v) None)) (sym (first_is names firsts name) ∙ t.first name)
           ∙ head_more (values_of entries name) (cond (bytes_eq n name) (Some v) None) ∙ ap (λ (vs : List V). slice_get vs 0) (sym (value_more entries n v name));
       second = λ name.
           t.second name ∙ second_more (values_of entries name) (bytes_eq n name) v (same_value entries names firsts seconds n name false t h) ∙ ap (λ (vs : List V). nat_lt 1 (length vs)) (sym (value_more entries n v name));
@@ -146,9 +103,6 @@ moved {V} entries a b c a' b' c' t e f g =
 
 -- ---- tables that grow rule by rule
 
-taken : {X : Type 0} (xs : List X) (i : ℕ) (x : X) → slice_get xs i ≡ Some x → take (i + 1) xs ≡ take i xs ++ x ∷ []
-taken {X} xs i x e = take_more xs i x (slice_get_within xs i x e) ∙ ap (λ (z : X). take i xs ++ z ∷ []) (get_or_from_slice_get xs i x x e)
-
 map_end : {X Y : Type 0} (f : X → Y) (xs : List X) (x : X) → map f (xs ++ x ∷ []) ≡ map f xs ++ f x ∷ []
 map_end f [] x = refl
 map_end f (y ∷ xs) x = ap (λ rest. f y ∷ rest) (map_end f xs x)
@@ -157,13 +111,13 @@ map_end f (y ∷ xs) x = ap (λ rest. f y ∷ rest) (map_end f xs x)
 pub more_named : {X V : Type 0} (f : X → Named V) (xs : List X) (i : ℕ) (x : X) (name : List ℕ) (value : V) (t u : Table V) → slice_get xs i ≡ Some x → named name value ≡ f x
     → IsTable (map f (take i xs)) t → ((entries : List (Named V)) → IsTable entries t → IsTable (entries ++ named name value ∷ []) u) → IsTable (map f (take (i + 1) xs)) u
 more_named {X} {V} f xs i x name value t u at is before grows =
-    subst (λ (es : List (Named V)). IsTable es u) (ap (λ (e : Named V). map f (take i xs) ++ e ∷ []) is ∙ sym (map_end f (take i xs) x) ∙ ap (map f) (sym (taken xs i x at))) (grows (map f (take i xs)) before)
+    subst (λ (es : List (Named V)). IsTable es u) (ap (λ (e : Named V). map f (take i xs) ++ e ∷ []) is ∙ sym (map_end f (take i xs) x) ∙ ap (map f) (sym (take_one xs i x at))) (grows (map f (take i xs)) before)
 
 -- one more item may give one
 pub more_ruled : {X V : Type 0} (h : X → Option (Named V)) (xs : List X) (i : ℕ) (x : X) (t u : Table V) → slice_get xs i ≡ Some x
     → IsTable (filter_map h (take i xs)) t → Grows h x t u → IsTable (filter_map h (take (i + 1) xs)) u
 more_ruled {X} {V} h xs i x t u at before grows =
-    subst (λ (es : List (Named V)). IsTable es u) (sym (filter_map-append h (take i xs) (x ∷ [])) ∙ ap (filter_map h) (sym (taken xs i x at))) (grows (filter_map h (take i xs)) before)
+    subst (λ (es : List (Named V)). IsTable es u) (sym (filter_map-append h (take i xs) (x ∷ [])) ∙ ap (filter_map h) (sym (take_one xs i x at))) (grows (filter_map h (take i xs)) before)
 
 -- the item at a place gives a value
 pub found : {X V : Type 0} (g : X → Named V) (entries : List (Named V)) (o : Option X) (x : X) (name : List ℕ) (value : V) (u : Table V) → Some x ≡ o → named name value ≡ g x → IsTable (entries ++ named name value ∷ []) u
@@ -177,14 +131,6 @@ not_found {X} {V} g entries o t e is =
     subst (λ (p : Option X). IsTable (entries ++ cons_option (option_map g p) []) t) e (subst (λ (es : List (Named V)). IsTable es t) (sym (append-nil entries)) is)
 
 -- ---- what a table of items says
-
-first_named : {X V : Type 0} (key : X → List ℕ) (value : X → V) (xs : List X) (name : List ℕ)
-    → slice_get (values_of (map (λ x. named (key x) (value x)) xs) name) 0 ≡ option_map value (find (λ x. bytes_eq (key x) name) xs)
-first_named key value [] name = refl
-first_named {X} {V} key value (x ∷ xs) name = by_test (bytes_eq (key x) name) _ (find (λ (y : X). bytes_eq (key y) name) xs) (first_named key value xs name) where
-  by_test : (b : Bool) (vs : List V) (o : Option X) → slice_get vs 0 ≡ option_map value o → slice_get (cons_option (cond b (Some (value x)) None) vs) 0 ≡ option_map value (cond b (Some x) o)
-  by_test true vs o e = refl
-  by_test false vs o e = e
 
 first_ruled : {X V : Type 0} (test : X → Bool) (key : X → List ℕ) (value : X → V) (xs : List X) (name : List ℕ)
     → slice_get (values_of (filter_map (λ x. cond (test x) (Some (named (key x) (value x))) None) xs) name) 0 ≡ option_map value (find (λ x. test x && bytes_eq (key x) name) xs)
@@ -204,11 +150,7 @@ count_named {X} key (x ∷ xs) name = by_test (bytes_eq (key x) name) _ _ (count
   by_test true vs ws e = ap (λ rest. x ∷ rest) e
   by_test false vs ws e = e
 
--- the first value of a table is that of the first item
-pub first_item : {X V : Type 0} (key : X → List ℕ) (value : X → V) (xs : List X) (t : Table V) (name : List ℕ) → IsTable (map (λ x. named (key x) (value x)) xs) t
-    → first_in t name ≡ option_map value (find (λ x. bytes_eq (key x) name) xs)
-first_item key value xs t name is = is.first name ∙ first_named key value xs name
-
+-- the first value of a table is that of the first item that has one
 pub first_rule : {X V : Type 0} (test : X → Bool) (key : X → List ℕ) (value : X → V) (xs : List X) (t : Table V) (name : List ℕ)
     → IsTable (filter_map (λ x. cond (test x) (Some (named (key x) (value x))) None) xs) t → first_in t name ≡ option_map value (find (λ x. test x && bytes_eq (key x) name) xs)
 first_rule test key value xs t name is = is.first name ∙ first_ruled test key value xs name

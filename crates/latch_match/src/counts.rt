@@ -8,19 +8,10 @@ use std::alloc::Global;
 use vrt_model::NoMemory;
 
 /// The numbers of a list, and those that stand in it more than once.
+#[derive(Drop)]
 pub(crate) struct Counts {
     pub(crate) once: NumberSet,
     pub(crate) again: NumberSet,
-}
-
-/// By hand, so that letting go of one is a call.
-impl Drop for Counts {
-    fn drop(self) {
-        let Counts {
-            once: _once,
-            again: _again,
-        } = self;
-    }
 }
 
 impl Counts {

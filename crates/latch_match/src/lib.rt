@@ -15,5 +15,5 @@ mod table;
 
 pub use faults::PairFault;
 pub use hold_groups::{MatchFault, groups};
-pub use models::{is_skipped, model_of, model_of_with};
+pub use models::{is_skipped, model_of};
 pub use ports::{pair_ports, pair_ports_with};

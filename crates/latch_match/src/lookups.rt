@@ -10,10 +10,10 @@ ghost use Rattle.latch_match.specs.Tables.{IsTable, Named, first_in};
 ghost use Rattle.std.specs.List.{list_any};
 
 use crate::facts::PortFacts;
-use crate::lower_names::{lowered_name, signal_name};
+use crate::lower_names::signal_name;
 use crate::table::Table;
 use names::Names;
-use rule_index::{FirstValues, PortLines, supply};
+use rule_index::{FirstValues, PortLines, lowered_name, supply};
 use std::alloc::Global;
 use vrt_model::{
     AssumeRule, ClockRef, ClockportRule, Expr, FlatModel, NoMemory, PortRule, Rules, Seq,
@@ -21,6 +21,7 @@ use vrt_model::{
 
 /// The tables that the ports of one cell are looked up in: the interface signals by their names in lower case and as
 /// they stand, the clocks and the signals that the cell's rules name, and the ports that its assumptions name.
+#[derive(Drop)]
 pub(crate) struct Lookups {
     alloc: Global,
     signals: Table<u32>,
@@ -28,20 +29,6 @@ pub(crate) struct Lookups {
     clocks: Table<ClockRef>,
     ruled: Table<Option<u32>>,
     assumed: Names,
-}
-
-/// By hand, so that letting go of one is a call.
-impl Drop for Lookups {
-    fn drop(self) {
-        let Lookups {
-            alloc: _alloc,
-            signals: _signals,
-            names: _names,
-            clocks: _clocks,
-            ruled: _ruled,
-            assumed: _assumed,
-        } = self;
-    }
 }
 
 /// Adds signals under their names.

@@ -1,12 +1,11 @@
 //! Names in lower case.
 
-ghost use Rattle.std.specs.Prelude.{◌≡◌, bytes_eq, IfOk};
+ghost use Rattle.std.specs.Prelude.{◌≡◌, bytes_eq};
 ghost use Rattle.std.specs.Char.{to_ascii_lowercase};
 ghost use Rattle.std.specs.Str.{str_to_ascii_lowercase};
 ghost use Rattle.vrt_model.specs.Elements.{signal_name};
 
-use std::alloc::Global;
-use vrt_model::{FlatModel, NoMemory, Text};
+use vrt_model::FlatModel;
 
 /// A byte with its letter lowered.
 fn lowered(byte: u8) -> u8
@@ -42,17 +41,4 @@ pub(crate) fn signal_name(flat: &FlatModel, signal: u32) -> &[u8]
         Some(name) => name.as_bytes(),
         None => &[],
     }
-}
-
-/// A name in lower case.
-pub(crate) fn lowered_name(alloc: Global, name: &[u8]) -> Result<Text, NoMemory>
-    ensures { IfOk result (λ low. low ≡ str_to_ascii_lowercase name.now) }
-{
-    let mut low = Text::new(alloc);
-    for byte in name {
-        if low.push(lowered(*byte)).is_err() {
-            return Err(NoMemory);
-        }
-    }
-    Ok(low)
 }

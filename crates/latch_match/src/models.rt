@@ -5,15 +5,12 @@ ghost use Rattle.std.specs.Option.{option_copied};
 ghost use Rattle.vrt_model.specs.Comparison.{cell_at};
 ghost use Rattle.vrt_model.specs.Inputs.{IsBlif};
 ghost use Rattle.vrt_model.specs.PairedPorts.{has_lower_name, model_of_paired, paired_by, paired_model, Skipped};
-ghost use Rattle.rule_index.specs.Lines.{IsIndex};
-ghost use Rattle.rule_index.specs.Tables.{AreRuleTables};
 ghost use Rattle.vrt_model.specs.declared.blif.Blif.{Blif as BlifValue};
 ghost use Rattle.vrt_model.specs.declared.blif.BlifModel.{BlifModel as ModelValue};
 ghost use Rattle.vrt_model.specs.declared.rules.PairRule.{PairRule as RuleValue};
 
 use crate::lower_names::is_lowered;
-use rule_index::{ByCell, RuleIndex};
-use vrt_model::{Blif, BlifModel, Design, PairRule, Rules, Seq};
+use vrt_model::{Blif, BlifModel, Design, PairRule, Rules};
 
 /// Whether the name of a model in lower case is this one.
 fn has_lower_name(name: &[u8], model: &BlifModel) -> bool
@@ -115,45 +112,6 @@ pub fn model_of(design: &Design, blif: &Blif, rules: &Rules, cell: u32) -> Optio
     ensures { result ≡ model_of_paired (paired_model design.now blif.now rules.now cell) }
 {
     number_of(place_of(blif, rules, name_of(design, cell)))
-}
-
-/// The `pair` rule of a cell, by the places of the rules of each cell.
-fn rule_by<'a>(lines: &ByCell, rules: &'a Seq<PairRule>, cell: &[u8]) -> Option<&'a PairRule>
-    requires { IsIndex (λ (r : RuleValue). r.cell) rules.now lines.now }
-    ensures { option_copied result ≡ find (λ (r : RuleValue). bytes_eq r.cell cell.now) rules.entry.now }
-{
-    match lines.places(cell).first() {
-        Some(place) => rules.get(*place),
-        None => None,
-    }
-}
-
-/// The place of the model with which a cell of a name pairs, by the tables of the rules.
-fn place_by(index: &RuleIndex, blif: &Blif, rules: &Rules, cell: &[u8]) -> Option<usize>
-    requires { AreRuleTables rules.now index.now }
-    ensures { result ≡ model_of_paired (paired_by blif.now cell.now (find (λ (r : RuleValue). bytes_eq r.cell cell.now) rules.now.pairs)) }
-{
-    let models = blif.models.as_slice();
-    match rule_by(&index.lines.pairs, &rules.pairs, cell) {
-        Some(rule) => named_by(models, rule),
-        None => only_like(models, cell),
-    }
-}
-
-/// The model with which a cell pairs, by the tables of the rules: the same as `model_of`, without a look at the rules of
-/// other cells.
-pub fn model_of_with(
-    index: &RuleIndex,
-    design: &Design,
-    blif: &Blif,
-    rules: &Rules,
-    cell: u32,
-) -> Option<u32>
-    requires tables { AreRuleTables rules.now index.now }
-    requires blif { IsBlif blif.now }
-    ensures { result ≡ model_of_paired (paired_model design.now blif.now rules.now cell) }
-{
-    number_of(place_by(index, blif, rules, name_of(design, cell)))
 }
 
 /// Whether the `pair` rule of a cell of a name names no model.

@@ -18,6 +18,7 @@ use crate::numbers::NumberSet;
 use crate::signals::{Paired, add_some, paired_of};
 use rule_index::{RuleIndex, index_of};
 use std::alloc::Global;
+use std::mem::replace;
 use vrt_model::{Cell, Design, FlatModel, NoMemory, Pairing, PortRole, Rules, Seq, Text};
 
 /// The place of the first port in the way.
@@ -101,7 +102,7 @@ fn way_in<'a>(flat: &'a FlatModel, ports: &'a [Text], paired: &Paired) -> Option
 }
 
 /// The roles of the ports.
-#[tactic(auto, using(crate::proofs::ListLaws::pushed))]
+#[tactic(auto, using(vrt_model::proofs::Lists::pushed))]
 fn roles_of(
     alloc: Global,
     facts: &[PortFacts],
@@ -158,16 +159,17 @@ fn fault_of(alloc: Global, flat: &FlatModel, ports: &[Text], paired: &Paired) ->
     }
 }
 
-/// The pairing that is made of what is known.
-fn pairing_by(alloc: Global, model: u32, paired: Paired) -> Result<Pairing, PairFault>
-    ensures { MatchResult result (λ p. p ≡ record { model = model; ports = filter_map (role_in (has_in paired.outputs)) paired.facts; clocked = paired.clocked }) (λ f. f ≡ NoMemory') }
+/// The pairing that is made of what is known. The signals that carry clocks are taken out of it.
+fn pairing_by(alloc: Global, model: u32, paired: &mut Paired) -> Result<Pairing, PairFault>
+    ensures { MatchResult result (λ p. p ≡ record { model = model; ports = filter_map (role_in (has_in paired.old.outputs)) paired.old.facts; clocked = paired.old.clocked }) (λ f. f ≡ NoMemory') }
 {
     match roles_of(alloc, paired.facts.as_slice(), &paired.outputs) {
         Ok(ports) => {
+            let clocked = replace(&mut paired.clocked, Seq::new(alloc));
             Ok(Pairing {
                 model,
                 ports,
-                clocked: paired.clocked,
+                clocked,
             })
         }
         Err(_) => Err(PairFault::NoMemory),
@@ -187,12 +189,12 @@ fn pair_cell(
     requires tables { AreRuleTables rules.now index.now }
     ensures { (design : DesignValue) (number : ℕ) → cell.now ≡ cell_at design number → PairGives design number model flat.now rules.now result }
 {
-    let Ok(paired) = paired_of(alloc, flat, rules, index, cell) else {
+    let Ok(mut paired) = paired_of(alloc, flat, rules, index, cell) else {
         return Err(PairFault::NoMemory);
     };
     match fault_of(alloc, flat, cell.ports.as_slice(), &paired) {
         Some(fault) => Err(fault),
-        None => pairing_by(alloc, model, paired),
+        None => pairing_by(alloc, model, &mut paired),
     }
 }
 

@@ -21,7 +21,6 @@ use vrt_model::{Cell, ClockRef, ClockedSignal, FlatModel, NoMemory, Rules, Seq, 
 
 /// What is known of the ports of a cell and the signals of a model: the tables of the cell, what is said of each port, the
 /// interface, its outputs, the signals that ports pair with, and those that carry clocks.
-#[derive(Drop)]
 pub(crate) struct Paired {
     lookups: Lookups,
     pub(crate) facts: Seq<PortFacts>,
@@ -30,6 +29,21 @@ pub(crate) struct Paired {
     pub(crate) counts: Counts,
     pub(crate) clocked: Seq<ClockedSignal>,
     pub(crate) carriers: NumberSet,
+}
+
+/// By hand, so that letting go of one is a call.
+impl Drop for Paired {
+    fn drop(self) {
+        let Paired {
+            lookups: _lookups,
+            facts: _facts,
+            interface: _interface,
+            outputs: _outputs,
+            counts: _counts,
+            clocked: _clocked,
+            carriers: _carriers,
+        } = self;
+    }
 }
 
 /// Adds an item, if there is one.
@@ -46,7 +60,7 @@ pub(crate) fn add_some<T: Copy>(list: &mut Seq<T>, item: Option<T>) -> Result<()
 }
 
 /// Adds numbers.
-#[tactic(auto, using(crate::proofs::ListLaws::pushed))]
+#[tactic(auto, using(vrt_model::proofs::Lists::pushed))]
 fn add_all(list: &mut Seq<u32>, numbers: &[u32]) -> Result<(), NoMemory>
     ensures { OnOk result (list.new ≡ list.old ++ numbers.now) }
 {
@@ -70,7 +84,7 @@ fn outside(set: &NumberSet, number: u32) -> Option<u32>
 }
 
 /// Adds the numbers that are not in a set.
-#[tactic(auto, using(crate::proofs::ListLaws::chosen))]
+#[tactic(auto, using(vrt_model::proofs::Lists::chosen))]
 fn add_others(list: &mut Seq<u32>, set: &NumberSet, numbers: &[u32]) -> Result<(), NoMemory>
     ensures { OnOk result (list.new ≡ list.old ++ filter (λ n. not (has_in set.now n)) numbers.now) }
 {
@@ -146,7 +160,7 @@ fn add_facts_by(
 }
 
 /// Adds the signals that ports pair with.
-#[tactic(auto, using(crate::proofs::ListLaws::pushed))]
+#[tactic(auto, using(vrt_model::proofs::Lists::pushed))]
 fn add_paired(list: &mut Seq<u32>, facts: &[PortFacts]) -> Result<(), NoMemory>
     requires { list.old ≡ [] }
     ensures { OnOk result (list.new ≡ filter_map signal_paired facts.now) }
@@ -176,7 +190,7 @@ fn count_paired(
 }
 
 /// Adds the clocks that ports give their signals.
-#[tactic(auto, using(crate::proofs::ListLaws::pushed))]
+#[tactic(auto, using(vrt_model::proofs::Lists::pushed))]
 fn add_clocked_ports(list: &mut Seq<ClockedSignal>, facts: &[PortFacts]) -> Result<(), NoMemory>
     ensures { OnOk result (list.new ≡ list.old ++ filter_map clock_carried facts.now) }
 {
@@ -237,7 +251,7 @@ fn clocked_without_port(
 }
 
 /// Adds the clocks that signals without port carry by their names.
-#[tactic(auto, using(crate::proofs::ListLaws::pushed))]
+#[tactic(auto, using(vrt_model::proofs::Lists::pushed))]
 fn add_clocked_signals(
     list: &mut Seq<ClockedSignal>,
     flat: &FlatModel,

@@ -2,7 +2,7 @@
 use Rattle.std.proofs.Common.{ap, ◌∙◌}
 use Rattle.std.specs.Prelude.{bytes_eq, find}
 use Rattle.vrt_model.specs.declared.rules.PairRule.{PairRule}
-use Rattle.latch_match.proofs.PairLaws.{ruled_skipped, unruled_kept}
+use Rattle.rule_index.proofs.PairLaws.{ruled_skipped, unruled_kept}
 use Rattle.latch_match.proofs.models.is_left_out.Goals as goal
 
 pub returns-in-Some : goal.returns-in-Some

@@ -1,7 +1,7 @@
 use Rattle.std.proofs.Common.{ap, ◌∙◌}
 use Rattle.std.specs.Prelude.{bytes_eq, find}
 use Rattle.vrt_model.specs.declared.rules.PairRule.{PairRule}
-use Rattle.latch_match.proofs.PairLaws.{place_some}
+use Rattle.rule_index.proofs.PairLaws.{place_some}
 use Rattle.latch_match.proofs.models.place_of.Goals as goal
 
 pub returns-in-Some : goal.returns-in-Some

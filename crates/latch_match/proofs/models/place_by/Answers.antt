@@ -1,6 +1,0 @@
-use Rattle.latch_match.proofs.PairLaws.{place_some}
-use Rattle.latch_match.proofs.models.place_by.Goals as goal
-
-pub returns-in-Some : goal.returns-in-Some
-returns-in-Some c =
-    place_some c.args.blif.now c.args.cell.now c.in-Some.rule.now _ c.as_slice-models.result.now c.named_by.result c.in-Some.ensures c.as_slice-models.ensures c.named_by.ensures
