@@ -64,16 +64,6 @@ fn note_covers(drivers: &mut Vec<Driver>, flat: &FlatModel)
     }
 }
 
-/// Adds a driver at the end.
-fn append(drivers: &mut Seq<Driver>, driver: Driver) -> Result<(), NoMemory>
-    ensures { OnOk result (drivers.new ≡ drivers.old ++ driver ∷ []) }
-{
-    match drivers.push(driver) {
-        Ok(()) => Ok(()),
-        Err(_) => Err(NoMemory),
-    }
-}
-
 /// Adds an element, and gives its number behind the signals.
 fn add_element(
     elements: &mut Seq<Driver>,
@@ -90,15 +80,12 @@ fn add_element(
     let Some(number) = signals.checked_add(element) else {
         return Err(NoMemory);
     };
-    append(
-        elements,
-        Driver::Element(Storage {
-            element,
-            source,
-            control,
-            open_at,
-        }),
-    )?;
+    elements.append(Driver::Element(Storage {
+        element,
+        source,
+        control,
+        open_at,
+    }))?;
     Ok(number)
 }
 
@@ -176,7 +163,7 @@ fn extend(drivers: &mut Seq<Driver>, more: &[Driver]) -> Result<(), NoMemory>
     ensures { OnOk result (drivers.new ≡ drivers.old ++ more.now) }
 {
     for driver in more {
-        append(drivers, *driver)?;
+        drivers.append(*driver)?;
     }
     Ok(())
 }

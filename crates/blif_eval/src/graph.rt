@@ -9,16 +9,6 @@ use crate::known::entry;
 use std::alloc::Global;
 use vrt_model::{Cover, FlatModel, NoMemory, Seq};
 
-/// Adds a number at the end.
-fn append(list: &mut Seq<u32>, number: u32) -> Result<(), NoMemory>
-    ensures { OnOk result (list.new ≡ list.old ++ number ∷ []) }
-{
-    match list.push(number) {
-        Ok(()) => Ok(()),
-        Err(_) => Err(NoMemory),
-    }
-}
-
 /// The inputs of the cover at a place, none where there is no cover.
 fn inputs_at(covers: &[Cover], place: usize) -> &[u32]
     ensures { result.now ≡ inputs_at covers.now place }
@@ -36,7 +26,7 @@ fn copied(alloc: Global, numbers: &[u32]) -> Result<Seq<u32>, NoMemory>
 {
     let mut copy = Seq::new(alloc);
     for number in numbers {
-        append(&mut copy, *number)?;
+        copy.append(*number)?;
     }
     Ok(copy)
 }
@@ -46,7 +36,7 @@ fn one(alloc: Global, number: u32) -> Result<Seq<u32>, NoMemory>
     ensures { IfOk result (λ list. list ≡ number ∷ []) }
 {
     let mut list = Seq::new(alloc);
-    append(&mut list, number)?;
+    list.append(number)?;
     Ok(list)
 }
 
@@ -83,7 +73,7 @@ fn is_shut(bits: &[Option<bool>], signals: usize, storage: Storage) -> bool
 fn add_source(list: &mut Seq<u32>, source: u32, shut: bool) -> Result<(), NoMemory>
     ensures { OnOk result (list.new ≡ list.old ++ cond shut [] (source ∷ [])) }
 {
-    if shut { Ok(()) } else { append(list, source) }
+    if shut { Ok(()) } else { list.append(source) }
 }
 
 /// Adds the signal at a control, if there is one.
@@ -91,7 +81,7 @@ fn add_control(list: &mut Seq<u32>, control: Option<u32>) -> Result<(), NoMemory
     ensures { OnOk result (list.new ≡ list.old ++ control_list control) }
 {
     match control {
-        Some(signal) => append(list, signal),
+        Some(signal) => list.append(signal),
         None => Ok(()),
     }
 }
@@ -126,16 +116,6 @@ fn sources_by(
     }
 }
 
-/// Adds a list of numbers at the end.
-fn append_list(lists: &mut Seq<Seq<u32>>, list: Seq<u32>) -> Result<(), NoMemory>
-    ensures { OnOk result (lists.new ≡ lists.old ++ list ∷ []) }
-{
-    match lists.push(list) {
-        Ok(()) => Ok(()),
-        Err(_) => Err(NoMemory),
-    }
-}
-
 /// For each signal and each element, the numbers from which arcs lead to it, by what gives each its bit and by the bits
 /// that are known.
 pub(crate) fn graph_of(
@@ -149,7 +129,7 @@ pub(crate) fn graph_of(
     let mut graph = Seq::new(alloc);
     for driver in drivers {
         let sources = sources_by(alloc, flat, bits, *driver)?;
-        append_list(&mut graph, sources)?;
+        graph.append(sources)?;
     }
     Ok(graph)
 }

@@ -1,7 +1,7 @@
 //! Which signals of a model have a known bit: those that are given one, and the outputs of covers that read known bits
 //! alone.
 
-ghost use Rattle.std.specs.Prelude.{All, ◌≡◌, ◌+◌, ◌<◌, ◌≤◌, ◌&&◌, ◌||◌, Bool, List, Option, Some, true, false, length, set, IfOk, OnOk, ◌++◌, ◌∷◌, []};
+ghost use Rattle.std.specs.Prelude.{All, ◌≡◌, ◌+◌, ◌<◌, ◌≤◌, ◌&&◌, ◌||◌, Bool, List, Option, Some, true, false, length, set, IfOk};
 ghost use Rattle.blif_eval.specs.KnownBits.{AreKnown, HasLearned, IsDone, IsLearned, IsSpread, all_entries, bit_in, is_entry, teaches, unknown};
 ghost use Rattle.blif_eval.specs.Plans.{entry_of};
 ghost use Rattle.vrt_model.specs.Covers.{byte_fits, cover_bit, row_fits, some_row_fits};
@@ -162,25 +162,14 @@ fn spread(bits: &mut Vec<Option<bool>>, flat: &FlatModel)
     }
 }
 
-/// Adds an entry at the end.
-fn append(bits: &mut Vec<Option<bool>>, bit: Option<bool>) -> Result<(), NoMemory>
-    ensures { OnOk result (bits.new.items ≡ bits.old.items ++ bit ∷ []) }
-{
-    match bits.push(bit) {
-        Ok(()) => Ok(()),
-        Err(_) => Err(NoMemory),
-    }
-}
-
 /// A copy of a table of bits.
 fn copied(alloc: Global, bits: &[Option<bool>]) -> Result<Vec<Option<bool>>, NoMemory>
     ensures { IfOk result (λ copy. copy.items ≡ bits.now) }
 {
-    let mut copy = Vec::new(alloc);
-    for bit in bits {
-        append(&mut copy, *bit)?;
+    match Vec::from_slice(alloc, bits) {
+        Ok(copy) => Ok(copy),
+        Err(_) => Err(NoMemory),
     }
-    Ok(copy)
 }
 
 /// The bits of the signals that are known where some are given, and behind the signals that of the default clock, if it

@@ -55,8 +55,7 @@ fn planned(
 {
     let bits = known_bits(alloc, flat, known)?;
     let graph = graph_of(alloc, flat, bits.as_slice(), drivers)?;
-    let order = order_of(alloc, graph.as_slice())?;
-    Ok(order)
+    order_of(alloc, graph.as_slice())
 }
 
 /// The signals and elements of a model in an order that follows what depends on what, or, where that leads around, a

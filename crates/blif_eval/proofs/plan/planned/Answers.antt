@@ -1,4 +1,5 @@
 use Rattle.std.proofs.Common.{◌≡◌, ℕ, List, sym, subst, ◌∙◌}
+use Rattle.std.proofs.lemmas.Result.{IfOk-weaker}
 use Rattle.blif_eval.proofs.GraphLaws.{graph_inside, plan_gives}
 use Rattle.blif_eval.specs.KnownBits.{AreKnown}
 use Rattle.blif_eval.specs.Sources.{graph_by}
@@ -24,6 +25,6 @@ returns c =
     let found : AreKnown flat known c.in_ok-bits.bits.items = c.in_ok-bits.ensures in
     let table : AreKnown flat known bits = subst (AreKnown flat known) (sym c.as_slice.ensures.value) found in
     let graph : c.in_ok-graph.graph ≡ graph_by flat bits c.args.drivers.now = c.in_ok-graph.ensures in
-    let order : OrderGives c.as_slice-2.result.now c.in_ok-order.order = c.in_ok-order.ensures in
-    plan_gives flat c.requires.model c.args.drivers.now c.requires.drivers known bits c.requires.outside table c.in_ok-order.order
-    (subst (λ (g : List (List ℕ)). OrderGives g c.in_ok-order.order) (c.as_slice-2.ensures ∙ graph) order)
+    IfOk-weaker c.order_of.result _ _ (λ order gives.
+    plan_gives flat c.requires.model c.args.drivers.now c.requires.drivers known bits c.requires.outside table order
+    (subst (λ (g : List (List ℕ)). OrderGives g order) (c.as_slice-2.ensures ∙ graph) gives)) c.order_of.ensures
