@@ -1,16 +1,13 @@
 -- What is filled with digits is plain.
 use Rattle.std.proofs.Common.{◌≡◌, ◌≤◌, ◌<◌, ◌+◌, ◌^◌, ◌%◌, ◌++◌, ◌==◌, ◌&&◌, ◌||◌, if◌then◌else◌, [], ◌∷◌, ℕ, zero, suc, List, Bool, true, false, refl, ap₂, ◌∙◌, arith}
 use Rattle.std.proofs.Math.Bool.{or-true}
-use Rattle.std.proofs.lemmas.Bool.{le-leb}
+use Rattle.std.proofs.lemmas.Bool.{and_from, le-leb}
 use Rattle.std.proofs.lemmas.Fmt.{decimal_by_steps}
 use Rattle.std.proofs.lemmas.List.Folds.{list_all-append}
 use Rattle.std.specs.Fmt.{decimal}
 use Rattle.std.specs.List.{list_all, flat_map, range_with_len}
 use Rattle.generator.specs.Forms.{meaning, filled}
 use Rattle.generator.specs.Texts.{is_plain}
-
-both : (a b : Bool) → a ≡ true → b ≡ true → (a && b) ≡ true
-both a b p q = ap₂ (λ (x y : Bool). x && y) p q
 
 first_of_both : (a b : Bool) → (a && b) ≡ true → a ≡ true
 first_of_both true b e = refl
@@ -22,11 +19,11 @@ second_of_both false b e = cc
 
 -- two texts
 pub joined_plain : (xs ys : List ℕ) → list_all is_plain xs ≡ true → list_all is_plain ys ≡ true → list_all is_plain (xs ++ ys) ≡ true
-joined_plain xs ys p q = list_all-append is_plain xs ys ∙ both (list_all is_plain xs) (list_all is_plain ys) p q
+joined_plain xs ys p q = list_all-append is_plain xs ys ∙ and_from (list_all is_plain xs) (list_all is_plain ys) p q
 
 -- a byte
 one_plain : (byte : ℕ) → is_plain byte ≡ true → list_all is_plain (byte ∷ []) ≡ true
-one_plain byte plain = both (is_plain byte) true plain refl
+one_plain byte plain = and_from (is_plain byte) true plain refl
 
 -- a digit
 digit_plain : (d : ℕ) → d < 10 → is_plain (48 + d) ≡ true

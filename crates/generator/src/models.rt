@@ -6,7 +6,6 @@ ghost use Rattle.generator.specs.Texts.{top_model, blif_text};
 
 use crate::forms::add_each;
 use crate::netlist::{operand_ports, output_ports};
-use std::alloc::Global;
 use vrt_model::{NoMemory, Text};
 
 /// The model of the inverter.
@@ -80,28 +79,28 @@ fn cards() -> &'static [u8]
 
 /// Adds the model `top`.
 #[tactic(auto, unfolding(crate::specs::Texts::top_model))]
-fn add_top(alloc: Global, text: &mut Text, size: u32) -> Result<(), NoMemory>
+fn add_top(text: &mut Text, size: u32) -> Result<(), NoMemory>
     ensures { OnOk result (text.new ≡ text.old ++ top_model size) }
 {
     text.extend(b".model top\n.inputs s c0")?;
-    add_each(alloc, text, operand_ports(), size)?;
+    add_each(text, operand_ports(), size)?;
     text.extend(b"\n.outputs")?;
-    add_each(alloc, text, output_ports(), size)?;
+    add_each(text, output_ports(), size)?;
     text.extend(b"\n")?;
-    add_each(alloc, text, cards(), size)?;
+    add_each(text, cards(), size)?;
     text.extend(b".end\n")?;
     Ok(())
 }
 
 /// Adds all models.
 #[tactic(auto, unfolding(crate::specs::Texts::blif_text))]
-pub fn add_models(alloc: Global, text: &mut Text, size: u32) -> Result<(), NoMemory>
+pub fn add_models(text: &mut Text, size: u32) -> Result<(), NoMemory>
     ensures { OnOk result (text.new ≡ text.old ++ blif_text size) }
 {
     text.extend(inv())?;
     text.extend(nand2())?;
     text.extend(fa())?;
     text.extend(mux2())?;
-    add_top(alloc, text, size)?;
+    add_top(text, size)?;
     Ok(())
 }

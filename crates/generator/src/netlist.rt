@@ -5,7 +5,6 @@ ghost use Rattle.generator.specs.Parts.{inv_cell, nand2_cell, fa_cell, mux2_cell
 ghost use Rattle.generator.specs.Texts.{top_cell, spice_text};
 
 use crate::forms::{add_each, add_number};
-use std::alloc::Global;
 use vrt_model::{NoMemory, Text};
 
 /// The inverter.
@@ -91,30 +90,30 @@ fn cards() -> &'static [u8]
 
 /// Adds the cell `top`.
 #[tactic(auto, unfolding(crate::specs::Texts::top_cell))]
-fn add_top(alloc: Global, text: &mut Text, size: u32) -> Result<(), NoMemory>
+fn add_top(text: &mut Text, size: u32) -> Result<(), NoMemory>
     ensures { OnOk result (text.new ≡ text.old ++ top_cell size) }
 {
     text.extend(b".subckt top s c0")?;
-    add_each(alloc, text, operand_ports(), size)?;
-    add_each(alloc, text, output_ports(), size)?;
+    add_each(text, operand_ports(), size)?;
+    add_each(text, output_ports(), size)?;
     text.extend(b"\n")?;
-    add_each(alloc, text, cards(), size)?;
+    add_each(text, cards(), size)?;
     text.extend(b".ends\n")?;
     Ok(())
 }
 
 /// Adds the title and all cells.
 #[tactic(auto, unfolding(crate::specs::Texts::spice_text))]
-pub fn add_netlist(alloc: Global, text: &mut Text, size: u32) -> Result<(), NoMemory>
+pub fn add_netlist(text: &mut Text, size: u32) -> Result<(), NoMemory>
     ensures { OnOk result (text.new ≡ text.old ++ spice_text size) }
 {
     text.extend(b"* size ")?;
-    add_number(alloc, text, size)?;
+    add_number(text, size)?;
     text.extend(b"\n")?;
     text.extend(inv())?;
     text.extend(nand2())?;
     text.extend(fa())?;
     text.extend(mux2())?;
-    add_top(alloc, text, size)?;
+    add_top(text, size)?;
     Ok(())
 }

@@ -45,7 +45,7 @@ fn spice(alloc: Global, size: u32) -> Result<Text, NoMemory>
     ensures { IfOk result (λ text. text ≡ spice_text size) }
 {
     let mut text = Text::new(alloc);
-    add_netlist(alloc, &mut text, size)?;
+    add_netlist(&mut text, size)?;
     Ok(text)
 }
 
@@ -54,7 +54,7 @@ fn blif(alloc: Global, size: u32) -> Result<Text, NoMemory>
     ensures { IfOk result (λ text. text ≡ blif_text size) }
 {
     let mut text = Text::new(alloc);
-    add_models(alloc, &mut text, size)?;
+    add_models(&mut text, size)?;
     Ok(text)
 }
 
