@@ -10,7 +10,7 @@ use bdd_core::{H, Spent, Store};
 use bdd_ops::{and, implies};
 
 /// Where the faults of a net in the kept circuit stand.
-#[derive(Clone, Copy, Debug, PartialEq, Eq)]
+#[derive(Clone, Copy)]
 pub struct KeptFaults {
     /// At which valuations of the care set the response is fight.
     pub fight: H,
