@@ -1,7 +1,7 @@
 -- The lines of an instance's cell hold exactly where its constraints are not broken.
 use Rattle.std.proofs.Common.{◌≡◌, ℕ, zero, suc, ◌<◌, ◌≤◌, ◌⊎◌, ◌&&◌, ◌||◌, Bool, true, false, cond, not, List, [], ◌∷◌, length, get_or, Option, Some, None, arith, ap, ap₂, refl, sym, subst, ◌∙◌, inl, inr}
-use Rattle.std.specs.Prelude.{◌↔◌, bytes_eq, filter_map, find, nat_lt, option_and_then, option_map, slice_get}
-use Rattle.std.specs.List.{cons_option, list_all, position_or_len}
+use Rattle.std.specs.Prelude.{◌↔◌, bytes_eq, find, nat_lt, option_and_then, option_map, slice_get}
+use Rattle.std.specs.List.{list_all, position_or_len}
 use Rattle.std.proofs.lemmas.Bool.{and_parts, false≢true, ltb-false, true≢false}
 use Rattle.std.proofs.lemmas.List.Quantifiers.{position-Some}
 use Rattle.std.proofs.lemmas.List.Sums.{fails_before_first}
@@ -10,6 +10,7 @@ use Rattle.std.proofs.lemmas.Slice.Eq.{bytes_eq-Decides}
 use Rattle.node_pool.specs.declared.region.Span.{Span}
 use Rattle.bdd_core.specs.Diagram.{Valuation, meaning}
 use Rattle.bdd_core.specs.Store.{Diagrams}
+use Rattle.vrt_model.proofs.Lists.{among_filter_map, at_there, filter_map_among}
 use Rattle.vrt_model.proofs.Members.{among_later, among_left, among_right, any_among, find_among, find_none}
 use Rattle.vrt_model.specs.CellRules.{clock_of_port, is_for}
 use Rattle.vrt_model.specs.Comparison.{cell_at, phase_at}
@@ -78,12 +79,6 @@ value_known bits f (Or' p e q g) known =
     joined ◌||◌ (value_by bits e) (value_by bits g) (value_of f e) (value_of f g) (value_known bits f e (λ n m. known n (among_left (names_in e) (names_in g) n m)))
     (value_known bits f g (λ n m. known n (among_right (names_in e) (names_in g) n m)))
 
--- there is an item at each place within
-there_at : {X : Type 0} (xs : List X) (k : ℕ) → k < length xs → (x : X) × At xs k x
-there_at [] k lt = absurd (omega (arith, lt))
-there_at (x ∷ xs) zero lt = (x, refl)
-there_at (x ∷ xs) (suc k) lt = there_at xs k (omega (arith, lt))
-
 -- ---- lists of tests
 
 some_fails : {X : Type 0} (test : X → Bool) (xs : List X) → list_all test xs ≡ false → (x : X) × Among xs x × (test x ≡ false)
@@ -102,28 +97,6 @@ fails_all test (y ∷ ys) x (suc i, e) t = last (test y) (fails_all test ys x (i
     last : (b : Bool) → list_all test ys ≡ false → (b && list_all test ys) ≡ false
     last true e = e
     last false e = refl
-
--- what a filter gives, and from what
-from_cons : {X Y : Type 0} (h : X → Option Y) (x : X) (xs : List X) (y : Y) → (Among (filter_map h xs) y → (z : X) × Among xs z × (h z ≡ Some y))
-    → (o : Option Y) → h x ≡ o → Among (cons_option o (filter_map h xs)) y → (z : X) × Among (x ∷ xs) z × (h z ≡ Some y)
-from_cons h x xs y rest None e q = let r = rest q in (r.0, among_later x xs r.0 r.1, r.2)
-from_cons h x xs y rest (Some z) e (zero, q) = (x, (0, refl), e ∙ q)
-from_cons h x xs y rest (Some z) e (suc i, q) = let r = rest (i, q) in (r.0, among_later x xs r.0 r.1, r.2)
-
-among_filter_map : {X Y : Type 0} (h : X → Option Y) (xs : List X) (y : Y) → Among (filter_map h xs) y → (z : X) × Among xs z × (h z ≡ Some y)
-among_filter_map h [] y m = absurd (none-some y m.1)
-among_filter_map h (x ∷ xs) y m = from_cons h x xs y (among_filter_map h xs y) (h x) refl m
-
-to_cons : {X Y : Type 0} (h : X → Option Y) (xs : List X) (y : Y) → (o : Option Y) → Among (filter_map h xs) y → Among (cons_option o (filter_map h xs)) y
-to_cons h xs y None m = m
-to_cons h xs y (Some z) m = among_later z (filter_map h xs) y m
-
-filter_map_among : {X Y : Type 0} (h : X → Option Y) (xs : List X) (i : ℕ) (x : X) (y : Y) → At xs i x → h x ≡ Some y → Among (filter_map h xs) y
-filter_map_among h [] i x y at is = absurd (none-some x at)
-filter_map_among {X} {Y} h (z ∷ xs) zero x y at is =
-    let first : h z ≡ Some y = ap h (same_Some z x at) ∙ is in
-    subst (λ (o : Option Y). Among (cons_option o (filter_map h xs)) y) (sym first) (0, refl)
-filter_map_among h (z ∷ xs) (suc i) x y at is = to_cons h xs y (h z) (filter_map_among h xs i x y at is)
 
 chosen : {Y : Type 0} (b : Bool) (x y : Y) → cond b (Some x) None ≡ Some y → (b ≡ true) × (x ≡ y)
 chosen true x y e = (refl, same_Some x y e)
@@ -182,7 +155,7 @@ module _ (design : Design) (rules : Rules) (i : FlatInstance) (phase : ℕ) (d :
   by_place (Some at) some low = by_net (slice_get i.ports at) (λ e. no_net at (low at refl) e) (λ net e. (at, e))
     where
       no_net : (at : ℕ) → at < length i.ports → slice_get i.ports at ≡ None → ⊥
-      no_net at lt e = let there = there_at i.ports at lt in none-some there.0 (sym e ∙ there.1)
+      no_net at lt e = let there = at_there i.ports at lt in none-some there.0 (sym e ∙ there.1)
 
   -- the bit of a port is that of its handle
   port_known : (name : List ℕ) → has_name ports name ≡ true → port_bit design a i name ≡ Some (bit name)

@@ -6,7 +6,8 @@ use Rattle.std.proofs.lemmas.Iterator.Adapters.{position_from-zero}
 use Rattle.std.proofs.lemmas.Slice.Eq.{bytes_eq-Decides}
 use Rattle.std.proofs.lemmas.Bool.{true≢false}
 use Rattle.std.proofs.lemmas.Bool.Decides.{nat_tests}
-use Rattle.std.proofs.lemmas.Option.{none-some, same_Some, slice_get-get_or, slice_get-map}
+use Rattle.std.proofs.lemmas.Option.{none-some, same_Some, slice_get-get_or}
+use Rattle.vrt_model.proofs.Lists.{map_among}
 use Rattle.vrt_model.proofs.Members.{among_later, among_left, among_right, any_among, find_none}
 use Rattle.vrt_model.specs.Comparison.{cell_at}
 use Rattle.vrt_model.specs.Expressions.{names_in}
@@ -76,9 +77,6 @@ line_there f (y ∷ ys) x none (suc i, e) = line_there f ys x (λ m t. by_line (
     by_line : (o : Option Missing) → ((m : Missing) → Among (cons_option o (filter_map f ys)) m → ⊥) → (m : Missing) → Among (filter_map f ys) m → ⊥
     by_line None none m t = none m t
     by_line (Some n) none m t = none m (suc t.0, t.1)
-
-among_mapped : {X Y : Type 0} (f : X → Y) (xs : List X) (x : X) → Among xs x → Among (map f xs) (f x)
-among_mapped f xs x m = (m.0, slice_get-map f xs m.0 ∙ ap (option_map f) m.1)
 
 -- ---- the cell of a name
 
@@ -183,7 +181,7 @@ module _ (design : Design) (rules : Rules) (k : ℕ) (is : IsDesign design) (ord
         (asked_there r.line (assume_names design rules r) (asked name (is_port design r.cell name))
         (line_there (λ (x : AssumeRule). first_missing x.line (assume_names design rules x)) rules.assumes r (λ m t. none m (assume_missing design rules m t)) there)
         (among_later (asked r.cell (is_cell design r.cell)) (map (λ n. asked n (is_port design r.cell n)) (names_in r.expression)) (asked name (is_port design r.cell name))
-        (among_mapped (λ n. asked n (is_port design r.cell n)) (names_in r.expression) name among)));
+        (map_among (λ n. asked n (is_port design r.cell n)) (names_in r.expression) name among)));
     clocks = λ r there same.
         port_there r.cell r.port same
         (asked_there r.line (clock_names design rules r) (asked r.port (is_port design r.cell r.port))
