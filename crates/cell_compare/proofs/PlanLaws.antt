@@ -7,9 +7,11 @@ use Rattle.vrt_model.proofs.Lists.{at_split}
 use Rattle.blif_eval.specs.Plans.{IsPlan}
 use Rattle.channel_parts.specs.PartLists.{IsPartList}
 use Rattle.cell_compare.specs.Compared.{IsPhasePlan, comparison, nothing_known}
-use Rattle.cell_compare.specs.Steps.{ArePlans}
+use Rattle.cell_compare.specs.Steps.{ArePlans, IsPhaseCycle, IsPlannedTo, Stops}
 use Rattle.cell_compare.specs.declared.flattened.Flattened.{Flattened}
 use Rattle.cell_compare.specs.declared.flattened.PhasePlan.{PhasePlan}
+use Rattle.cell_compare.specs.declared.hindrance.Hindrance.{Hindrance}
+use Rattle.cell_compare.specs.declared.hindrance.Hindrance.TheVariants.{Because, NoMemory}
 use Rattle.vrt_model.specs.Comparison.{phase_at}
 use Rattle.vrt_model.specs.Lists.{At}
 use Rattle.vrt_model.specs.declared.circuit.Circuit.{Circuit}
@@ -47,6 +49,18 @@ plans_more rules c flat upto plans plan phase are at parts model = record {
     model_at : (p : ℕ) (one : PhasePlan) → At plans p one ⊎ ((p ≡ length plans) × (one ≡ plan)) → IsPlan flat (nothing_known flat) one.model
     model_at p one (inl old) = are.models p one old
     model_at p one (inr new) = subst (λ (x : PhasePlan). IsPlan flat (nothing_known flat) x.model) (sym new.1) model
+
+-- the phase that stops has the first cycle
+pub stops_there : (rules : Rules) (c : Circuit) (flat : FlatModel) (upto : ℕ) (plans : List PhasePlan) (phase : Phase) (stop : Hindrance) → upto < length rules.phases → ArePlans rules c flat upto plans
+    → At rules.phases upto phase → Stops (IsPhaseCycle c flat phase upto) stop → Stops (IsPlannedTo rules c flat) stop
+stops_there rules c flat upto plans phase NoMemory lt are at stops = tt
+stops_there rules c flat upto plans phase (Because why) lt are at cycle = record {
+  phase = upto;
+  there = lt;
+  plans = plans;
+  before = are;
+  cycle = subst (λ (x : Phase). IsPhaseCycle c flat x upto why) (sym (phase_is rules upto phase at)) cycle;
+}
 
 -- the plan of a phase of the comparison
 pub plan_of : (design : Design) (rules : Rules) (cell : ℕ) (f : Flattened) (upto : ℕ) (plans : List PhasePlan) (p : ℕ) (plan : PhasePlan) → ArePlans rules f.circuit f.model upto plans

@@ -17,14 +17,14 @@ ghost use Rattle.vrt_model.specs.declared.circuit.FlatNet.{FlatNet as NetValue};
 
 use crate::flattened::Flattened;
 use crate::hindrance::Hindrance;
-use crate::ports::cell_of;
+use crate::ports::{cell_of, is_input};
 use blif_flat::{FlatModelFault, ModelTables, flat_model_with};
 use flatten::{FlatFault, flat_with, structure_with};
 use latch_match::{PairFault, pair_ports_with};
 use prepared_tables::Prepared;
 use rule_index::RuleIndex;
 use std::alloc::Global;
-use vrt_model::{Blif, Circuit, Design, FlatModel, FlatNet, NetKind, Pairing, Rules, Why};
+use vrt_model::{Blif, Circuit, Design, FlatModel, FlatNet, Pairing, Rules, Why};
 
 /// What stands in the way of the circuit of a cell. Its counts stop at once; a device or a tie is told after the counts
 /// of the model.
@@ -162,16 +162,9 @@ pub(crate) fn too_many_inputs(circuit: &Circuit) -> Option<u32>
     }
 }
 
-/// Whether a net is an input.
-fn is_input(net: &FlatNet) -> bool
-    ensures { result ≡ is_input net.now.kind }
-{
-    net.kind == NetKind::Input
-}
-
 /// How many of some nets are inputs.
 fn input_count(nets: &[FlatNet]) -> usize
     ensures { result ≡ length (filter (λ (net : NetValue). is_input net.kind) nets.now) }
 {
-    nets.iter().filter(|net| is_input(net)).count()
+    nets.iter().filter(|net| is_input(net.kind)).count()
 }

@@ -1,6 +1,6 @@
 //! What is known of a cell with its verdict.
 
-ghost use Rattle.std.specs.Prelude.{◌≡◌, ◌++◌, ◌∷◌, ◌↔◌, [], All, IsTrue, false, filter, length, IfOk, OnOk};
+ghost use Rattle.std.specs.Prelude.{◌≡◌, ◌↔◌, [], All, IsTrue, false, filter, length, IfOk};
 ghost use Rattle.cell_compare.specs.Steps.{AreSoft, is_output_role};
 ghost use Rattle.vrt_model.specs.declared.verdict.Verdict.TheVariants.{Equal};
 ghost use Rattle.vrt_model.specs.declared.whole.Drive.{Drive as DriveValue};
@@ -30,16 +30,6 @@ fn is_output(role: &PortRole) -> bool
     matches!(role, PortRole::Output(_))
 }
 
-/// Adds a drive of which nothing is said.
-fn add_soft(drives: &mut Seq<Drive>) -> Result<(), NoMemory>
-    ensures { OnOk result (drives.new ≡ drives.old ++ Soft ∷ []) }
-{
-    match drives.push(Drive::Soft) {
-        Ok(()) => Ok(()),
-        Err(_) => Err(NoMemory),
-    }
-}
-
 /// One drive for each output, of which nothing is said.
 fn soft_drives(alloc: Global, count: usize) -> Result<Seq<Drive>, NoMemory>
     ensures len { IfOk result (λ drives. length drives ≡ count) }
@@ -47,7 +37,7 @@ fn soft_drives(alloc: Global, count: usize) -> Result<Seq<Drive>, NoMemory>
 {
     let mut drives = Seq::new(alloc);
     for _output in 0..count {
-        add_soft(&mut drives)?;
+        drives.append(Drive::Soft)?;
     }
     Ok(drives)
 }

@@ -1,6 +1,6 @@
 //! The least valuation at which a function is 1.
 
-ghost use Rattle.std.specs.Prelude.{◌≡◌, ◌≢◌, ℕ, ◌+◌, ◌<◌, ◌≤◌, ◌⊎◌, ◌++◌, ◌∷◌, [], length, slice_index, IfOk, OnOk};
+ghost use Rattle.std.specs.Prelude.{◌≡◌, ◌≢◌, ℕ, ◌+◌, ◌<◌, ◌≤◌, ◌⊎◌, length, slice_index, IfOk};
 ghost use Rattle.bdd_core.specs.Store.{IsLive, IsSpan, function_of};
 ghost use Rattle.bdd_ops.specs.Ops.{bits_in, bits_of};
 ghost use Rattle.cell_compare.specs.Phases.{IsLeastAt};
@@ -11,16 +11,6 @@ use node_pool::Span;
 use std::alloc::Global;
 use vrt_model::{NoMemory, Seq, Valuation};
 
-/// Adds a bit at the end.
-fn add_bit(bits: &mut Seq<bool>, bit: bool) -> Result<(), NoMemory>
-    ensures { OnOk result (bits.new ≡ bits.old ++ bit ∷ []) }
-{
-    match bits.push(bit) {
-        Ok(()) => Ok(()),
-        Err(_) => Err(NoMemory),
-    }
-}
-
 /// The bits in the words of a span: 1 where the word is 1.
 fn read_bits(store: &Store, words: Span, alloc: Global) -> Result<Seq<bool>, NoMemory>
     requires { IsSpan store.now words }
@@ -30,7 +20,7 @@ fn read_bits(store: &Store, words: Span, alloc: Global) -> Result<Seq<bool>, NoM
     let mut bits = Seq::new(alloc);
     for x in 0..words.len {
         let word = store.read(words, x);
-        add_bit(&mut bits, word == 1)?;
+        bits.append(word == 1)?;
     }
     Ok(bits)
 }

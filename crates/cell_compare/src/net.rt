@@ -12,7 +12,7 @@ use vrt_model::{FaultKind, Net};
 
 /// A fault of the bare circuit at a net: both values reach it (`Fight`), or it is observed and neither does (`Float`).
 /// `at` is the function that is 1 at the valuations of the care set at which the fault stands.
-#[derive(Clone, Copy, Debug, PartialEq, Eq)]
+#[derive(Clone, Copy)]
 pub struct CircuitFault {
     /// `Fight` or `Float`.
     pub kind: FaultKind,

@@ -14,7 +14,7 @@ use node_pool::Span;
 use vrt_model::Net;
 
 /// An output port that is compared: its place among the ports, its net in the circuit, and its signal in the model.
-#[derive(Clone, Copy, Debug, PartialEq, Eq)]
+#[derive(Clone, Copy)]
 pub struct Output {
     /// The place of the port in `Cell.ports`, from 0.
     pub place: u32,
@@ -26,7 +26,7 @@ pub struct Output {
 
 /// An output whose net and signal do not have the same bit. `at` is the function that is 1 at the valuations of the care
 /// set at which the two differ.
-#[derive(Clone, Copy, Debug, PartialEq, Eq)]
+#[derive(Clone, Copy)]
 pub struct OutputFault {
     /// The output port that differs from its model.
     pub output: Output,

@@ -12,7 +12,7 @@ use vrt_model::{Circuit, NoMemory};
 
 /// The words of a phase: handles of the roots and of the gates by net, room for the parts of the circuit, the inputs of
 /// the model with its default clock, its elements and its signals, and a word for each variable.
-#[derive(Clone, Copy, Debug)]
+#[derive(Clone, Copy)]
 pub struct PhaseWords {
     /// One word for each net, by its number: the bit that a net with a given value has.
     pub roots: Span,

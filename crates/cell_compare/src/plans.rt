@@ -1,6 +1,6 @@
 //! The order in which each phase is worked through.
 
-ghost use Rattle.std.specs.Prelude.{◌≡◌, ◌+◌, ◌++◌, ◌∷◌, ◌<◌, ◌≤◌, [], None, length, replicate, Option, Bool, IfOk, OnOk};
+ghost use Rattle.std.specs.Prelude.{◌≡◌, ◌+◌, ◌<◌, ◌≤◌, [], None, length, replicate, Option, Bool, IfOk};
 ghost use Rattle.cell_compare.specs.Compared.{nothing_known};
 ghost use Rattle.cell_compare.specs.Steps.{PlanTells, PlansTell};
 ghost use Rattle.vrt_model.specs.Circuits.{IsFlat};
@@ -13,36 +13,16 @@ use channel_parts::{PartFault, parts};
 use std::alloc::Global;
 use vrt_model::{Circuit, FlatModel, NoMemory, Phase, Rules, Seq, Why};
 
-/// Adds a bit that is not known.
-fn add_unknown(known: &mut Seq<Option<bool>>) -> Result<(), NoMemory>
-    ensures { OnOk result (known.new ≡ known.old ++ None ∷ []) }
-{
-    match known.push(None) {
-        Ok(()) => Ok(()),
-        Err(_) => Err(NoMemory),
-    }
-}
-
 /// Bits of which none is known: one for each signal, and one more for the default clock.
 fn unknown_bits(alloc: Global, model: &FlatModel) -> Result<Seq<Option<bool>>, NoMemory>
     ensures { IfOk result (λ known. known ≡ nothing_known model.now) }
 {
     let mut known = Seq::new(alloc);
-    add_unknown(&mut known)?;
+    known.append(None)?;
     for _signal in 0..model.signals.len() {
-        add_unknown(&mut known)?;
+        known.append(None)?;
     }
     Ok(known)
-}
-
-/// Adds a plan at the end.
-fn append(plans: &mut Seq<PhasePlan>, plan: PhasePlan) -> Result<(), NoMemory>
-    ensures { OnOk result (plans.new ≡ plans.old ++ plan ∷ []) }
-{
-    match plans.push(plan) {
-        Ok(()) => Ok(()),
-        Err(_) => Err(NoMemory),
-    }
 }
 
 /// The parts of the circuit and the order of the model in a phase of a number, or the cycle of the circuit, else that of
@@ -97,8 +77,11 @@ pub(crate) fn plans(
     let known = unknown_bits(alloc, model)?;
     let mut plans = Seq::new(alloc);
     for (number, phase) in rules.phases.as_slice().iter().enumerate() {
-        let plan = phase_plan(alloc, circuit, model, phase, number as u32, &known)?;
-        append(&mut plans, plan)?;
+        let plan = match phase_plan(alloc, circuit, model, phase, number as u32, &known) {
+            Ok(plan) => plan,
+            Err(stop) => return Err(stop),
+        };
+        plans.append(plan)?;
     }
     Ok(plans)
 }

@@ -8,7 +8,7 @@ use std::alloc::Global;
 use vrt_model::{NoMemory, PortRole};
 
 /// A port of a cell: its place among the ports, its net in the circuit, and its role.
-#[derive(Clone, Copy, Debug, PartialEq, Eq)]
+#[derive(Clone, Copy)]
 pub struct Port {
     /// The place of the port in `Cell.ports`, from 0.
     pub place: u32,

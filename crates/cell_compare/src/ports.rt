@@ -299,7 +299,7 @@ pub(crate) fn open_inputs(
 }
 
 /// Whether a net is an input.
-fn is_input(kind: NetKind) -> bool
+pub(crate) fn is_input(kind: NetKind) -> bool
     ensures { result ≡ is_input kind }
 {
     match kind {
@@ -318,10 +318,7 @@ fn add_name(alloc: Global, names: &mut Seq<Text>, net: &FlatNet) -> Result<(), N
         return Ok(());
     }
     let name = Text::from_bytes(alloc, net.name.as_bytes())?;
-    match names.push(name) {
-        Ok(()) => Ok(()),
-        Err(_) => Err(NoMemory),
-    }
+    names.append(name)
 }
 
 /// The names of the input nets among some nets.

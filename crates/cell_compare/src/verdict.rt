@@ -20,7 +20,6 @@ use vrt_model::{Blif, CellFacts, Design, NoMemory, Rules, Seq, Verdict, Why};
 
 /// The verdict on a cell, and what is known of the cell then, with its flat circuit and flat model, by which what the
 /// verdict speaks of is named.
-#[derive(Drop)]
 pub struct Compared {
     /// The answer for the cell, which is printed in one line.
     pub verdict: Verdict,
@@ -28,6 +27,17 @@ pub struct Compared {
     pub facts: CellFacts,
     /// What was compared; none for `Skipped` and where no circuit and model were made.
     pub flattened: Option<Flattened>,
+}
+
+/// By hand, so that letting go of one is a call.
+impl Drop for Compared {
+    fn drop(self) {
+        let Compared {
+            verdict: _verdict,
+            facts: _facts,
+            flattened: _flattened,
+        } = self;
+    }
 }
 
 /// A verdict on a cell that is not equal, without circuit and model.

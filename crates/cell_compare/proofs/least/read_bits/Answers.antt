@@ -7,7 +7,7 @@ use Rattle.cell_compare.proofs.least.read_bits.Goals as goal
 pub loop-x-preserved : goal.loop-x-preserved
 loop-x-preserved c =
     let bit : Bool = eqb c.read-word.result 1 in
-    let grown = c.in_ok-add_bit.ensures in
+    let grown = c.in_ok-append.ensures in
     record {
       len = omega (arith, ap (λ (xs : List Bool). length xs) grown, length-append c.loop-x.bits (bit ∷ []), c.loop-x.invariant.len);
       same = λ y lt.
