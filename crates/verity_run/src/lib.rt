@@ -2,7 +2,6 @@
 #![tactic(auto)]
 
 mod checks;
-mod lists;
 mod messages;
 mod puts;
 mod reads;

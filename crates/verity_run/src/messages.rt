@@ -12,6 +12,7 @@ mod spice;
 
 pub use blif::blif_refusal;
 use hierarchy::MissingName;
+use itoa::Buffer;
 pub use models::models_refusal;
 pub use rules::rules_refusal;
 pub use spice::spice_refusal;
@@ -40,10 +41,8 @@ pub fn join(alloc: Global, pieces: &[&[u8]]) -> Result<Text, NoMemory>
 pub fn digits(alloc: Global, number: u64) -> Result<Text, NoMemory>
     ensures { IfOk result (λ text. text ≡ decimal number) }
 {
-    match format!(in alloc; "{number}") {
-        Ok(text) => Text::from_bytes(alloc, text.as_bytes()),
-        Err(_) => Err(NoMemory),
-    }
+    let mut buffer = Buffer::new();
+    Text::from_bytes(alloc, buffer.format(number).as_bytes())
 }
 
 /// The line for a file that was not read.

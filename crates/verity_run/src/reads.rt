@@ -9,7 +9,7 @@ use std::alloc::Global;
 use vrt_io::{Files, Loaded};
 
 /// Why a file was not read.
-#[derive(Clone, Copy, Debug, PartialEq, Eq)]
+#[derive(Clone, Copy)]
 pub enum Stop {
     /// The source of files failed: `verity: FILE: read failed`.
     Failed,

@@ -13,15 +13,15 @@ use crate::puts::put_line;
 use crate::refusals::Inputs;
 use crate::status::Status;
 use crate::verdict_text::verdict_line;
-use cell_compare::compare_prepared;
+use cell_compare::{Compared, compare_prepared};
 use prepared_tables::{Prepared, prepare};
 use std::alloc::Global;
 use vrt_io::Sink;
 use vrt_model::{Cell, NoMemory, Seq, Text, Verdict};
 
-/// The verdict on a cell, and its line.
+/// What is found of a cell, and its line.
 struct CellAnswer {
-    verdict: Verdict,
+    compared: Compared,
     line: Text,
 }
 
@@ -29,7 +29,7 @@ struct CellAnswer {
 impl Drop for CellAnswer {
     fn drop(self) {
         let CellAnswer {
-            verdict: _verdict,
+            compared: _compared,
             line: _line,
         } = self;
     }
@@ -58,7 +58,7 @@ fn with_verdict(status: Status, verdict: &Verdict) -> Status
     }
 }
 
-/// The verdict on the cell of a number, and its line.
+/// What is found of the cell of a number, and its line.
 fn answer_on(
     alloc: Global,
     budget: u32,
@@ -73,8 +73,8 @@ fn answer_on(
     requires built { AreBuilt inputs.now.design inputs.now.blif inputs.now.rules }
     requires number { number < length inputs.now.design.cells }
     requires cell { cell.now ≡ cell_at inputs.now.design number }
-    ensures verdict { IfOk result (λ a. IsVerdict inputs.now.design inputs.now.blif inputs.now.rules budget number a.verdict) }
-    ensures line { IfOk result (λ a. a.line ≡ cell_line inputs.now.design inputs.now.blif inputs.now.rules number a.verdict) }
+    ensures verdict { IfOk result (λ a. IsVerdict inputs.now.design inputs.now.blif inputs.now.rules budget number a.compared.verdict) }
+    ensures line { IfOk result (λ a. a.line ≡ cell_line inputs.now.design inputs.now.blif inputs.now.rules number a.compared.verdict) }
 {
     // nothing that is known of other cells is looked at yet
     let facts = Seq::new(alloc);
@@ -95,10 +95,7 @@ fn answer_on(
         &compared.flattened,
         &compared.verdict,
     )?;
-    Ok(CellAnswer {
-        verdict: compared.verdict,
-        line,
-    })
+    Ok(CellAnswer { compared, line })
 }
 
 /// Compares a cell with its model and puts its line: the status with its verdict, or the status with which the run ends here.
@@ -124,7 +121,7 @@ fn report_cell<O: Sink>(
 {
     match answer_on(alloc, budget, prepared, inputs, number, cell) {
         Ok(answer) => match put_line(out, answer.line.as_bytes()) {
-            Ok(()) => Ok(with_verdict(status, &answer.verdict)),
+            Ok(()) => Ok(with_verdict(status, &answer.compared.verdict)),
             Err(end) => Err(end),
         },
         Err(_) => Err(Status::NoMemory),

@@ -1,14 +1,8 @@
 //! What is not built yet.
 
-ghost use Rattle.std.specs.Prelude.{◌≡◌, None, map, min};
+ghost use Rattle.std.specs.Prelude.{◌≡◌, ℕ, None, map, min};
 ghost use Rattle.std.specs.List.{reduce};
 ghost use Rattle.verity_run.specs.Unbuilt.{AreBuilt, has_latch, instance_line, latch_line, lesser, rule_line, unbuilt_in};
-ghost use Rattle.vrt_model.specs.declared.rules.AssumeRule.{AssumeRule as AssumeValue};
-ghost use Rattle.vrt_model.specs.declared.rules.EnterRule.{EnterRule as EnterValue};
-ghost use Rattle.vrt_model.specs.declared.rules.HoldRule.{HoldRule as HoldValue};
-ghost use Rattle.vrt_model.specs.declared.rules.InstanceMatchRule.{InstanceMatchRule as InstanceMatchValue};
-ghost use Rattle.vrt_model.specs.declared.rules.KeeperRule.{KeeperRule as KeeperValue};
-ghost use Rattle.vrt_model.specs.declared.rules.MatchRule.{MatchRule as MatchValue};
 
 use vrt_model::{
     AssumeRule, Blif, BlifModel, Cell, Design, EnterRule, HoldRule, InstanceMatchRule, KeeperRule,
@@ -16,7 +10,7 @@ use vrt_model::{
 };
 
 /// Which file has a form that is not built yet, and in which line.
-#[derive(Clone, Copy, Debug, PartialEq, Eq)]
+#[derive(Clone, Copy)]
 pub enum Unbuilt {
     /// An instance: the line of the first instance card in the SPICE file, from 1.
     Netlist(u32),
@@ -52,40 +46,75 @@ fn latch_line(models: &[BlifModel]) -> Option<u32>
     Some(model.line)
 }
 
-fn hold_line(rules: &[HoldRule]) -> Option<u32>
-    ensures { result ≡ reduce min (map (λ (r : HoldValue). r.line) rules.now) }
-{
-    rules.iter().map(|rule| rule.line).min()
+/// A rule that stands in a line of the rules file.
+pub trait Lined {
+    /// The line of the rule, from 1.
+    ghost line_of: { Self → ℕ };
+
+    /// The line of the rule, from 1.
+    fn line(&self) -> u32
+        ensures { result ≡ line_of self.now };
 }
 
-fn match_line(rules: &[MatchRule]) -> Option<u32>
-    ensures { result ≡ reduce min (map (λ (r : MatchValue). r.line) rules.now) }
-{
-    rules.iter().map(|rule| rule.line).min()
+impl Lined for HoldRule {
+    ghost line_of = { λ r. r.line };
+
+    /// The line of the rule, from 1.
+    fn line(&self) -> u32 {
+        self.line
+    }
 }
 
-fn instance_match_line(rules: &[InstanceMatchRule]) -> Option<u32>
-    ensures { result ≡ reduce min (map (λ (r : InstanceMatchValue). r.line) rules.now) }
-{
-    rules.iter().map(|rule| rule.line).min()
+impl Lined for MatchRule {
+    ghost line_of = { λ r. r.line };
+
+    /// The line of the rule, from 1.
+    fn line(&self) -> u32 {
+        self.line
+    }
 }
 
-fn enter_line(rules: &[EnterRule]) -> Option<u32>
-    ensures { result ≡ reduce min (map (λ (r : EnterValue). r.line) rules.now) }
-{
-    rules.iter().map(|rule| rule.line).min()
+impl Lined for InstanceMatchRule {
+    ghost line_of = { λ r. r.line };
+
+    /// The line of the rule, from 1.
+    fn line(&self) -> u32 {
+        self.line
+    }
 }
 
-fn keeper_line(rules: &[KeeperRule]) -> Option<u32>
-    ensures { result ≡ reduce min (map (λ (r : KeeperValue). r.line) rules.now) }
-{
-    rules.iter().map(|rule| rule.line).min()
+impl Lined for EnterRule {
+    ghost line_of = { λ r. r.line };
+
+    /// The line of the rule, from 1.
+    fn line(&self) -> u32 {
+        self.line
+    }
 }
 
-fn assume_line(rules: &[AssumeRule]) -> Option<u32>
-    ensures { result ≡ reduce min (map (λ (r : AssumeValue). r.line) rules.now) }
+impl Lined for KeeperRule {
+    ghost line_of = { λ r. r.line };
+
+    /// The line of the rule, from 1.
+    fn line(&self) -> u32 {
+        self.line
+    }
+}
+
+impl Lined for AssumeRule {
+    ghost line_of = { λ r. r.line };
+
+    /// The line of the rule, from 1.
+    fn line(&self) -> u32 {
+        self.line
+    }
+}
+
+/// The least line of some rules.
+fn least_line<R: Lined>(rules: &[R]) -> Option<u32>
+    ensures { result ≡ reduce min (map R.line_of rules.now) }
 {
-    rules.iter().map(|rule| rule.line).min()
+    rules.iter().map(|rule| rule.line()).min()
 }
 
 /// The lesser of two lines, where both are there.
@@ -103,12 +132,12 @@ fn lesser(one: Option<u32>, other: Option<u32>) -> Option<u32>
 fn rule_line(rules: &Rules) -> Option<u32>
     ensures { result ≡ rule_line rules.now }
 {
-    let line = hold_line(rules.holds.as_slice());
-    let line = lesser(line, match_line(rules.matches.as_slice()));
-    let line = lesser(line, instance_match_line(rules.instance_matches.as_slice()));
-    let line = lesser(line, enter_line(rules.enters.as_slice()));
-    let line = lesser(line, keeper_line(rules.keepers.as_slice()));
-    lesser(line, assume_line(rules.assumes.as_slice()))
+    let line = least_line(rules.holds.as_slice());
+    let line = lesser(line, least_line(rules.matches.as_slice()));
+    let line = lesser(line, least_line(rules.instance_matches.as_slice()));
+    let line = lesser(line, least_line(rules.enters.as_slice()));
+    let line = lesser(line, least_line(rules.keepers.as_slice()));
+    lesser(line, least_line(rules.assumes.as_slice()))
 }
 
 /// The first form that is not built yet: an instance card, a model with a latch, a rule of holds, matches, entered

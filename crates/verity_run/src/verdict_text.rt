@@ -7,7 +7,6 @@ ghost use Rattle.vrt_model.specs.Comparison.{net_name};
 ghost use Rattle.vrt_model.specs.Elements.{signal_name};
 ghost use Rattle.vrt_model.specs.VerdictText.{bit_text, spaced, settings, or_dash, valuation_text, phase_text, kind_text, wanted_text, values_words, fault_words, first_net, first_signal, why_words, verdict_words, verdict_line};
 
-use crate::lists::append;
 use crate::messages::digits;
 use cell_compare::Flattened;
 use std::alloc::Global;
@@ -27,7 +26,7 @@ fn add(alloc: Global, words: &mut Seq<Text>, word: &[u8]) -> Result<(), NoMemory
     ensures { OnOk result (words.new ≡ words.old ++ word.now ∷ []) }
 {
     let copy = Text::from_bytes(alloc, word)?;
-    append(words, copy)
+    words.append(copy)
 }
 
 /// Words with one space between them.
@@ -67,7 +66,7 @@ fn all_settings(alloc: Global, names: &[Text], bits: &[bool]) -> Result<Seq<Text
         bits_left.split_first(),
     ) {
         let one = setting(alloc, name.as_bytes(), *bit)?;
-        append(&mut found, one)?;
+        found.append(one)?;
         names_left = names;
         bits_left = bits;
     }
@@ -162,7 +161,7 @@ fn add_fault(
         fault.names.as_slice(),
         fault.valuation.bits.as_slice(),
     )?;
-    append(words, at)
+    words.append(at)
 }
 
 /// Adds a word and a name.

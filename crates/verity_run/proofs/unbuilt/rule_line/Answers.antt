@@ -12,12 +12,12 @@ use Rattle.vrt_model.specs.declared.rules.MatchRule.{MatchRule}
 
 pub returns : goal.returns
 returns c =
-    let holds = c.hold_line-line.ensures ∙ ap (λ rs. reduce min (map (λ (r : HoldRule). r.line) rs)) c.as_slice.ensures in
-    let matches = c.match_line.ensures ∙ ap (λ rs. reduce min (map (λ (r : MatchRule). r.line) rs)) c.as_slice-2.ensures in
-    let inner = c.instance_match_line.ensures ∙ ap (λ rs. reduce min (map (λ (r : InstanceMatchRule). r.line) rs)) c.as_slice-3.ensures in
-    let enters = c.enter_line.ensures ∙ ap (λ rs. reduce min (map (λ (r : EnterRule). r.line) rs)) c.as_slice-4.ensures in
-    let keepers = c.keeper_line.ensures ∙ ap (λ rs. reduce min (map (λ (r : KeeperRule). r.line) rs)) c.as_slice-5.ensures in
-    let assumes = c.assume_line.ensures ∙ ap (λ rs. reduce min (map (λ (r : AssumeRule). r.line) rs)) c.as_slice-6.ensures in
+    let holds = c.least_line-line.ensures ∙ ap (λ rs. reduce min (map (λ (r : HoldRule). r.line) rs)) c.as_slice.ensures in
+    let matches = c.least_line.ensures ∙ ap (λ rs. reduce min (map (λ (r : MatchRule). r.line) rs)) c.as_slice-2.ensures in
+    let inner = c.least_line-2.ensures ∙ ap (λ rs. reduce min (map (λ (r : InstanceMatchRule). r.line) rs)) c.as_slice-3.ensures in
+    let enters = c.least_line-3.ensures ∙ ap (λ rs. reduce min (map (λ (r : EnterRule). r.line) rs)) c.as_slice-4.ensures in
+    let keepers = c.least_line-4.ensures ∙ ap (λ rs. reduce min (map (λ (r : KeeperRule). r.line) rs)) c.as_slice-5.ensures in
+    let assumes = c.least_line-5.ensures ∙ ap (λ rs. reduce min (map (λ (r : AssumeRule). r.line) rs)) c.as_slice-6.ensures in
     let two = c.lesser-line.ensures ∙ ap₂ lesser holds matches in
     let three = c.lesser-line-2.ensures ∙ ap₂ lesser two inner in
     let four = c.lesser-line-3.ensures ∙ ap₂ lesser three enters in
