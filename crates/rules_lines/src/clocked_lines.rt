@@ -8,9 +8,10 @@ ghost use Rattle.rules_lines.specs.Lines.{assume_entry, assumed_phase, clock_bit
 
 use crate::circuit_lines::{device, hold, keeper, matching, pair, port, strength, supply};
 use crate::entry::{ClockBit, Entry, Signed};
-use crate::words::{bit, cut, has_equals_sign, lower, lower_all, lower_two, sign_off};
+use crate::words::{bit, cut, lower, lower_all, lower_two, sign_off};
 use rules_expression::tokens_of_words;
 use std::alloc::Global;
+use text_lines::has_byte;
 use vrt_model::{NoMemory, Seq, Text};
 
 /// `clock NAME..`
@@ -57,7 +58,12 @@ fn clock_bits(alloc: Global, words: &[Text]) -> Result<Seq<ClockBit>, NoMemory>
 fn all_have_equals(words: &[Text]) -> bool
     ensures { result ≡ list_all has_equals words.now }
 {
-    words.iter().all(|word| has_equals_sign(word.as_bytes()))
+    for word in words {
+        if !has_byte(b'=', word.as_bytes()) {
+            return false;
+        }
+    }
+    true
 }
 
 /// `phase NAME CLOCK=BIT..`

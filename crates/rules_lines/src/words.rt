@@ -1,13 +1,12 @@
 //! Words of a line: names, digits, bits and signs.
 
-ghost use Rattle.std.specs.Prelude.{◌≡◌, ◌+◌, ◌<◌, ◌^◌, ◌==◌, map, Some, IfOk, IfSome};
-ghost use Rattle.std.specs.List.{position};
+ghost use Rattle.std.specs.Prelude.{◌≡◌, ◌+◌, ◌<◌, ◌==◌, map, Some, IfOk};
 ghost use Rattle.text_lines.specs.Bytes.{lowered};
 ghost use Rattle.rules_lines.specs.Words.{bit_of, cut_first, digit_in, kind_of, signed};
-ghost use Rattle.rules_lines.specs.Lines.{has_equals};
 
 use crate::entry::Signed;
 use std::alloc::Global;
+use text_lines::first_place;
 use vrt_model::{Kind, NoMemory, Seq, Text};
 
 /// A name, lowered.
@@ -90,14 +89,6 @@ pub fn kind(word: &[u8]) -> Option<Kind>
     None
 }
 
-/// The place of the first such byte.
-fn first_place(sign: u8, word: &[u8]) -> Option<usize>
-    ensures place { result ≡ position (λ b. b == sign) word.now }
-    ensures fits { IfSome result (λ n. n + 1 < 2 ^ 64) }
-{
-    word.iter().position(|b| *b == sign)
-}
-
 /// What stands before and behind the first such byte.
 pub fn cut(alloc: Global, sign: u8, word: &[u8]) -> Result<Option<(Text, Text)>, NoMemory>
     ensures { IfOk result (λ cut. cut ≡ cut_first sign word.now) }
@@ -110,13 +101,6 @@ pub fn cut(alloc: Global, sign: u8, word: &[u8]) -> Result<Option<(Text, Text)>,
         }
         None => Ok(None),
     }
-}
-
-/// Whether a word has `=`.
-pub fn has_equals_sign(word: &[u8]) -> bool
-    ensures { result ≡ has_equals word.now }
-{
-    word.iter().any(|b| *b == b'=')
 }
 
 /// A name with or without `!`.
