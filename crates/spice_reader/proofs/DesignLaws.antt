@@ -35,10 +35,6 @@ third_no false true true m h hi he = h
 third_no false true false m h hi he = cc
 third_no false false e m h hi he = cc
 
-second_no : (b m : Bool) → (b && m) ≡ false → b ≡ true → m ≡ false
-second_no true m h hb = h
-second_no false m h hb = cc
-
 first_no : (b p q z : Bool) → ((b && (p || q)) || z) ≡ false → b ≡ true → (p ≡ false) × (q ≡ false)
 first_no true false false z h hb = (refl, refl)
 first_no true true q z h hb = cc
@@ -56,7 +52,8 @@ limit_kept known card none = when_no (passes_limit known card) (Limit card.line)
 cell_is_new : (known : Known) (card : Card) → fault_by known card ≡ None → begins_cell card ≡ true → has_name known.cells (cell_name card) ≡ false
 unfolding fault_by
 cell_is_new known card none h =
-    second_no (begins_cell card) _ (when_no (is_cell_twice known card) (CellTwice card.line (cell_name card)) (none_at (faults_on known card) none 7)) h
+    sym (ap (λ b. b && has_name known.cells (cell_name card)) h)
+    ∙ when_no (is_cell_twice known card) (CellTwice card.line (cell_name card)) (none_at (faults_on known card) none 7)
 
 element_is_new : (known : Known) (card : Card) → fault_by known card ≡ None → is_inside known ≡ true → is_element card ≡ true → has_name known.elements (first_word card) ≡ false
 unfolding fault_by

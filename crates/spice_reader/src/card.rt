@@ -1,12 +1,11 @@
 //! A card, and what the bytes of its lines are.
 
-ghost use Rattle.std.specs.Prelude.{ℕ, List, Some, None, ◌≡◌, ◌<◌, ◌+◌, ◌^◌, ◌++◌, ◌∷◌, [], length, map, IfOk, IfSome, IfNone, OnOk, ◌==◌};
-ghost use Rattle.std.specs.List.{position};
+ghost use Rattle.std.specs.Prelude.{ℕ, List, Some, None, ◌≡◌, ◌<◌, ◌+◌, ◌++◌, ◌∷◌, [], length, map, IfOk, IfSome, IfNone, OnOk};
 ghost use Rattle.spice_reader.specs.Cards.{joined_at_equals, trimmed, card_words, card_from};
 
-use crate::line::{add_lowered, without_end, without_front};
+use crate::line::{add_lowered, without_end};
 use std::alloc::Global;
-use text_lines::{is_text_line, line_words};
+use text_lines::{first_place, is_text_line, line_words, without_blanks};
 use vrt_model::{NoMemory, Seq, Text};
 
 /// A card: the number of its first line, whether it continues nothing, whether its bytes are text, and its words.
@@ -42,20 +41,12 @@ pub struct Open {
     pub bytes: Text,
 }
 
-/// The place of the first `=`.
-fn first_equals(text: &[u8]) -> Option<usize>
-    ensures place { result ≡ position (λ b. b == 61) text.now }
-    ensures fits { IfSome result (λ n. n + 1 < 2 ^ 64) }
-{
-    text.iter().position(|b| *b == b'=')
-}
-
 /// What stands before and behind the first `=`.
 fn cut_equals(text: &[u8]) -> Option<(&[u8], &[u8])>
     ensures cut { IfSome result (λ p. (length p.1.now < length text.now) × (joined_at_equals text.now ≡ trimmed p.0.now ++ 61 ∷ joined_at_equals p.1.now)) }
     ensures last { IfNone result (joined_at_equals text.now ≡ trimmed text.now) }
 {
-    match first_equals(text) {
+    match first_place(b'=', text) {
         Some(count) => Some((&text[..count], &text[count + 1..])),
         None => None,
     }
@@ -65,7 +56,7 @@ fn cut_equals(text: &[u8]) -> Option<(&[u8], &[u8])>
 fn without_blanks_around(part: &[u8]) -> &[u8]
     ensures { result.now ≡ trimmed part.now }
 {
-    without_end(without_front(part))
+    without_end(without_blanks(part))
 }
 
 /// Adds bytes without the blanks on both sides of `=`.

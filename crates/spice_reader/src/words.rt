@@ -1,7 +1,6 @@
 //! What the words of a card say.
 
 ghost use Rattle.std.specs.Prelude.{◌≡◌, ◌∷◌, [], length, drop, IfOk, codes, nat_lt, ◌==◌};
-ghost use Rattle.std.specs.List.{list_any};
 ghost use Rattle.text_lines.specs.Bytes.{starts};
 ghost use Rattle.text_lines.specs.Words.{behind, word_at};
 ghost use Rattle.vrt_model.specs.Lists.{is_empty};
@@ -9,6 +8,7 @@ ghost use Rattle.spice_reader.specs.Cards.{first_word, has_first};
 ghost use Rattle.spice_reader.specs.Netlist.{begins_cell, ends_cell, is_model, is_element, is_parameter, plain_words, head_words, cell_name, cell_ports};
 
 use crate::card::Card;
+use text_lines::has_byte;
 use vrt_model::{Seq, Text};
 
 /// The word at a place, empty where there is none.
@@ -73,18 +73,11 @@ pub fn is_element_card(card: &Card) -> bool
     has_letter(card, b'm') || has_letter(card, b'x')
 }
 
-/// Whether some byte is `=`.
-fn has_equals(text: &[u8]) -> bool
-    ensures { result ≡ list_any (λ b. b == 61) text.now }
-{
-    text.iter().any(|b| *b == b'=')
-}
-
 /// Whether a word is a parameter.
 fn is_parameter_word(text: &[u8]) -> bool
     ensures { result ≡ is_parameter text.now }
 {
-    has_equals(text) || text == b"params:".as_slice()
+    has_byte(b'=', text) || text == b"params:".as_slice()
 }
 
 /// The words behind the first.
