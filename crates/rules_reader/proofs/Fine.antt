@@ -1,5 +1,7 @@
 -- Lines without a fault.
-use Rattle.std.proofs.Common.{◌≡◌, ◌++◌, ◌∷◌, [], ℕ, List, Bool, true, false, cond, length, map, Option, Some, None, option_map, refl, ap, sym, subst, ◌∙◌}
+use Rattle.std.proofs.Common.{◌≡◌, ◌++◌, ◌∷◌, [], ℕ, List, Bool, true, false, cond, length, map, Option, Some, None, refl, ap, sym, subst, ◌∙◌}
+use Rattle.std.proofs.lemmas.Option.{same_Some}
+use Rattle.vrt_model.proofs.Tests.{map_none}
 use Rattle.vrt_model.specs.Lists.{has_name}
 use Rattle.names.specs.Names.{with_name, with_names}
 use Rattle.text_lines.proofs.FaultLaws.{CleanFrom, none_at, when_no}
@@ -24,10 +26,6 @@ pub record Fine (count : ℕ) (known : Known) (entry : Entry) : Type 0 where
   pub phases : first_missing (known_from known.phases) (phases_named entry) ≡ None
   pub clocks : first_missing known.clocks (clocks_named entry) ≡ None
   pub limit : passes_limit count known.clocks known.phases entry ≡ false
-
-map_none : {A B : Type 0} (f : A → B) (o : Option A) → option_map f o ≡ None → o ≡ None
-map_none f None e = refl
-map_none f (Some x) e = cc
 
 fine_by : (count : ℕ) (known : Known) (line : ℕ) (entry : Entry) → entry_fault count known line entry ≡ None → Fine count known entry
 unfolding entry_fault
@@ -63,11 +61,8 @@ abbrev pub AllSay : (Entry → Type 0) → List Card → Type 0
 AllSay P [] = Unit {0}
 AllSay P (card ∷ cards) = ((entry : Entry) → card.entry ≡ Some entry → P entry) × AllSay P cards
 
-same_some : {X : Type 0} (x y : X) → Some x ≡ Some y → x ≡ y
-same_some x y e = cc
-
 pub here : (P : Entry → Type 0) (count : ℕ) (known : Known) (card : Card) (s : Says count known card) → P s.entry → (entry : Entry) → card.entry ≡ Some entry → P entry
-here P count known card s p entry e = subst P (same_some s.entry entry (sym s.is ∙ e)) p
+here P count known card s p entry e = subst P (same_Some s.entry entry (sym s.is ∙ e)) p
 
 -- what is known behind a line that says something
 pub known_next : (before : List Card) (card : Card) (s : Says (length before) (known_by before) card) → known_by (before ++ card ∷ []) ≡ learned_by (known_by before) s.entry
@@ -77,7 +72,7 @@ pub told_here : {X : Type 0} (f : Entry → List X) (count : ℕ) (known : Known
 told_here f count known card s = by_entry_ card.line card.entry s.is where
   by_entry_ : (line : ℕ) (o : Option Entry) → o ≡ Some s.entry → told_on f (record { line = line; is_all_text = card.is_all_text; entry = o }) ≡ f s.entry
   by_entry_ line None e = cc
-  by_entry_ line (Some entry) e = ap f (same_some entry s.entry e)
+  by_entry_ line (Some entry) e = ap f (same_Some entry s.entry e)
 
 -- ---- keys
 

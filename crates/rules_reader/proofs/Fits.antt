@@ -1,7 +1,7 @@
 -- Lines without a fault are rules as later calls ask for them.
-use Rattle.std.proofs.Common.{◌≡◌, ◌++◌, ◌∷◌, ◌≤◌, ◌<◌, ◌==◌, ◌&&◌, ◌||◌, [], ℕ, List, Bool, true, false, cond, length, map, Option, Some, None, is_none, option_map, unwrap_or, codes, refl, ap, ap₂, sym, subst, ◌∙◌, arith}
+use Rattle.std.proofs.Common.{◌≡◌, ◌++◌, ◌∷◌, ◌≤◌, ◌<◌, ◌==◌, ◌&&◌, ◌||◌, [], ℕ, List, Bool, true, false, length, map, Option, Some, None, is_none, option_map, unwrap_or, codes, refl, ap, ap₂, sym, subst, ◌∙◌, arith}
 use Rattle.std.specs.Prelude.{All, bytes_eq}
-use Rattle.std.proofs.lemmas.Bool.{and_parts, eqb-true, or_parts}
+use Rattle.std.proofs.lemmas.Bool.{and_parts, eqb-true, or_from, or_parts}
 use Rattle.std.proofs.lemmas.List.{length-map}
 use Rattle.std.proofs.lemmas.List.Elements.{All-cons, All-head, All-nil, All-tail}
 use Rattle.std.proofs.lemmas.Slice.Eq.{bytes_eq-Decides}
@@ -26,7 +26,7 @@ use Rattle.rules_lines.proofs.Ranged.{InRange, Ranged}
 use Rattle.rules_reader.proofs.Ranged.{ranged}
 use Rattle.rules_reader.proofs.Settled.{Settled, clocks_are_few, phases_are_few, settled}
 use Rattle.rules_reader.proofs.Tabled.{both_say, known_one, map_join, name_back, number_small, number_within, table_all, table_within}
-use Rattle.rules_reader.proofs.Within.{apart_by_key, no_repeat_within, same_names, two_same}
+use Rattle.rules_reader.proofs.Within.{apart_by_key, no_repeat_within, two_same}
 use Rattle.vrt_model.specs.Expressions.{operators_in}
 use Rattle.vrt_model.specs.Inputs.{AllApart, AreRules, IsLevel, IsPhaseOf}
 use Rattle.vrt_model.specs.declared.rules.AssumeRule.{AssumeRule}
@@ -166,7 +166,7 @@ names_back clocks phases (EnterLine cell phase net bit) g = by_phases phases (kn
   by_phases (p ∷ ps) e = name_back (p ∷ ps) phase e
   by_phases [] e = all_named (bytes_eq phase (codes "all")) refl e where
     all_named : (b : Bool) → bytes_eq phase (codes "all") ≡ b → (b || false) ≡ true → codes "all" ≡ phase
-    all_named true h e = sym (same_names phase (codes "all") h)
+    all_named true h e = sym ((bytes_eq-Decides phase (codes "all")).0 h)
     all_named false h e = cc
 names_back clocks phases e g = tt
 
@@ -184,19 +184,19 @@ three_same : (a b : List ℕ) (m n : ℕ) (c d : List ℕ) → (bytes_eq a b && 
 three_same a b m n c d e =
     let last = and_parts (bytes_eq a b && (m == n)) (bytes_eq c d) e in
     let first = and_parts (bytes_eq a b) (m == n) last.0 in
-    (same_names a b first.0, eqb-true m n first.1, same_names c d last.1)
+    ((bytes_eq-Decides a b).0 first.0, eqb-true m n first.1, (bytes_eq-Decides c d).0 last.1)
 
 three_names : (a b c d e f : List ℕ) → (bytes_eq a b && bytes_eq c d && bytes_eq e f) ≡ true → (a ≡ b) × (c ≡ d) × (e ≡ f)
 three_names a b c d e f h =
     let last = and_parts (bytes_eq a b && bytes_eq c d) (bytes_eq e f) h in
     let first = two_same a b c d last.0 in
-    (first.0, first.1, same_names e f last.1)
+    (first.0, first.1, (bytes_eq-Decides e f).0 last.1)
 
 cell_key : (table : List ℕ) (a b c d : List ℕ) → (bytes_eq a b && bytes_eq c d) ≡ true → in_cell table a c ≡ in_cell table b d
 cell_key table a b c d e = let both = two_same a b c d e in ap₂ (in_cell table) both.0 both.1
 
 table_key : (table : List ℕ) (a b : List ℕ) → bytes_eq a b ≡ true → in_table table a ≡ in_table table b
-table_key table a b e = ap (in_table table) (same_names a b e)
+table_key table a b e = ap (in_table table) ((bytes_eq-Decides a b).0 e)
 
 inner_key : (table : List ℕ) {a b c d e f : List ℕ} → a ≡ b → c ≡ d → e ≡ f → within_cell table a c e ≡ within_cell table b d f
 inner_key table {a} {b} {c} {d} {e} {f} x y z = ap₂ (λ cell word. within_cell table cell word e) x y ∙ ap (within_cell table b d) z
@@ -228,10 +228,6 @@ phase_names clocks (card ∷ cards) =
       by_said None = refl
       by_said (Some e) = named_on clocks card.line e
 
-no_or : (a b : Bool) → a ≡ false → b ≡ false → (a || b) ≡ false
-no_or true b h e = cc
-no_or false b h e = e
-
 differs : (a b : List ℕ) → (a ≡ b → ⊥) → bytes_eq a b ≡ false
 differs a b apart_ = by_test (bytes_eq a b) refl where
   by_test : (t : Bool) → bytes_eq a b ≡ t → t ≡ false
@@ -247,7 +243,7 @@ among_front : (ps : List Phase) (z : List ℕ) → has_name (map phase_key ps) (
 among_front [] z e = refl
 among_front (p ∷ ps) z e =
     let both = or_parts (bytes_eq (codes "phase " ++ z) (phase_key p)) (has_name (map phase_key ps) (codes "phase " ++ z)) e in
-    no_or (bytes_eq z p.name) (has_name (map name_of ps) z)
+    or_from (bytes_eq z p.name) (has_name (map name_of ps) z)
     (differs z p.name (λ same. not_same (codes "phase " ++ z) (phase_key p) both.0 (ap (λ n. codes "phase " ++ n) same))) (among_front ps z both.1)
 
 names_apart : (ps : List Phase) → NoRepeat (map phase_key ps) → NoRepeat (map name_of ps)
@@ -356,7 +352,7 @@ fits text r clean are =
       some_phase = enough.0;
       phase_limit = omega (arith, size, few_in_all clocks ps (omega (arith, count, phases_are_few cards from)));
       phases = subst (AllApart (λ (a b : Phase). bytes_eq a.name b.name)) (sym are.phases_are)
-          (apart_by_key name_of (λ (a b : Phase). bytes_eq a.name b.name) (λ x y e. same_names x.name y.name e) (all_from clocks ps) (all_apart clocks ps (names_apart ps phase_keys)));
+          (apart_by_key name_of (λ (a b : Phase). bytes_eq a.name b.name) (λ x y e. (bytes_eq-Decides x.name y.name).0 e) (all_from clocks ps) (all_apart clocks ps (names_apart ps phase_keys)));
       bits = subst (λ (xs : List Phase). All (λ (p : Phase). length p.bits ≡ length r.clocks) xs) (sym are.phases_are)
           (subst (λ (cs : List (List ℕ)). All (λ (p : Phase). length p.bits ≡ length cs) (all_from clocks ps)) (sym are.clocks_are)
           (bits_in_all clocks ps (table_all (phases_in clocks) (HasBits clocks) (Good clocks phases) (bits_on clocks phases) cards good)));

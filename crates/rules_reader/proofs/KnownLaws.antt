@@ -1,6 +1,7 @@
 -- What one line more changes of what is known.
-use Rattle.std.proofs.Common.{◌≡◌, ◌++◌, ◌∷◌, ◌||◌, not, [], ℕ, List, Bool, true, false, Option, Some, None, refl, ap, ap₂, sym, ◌∙◌, append-nil}
+use Rattle.std.proofs.Common.{◌≡◌, ◌++◌, ◌∷◌, ◌||◌, not, [], ℕ, List, Bool, Option, Some, None, refl, ap, ap₂, ◌∙◌, append-nil}
 use Rattle.std.proofs.lemmas.Grind.{flat_map-append}
+use Rattle.std.proofs.Math.Bool.{or-false}
 use Rattle.vrt_model.specs.Lists.{distinct, is_empty}
 use Rattle.names.specs.Names.{with_names}
 use Rattle.names.proofs.NameLaws.{distinct_more, with_names-append}
@@ -26,10 +27,6 @@ by_card known card = record {
   is_phase_named = known.is_phase_named || not (is_empty (told_on phases_named card));
 }
 
-or_no : (b : Bool) → (b || false) ≡ b
-or_no true = refl
-or_no false = refl
-
 pub same_known : {c d p q k l : List (List ℕ)} {b e : Bool} → c ≡ d → p ≡ q → k ≡ l → b ≡ e
     → (let x : Known = record { clocks = c; phases = p; keys = k; is_phase_named = b } in x) ≡ (let x : Known = record { clocks = d; phases = q; keys = l; is_phase_named = e } in x)
 same_known {c} {d} {p} {q} {k} {l} {b} {e} h i j m =
@@ -38,7 +35,7 @@ same_known {c} {d} {p} {q} {k} {l} {b} {e} h i j m =
 
 card_learned : (known : Known) (line : ℕ) (is_all_text : Bool) (entry : Option Entry)
     → by_card known (record { line = line; is_all_text = is_all_text; entry = entry }) ≡ learned_from known entry
-card_learned known line is_all_text None = same_known refl refl refl (or_no known.is_phase_named)
+card_learned known line is_all_text None = same_known refl refl refl (or-false known.is_phase_named)
 card_learned known line is_all_text (Some entry) = refl
 
 -- behind one line more

@@ -1,10 +1,10 @@
 -- What lines without a fault say, by what all lines tell.
-use Rattle.std.proofs.Common.{◌≡◌, ◌++◌, ◌∷◌, ◌≤◌, ◌<◌, ◌+◌, ◌||◌, nat_le, nat_lt, not, [], ℕ, List, Bool, true, false, cond, length, length-append, Some, None, refl, ap, ap₂, sym, subst, ◌∙◌, append-nil, append_assoc, arith}
+use Rattle.std.proofs.Common.{◌≡◌, ◌++◌, ◌∷◌, ◌≤◌, ◌<◌, ◌+◌, ◌||◌, nat_le, nat_lt, not, [], ℕ, List, Bool, true, false, cond, length, Some, None, refl, ap, ap₂, sym, subst, ◌∙◌, append-nil, append_assoc, arith}
 use Rattle.std.specs.List.{list_any}
-use Rattle.std.proofs.lemmas.Bool.{leb-false, ltb-false, or_parts}
+use Rattle.std.proofs.lemmas.Bool.{leb-false, ltb-false, or_left, or_parts}
 use Rattle.std.proofs.lemmas.Grind.{flat_map-append}
 use Rattle.vrt_model.specs.Lists.{distinct, has_name, is_empty}
-use Rattle.names.specs.Names.{with_name, with_names}
+use Rattle.names.specs.Names.{with_names}
 use Rattle.text_lines.proofs.FaultLaws.{CleanFrom}
 use Rattle.rules_reader.specs.Refused.{clocks_named, fault_of, first_missing, has_bad_expression, has_bad_number, is_misplaced, known_by, lacks_bit, known_from, passes_own_limit, phases_named}
 use Rattle.rules_reader.specs.Tables.{clocks_in, clocks_of, phase_names_in, phase_names_of, told, told_on}
@@ -14,7 +14,7 @@ use Rattle.rules_lines.specs.declared.entry.Entry.{Entry}
 use Rattle.rules_lines.specs.declared.entry.Entry.TheVariants.{ClockLine, PhaseLine, AssumeLine}
 use Rattle.rules_reader.specs.declared.known.Known.{Known}
 use Rattle.rules_reader.proofs.Fine.{AllSay, Fine, Says, here, known_next, says, told_here}
-use Rattle.names.proofs.NameLaws.{distinct_more}
+use Rattle.names.proofs.NameLaws.{distinct_more, length-with_names}
 use Rattle.names.proofs.NewLaws.{among_more}
 
 -- ---- more lines tell more
@@ -48,10 +48,6 @@ names_no_phase : (entry : Entry) → is_empty (phases_named entry) ≡ false →
 names_no_phase (PhaseLine name bits) e = cc
 names_no_phase entry e = refl
 
-or_left : (a b : Bool) → a ≡ true → (a || b) ≡ true
-or_left true b e = refl
-or_left false b e = cc
-
 named_then : (before : List Card) (card : Card) (s : Says (length before) (known_by before) card) → (known_by before).is_phase_named ≡ true → (known_by (before ++ card ∷ [])).is_phase_named ≡ true
 named_then before card s named = ap (λ (k : Known). k.is_phase_named) (known_next before card s) ∙ or_left (known_by before).is_phase_named (not (is_empty (phases_named s.entry))) named
 
@@ -73,22 +69,12 @@ few_operators : (clocks phases : List (List ℕ)) (entry : Entry) → passes_own
 few_operators clocks phases (AssumeLine cell phase tokens) e = ltb-false 1000 (operator_count tokens) (or_parts (nests_deeper 64 0 tokens) (nat_lt 1000 (operator_count tokens)) e).1
 few_operators clocks phases entry e = tt
 
-length_name : (known : List (List ℕ)) (n : List ℕ) → length (with_name known n) ≤ length known + 1
-length_name known n = by_test (has_name known n) where
-  by_test : (b : Bool) → length (cond b known (known ++ n ∷ [])) ≤ length known + 1
-  by_test true = omega arith
-  by_test false = omega (arith, length-append known (n ∷ []))
-
-length_names : (known ns : List (List ℕ)) → length (with_names known ns) ≤ length known + length ns
-length_names known [] = omega arith
-length_names known (n ∷ ns) = omega (arith, length_name known n, length_names (with_name known n) ns)
-
 few_clocks : (clocks phases : List (List ℕ)) (entry : Entry) → length clocks ≤ 16 → passes_own_limit clocks phases entry ≡ false → length (with_names clocks (clocks_in entry)) ≤ 16
-few_clocks clocks phases (ClockLine names) few e = let least : length clocks + length names ≤ 16 = ltb-false 16 (length clocks + length names) e in omega (arith, length_names clocks names)
+few_clocks clocks phases (ClockLine names) few e = let least : length clocks + length names ≤ 16 = ltb-false 16 (length clocks + length names) e in omega (arith, length-with_names clocks names)
 few_clocks clocks phases entry few e = few
 
 few_phases : (clocks phases : List (List ℕ)) (entry : Entry) → length phases ≤ 16 → passes_own_limit clocks phases entry ≡ false → length (with_names phases (phase_names_in entry)) ≤ 16
-few_phases clocks phases (PhaseLine name bits) few e = let least : length phases < 16 = leb-false 16 (length phases) e in omega (arith, length_names phases (name ∷ []))
+few_phases clocks phases (PhaseLine name bits) few e = let least : length phases < 16 = leb-false 16 (length phases) e in omega (arith, length-with_names phases (name ∷ []))
 few_phases clocks phases entry few e = few
 
 own_limit : (count : ℕ) (known : Known) (entry : Entry) → Fine count known entry → passes_own_limit known.clocks known.phases entry ≡ false

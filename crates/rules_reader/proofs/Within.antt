@@ -1,7 +1,7 @@
 -- Lists within others, and names that do not repeat.
-use Rattle.std.proofs.Common.{◌≡◌, ◌++◌, ◌∷◌, ◌&&◌, ◌||◌, [], ℕ, List, Bool, true, false, cond, map, option_map, refl, ap, ap₂, sym, ◌∙◌}
+use Rattle.std.proofs.Common.{◌≡◌, ◌++◌, ◌∷◌, ◌&&◌, [], ℕ, List, Bool, true, false, map, option_map, refl, ap, ap₂, ◌∙◌}
 use Rattle.std.specs.Prelude.{bytes_eq}
-use Rattle.std.proofs.lemmas.Bool.{and_parts, or_parts}
+use Rattle.std.proofs.lemmas.Bool.{and_parts, or_from, or_parts}
 use Rattle.std.proofs.lemmas.Option.{slice_get-map}
 use Rattle.std.proofs.lemmas.Slice.Eq.{bytes_eq-Decides}
 use Rattle.vrt_model.specs.Lists.{has_name}
@@ -32,14 +32,10 @@ pub within_maps : {A B D : Type 0} (f : A → B) (g : B → List ℕ) (h : A →
 within_maps f g h k same [] = refl
 within_maps f g h k same (x ∷ xs) = ap₂ (λ y ys. y ∷ ys) (same x) (within_maps f g h k same xs)
 
-no_or : (a b : Bool) → a ≡ false → b ≡ false → (a || b) ≡ false
-no_or true b h e = cc
-no_or false b h e = e
-
 pub fewer : {xs ys : List (List ℕ)} → Within xs ys → (z : List ℕ) → has_name ys z ≡ false → has_name xs z ≡ false
 fewer nothing z e = refl
 fewer (skips {y} {xs} {ys} w) z e = fewer w z (or_parts (bytes_eq z y) (has_name ys z) e).1
-fewer (keeps {x} {xs} {ys} w) z e = let both = or_parts (bytes_eq z x) (has_name ys z) e in no_or (bytes_eq z x) (has_name xs z) both.0 (fewer w z both.1)
+fewer (keeps {x} {xs} {ys} w) z e = let both = or_parts (bytes_eq z x) (has_name ys z) e in or_from (bytes_eq z x) (has_name xs z) both.0 (fewer w z both.1)
 
 pub no_repeat_within : {xs ys : List (List ℕ)} → Within xs ys → NoRepeat ys → NoRepeat xs
 no_repeat_within nothing n = n
@@ -51,8 +47,5 @@ pub apart_by_key : {X : Type 0} (g : X → List ℕ) (same : X → X → Bool) �
 apart_by_key g same keys xs n i j x y hi hj e =
     apart (map g xs) n i j (g x) (g y) (slice_get-map g xs i ∙ ap (option_map g) hi) (slice_get-map g xs j ∙ ap (option_map g) hj) ((bytes_eq-Decides (g x) (g y)).1 (keys x y e))
 
-pub same_names : (a b : List ℕ) → bytes_eq a b ≡ true → a ≡ b
-same_names a b e = (bytes_eq-Decides a b).0 e
-
 pub two_same : (a b c d : List ℕ) → (bytes_eq a b && bytes_eq c d) ≡ true → (a ≡ b) × (c ≡ d)
-two_same a b c d e = let both = and_parts (bytes_eq a b) (bytes_eq c d) e in (same_names a b both.0, same_names c d both.1)
+two_same a b c d e = let both = and_parts (bytes_eq a b) (bytes_eq c d) e in ((bytes_eq-Decides a b).0 both.0, (bytes_eq-Decides c d).0 both.1)

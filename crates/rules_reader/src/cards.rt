@@ -1,13 +1,13 @@
 //! The lines of a text that are not passed over.
 
 ghost use Rattle.std.specs.Prelude.{◌≡◌, ◌≤◌, ◌++◌, length, map, IfOk, OnOk};
-ghost use Rattle.text_lines.specs.Bytes.{is_blank_line, starts, without_blanks};
+ghost use Rattle.text_lines.specs.Bytes.{is_blank_line};
 ghost use Rattle.rules_reader.specs.Entries.{card_of, cards_of, cards_on, is_passed_over};
 
 use crate::texts::append;
 use rules_lines::{Entry, read_entry};
 use std::alloc::Global;
-use text_lines::{is_blank_byte, is_text_line, line_words, numbered_lines};
+use text_lines::{begins_with, is_blank_line, is_text_line, line_words, numbered_lines};
 use vrt_model::{NoMemory, Seq, Text};
 
 /// A line: its number, from 1, whether all its bytes are text, and what it says, none where it does not fit.
@@ -31,40 +31,11 @@ impl Drop for Card {
     }
 }
 
-/// The bytes from the first on that is no blank.
-fn from_first(line: &[u8]) -> &[u8]
-    ensures { result.now ≡ without_blanks line.now }
-{
-    let mut at = 0;
-    'bytes: while at < line.len() {
-        if !is_blank_byte(line[at]) {
-            return &line[at..];
-        }
-        at += 1;
-    }
-    &[]
-}
-
-fn is_blank_only(line: &[u8]) -> bool
-    ensures { result ≡ is_blank_line line.now }
-{
-    line.iter().all(|b| is_blank_byte(*b))
-}
-
 /// Whether a line is blank, or its first byte that is no blank is `#`.
 fn is_passed(line: &[u8]) -> bool
     ensures { result ≡ is_passed_over line.now }
 {
-    is_blank_only(line) || begins(b'#', from_first(line))
-}
-
-fn begins(sign: u8, bytes: &[u8]) -> bool
-    ensures { result ≡ starts sign bytes.now }
-{
-    match bytes.first() {
-        Some(first) => sign == *first,
-        None => false,
-    }
+    is_blank_line(line) || begins_with(b'#', line)
 }
 
 /// The card of a line.

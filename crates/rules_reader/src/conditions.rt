@@ -85,7 +85,12 @@ fn has_no_bit(b: &ClockBit) -> bool
 fn any_has_no_bit(bits: &[ClockBit]) -> bool
     ensures { result ≡ list_any is_bad_bit bits.now }
 {
-    bits.iter().any(|b| has_no_bit(b))
+    for b in bits {
+        if has_no_bit(b) {
+            return true;
+        }
+    }
+    false
 }
 
 /// Whether a level, a size or a bit is not one digit of its range.

@@ -1,37 +1,66 @@
 //! Why a rules file is refused.
 
-use thiserror::Error;
+use std::error::Error;
+use std::fmt;
 use vrt_model::Text;
 
 /// Each fault but the last has its line. Of several faults on one line the first of these is answered.
-#[derive(Debug, Drop, Error)]
+#[derive(Drop)]
 pub enum RulesFault {
     /// A byte of the line that is neither a tab nor from the space to the tilde.
-    #[error("line {line}: byte that is not text")]
     NotText { line: u32 },
     /// An unknown first word, a wrong number of words, a value that is none of those listed, or a `clock` or `phase`
     /// line that comes too late, or a `phase` line that leaves a clock without a bit.
-    #[error("line {line}: line does not fit")]
     Word { line: u32 },
     /// A level, a size or a bit that is not one digit of its range.
-    #[error("line {line}: number does not fit")]
     Number { line: u32 },
     /// An expression of another form.
-    #[error("line {line}: expression does not fit")]
     Expr { line: u32 },
     /// A key that stands before, with its last word.
-    #[error("line {line}: given twice")]
     Twice { line: u32, name: Text },
     /// A phase that no line before declares.
-    #[error("line {line}: no such phase")]
     UnknownPhase { line: u32, name: Text },
     /// A clock that no line before declares.
-    #[error("line {line}: no such clock")]
     UnknownClock { line: u32, name: Text },
     /// More than 100,000 lines, 16 clocks, 16 phases, 64 nested parentheses or 1,000 operators.
-    #[error("line {line}: limit passed")]
     Limit { line: u32 },
     /// Memory could not be had.
-    #[error("out of memory")]
     NoMemory,
 }
+
+impl RulesFault {
+    /// Its line, if it has one, and what is wrong there.
+    fn said(&self) -> (Option<u32>, &'static str) {
+        match self {
+            RulesFault::NotText { line } => (Some(*line), "byte that is not text"),
+            RulesFault::Word { line } => (Some(*line), "line does not fit"),
+            RulesFault::Number { line } => (Some(*line), "number does not fit"),
+            RulesFault::Expr { line } => (Some(*line), "expression does not fit"),
+            RulesFault::Twice { line, .. } => (Some(*line), "given twice"),
+            RulesFault::UnknownPhase { line, .. } => (Some(*line), "no such phase"),
+            RulesFault::UnknownClock { line, .. } => (Some(*line), "no such clock"),
+            RulesFault::Limit { line } => (Some(*line), "limit passed"),
+            RulesFault::NoMemory => (None, "out of memory"),
+        }
+    }
+}
+
+/// Shows the line and what is wrong there.
+impl fmt::Display for RulesFault {
+    fn fmt<W: fmt::Write>(&self, f: &mut fmt::Formatter<W>) -> fmt::Result {
+        let (line, what) = self.said();
+        match line {
+            Some(line) => write!(f, "line {line}: {what}"),
+            None => f.write_str(what),
+        }
+    }
+}
+
+/// Shows what it says.
+impl fmt::Debug for RulesFault {
+    fn fmt<W: fmt::Write>(&self, f: &mut fmt::Formatter<W>) -> fmt::Result {
+        fmt::Display::fmt(self, f)
+    }
+}
+
+impl Error for RulesFault {}
