@@ -7,7 +7,7 @@ use std::alloc::Global;
 use vrt_model::{NoMemory, Seq};
 
 /// A number on the way, and the place of the next of its sources.
-#[derive(Clone, Copy, Debug, PartialEq, Eq)]
+#[derive(Clone, Copy)]
 struct Stop {
     node: u32,
     place: usize,

@@ -14,7 +14,7 @@ use std::alloc::Global;
 use vrt_model::{NoMemory, Seq};
 
 /// A number without a level. Its sources before the place `from` have levels.
-#[derive(Clone, Copy, Debug, PartialEq, Eq)]
+#[derive(Clone, Copy)]
 pub(crate) struct Waiter {
     /// The number.
     pub(crate) node: u32,
@@ -321,5 +321,10 @@ pub fn levels_of(alloc: Global, sources: &[Seq<u32>]) -> Result<Vec<usize>, NoMe
 pub fn all_levelled(levels: &[usize]) -> bool
     ensures { result ≡ list_all (λ l. nat_lt 0 l) levels.now }
 {
-    levels.iter().all(|level| 0 < *level)
+    for level in levels {
+        if *level == 0 {
+            return false;
+        }
+    }
+    true
 }

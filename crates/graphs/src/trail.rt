@@ -10,7 +10,7 @@ use std::alloc::Global;
 use vrt_model::{NoMemory, Seq};
 
 /// A number that was met, and the place of the one to which an arc leads from it.
-#[derive(Clone, Copy, Debug, PartialEq, Eq)]
+#[derive(Clone, Copy)]
 pub(crate) struct Met {
     pub(crate) node: u32,
     pub(crate) next: usize,

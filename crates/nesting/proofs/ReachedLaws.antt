@@ -2,22 +2,15 @@
 use Rattle.std.proofs.Common.{◌≡◌, ◌<◌, ◌≤◌, ◌+◌, ◌++◌, ◌∷◌, inl, inr, [], ℕ, zero, suc, List, Bool, true, false, take, length, get_or, set, replicate, Some, None, refl, ap, sym, ◌∙◌, subst, arith, length-append}
 use Rattle.std.specs.Prelude.{◌⊎◌, slice_get}
 use Rattle.std.proofs.lemmas.Bool.{cases_eq}
-use Rattle.std.proofs.lemmas.List.{get_or-set_same, get_or-set_other, take_more}
+use Rattle.std.proofs.lemmas.List.{get_or-set_same, get_or-set_other, take_more, length-set}
+use Rattle.std.proofs.lemmas.Option.{slice_get_within}
+use Rattle.vrt_model.proofs.Lists.{at_front, at_last}
 use Rattle.vrt_model.specs.Lists.{At, Among}
 use Rattle.vrt_model.specs.Nesting.{ContainsItself, IsWithin, directly, further}
 use Rattle.nesting.specs.Depths.{AreInside, in_list}
 use Rattle.nesting.specs.Reached.{HasMet, IsSearch, count_marked}
 
 -- ---- lists
-
-at_front : {X : Type 0} (xs ys : List X) (i : ℕ) (x : X) → At xs i x → At (xs ++ ys) i x
-at_front [] ys i x e = cc
-at_front (y ∷ xs) ys zero x e = e
-at_front (y ∷ xs) ys (suc i) x e = at_front xs ys i x e
-
-at_last : {X : Type 0} (xs : List X) (x : X) → At (xs ++ x ∷ []) (length xs) x
-at_last [] x = refl
-at_last (y ∷ xs) x = at_last xs x
 
 at_split : {X : Type 0} (xs : List X) (y : X) (i : ℕ) (x : X) → At (xs ++ y ∷ []) i x → Among xs x ⊎ (x ≡ y)
 at_split [] y zero x e = let same : y ≡ x = cc in inr (sym same)
@@ -27,11 +20,6 @@ at_split (z ∷ xs) y (suc i) x e = elim (at_split xs y i x e) [
   | inl a ↦ inl (suc a.0, a.1)
   | inr same ↦ inr same
 ]
-
-pub within_list : {X : Type 0} (xs : List X) (i : ℕ) (x : X) → At xs i x → i < length xs
-within_list [] i x e = cc
-within_list (y ∷ xs) zero x e = omega arith
-within_list (y ∷ xs) (suc i) x e = let rest = within_list xs i x e in omega arith
 
 marked_inside : (marks : List Bool) (n : ℕ) → get_or marks n false ≡ true → n < length marks
 marked_inside [] n e = cc
@@ -71,15 +59,10 @@ met_before marks met number known = record {
   only n zero e lt = let same : number ≡ n = cc in subst (λ k. get_or marks k false ≡ true) same (known (omega arith))
   only n (suc i) e lt = cc
 
-set_size : {X : Type 0} (xs : List X) (i : ℕ) (x : X) → length (set xs i x) ≡ length xs
-set_size [] i x = refl
-set_size (y ∷ xs) zero x = refl
-set_size (y ∷ xs) (suc i) x = ap suc (set_size xs i x)
-
 -- or is met now
 met_new : (marks : List Bool) (met : List ℕ) (number : ℕ) → number < length marks → get_or marks number false ≡ false → HasMet marks (set marks number true) met (met ++ number ∷ []) (number ∷ [])
 met_new marks met number lt new = record {
-  size = set_size marks number true;
+  size = length-set marks number true;
   search = λ children top inside s. record {
     count = counted s.count;
     marked = λ m e. found children top s m e;
@@ -239,7 +222,7 @@ goes_on inner top at number marks marks' met met' numbers inside here same down 
 
       before : (i m : ℕ) → i < at → At met' i m → (k : ℕ) → Among (in_list inner m) k → get_or marks' k false ≡ true
       before i m lt e k among =
-          let old = there_at met i (omega (arith, within_list met at number here)) in
+          let old = there_at met i (omega (arith, slice_get_within met at number here)) in
           let is : m ≡ old.0 = one_at met met' i i m old.0 refl old.1 e (has.before i old.0 old.1) in
           has.kept k (down.done i old.0 lt old.1 k (subst (λ x. Among (in_list inner x) k) is among))
 
@@ -249,7 +232,7 @@ met_inside inner top at number marks met down here = omega (arith, down.size, ma
 
 -- so the search ends
 pub met_few : (inner : List (List ℕ)) (top at number : ℕ) (marks : List Bool) (met : List ℕ) → GoesDown inner top at marks met → At met at number → at < length inner
-met_few inner top at number marks met down here = omega (arith, down.size, few_marked marks, down.search.count, within_list met at number here)
+met_few inner top at number marks met down here = omega (arith, down.size, few_marked marks, down.search.count, slice_get_within met at number here)
 
 -- at the end all that stands in one is marked
 all_marked : (inner : List (List ℕ)) (top at : ℕ) (marks : List Bool) (met : List ℕ) → GoesDown inner top at marks met → slice_get met at ≡ None → (m : ℕ)

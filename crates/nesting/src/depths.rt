@@ -108,7 +108,12 @@ pub fn whole_depths(alloc: Global, inner: &[Seq<usize>]) -> Result<Seq<u32>, NoM
 pub(crate) fn are_within(depths: &[u32], limit: u32) -> bool
     ensures { result ≡ list_all (λ d. nat_le d limit) depths.now }
 {
-    depths.iter().all(|d| *d <= limit)
+    for d in depths {
+        if *d > limit {
+            return false;
+        }
+    }
+    true
 }
 
 /// Whether none contains itself and none is deeper than a limit. It takes time in proportion to the numbers in the lists

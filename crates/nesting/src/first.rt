@@ -11,7 +11,7 @@ use std::alloc::Global;
 use vrt_model::{NoMemory, Seq};
 
 /// Why things may not stand in one another as they do.
-#[derive(Clone, Copy, Debug, PartialEq, Eq)]
+#[derive(Clone, Copy)]
 pub enum NestingFault {
     /// The first that contains itself.
     Recursion { number: usize },
