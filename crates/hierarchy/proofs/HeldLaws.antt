@@ -7,10 +7,11 @@ use Rattle.std.proofs.lemmas.List.{get_or-set_other, get_or-set_same, length-set
 use Rattle.std.proofs.lemmas.List.Folds.{list_any-append}
 use Rattle.std.proofs.lemmas.List.Quantifiers.{position-Some}
 use Rattle.std.proofs.lemmas.Slice.Eq.{bytes_eq-Decides}
+use Rattle.vrt_model.proofs.Tests.{bytes_eq-sym, or_swap}
 use Rattle.vrt_model.specs.Lists.{has_name}
 use Rattle.names.specs.Names.{with_name}
 use Rattle.vrt_model.specs.declared.rules.HoldRule.{HoldRule}
-use Rattle.names.proofs.NameLaws.{bytes_eq-sym, or_swap, with_front}
+use Rattle.names.proofs.NameLaws.{with_front}
 use Rattle.hierarchy.specs.Held.{AreHeld, HasHeld, is_numbered}
 
 abbrev no_set : List (List ℕ)

@@ -4,6 +4,7 @@ use Rattle.std.specs.Prelude.{find, filter_map}
 use Rattle.std.specs.List.{cons_option, list_any}
 use Rattle.std.proofs.lemmas.Bool.Decides.{nat_tests}
 use Rattle.std.proofs.lemmas.List.{drop_all}
+use Rattle.names.proofs.FilterLaws.{find_same}
 use Rattle.hierarchy.specs.Names.{earlier, earliest}
 use Rattle.vrt_model.specs.Hierarchy.{Missing}
 
@@ -85,10 +86,6 @@ by_earliest (m ∷ ms) line = turn (earliest ms) (list_any (λ (other : Missing)
     by_tests false false true rest p q r e = absurd (grind (arith, nat_tests))
     by_tests false false false rest p q r e = e ∙ ap not (sym p)
 
-same_find : {X : Type 0} (p q : X → Bool) → ((x : X) → p x ≡ q x) → (xs : List X) → find p xs ≡ find q xs
-same_find p q same [] = refl
-same_find p q same (x ∷ xs) = ap₂ (λ t o. cond t (Some x) o) (same x) (same_find p q same xs)
-
 -- a name, if it is not on a later line than this
 abbrev within : ℕ → Option Missing → Option Missing
 within limit None = None
@@ -146,7 +143,7 @@ first_is ms = by_earliest_of (earliest ms) refl where
       let P : List Missing → Type 0 = λ xs. find (λ (m : Missing). not (list_any (λ (other : Missing). nat_lt other.line m.line) xs)) xs ≡ earliest xs in
       subst P (sym (nothing ms e)) refl
   by_earliest_of (Some b) e =
-      same_find _ (λ (m : Missing). not (nat_lt b.line m.line)) (λ x. by_earliest ms x.line ∙ ap (λ o. not_before o x.line) e) ms
+      find_same _ (λ (m : Missing). not (nat_lt b.line m.line)) (λ x. by_earliest ms x.line ∙ ap (λ o. not_before o x.line) e) ms
       ∙ found_within b.line ms (ap (λ o. not_before o b.line) e ∙ ap not (not_less b.line))
       ∙ ap (within b.line) e ∙ ap (λ t. cond t None (Some b)) (not_less b.line) ∙ sym e
 

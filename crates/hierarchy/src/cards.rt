@@ -45,7 +45,12 @@ fn first_bad<'a>(
     requires { AreNames design.now names.now }
     ensures { option_copied result ≡ find (λ (i : CardValue). not (is_good_card design.now i)) cards.entry.now }
 {
-    cards.iter().find(|card| !is_good(design, names, card))
+    for card in cards {
+        if !is_good(design, names, card) {
+            return Some(card);
+        }
+    }
+    None
 }
 
 /// The first card of some cells that is not good.

@@ -1,31 +1,46 @@
 //! Why cells have no order.
 
+use std::error::Error;
 use std::fmt;
-use thiserror::Error;
 use vrt_model::{Seq, Text};
 
 /// The first fault of a netlist and its rules, in this order.
-#[derive(Drop, Error)]
+#[derive(Drop)]
 pub enum HierFault {
     /// An instance of a cell that is not there: the line of its card in the SPICE file, and the name, in lower case.
-    #[error("line {line}: no such cell")]
     UnknownCell { line: u32, name: Text },
     /// An instance with more or fewer nets than its cell has ports: the line of its card, and both counts.
-    #[error("line {line}: {nets} nets for {ports} ports")]
     PortCount { line: u32, nets: u32, ports: u32 },
     /// The first cell that contains itself: the line of its card, and the numbers of cells, each in the one before it,
     /// from that cell to that cell.
-    #[error("line {line}: cell contains itself")]
     Recursion { line: u32, chain: Seq<u32> },
     /// The first cell deeper than 32, where a cell without instances has depth 1: the line of its card, and its depth.
-    #[error("line {line}: deeper than 32")]
     Depth { line: u32, depth: u32 },
     /// The first line of the rules file that names what is not there, and the first such name on it, in lower case.
-    #[error("line {line}: no such name")]
     NoSuchName { line: u32, name: Text },
     /// Memory could not be had.
-    #[error("out of memory")]
     NoMemory,
+}
+
+/// Shows a line and what is wrong there.
+fn show<W: fmt::Write>(f: &mut fmt::Formatter<W>, line: u32, what: &str) -> fmt::Result {
+    write!(f, "line {line}: {what}")
+}
+
+/// Shows the line and what is wrong there.
+impl fmt::Display for HierFault {
+    fn fmt<W: fmt::Write>(&self, f: &mut fmt::Formatter<W>) -> fmt::Result {
+        match self {
+            HierFault::UnknownCell { line, .. } => show(f, *line, "no such cell"),
+            HierFault::PortCount { line, nets, ports } => {
+                write!(f, "line {line}: {nets} nets for {ports} ports")
+            }
+            HierFault::Recursion { line, .. } => show(f, *line, "cell contains itself"),
+            HierFault::Depth { line, .. } => show(f, *line, "deeper than 32"),
+            HierFault::NoSuchName { line, .. } => show(f, *line, "no such name"),
+            HierFault::NoMemory => f.write_str("out of memory"),
+        }
+    }
 }
 
 /// Shows what it says.
@@ -34,3 +49,5 @@ impl fmt::Debug for HierFault {
         fmt::Display::fmt(self, f)
     }
 }
+
+impl Error for HierFault {}
