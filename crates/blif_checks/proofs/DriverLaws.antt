@@ -3,11 +3,12 @@ use Rattle.std.proofs.Common.{◌≡◌, ◌<◌, ◌++◌, ◌∷◌, ◌&&◌,
 use Rattle.std.specs.Prelude.{bytes_eq, filter, find, is_none, is_some, position, slice_get, unwrap_or}
 use Rattle.std.proofs.lemmas.List.Folds.{list_any-append}
 use Rattle.std.proofs.lemmas.List.Quantifiers.{position-Some}
+use Rattle.vrt_model.proofs.Tests.{bytes_eq-sym}
 use Rattle.vrt_model.specs.Lists.{distinct, has_name}
 use Rattle.names.specs.Names.{with_names}
-use Rattle.names.proofs.NameLaws.{bytes_eq-sym, names_once, once_has_same}
+use Rattle.names.proofs.NameLaws.{once_has_same}
 use Rattle.vrt_model.specs.FlatBlif.{model_at, model_numbered}
-use Rattle.vrt_model.specs.Inputs.{AllApart, IsModel}
+use Rattle.vrt_model.specs.Inputs.{IsModel}
 use Rattle.vrt_model.specs.Models.{OnLine, drivers_in, interface_of, is_driving, is_reading, line_in, listed_inputs, on_line, on_lines, ties_on, uses_in}
 use Rattle.vrt_model.specs.declared.blif.Blif.{Blif}
 use Rattle.vrt_model.specs.declared.blif.BlifModel.{BlifModel}
@@ -21,7 +22,7 @@ use Rattle.blif_checks.specs.declared.mentions.Mention.{Mention}
 use Rattle.blif_checks.specs.declared.tables.Tables.{Tables}
 use Rattle.blif_checks.proofs.MentionLaws.{joined}
 use Rattle.names.proofs.PlaceLaws.{any_placed}
-use Rattle.names.proofs.ApartLaws.{once_is_all}
+use Rattle.names.proofs.ApartLaws.{apart_named}
 use Rattle.blif_checks.proofs.NameLaws.{place_is}
 
 -- ---- the line of a listed name
@@ -76,9 +77,6 @@ line_is names lines name n count e = by_line (slice_get lines n) refl where
 
 -- ---- the inputs and clocks of a model
 
-once_same : (names : List (List ℕ)) → AllApart bytes_eq names → with_names [] names ≡ names
-once_same names apart = names_once names ∙ once_is_all names apart
-
 others_same : (p q : OnLine → Bool) (list : List OnLine) → ((o : OnLine) → p o ≡ q o) → filter p list ≡ filter q list
 others_same p q [] same = refl
 others_same p q (o ∷ list) same = ap₂ (λ b rest. cond b (o ∷ rest) rest) (same o) (others_same p q list same)
@@ -89,14 +87,14 @@ pub heads_are : (g : OnLine → Mention) (m : BlifModel) (inputs clocks ins clks
     → mid ≡ old ++ map g (map (at_earlier (on_lines clocks clines)) (on_lines ins ilines)) → new ≡ mid ++ map g (others inputs (on_lines clks clines)) → new ≡ old ++ map g (listed_inputs m)
 heads_are g m inputs clocks ins clks ilines clines old mid new is i c ie ce il cl e n =
     joined g (map (at_earlier (on_lines m.clocks m.clock_lines)) (on_lines m.inputs m.input_lines)) (others m.inputs (on_lines m.clocks m.clock_lines)) old mid new
-    (e ∙ ap₂ (λ (a : List OnLine) (b : List OnLine). old ++ map g (map (at_earlier a) b)) (ap₂ on_lines (c ∙ once_same m.clocks is.clocks) cl) (ap₂ on_lines ie il))
-    (n ∙ ap₂ (λ (a : List (List ℕ)) (b : List OnLine). mid ++ map g (others a b)) (i ∙ once_same m.inputs is.inputs) (ap₂ on_lines ce cl))
+    (e ∙ ap₂ (λ (a : List OnLine) (b : List OnLine). old ++ map g (map (at_earlier a) b)) (ap₂ on_lines (c ∙ apart_named m.clocks is.clocks) cl) (ap₂ on_lines ie il))
+    (n ∙ ap₂ (λ (a : List (List ℕ)) (b : List OnLine). mid ++ map g (others a b)) (i ∙ apart_named m.inputs is.inputs) (ap₂ on_lines ce cl))
     ∙ ap (λ (l : List OnLine). old ++ map g (map (at_earlier (on_lines m.clocks m.clock_lines)) (on_lines m.inputs m.input_lines) ++ l))
     (others_same (λ (o : OnLine). not (has_name m.inputs o.name)) (λ (o : OnLine). is_none (line_in (on_lines m.inputs m.input_lines) o.name)) (on_lines m.clocks m.clock_lines)
     (λ o. sym (none_listed m.inputs m.input_lines o.name is.input_lines)))
 
 pub clock_count : (m : BlifModel) (clocks : List (List ℕ)) (lines : List ℕ) → IsModel m → clocks ≡ with_names [] m.clocks → lines ≡ m.clock_lines → length lines ≡ length clocks
-clock_count m clocks lines is c l = ap length l ∙ is.clock_lines ∙ sym (ap length (c ∙ once_same m.clocks is.clocks))
+clock_count m clocks lines is c l = ap length l ∙ is.clock_lines ∙ sym (ap length (c ∙ apart_named m.clocks is.clocks))
 
 -- ---- what a sub-model reads and drives
 

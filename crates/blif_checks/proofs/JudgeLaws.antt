@@ -1,13 +1,13 @@
 -- The calls that judge the mentions of a model, and the models.
 use Rattle.std.proofs.Common.{◌≡◌, ◌<◌, ◌≤◌, ◌+◌, ◌++◌, ◌∷◌, ◌&&◌, ◌||◌, inl, inr, [], ℕ, zero, suc, List, Bool, true, false, cond, map, flat_map, take, drop, length, get_or, Option, Some, None, option_map, refl, ap, ap₂, sym, ◌∙◌, subst, arith}
-use Rattle.blif_checks.proofs.SubLaws.{from_place}
 use Rattle.std.specs.Prelude.{◌⊎◌, ◌==◌, bytes_eq, filter_map, find, nat_le, slice_get}
 use Rattle.std.specs.List.{cons_option}
 use Rattle.std.proofs.lemmas.Bool.{leb-true, leb-false}
 use Rattle.std.proofs.lemmas.Slice.Eq.{bytes_eq-Decides}
-use Rattle.std.proofs.lemmas.List.{drop_all, drop_more, take_more}
+use Rattle.std.proofs.lemmas.List.{drop_all, take_more}
 use Rattle.std.proofs.lemmas.List.Elements.{All-get_or}
 use Rattle.std.proofs.lemmas.Option.{get_or_from_slice_get, slice_get_within}
+use Rattle.vrt_model.proofs.Lists.{at_front, at_last, drop_one}
 use Rattle.vrt_model.specs.Lists.{At, has_name}
 use Rattle.names.specs.Names.{with_names}
 use Rattle.names.proofs.NameLaws.{names_once, once_has_same}
@@ -37,15 +37,6 @@ at_end [] y (suc i) x e = cc
 at_end (z ∷ xs) y zero x e = inl e
 at_end (z ∷ xs) y (suc i) x e = at_end xs y i x e
 
-at_kept : {X : Type 0} (xs ys : List X) (i : ℕ) (x : X) → At xs i x → At (xs ++ ys) i x
-at_kept [] ys i x e = cc
-at_kept (y ∷ xs) ys zero x e = e
-at_kept (y ∷ xs) ys (suc i) x e = at_kept xs ys i x e
-
-at_new : {X : Type 0} (xs : List X) (x : X) → At (xs ++ x ∷ []) (length xs) x
-at_new [] x = refl
-at_new (y ∷ xs) x = at_new xs x
-
 line_by : (bad : Mention → Bool) (list : List Mention) (o : Mention) (least : Option ℕ) (b : Bool) → bad o ≡ b → IsLeastLine bad list least → IsLeastLine bad (list ++ o ∷ []) (cond b (earlier_line least o.line) least)
 line_by bad list o None false e is =
     λ i p at. elim (at_end list o i p at) [
@@ -53,14 +44,14 @@ line_by bad list o None false e is =
       | inr same ↦ ap bad same ∙ e
     ]
 line_by bad list o None true e is = (
-  (length list, o, at_new list o, e, refl),
+  (length list, o, at_last list o, e, refl),
   λ i p at h. elim (at_end list o i p at) [
     | inl there ↦ let both : true ≡ false = sym h ∙ is i p there in cc
     | inr same ↦ let l : p.line ≡ o.line = ap (λ (q : Mention). q.line) same in omega arith
   ],
 )
 line_by bad list o (Some line) false e is = (
-  (is.0.0, is.0.1, at_kept list (o ∷ []) is.0.0 is.0.1 is.0.2, is.0.3, is.0.4),
+  (is.0.0, is.0.1, at_front list (o ∷ []) is.0.0 is.0.1 is.0.2, is.0.3, is.0.4),
   λ i p at h. elim (at_end list o i p at) [
     | inl there ↦ is.1 i p there h
     | inr same ↦ let both : true ≡ false = sym h ∙ ap bad same ∙ e in cc
@@ -70,7 +61,7 @@ line_by bad list o (Some line) true e is = by_order (nat_le line o.line) refl wh
   by_order : (b : Bool) → nat_le line o.line ≡ b → IsLeastLine bad (list ++ o ∷ []) (cond b (Some line) (Some o.line))
   by_order true le =
       let low : line ≤ o.line = leb-true line o.line le in (
-        (is.0.0, is.0.1, at_kept list (o ∷ []) is.0.0 is.0.1 is.0.2, is.0.3, is.0.4),
+        (is.0.0, is.0.1, at_front list (o ∷ []) is.0.0 is.0.1 is.0.2, is.0.3, is.0.4),
         λ i p at h. elim (at_end list o i p at) [
           | inl there ↦ is.1 i p there h
           | inr same ↦ let l : p.line ≡ o.line = ap (λ (q : Mention). q.line) same in omega arith
@@ -78,7 +69,7 @@ line_by bad list o (Some line) true e is = by_order (nat_le line o.line) refl wh
       )
   by_order false le =
       let low : o.line < line = leb-false line o.line le in (
-        (length list, o, at_new list o, e, refl),
+        (length list, o, at_last list o, e, refl),
         λ i p at h. elim (at_end list o i p at) [
           | inl there ↦ let old : line ≤ p.line = is.1 i p there h in omega arith
           | inr same ↦ let l : p.line ≡ o.line = ap (λ (q : Mention). q.line) same in omega arith
@@ -198,7 +189,7 @@ model_is blif models i m is same here =
 pub model_first : (blif : Blif) (models : List BlifModel) (i : ℕ) (m : BlifModel) (f : ModelFault) → models ≡ blif.models → i < length models → slice_get models i ≡ Some m
     → slice_get (filter_map (driver_fault_in blif) (drop i blif.models)) 0 ≡ driver_fault blif → option_map of_driver (driver_fault_in blif m) ≡ Some f → option_map of_driver (driver_fault blif) ≡ Some f
 model_first blif models i m f same lt here so_far e =
-    ap (option_map of_driver) (sym so_far ∙ ap (λ (ms : List BlifModel). slice_get (filter_map (driver_fault_in blif) ms) 0) (ap (drop i) (sym same) ∙ from_place models i m lt here)) ∙ by_fault (driver_fault_in blif m) e where
+    ap (option_map of_driver) (sym so_far ∙ ap (λ (ms : List BlifModel). slice_get (filter_map (driver_fault_in blif) ms) 0) (ap (drop i) (sym same) ∙ drop_one models i m here)) ∙ by_fault (driver_fault_in blif m) e where
       by_fault : (o : Option DriverFault) → option_map of_driver o ≡ Some f → option_map of_driver (slice_get (cons_option o (filter_map (driver_fault_in blif) (drop (i + 1) models))) 0) ≡ Some f
       by_fault None e = cc
       by_fault (Some d) e = e
@@ -209,7 +200,7 @@ pub model_none : (blif : Blif) (models : List BlifModel) (i : ℕ) (m : BlifMode
     → slice_get (filter_map (driver_fault_in blif) (drop (i + 1) blif.models)) 0 ≡ driver_fault blif
 model_none blif models i m same lt here so_far e =
     ap (λ (ms : List BlifModel). slice_get (filter_map (driver_fault_in blif) (drop (i + 1) ms)) 0) (sym same) ∙ by_fault (driver_fault_in blif m) refl e
-    ∙ sym (ap (λ (ms : List BlifModel). slice_get (filter_map (driver_fault_in blif) ms) 0) (ap (drop i) (sym same) ∙ from_place models i m lt here)) ∙ so_far where
+    ∙ sym (ap (λ (ms : List BlifModel). slice_get (filter_map (driver_fault_in blif) ms) 0) (ap (drop i) (sym same) ∙ drop_one models i m here)) ∙ so_far where
       by_fault : (o : Option DriverFault) → driver_fault_in blif m ≡ o → option_map of_driver o ≡ None
           → slice_get (filter_map (driver_fault_in blif) (drop (i + 1) models)) 0 ≡ slice_get (cons_option (driver_fault_in blif m) (filter_map (driver_fault_in blif) (drop (i + 1) models))) 0
       by_fault None is e = sym (ap (λ o. slice_get (cons_option o (filter_map (driver_fault_in blif) (drop (i + 1) models))) 0) is)

@@ -3,7 +3,7 @@ use Rattle.std.proofs.Common.{◌≡◌, ◌<◌, ◌≤◌, ◌+◌, ◌++◌, 
 use Rattle.std.specs.Prelude.{◌⊎◌, ◌==◌, bytes_eq, filter, filter_map, find, is_none, nat_lt, slice_get, Result, Ok, Err}
 use Rattle.std.specs.List.{cons_option, list_any}
 use Rattle.std.specs.Option.{option_or}
-use Rattle.std.proofs.lemmas.Bool.{and_parts, cases_eq, cases_lt, eqb-true, lt-ltb, or_parts}
+use Rattle.std.proofs.lemmas.Bool.{and_parts, cases_eq, cases_lt, eqb-true, lt-ltb, or_parts, or_right}
 use Rattle.std.proofs.lemmas.List.Folds.{list_any-append}
 use Rattle.std.proofs.lemmas.Slice.Eq.{bytes_eq-Decides}
 use Rattle.vrt_model.specs.Lists.{At, has_name}
@@ -279,10 +279,6 @@ or_true : (a b : Bool) → (a || b) ≡ true → (a ≡ true) ⊎ (b ≡ true)
 or_true true b e = inl refl
 or_true false b e = inr e
 
-or_behind : (a b : Bool) → b ≡ true → (a || b) ≡ true
-or_behind true b e = refl
-or_behind false b e = e
-
 filtered_any : (p : OnLine → Bool) (line : ℕ) (list : List OnLine) → list_any (λ (o : OnLine). o.line == line) (filter p list) ≡ true → list_any (λ (o : OnLine). o.line == line) list ≡ true
 filtered_any p line [] e = cc
 filtered_any p line (o ∷ list) e = by_test (p o) e (filtered_any p line list) where
@@ -291,9 +287,9 @@ filtered_any p line (o ∷ list) e = by_test (p o) e (filtered_any p line list) 
       → ((o.line == line) || list_any (λ (o : OnLine). o.line == line) list) ≡ true
   by_test true h more = elim (or_true (o.line == line) (list_any (λ (o : OnLine). o.line == line) (filter p list)) h) [
     | inl here ↦ ap (λ b. b || list_any (λ (o : OnLine). o.line == line) list) here
-    | inr there ↦ or_behind (o.line == line) (list_any (λ (o : OnLine). o.line == line) list) (more there)
+    | inr there ↦ or_right (o.line == line) (list_any (λ (o : OnLine). o.line == line) list) (more there)
   ]
-  by_test false h more = or_behind (o.line == line) (list_any (λ (o : OnLine). o.line == line) list) (more h)
+  by_test false h more = or_right (o.line == line) (list_any (λ (o : OnLine). o.line == line) list) (more h)
 
 any_at : (line : ℕ) (list : List OnLine) → list_any (λ (o : OnLine). o.line == line) list ≡ true → (i : ℕ) × At (map (λ (o : OnLine). o.line) list) i line
 any_at line [] e = cc

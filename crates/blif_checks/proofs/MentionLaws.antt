@@ -9,8 +9,8 @@ use Rattle.std.proofs.lemmas.List.Sums.{prefix_len-le-length}
 use Rattle.vrt_model.specs.FlatBlif.{cover_signals, latch_signals, sub_signals}
 use Rattle.vrt_model.specs.declared.blif.BlifModel.{BlifModel}
 use Rattle.blif_checks.specs.Signals.{named_in}
-use Rattle.std.proofs.lemmas.List.{map-append, take_more}
-use Rattle.std.proofs.lemmas.Option.{get_or_from_slice_get}
+use Rattle.std.proofs.lemmas.List.{map-append}
+use Rattle.vrt_model.proofs.Lists.{take_one}
 use Rattle.names.specs.Names.{with_names}
 use Rattle.names.proofs.NameLaws.{with_names-append}
 use Rattle.vrt_model.specs.Models.{OnLine, on_line}
@@ -21,10 +21,6 @@ use Rattle.blif_checks.specs.declared.mentions.Mention.{Mention}
 
 flat_end : {X Y : Type 0} (f : X → List Y) (a : List X) (x : X) → flat_map f (a ++ x ∷ []) ≡ flat_map f a ++ f x
 flat_end f a x = flat_map-append f a (x ∷ []) ∙ ap (λ r. flat_map f a ++ r) (append-nil (f x))
-
--- the items up to a place and that one
-one_further : {X : Type 0} (xs : List X) (i : ℕ) (x : X) → i < length xs → slice_get xs i ≡ Some x → take (i + 1) xs ≡ take i xs ++ x ∷ []
-one_further xs i x lt here = take_more xs i x lt ∙ ap (λ t. take i xs ++ t ∷ []) (get_or_from_slice_get xs i x x here)
 
 -- ---- mentions
 
@@ -42,14 +38,14 @@ pub more : {X : Type 0} (g : OnLine → Mention) (f : X → List OnLine) (xs : L
     → list ≡ old ++ map g (flat_map f (take i xs)) → new ≡ list ++ map g (f x) → new ≡ old ++ map g (flat_map f (take (i + 1) xs))
 more g f xs i x old list new lt here e n =
     joined g (flat_map f (take i xs)) (f x) old list new e n
-    ∙ ap (λ l. old ++ map g l) (sym (flat_end f (take i xs) x) ∙ ap (flat_map f) (sym (one_further xs i x lt here)))
+    ∙ ap (λ l. old ++ map g l) (sym (flat_end f (take i xs) x) ∙ ap (flat_map f) (sym (take_one xs i x here)))
 
 -- one mention more
 pub more_one : {X : Type 0} (g : OnLine → Mention) (f : X → OnLine) (xs : List X) (i : ℕ) (x : X) (old list new : List Mention) → i < length xs → slice_get xs i ≡ Some x
     → list ≡ old ++ map g (map f (take i xs)) → new ≡ list ++ g (f x) ∷ [] → new ≡ old ++ map g (map f (take (i + 1) xs))
 more_one g f xs i x old list new lt here e n =
     joined g (map f (take i xs)) (f x ∷ []) old list new e n
-    ∙ ap (λ l. old ++ map g l) (sym (map-append f (take i xs) (x ∷ [])) ∙ ap (map f) (sym (one_further xs i x lt here)))
+    ∙ ap (λ l. old ++ map g l) (sym (map-append f (take i xs) (x ∷ [])) ∙ ap (map f) (sym (take_one xs i x here)))
 
 -- the actual of one tie more
 pub more_actual : (g : OnLine → Mention) (line : ℕ) (ties : List Tie) (i : ℕ) (t : Tie) (old list new : List Mention) → i < length ties → slice_get ties i ≡ Some t
@@ -57,7 +53,7 @@ pub more_actual : (g : OnLine → Mention) (line : ℕ) (ties : List Tie) (i : �
     → new ≡ old ++ map g (map (on_line line) (map (λ (t : Tie). t.actual) (take (i + 1) ties)))
 more_actual g line ties i t old list new lt here e n =
     joined_line g line (map (λ (t : Tie). t.actual) (take i ties)) (t.actual ∷ []) old list new e n
-    ∙ ap (λ ns. old ++ map g (map (on_line line) ns)) (sym (map-append (λ (t : Tie). t.actual) (take i ties) (t ∷ [])) ∙ ap (map (λ (t : Tie). t.actual)) (sym (one_further ties i t lt here)))
+    ∙ ap (λ ns. old ++ map g (map (on_line line) ns)) (sym (map-append (λ (t : Tie). t.actual) (take i ties) (t ∷ [])) ∙ ap (map (λ (t : Tie). t.actual)) (sym (take_one ties i t here)))
 
 -- one mention more, if it passes
 pub more_kept : {X : Type 0} (g : OnLine → Mention) (f : X → OnLine) (p : X → Bool) (xs : List X) (i : ℕ) (x : X) (old list new : List Mention) → i < length xs → slice_get xs i ≡ Some x
@@ -65,7 +61,7 @@ pub more_kept : {X : Type 0} (g : OnLine → Mention) (f : X → OnLine) (p : X 
 more_kept g f p xs i x old list new lt here e n =
     joined g (map f (filter p (take i xs))) (map f (filter p (x ∷ []))) old list new e n
     ∙ ap (λ l. old ++ map g l)
-    (sym (map-append f (filter p (take i xs)) (filter p (x ∷ []))) ∙ ap (map f) (sym (filter-append p (take i xs) (x ∷ [])) ∙ ap (filter p) (sym (one_further xs i x lt here))))
+    (sym (map-append f (filter p (take i xs)) (filter p (x ∷ []))) ∙ ap (map f) (sym (filter-append p (take i xs) (x ∷ [])) ∙ ap (filter p) (sym (take_one xs i x here))))
 
 -- ---- names
 
@@ -76,13 +72,13 @@ pub names_more : {X : Type 0} (f : X → List (List ℕ)) (xs : List X) (i : ℕ
     → names ≡ with_names old (flat_map f (take i xs)) → new ≡ with_names names (f x) → new ≡ with_names old (flat_map f (take (i + 1) xs))
 names_more f xs i x old names new lt here e n =
     names_joined old names new (flat_map f (take i xs)) (f x) e n
-    ∙ ap (with_names old) (sym (flat_end f (take i xs) x) ∙ ap (flat_map f) (sym (one_further xs i x lt here)))
+    ∙ ap (with_names old) (sym (flat_end f (take i xs) x) ∙ ap (flat_map f) (sym (take_one xs i x here)))
 
 pub names_more_one : {X : Type 0} (f : X → List ℕ) (xs : List X) (i : ℕ) (x : X) (old names new : List (List ℕ)) → i < length xs → slice_get xs i ≡ Some x
     → names ≡ with_names old (map f (take i xs)) → new ≡ with_names names (f x ∷ []) → new ≡ with_names old (map f (take (i + 1) xs))
 names_more_one f xs i x old names new lt here e n =
     names_joined old names new (map f (take i xs)) (f x ∷ []) e n
-    ∙ ap (with_names old) (sym (map-append f (take i xs) (x ∷ [])) ∙ ap (map f) (sym (one_further xs i x lt here)))
+    ∙ ap (with_names old) (sym (map-append f (take i xs) (x ∷ [])) ∙ ap (map f) (sym (take_one xs i x here)))
 
 -- the number of a name that is not there
 pub position_none : {X : Type 0} (p : X → Bool) (xs : List X) → position p xs ≡ None → position_or_len p xs ≡ length xs

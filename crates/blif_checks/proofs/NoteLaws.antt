@@ -3,6 +3,7 @@ use Rattle.std.proofs.Common.{◌≡◌, ◌≢◌, ◌<◌, ◌≤◌, ◌++◌
 use Rattle.std.specs.Prelude.{◌==◌, filter, is_none, nat_lt, slice_get}
 use Rattle.std.specs.List.{list_any}
 use Rattle.std.proofs.lemmas.Bool.{cases_eq, cases_lt, eqb-true, lt-ltb, ltb-false, ltb-true, or_parts}
+use Rattle.std.proofs.Math.Bool.{or-false}
 use Rattle.blif_checks.specs.Notes.{AreNotes, IsNote, count_to, is_by, is_line, lines_for, no_note}
 use Rattle.blif_checks.specs.declared.mentions.Mention.{Mention}
 use Rattle.blif_checks.specs.declared.notes.Note.{Note}
@@ -43,20 +44,16 @@ or_yes : (a : Bool) → (a || true) ≡ true
 or_yes true = refl
 or_yes false = refl
 
-or_no : (a : Bool) → (a || false) ≡ a
-or_no true = refl
-or_no false = refl
-
 some_more : (b : Bool) (n : ℕ) → nat_lt 0 (cond b (suc n) n) ≡ (nat_lt 0 n || b)
 some_more true n = lt-ltb 0 (suc n) (omega arith) ∙ sym (or_yes (nat_lt 0 n))
-some_more false n = sym (or_no (nat_lt 0 n))
+some_more false n = sym (or-false (nat_lt 0 n))
 
 two_more : (b : Bool) (n : ℕ) → nat_lt 1 (cond b (suc n) n) ≡ (nat_lt 1 n || (nat_lt 0 n && b))
 two_more true n = elim (cases_lt 0 n) [
   | inl some ↦ lt-ltb 1 (suc n) (omega arith) ∙ sym (ap (λ b. nat_lt 1 n || (b && true)) (lt-ltb 0 n some) ∙ or_yes (nat_lt 1 n))
   | inr none ↦ lt_no 1 (suc n) (omega arith) ∙ sym (ap₂ (λ a b. a || (b && true)) (lt_no 1 n (omega arith)) (lt_no 0 n none))
 ]
-two_more false n = sym (ap (λ b. nat_lt 1 n || b) (and_no (nat_lt 0 n)) ∙ or_no (nat_lt 1 n))
+two_more false n = sym (ap (λ b. nat_lt 1 n || b) (and_no (nat_lt 0 n)) ∙ or-false (nat_lt 1 n))
 
 -- one driver more
 pub driven_more : (note next : Note) (line : ℕ) (driven used : List ℕ) → ((l : ℕ) → is_by next.first l ≡ (is_by note.first l || not (nat_lt l line)))
@@ -127,6 +124,18 @@ within_notes (y ∷ xs) (suc i) x e = let rest = within_notes xs i x e in omega 
 
 same_note : (a b : Note) → Some a ≡ Some b → a ≡ b
 same_note a b e = cc
+
+none_read : (count k : ℕ) (note : Note) → slice_get (replicate count no_note) k ≡ Some note → no_note ≡ note
+none_read zero k note e = cc
+none_read (suc count) zero note e = same_note no_note note e
+none_read (suc count) (suc k) note e = none_read count k note e
+
+no_lines : IsNote no_note [] []
+no_lines = record { first_is = λ l. refl; second_is = λ l. refl; used_is = λ l. refl }
+
+-- nothing is noted
+pub notes_none : (count : ℕ) → AreNotes (replicate count no_note) [] []
+notes_none count = record { each = λ k note e. subst (λ (n : Note). IsNote n [] []) (none_read count k note e) no_lines }
 
 -- a driver is noted
 pub notes_driver : (notes : List Note) (o : Mention) (old new : Note) (drivers uses : List Mention) → slice_get notes o.signal ≡ Some old

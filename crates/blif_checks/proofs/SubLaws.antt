@@ -2,9 +2,11 @@
 use Rattle.std.proofs.Common.{arith, ◌≤◌, ◌≡◌, ◌++◌, ◌∷◌, ◌||◌, ◌<◌, ◌+◌, not, [], ℕ, List, Bool, true, false, cond, map, flat_map, length, drop, take, Option, Some, None, option_map, refl, ap, ap₂, sym, ◌∙◌}
 use Rattle.std.specs.Prelude.{bytes_eq, slice_get, find, is_none}
 use Rattle.std.specs.Option.{option_or}
-use Rattle.std.proofs.lemmas.List.{drop_all, drop_more, map-append, take_more}
+use Rattle.std.proofs.lemmas.List.{drop_all, map-append, take_more}
 use Rattle.std.proofs.lemmas.List.Folds.{find-append, list_any-append}
 use Rattle.std.proofs.lemmas.Option.{get_or_from_slice_get}
+use Rattle.vrt_model.proofs.Lists.{drop_one}
+use Rattle.vrt_model.proofs.Tests.{or_swap}
 use Rattle.text_lines.specs.Faults.{first_of, when}
 use Rattle.vrt_model.specs.Lists.{distinct, has_name}
 use Rattle.names.specs.Names.{first_missing, with_name}
@@ -18,7 +20,7 @@ use Rattle.vrt_model.specs.declared.blif.Tie.{Tie}
 use Rattle.blif_checks.specs.declared.faults.ModelFault.{ModelFault}
 use Rattle.blif_checks.specs.declared.faults.ModelFault.TheVariants.{Formals, UnknownModel}
 use Rattle.blif_checks.specs.Subs.{bad_formal_in, is_bad_formal, sub_fault, subs_fault}
-use Rattle.names.proofs.NameLaws.{HaveSame, once_has_same, or_swap, with_front}
+use Rattle.names.proofs.NameLaws.{HaveSame, once_has_same, with_front}
 
 -- what ties refuse depends on the names alone
 pub bad_same : (signals others seen known tied : List (List ℕ)) → HaveSame signals others → HaveSame seen known → bad_formal_after signals seen tied ≡ bad_formal_after others known tied
@@ -50,27 +52,23 @@ first_append [] ys = refl
 first_append (None ∷ xs) ys = first_append xs ys
 first_append (Some f ∷ xs) ys = refl
 
--- the items from a place on
-pub from_place : {X : Type 0} (xs : List X) (i : ℕ) (x : X) → i < length xs → slice_get xs i ≡ Some x → drop i xs ≡ x ∷ drop (i + 1) xs
-from_place xs i x lt here = drop_more xs i x lt ∙ ap (λ y. y ∷ drop (i + 1) xs) (get_or_from_slice_get xs i x x here)
-
 -- none so far, and one here
 pub first_here : {X F : Type 0} (fault : X → Option F) (xs : List X) (i : ℕ) (x : X) (f : F) (all : Option F) → i < length xs → slice_get xs i ≡ Some x
     → first_of (map fault (drop i xs)) ≡ all → fault x ≡ Some f → all ≡ Some f
 first_here fault xs i x f all lt here so_far e =
-    sym so_far ∙ ap (λ ys. first_of (map fault ys)) (from_place xs i x lt here) ∙ ap (λ o. first_of (o ∷ map fault (drop (i + 1) xs))) e
+    sym so_far ∙ ap (λ ys. first_of (map fault ys)) (drop_one xs i x here) ∙ ap (λ o. first_of (o ∷ map fault (drop (i + 1) xs))) e
 
 -- none so far, and none here
 pub none_here : {X F : Type 0} (fault : X → Option F) (xs : List X) (i : ℕ) (x : X) (all : Option F) → i < length xs → slice_get xs i ≡ Some x
     → first_of (map fault (drop i xs)) ≡ all → fault x ≡ None → first_of (map fault (drop (i + 1) xs)) ≡ all
 none_here fault xs i x all lt here so_far e =
-    ap (λ o. first_of (o ∷ map fault (drop (i + 1) xs))) (sym e) ∙ sym (ap (λ ys. first_of (map fault ys)) (from_place xs i x lt here)) ∙ so_far
+    ap (λ o. first_of (o ∷ map fault (drop (i + 1) xs))) (sym e) ∙ sym (ap (λ ys. first_of (map fault ys)) (drop_one xs i x here)) ∙ so_far
 
 -- the same for lists in things, as the sub-models in models
 from_group : {G X F : Type 0} (fault : X → Option F) (items : G → List X) (gs : List G) (i : ℕ) (g : G) → i < length gs → slice_get gs i ≡ Some g
     → first_of (map fault (flat_map items (drop i gs))) ≡ option_or (first_of (map fault (items g))) (first_of (map fault (flat_map items (drop (i + 1) gs))))
 from_group fault items gs i g lt here =
-    ap (λ hs. first_of (map fault (flat_map items hs))) (from_place gs i g lt here) ∙ ap first_of (map-append fault (items g) (flat_map items (drop (i + 1) gs)))
+    ap (λ hs. first_of (map fault (flat_map items hs))) (drop_one gs i g here) ∙ ap first_of (map-append fault (items g) (flat_map items (drop (i + 1) gs)))
     ∙ first_append (map fault (items g)) (map fault (flat_map items (drop (i + 1) gs)))
 
 pub first_in : {G X F : Type 0} (fault : X → Option F) (items : G → List X) (gs : List G) (i : ℕ) (g : G) (f : F) (all : Option F) → i < length gs → slice_get gs i ≡ Some g
@@ -95,7 +93,7 @@ pub formals_turn : (interface seen new : List (List ℕ)) (ties : List Tie) (i :
 formals_turn interface seen new ties i tie lt here so_far good e = (
   ap (λ s. bad_formal_after interface s (map (λ (t : Tie). t.formal) (drop (i + 1) ties))) e
       ∙ formal_fits interface seen tie.formal (map (λ (t : Tie). t.formal) (drop (i + 1) ties)) good
-      ∙ ap (λ ts. bad_formal_after interface seen (map (λ (t : Tie). t.formal) ts)) (sym (from_place ties i tie lt here))
+      ∙ ap (λ ts. bad_formal_after interface seen (map (λ (t : Tie). t.formal) ts)) (sym (drop_one ties i tie here))
       ∙ so_far.0,
   λ name.
       ap (λ s. has_name s name) e ∙ with_front seen tie.formal name

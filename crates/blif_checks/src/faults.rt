@@ -1,31 +1,60 @@
 //! Why models are refused.
 
-use thiserror::Error;
+use std::error::Error;
+use std::fmt;
 use vrt_model::Text;
 
 /// Each fault but the last has the line of the card that it is about.
-#[derive(Debug, Drop, Error)]
+#[derive(Drop)]
 pub enum ModelFault {
     /// A sub-model of a name that no model has.
-    #[error("line {line}: no such model")]
     UnknownModel { line: u32, name: Text },
     /// The first tied formal that is no interface signal or stands twice, else the first input or clock that is left
     /// out.
-    #[error("line {line}: tie does not fit")]
     Formals { line: u32, name: Text },
     /// The first model that contains itself.
-    #[error("line {line}: model contains itself")]
     Recursion { line: u32, name: Text },
     /// The first model deeper than 32, with its depth.
-    #[error("line {line}: deeper than 32")]
     Depth { line: u32, depth: u32 },
     /// A signal with two drivers, at the line of the second.
-    #[error("line {line}: two drivers")]
     DrivenTwice { line: u32, name: Text },
     /// A signal that is used and not driven, at the line of its first use.
-    #[error("line {line}: no driver")]
     Undriven { line: u32, name: Text },
     /// Memory could not be had.
-    #[error("out of memory")]
     NoMemory,
 }
+
+impl ModelFault {
+    /// Its line, if it has one, and what is wrong there.
+    fn said(&self) -> (Option<u32>, &'static str) {
+        match self {
+            ModelFault::UnknownModel { line, .. } => (Some(*line), "no such model"),
+            ModelFault::Formals { line, .. } => (Some(*line), "tie does not fit"),
+            ModelFault::Recursion { line, .. } => (Some(*line), "model contains itself"),
+            ModelFault::Depth { line, .. } => (Some(*line), "deeper than 32"),
+            ModelFault::DrivenTwice { line, .. } => (Some(*line), "two drivers"),
+            ModelFault::Undriven { line, .. } => (Some(*line), "no driver"),
+            ModelFault::NoMemory => (None, "out of memory"),
+        }
+    }
+}
+
+/// Shows the line and what is wrong there.
+impl fmt::Display for ModelFault {
+    fn fmt<W: fmt::Write>(&self, f: &mut fmt::Formatter<W>) -> fmt::Result {
+        let (line, what) = self.said();
+        match line {
+            Some(line) => write!(f, "line {line}: {what}"),
+            None => f.write_str(what),
+        }
+    }
+}
+
+/// Shows what it says.
+impl fmt::Debug for ModelFault {
+    fn fmt<W: fmt::Write>(&self, f: &mut fmt::Formatter<W>) -> fmt::Result {
+        fmt::Display::fmt(self, f)
+    }
+}
+
+impl Error for ModelFault {}

@@ -10,7 +10,7 @@ use std::alloc::Global;
 use vrt_model::{BlifModel, CoverLine, LatchLine, NoMemory, Seq, SubLine, Text, Tie};
 
 /// A signal on a line, by its number.
-#[derive(Clone, Copy, Debug, PartialEq, Eq)]
+#[derive(Clone, Copy)]
 pub(crate) struct Mention {
     pub(crate) line: u32,
     pub(crate) signal: usize,

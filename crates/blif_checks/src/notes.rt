@@ -9,7 +9,7 @@ use std::alloc::Global;
 use vrt_model::NoMemory;
 
 /// The two least lines on which a signal is driven, and the least on which it is used.
-#[derive(Clone, Copy, Debug, PartialEq, Eq)]
+#[derive(Clone, Copy)]
 pub(crate) struct Note {
     pub(crate) first: Option<u32>,
     pub(crate) second: Option<u32>,
