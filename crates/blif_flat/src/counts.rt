@@ -14,7 +14,7 @@ use std::alloc::Global;
 use vrt_model::{BlifModel, NoMemory, Seq, SubLine, Text};
 
 /// What is counted: signals, rows of covers, and sub-models.
-#[derive(Clone, Copy, Debug)]
+#[derive(Clone, Copy)]
 pub(crate) enum Counted {
     Signals,
     Rows,
@@ -22,7 +22,7 @@ pub(crate) enum Counted {
 }
 
 /// A sub-model: its model's number, how many signals it has of its own, and how many rows.
-#[derive(Clone, Copy, Debug)]
+#[derive(Clone, Copy)]
 pub(crate) struct Inside {
     pub model: usize,
     pub signals: u64,
@@ -31,7 +31,7 @@ pub(crate) struct Inside {
 
 /// How many signals, rows of covers and sub-models an unrolled model has. A count past the greatest number of 64 bits
 /// is that number.
-#[derive(Clone, Copy, Debug)]
+#[derive(Clone, Copy)]
 pub(crate) struct Counts {
     pub signals: u64,
     pub rows: u64,
