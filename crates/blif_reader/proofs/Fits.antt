@@ -4,7 +4,7 @@ use Rattle.std.specs.Prelude.{All, filter, slice_get, option_and_then, option_to
 use Rattle.std.specs.List.{list_all}
 use Rattle.std.proofs.lemmas.List.{length-map}
 use Rattle.std.proofs.lemmas.List.Elements.{All-append, All-cons, All-nil}
-use Rattle.std.proofs.lemmas.Bool.{eqb-true, leb-false, le-leb, ltb-false}
+use Rattle.std.proofs.lemmas.Bool.{eqb-true, leb-false, le-leb, ltb-false, and_parts, or_parts}
 use Rattle.text_lines.specs.Faults.{IsClean, fault_at}
 use Rattle.text_lines.specs.Groups.{groups, up_to}
 use Rattle.text_lines.specs.Words.{but_last, word_at}
@@ -34,14 +34,6 @@ use Rattle.blif_reader.proofs.KnownLaws.{cover_has_dot, known_more}
 and_no : (a b : Bool) → (a && b) ≡ false → a ≡ true → b ≡ false
 and_no true b e h = e
 and_no false b e h = cc
-
-and_yes : (a b : Bool) → (a && b) ≡ true → (a ≡ true) × (b ≡ true)
-and_yes true b e = (refl, e)
-and_yes false b e = cc
-
-or_no : (a b : Bool) → (a || b) ≡ false → (a ≡ false) × (b ≡ false)
-or_no true b e = cc
-or_no false b e = (refl, e)
 
 not_no : (b : Bool) → not b ≡ false → b ≡ true
 not_no true e = refl
@@ -77,11 +69,11 @@ input_byte b e = by_tests (b == 48) (b == 49) (b == 45) (eqb-true b 48) (eqb-tru
 
 input_bytes : (bytes : List ℕ) → list_all is_input_byte bytes ≡ true → All IsInputByte bytes
 input_bytes [] e = All-nil IsInputByte
-input_bytes (b ∷ bytes) e = let both = and_yes (is_input_byte b) (list_all is_input_byte bytes) e in All-cons IsInputByte b bytes (input_byte b both.0) (input_bytes bytes both.1)
+input_bytes (b ∷ bytes) e = let both = and_parts (is_input_byte b) (list_all is_input_byte bytes) e in All-cons IsInputByte b bytes (input_byte b both.0) (input_bytes bytes both.1)
 
 row_is : (width : ℕ) (words : List (List ℕ)) → is_row width words ≡ true → IsRow width (word_at (but_last words) 0)
 row_is width [] e = cc
-row_is width (out ∷ []) e = record { length = sym (eqb-true width 0 (and_yes (width == 0) (is_output_word out) e).0); bytes = All-nil IsInputByte }
+row_is width (out ∷ []) e = record { length = sym (eqb-true width 0 (and_parts (width == 0) (is_output_word out) e).0); bytes = All-nil IsInputByte }
 row_is width (bits ∷ out ∷ []) e = parts (not (width == 0)) (length bits == width) (list_all is_input_byte bits) (is_output_word out) refl refl e where
   parts : (a b c d : Bool) → (length bits == width) ≡ b → list_all is_input_byte bits ≡ c → (a && b && c && d) ≡ true → IsRow width bits
   parts true true true d l i e = record { length = eqb-true (length bits) width l; bytes = input_bytes bits i }
@@ -129,7 +121,7 @@ on_without_rows (row ∷ rows) e = cc
 
 few_inputs : (known : Known) (card : Card) → fault_by known card ≡ None → is_cover card ≡ true → length (cover_inputs card) ≤ 1000
 few_inputs known card none h =
-    let no = (or_no (begins_model card && nat_le 4096 (length known.models)) (is_cover card && nat_lt 1000 (length (cover_inputs card))) (within_limit known card none)).1 in
+    let no = (or_parts (begins_model card && nat_le 4096 (length known.models)) (is_cover card && nat_lt 1000 (length (cover_inputs card))) (within_limit known card none)).1 in
     ltb-false 1000 (length (cover_inputs card)) (and_no (is_cover card) (nat_lt 1000 (length (cover_inputs card))) no h)
 
 covers_fit : (before body : List Card) → CleanFrom fault_of before body → All IsCoverLine (map cover_of (groups is_cover is_dotted body))
@@ -278,7 +270,7 @@ models_few before (card ∷ cards) count clean same few = by_test (begins_model 
 
   room : begins_model card ≡ true → count < 4096
   room h =
-      let no = (or_no (begins_model card && nat_le 4096 (length (known_by before).models)) (is_cover card && nat_lt 1000 (length (cover_inputs card))) (within_limit (known_by before) card clean.0)).0 in
+      let no = (or_parts (begins_model card && nat_le 4096 (length (known_by before).models)) (is_cover card && nat_lt 1000 (length (cover_inputs card))) (within_limit (known_by before) card clean.0)).0 in
       let lt : length (known_by before).models < 4096 = leb-false 4096 (length (known_by before).models) (and_no (begins_model card) (nat_le 4096 (length (known_by before).models)) no h) in
       omega (arith, same)
 

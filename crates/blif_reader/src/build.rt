@@ -1,17 +1,17 @@
 //! The models of cards.
 
-ghost use Rattle.std.specs.Prelude.{◌≡◌, ◌++◌, ◌∷◌, map, IfOk, OnOk};
+ghost use Rattle.std.specs.Prelude.{◌≡◌, ◌++◌, ◌∷◌, filter, flat_map, map, IfOk, OnOk};
 ghost use Rattle.text_lines.specs.Groups.{groups, up_to};
-ghost use Rattle.blif_reader.specs.Models.{begins_model, blif_of, ends_model, model_of};
+ghost use Rattle.blif_reader.specs.Models.{begins_model, blif_of, cover_of, ends_model, is_cover, is_dotted, is_sub, latches_in, model_of, sub_of};
 
 use crate::cards::Card;
 use crate::covers::covers_of;
 use crate::latches::latches_of;
-use crate::signals::{lines_of, list_signals, names_of};
+use crate::signals::signals_of;
 use crate::subs::subs_of;
 use crate::words::{name_of, opens, shuts};
 use std::alloc::Global;
-use vrt_model::{Blif, BlifModel, NoMemory, Seq, Text};
+use vrt_model::{Blif, BlifModel, CoverLine, LatchLine, NoMemory, Seq, SubLine, Text};
 
 /// The cards before the end of a model.
 fn before_end(cards: &[Card]) -> &[Card]
@@ -27,25 +27,40 @@ fn before_end(cards: &[Card]) -> &[Card]
     cards
 }
 
-/// The model of its first card and the cards up to its end.
+/// The covers, the latches and the sub-models on cards.
+fn parts_of(
+    alloc: Global,
+    body: &[Card],
+) -> Result<(Seq<CoverLine>, Seq<LatchLine>, Seq<SubLine>), NoMemory>
+    ensures { IfOk result (λ three. (three.0 ≡ map cover_of (groups is_cover is_dotted body.now)) × (three.1 ≡ flat_map latches_in body.now) × (three.2 ≡ map sub_of (filter is_sub body.now))) }
+{
+    let covers = covers_of(alloc, body)?;
+    let latches = latches_of(alloc, body)?;
+    let subs = subs_of(alloc, body)?;
+    Ok((covers, latches, subs))
+}
+
+/// The model of its first card and the cards up to its end. What has the most parts comes last.
 fn model(alloc: Global, first: &Card, body: &[Card]) -> Result<BlifModel, NoMemory>
     ensures { IfOk result (λ m. m ≡ model_of (first.now, body.now)) }
 {
-    let inputs = list_signals(alloc, b".inputs".as_slice(), body)?;
-    let clocks = list_signals(alloc, b".clock".as_slice(), body)?;
-    let outputs = list_signals(alloc, b".outputs".as_slice(), body)?;
+    let name = Text::from_bytes(alloc, name_of(first))?;
+    let (inputs, input_lines) = signals_of(alloc, b".inputs".as_slice(), body)?;
+    let (clocks, clock_lines) = signals_of(alloc, b".clock".as_slice(), body)?;
+    let (outputs, output_lines) = signals_of(alloc, b".outputs".as_slice(), body)?;
+    let (covers, latches, subs) = parts_of(alloc, body)?;
     Ok(BlifModel {
         line: first.line,
-        name: Text::from_bytes(alloc, name_of(first))?,
-        inputs: names_of(alloc, inputs.as_slice())?,
-        input_lines: lines_of(alloc, inputs.as_slice())?,
-        clocks: names_of(alloc, clocks.as_slice())?,
-        clock_lines: lines_of(alloc, clocks.as_slice())?,
-        outputs: names_of(alloc, outputs.as_slice())?,
-        output_lines: lines_of(alloc, outputs.as_slice())?,
-        covers: covers_of(alloc, body)?,
-        latches: latches_of(alloc, body)?,
-        subs: subs_of(alloc, body)?,
+        name,
+        inputs,
+        input_lines,
+        clocks,
+        clock_lines,
+        outputs,
+        output_lines,
+        covers,
+        latches,
+        subs,
     })
 }
 

@@ -70,7 +70,12 @@ fn is_bit(word: &[u8]) -> bool
 fn are_inputs(bits: &[u8]) -> bool
     ensures { result ≡ list_all is_input_byte bits.now }
 {
-    bits.iter().all(|b| is_bit_or_dash(*b))
+    for b in bits {
+        if !is_bit_or_dash(*b) {
+            return false;
+        }
+    }
+    true
 }
 
 /// Whether words are a row of a cover with so many inputs.
@@ -138,7 +143,12 @@ fn is_latch_refused(card: &Card) -> bool
 fn has_bad_tie_among(words: &[Text]) -> bool
     ensures { result ≡ list_any is_bad_tie words.now }
 {
-    words.iter().any(|word| is_bad_tie_word(word.as_bytes()))
+    for word in words {
+        if is_bad_tie_word(word.as_bytes()) {
+            return true;
+        }
+    }
+    false
 }
 
 fn has_tie_refused(card: &Card) -> bool

@@ -88,7 +88,7 @@ fn add_card(
 }
 
 /// The signals that the cards of this first word list, each once.
-pub fn list_signals(alloc: Global, word: &[u8], body: &[Card]) -> Result<Seq<Listed>, NoMemory>
+fn list_signals(alloc: Global, word: &[u8], body: &[Card]) -> Result<Seq<Listed>, NoMemory>
     ensures { IfOk result (λ found. found ≡ listed word.now body.now) }
 {
     let mut seen = Names::new(alloc);
@@ -100,7 +100,7 @@ pub fn list_signals(alloc: Global, word: &[u8], body: &[Card]) -> Result<Seq<Lis
 }
 
 /// The names of signals.
-pub fn names_of(alloc: Global, signals: &[Listed]) -> Result<Seq<Text>, NoMemory>
+fn names_of(alloc: Global, signals: &[Listed]) -> Result<Seq<Text>, NoMemory>
     ensures { IfOk result (λ texts. texts ≡ names signals.now) }
 {
     let mut texts = Seq::new(alloc);
@@ -114,7 +114,7 @@ pub fn names_of(alloc: Global, signals: &[Listed]) -> Result<Seq<Text>, NoMemory
 }
 
 /// The lines of signals.
-pub fn lines_of(alloc: Global, signals: &[Listed]) -> Result<Seq<u32>, NoMemory>
+fn lines_of(alloc: Global, signals: &[Listed]) -> Result<Seq<u32>, NoMemory>
     ensures { IfOk result (λ numbers. numbers ≡ lines signals.now) }
 {
     let mut numbers = Seq::new(alloc);
@@ -124,4 +124,18 @@ pub fn lines_of(alloc: Global, signals: &[Listed]) -> Result<Seq<u32>, NoMemory>
         }
     }
     Ok(numbers)
+}
+
+/// The signals that the cards of this first word list, each once, and the line that lists each first.
+pub fn signals_of(
+    alloc: Global,
+    word: &[u8],
+    body: &[Card],
+) -> Result<(Seq<Text>, Seq<u32>), NoMemory>
+    ensures { IfOk result (λ two. (two.0 ≡ names (listed word.now body.now)) × (two.1 ≡ lines (listed word.now body.now))) }
+{
+    let found = list_signals(alloc, word, body)?;
+    let texts = names_of(alloc, found.as_slice())?;
+    let numbers = lines_of(alloc, found.as_slice())?;
+    Ok((texts, numbers))
 }
