@@ -28,7 +28,6 @@ fn rules_of(alloc: Global, cards: &[Card]) -> Result<Rules, RulesFault>
 
 /// Reads a rules file. The text has at most 16,777,216 bytes. It takes time and memory in proportion to them, but for
 /// lines of a `keeper` or a `phase` with a long name, which is copied for each word behind it.
-#[tactic(auto, using(crate::proofs::Fits::fits))]
 pub fn read_rules(alloc: Global, text: &[u8]) -> Result<Rules, RulesFault>
     requires { length text.now ≤ 16777216 }
     // Taken only where no fault stands, and then these are the rules of the lines.
