@@ -1,9 +1,10 @@
 -- The channels that the rounds go over are those of the conducting devices of the circuit's network.
-use Rattle.std.proofs.Common.{◌≡◌, ℕ, Bool, true, false, List, [], length, map, ap, refl, sym, subst, ◌∙◌}
-use Rattle.std.specs.Prelude.{All, ◌↔◌, filter, option_map, slice_index_or}
+use Rattle.std.proofs.Common.{◌≡◌, ℕ, Bool, true, false, List, [], length, refl, sym, subst, ◌∙◌}
+use Rattle.std.specs.Prelude.{All, ◌↔◌, filter, slice_index_or}
 use Rattle.std.proofs.lemmas.Bool.{and_from, and_parts}
-use Rattle.std.proofs.lemmas.Option.{slice_get-get_or, slice_get-map, unwrap_or-slice_get}
+use Rattle.std.proofs.lemmas.Option.{slice_get-get_or, unwrap_or-slice_get}
 use Rattle.vrt_model.proofs.Filtered.{among_devices, among_kept, device_among, filter_among}
+use Rattle.vrt_model.proofs.Lists.{map_among}
 use Rattle.vrt_model.proofs.Members.{all_among, among_map}
 use Rattle.vrt_model.proofs.Networks.{flat_outputs}
 use Rattle.vrt_model.specs.Circuits.{IsDevice, IsFlat}
@@ -14,9 +15,6 @@ use Rattle.vrt_model.specs.declared.circuit.Circuit.{Circuit}
 use Rattle.vrt_model.specs.declared.circuit.Device.{Device}
 use Rattle.plain_paths.specs.Channels.{HasChannels, IsOver, IsInRange, channel_of, channels_of, is_on}
 use Rattle.plain_paths.specs.declared.channels.Channel.{Channel}
-
-among_image : {X Y : Type 0} (f : X → Y) (xs : List X) (x : X) → Among xs x → Among (map f xs) (f x)
-among_image f xs x m = (m.0, slice_get-map f xs m.0 ∙ ap (option_map f) m.1)
 
 -- a channel is that of a device of the circuit
 channel_from : (c : Circuit) (bare : Bool) (reading : ℕ → Bool) (ch : Channel) → Among (channels_of bare reading c) ch
@@ -42,7 +40,7 @@ network_channels c bare held s = record {
       (from.0, (among_devices bare c from.0 from.1 parts.0, parts.1), from.3);
   all = λ d on.
       let h = device_among bare c d on.0 in
-      among_image channel_of (filter (is_on bare s.reading) c.devices) d
+      map_among channel_of (filter (is_on bare s.reading) c.devices) d
       (among_kept (is_on bare s.reading) c.devices d h.0 (and_from (is_in bare d) (conducts s.reading d) h.1 on.1));
 }
 

@@ -8,7 +8,7 @@ use std::alloc::Global;
 use vrt_model::{Circuit, Device, Kind, NoMemory};
 
 /// The channel of a conducting device. It passes signals of at most its level between two nets, in both directions.
-#[derive(Clone, Copy, Debug, PartialEq, Eq)]
+#[derive(Clone, Copy)]
 pub(crate) struct Channel {
     pub(crate) left: u32,
     pub(crate) right: u32,

@@ -14,7 +14,7 @@ use std::alloc::Global;
 use vrt_model::{Circuit, NoMemory};
 
 /// What a net shows: both values reach it, neither does, or the one that does.
-#[derive(Clone, Copy, Debug, PartialEq, Eq)]
+#[derive(Clone, Copy, Debug)]
 pub enum Response {
     /// Clear paths from roots of both values end at the net.
     Fight,
