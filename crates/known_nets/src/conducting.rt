@@ -39,7 +39,7 @@ fn is_input_net(net: &FlatNet) -> bool
 }
 
 /// Whether a net is there and an input.
-pub(crate) fn is_input(circuit: &Circuit, net: usize) -> bool
+pub fn is_input(circuit: &Circuit, net: usize) -> bool
     ensures { result ≡ is_input_at circuit.now net }
 {
     match circuit.nets.get(net) {

@@ -6,7 +6,7 @@ ghost use Rattle.vrt_model.specs.Reading.{clock_bit};
 ghost use Rattle.vrt_model.specs.declared.circuit.FlatNet.{FlatNet as FlatNetValue};
 
 use std::alloc::Global;
-use vrt_model::{Circuit, ClockRef, FlatNet, NetKind, NoMemory, Phase};
+use vrt_model::{ClockRef, FlatNet, NetKind, NoMemory, Phase};
 
 /// The bit of a carried clock in a phase.
 fn bit_of_clock(phase: &Phase, clock: ClockRef) -> bool
@@ -34,14 +34,16 @@ fn fixed_bit(phase: &Phase, net: &FlatNet) -> Option<bool>
 /// The bits of the supplies and the clock ports, by net.
 pub(crate) fn fixed_bits(
     alloc: Global,
-    circuit: &Circuit,
+    nets: &[FlatNet],
     phase: &Phase,
 ) -> Result<Vec<Option<bool>>, NoMemory>
-    ensures { IfOk result (λ t. t.items ≡ map (λ (net : FlatNetValue). fixed_bit_of phase.now net.kind) circuit.now.nets) }
+    ensures { IfOk result (λ t. t.items ≡ map (λ (net : FlatNetValue). fixed_bit_of phase.now net.kind) nets.now) }
 {
-    let nets = circuit.nets.as_slice().iter();
-    match nets.map(|net| fixed_bit(phase, net)).collect(alloc) {
-        Ok(bits) => Ok(bits),
-        Err(_) => Err(NoMemory),
+    let mut bits = Vec::new(alloc);
+    for net in nets {
+        let Ok(()) = bits.push(fixed_bit(phase, net)) else {
+            return Err(NoMemory);
+        };
     }
+    Ok(bits)
 }

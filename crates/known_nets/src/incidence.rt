@@ -1,12 +1,13 @@
 //! The devices of a circuit by net: those whose channels end there and those that the net gates; and the nets with holds.
 
-ghost use Rattle.std.specs.Prelude.{◌≡◌, ℕ, ◌<◌, ◌⊎◌, false, true, length, replicate, IfOk};
+ghost use Rattle.std.specs.Prelude.{◌≡◌, ℕ, ◌<◌, ◌⊎◌, true, length, IfOk};
 ghost use Rattle.known_nets.specs.Incidence.{AreHeldMarks, HasEnds, HasGates, IsIncidence, IsOtherEnd};
 ghost use Rattle.vrt_model.specs.Circuits.{IsFlat};
 ghost use Rattle.vrt_model.specs.Known.{IsHeld};
 ghost use Rattle.vrt_model.specs.Lists.{At, MarksGrow, mark_at};
 ghost use Rattle.vrt_model.specs.declared.circuit.Hold.{Hold as HoldValue};
 
+use crate::marks::no_marks;
 use crate::placing::{lead, no_groups};
 use std::alloc::Global;
 use vrt_model::{Circuit, Device, NoMemory, Seq};
@@ -69,16 +70,6 @@ fn devices_by_gate(alloc: Global, circuit: &Circuit) -> Result<Vec<Seq<u32>>, No
     Ok(gates)
 }
 
-/// As many marks as there are nets, none of them set.
-pub(crate) fn no_marks(alloc: Global, count: usize) -> Result<Vec<bool>, NoMemory>
-    ensures { IfOk result (λ t. t.items ≡ replicate count false) }
-{
-    match vec![in alloc; false; count] {
-        Ok(marks) => Ok(marks),
-        Err(_) => Err(NoMemory),
-    }
-}
-
 /// Sets a mark.
 fn mark(marks: &mut [bool], at: usize)
     requires { at < length marks.old }
@@ -102,7 +93,7 @@ fn mark_holds(circuit: &Circuit, marks: &mut [bool])
 }
 
 /// The nets with holds, by net.
-fn held_nets(alloc: Global, circuit: &Circuit) -> Result<Vec<bool>, NoMemory>
+pub fn held_nets(alloc: Global, circuit: &Circuit) -> Result<Vec<bool>, NoMemory>
     requires { IsFlat circuit.now }
     ensures { IfOk result (λ t. AreHeldMarks circuit.now t.items) }
 {

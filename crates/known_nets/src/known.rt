@@ -41,11 +41,15 @@ impl Search {
         ensures { IfOk result (IsBegun circuit.now phase.now) }
     {
         let count = circuit.nets.len();
+        let known = fixed_bits(alloc, circuit.nets.as_slice(), phase)?;
+        let waiting = Waiting::none(alloc, count)?;
+        let inside = Amounts::none(alloc, count)?;
+        let tables = Tables::none(alloc, count)?;
         Ok(Search {
-            known: fixed_bits(alloc, circuit, phase)?,
-            waiting: Waiting::none(alloc, count)?,
-            inside: Amounts::none(alloc, count)?,
-            tables: Tables::none(alloc, count)?,
+            known,
+            waiting,
+            inside,
+            tables,
         })
     }
 

@@ -14,6 +14,7 @@ use crate::amounts::Amounts;
 use crate::conducting::{conduction, is_input};
 use crate::incidence::{Incidence, other_end};
 use crate::lists::copied;
+use crate::marks::is_marked;
 use crate::spread::{Spread, Spreading, spread_from};
 use std::alloc::Global;
 use vrt_model::{Circuit, Device, NoMemory};
@@ -82,13 +83,6 @@ fn all_keep_shut(circuit: &Circuit, known: &[Option<bool>], numbers: &[u32], net
         }
     }
     true
-}
-
-/// Whether a net is marked.
-fn is_marked(marks: &[bool], net: usize) -> bool
-    ensures { result ≡ mark_at marks.now net }
-{
-    if net < marks.len() { marks[net] } else { false }
 }
 
 /// Whether the region of a plain net may be shut as far as its hold and the devices at it go.

@@ -19,7 +19,7 @@ use vrt_model::{Circuit, Device, NoMemory, Seq};
 const SOURCE_LEVEL: u8 = 8;
 
 /// What spreads, as an amount at each net.
-#[derive(Clone, Copy, Debug, PartialEq, Eq)]
+#[derive(Clone, Copy)]
 pub(crate) enum Spread {
     /// 1 at the nets that are joined to those at which it begins.
     Joined,

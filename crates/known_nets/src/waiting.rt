@@ -9,8 +9,8 @@ ghost use Rattle.vrt_model.specs.Path.{Joins};
 ghost use Rattle.vrt_model.specs.declared.circuit.Device.{Device as DeviceValue};
 
 use crate::conducting::is_plain;
-use crate::incidence::no_marks;
 use crate::lists::append;
+use crate::marks::no_marks;
 use std::alloc::Global;
 use vrt_model::{Circuit, NoMemory};
 
