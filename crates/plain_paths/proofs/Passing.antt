@@ -1,7 +1,9 @@
 -- The channels that the rounds go over are those of the conducting devices of the circuit's network.
-use Rattle.std.proofs.Common.{◌≡◌, ℕ, Bool, true, false, List, [], length, refl, sym, subst, ◌∙◌}
+use Rattle.std.proofs.Common.{◌≡◌, ℕ, Bool, true, false, List, [], ◌∷◌, ◌++◌, length, map, ap, refl, sym, subst, ◌∙◌}
 use Rattle.std.specs.Prelude.{All, ◌↔◌, filter, slice_index_or}
 use Rattle.std.proofs.lemmas.Bool.{and_from, and_parts}
+use Rattle.std.proofs.lemmas.List.{map-append}
+use Rattle.std.proofs.lemmas.List.Elements.{filter-append}
 use Rattle.std.proofs.lemmas.Option.{slice_get-get_or, unwrap_or-slice_get}
 use Rattle.vrt_model.proofs.Filtered.{among_devices, among_kept, device_among, filter_among}
 use Rattle.vrt_model.proofs.Lists.{map_among}
@@ -13,8 +15,15 @@ use Rattle.vrt_model.specs.Reading.{conducts, is_in}
 use Rattle.vrt_model.specs.State.{State, network_of}
 use Rattle.vrt_model.specs.declared.circuit.Circuit.{Circuit}
 use Rattle.vrt_model.specs.declared.circuit.Device.{Device}
-use Rattle.plain_paths.specs.Channels.{HasChannels, IsOver, IsInRange, channel_of, channels_of, is_on}
+use Rattle.plain_paths.specs.Channels.{HasChannels, IsOver, IsInRange, channel_of, channels_of, channels_over, is_on}
 use Rattle.plain_paths.specs.declared.channels.Channel.{Channel}
+
+-- the channels of one device more
+pub channels_last : (bare : Bool) (reading : ℕ → Bool) (devices : List Device) (d : Device)
+    → channels_over bare reading devices ++ channels_over bare reading (d ∷ []) ≡ channels_over bare reading (devices ++ d ∷ [])
+channels_last bare reading devices d =
+    sym (map-append channel_of (filter (is_on bare reading) devices) (filter (is_on bare reading) (d ∷ [])))
+    ∙ ap (map channel_of) (sym (filter-append (is_on bare reading) devices (d ∷ [])))
 
 -- a channel is that of a device of the circuit
 channel_from : (c : Circuit) (bare : Bool) (reading : ℕ → Bool) (ch : Channel) → Among (channels_of bare reading c) ch

@@ -14,8 +14,12 @@ is_on bare reading d = is_in bare d && conducts reading d
 abbrev pub channel_of : Device → Channel
 channel_of d = record { left = d.left.0; right = d.right.0; level = d.level }
 
+-- the channels of those of some devices that conduct
+abbrev pub channels_over : Bool → (ℕ → Bool) → List Device → List Channel
+channels_over bare reading devices = map channel_of (filter (is_on bare reading) devices)
+
 abbrev pub channels_of : Bool → (ℕ → Bool) → Circuit → List Channel
-channels_of bare reading c = map channel_of (filter (is_on bare reading) c.devices)
+channels_of bare reading c = channels_over bare reading c.devices
 
 -- the nets of a channel are below a count
 abbrev pub IsInRange : ℕ → Channel → Type 0

@@ -1,7 +1,7 @@
 //! The channels of the devices that conduct.
 
-ghost use Rattle.std.specs.Prelude.{◌≡◌, IfOk};
-ghost use Rattle.plain_paths.specs.Channels.{channel_of, channels_of, is_on};
+ghost use Rattle.std.specs.Prelude.{◌≡◌, ◌++◌, ◌∷◌, [], IfOk, OnOk};
+ghost use Rattle.plain_paths.specs.Channels.{channel_of, channels_of, channels_over, is_on};
 ghost use Rattle.vrt_model.specs.Lists.{bit_at};
 
 use std::alloc::Global;
@@ -51,6 +51,31 @@ impl Channel {
     }
 }
 
+/// Adds a channel at the end.
+fn append(channels: &mut Vec<Channel>, channel: Channel) -> Result<(), NoMemory>
+    ensures { OnOk result (channels.new.items ≡ channels.old.items ++ channel ∷ []) }
+{
+    match channels.push(channel) {
+        Ok(()) => Ok(()),
+        Err(_) => Err(NoMemory),
+    }
+}
+
+/// Adds the channel of a device, where it conducts.
+fn add(
+    device: &Device,
+    bare: bool,
+    reading: &[bool],
+    channels: &mut Vec<Channel>,
+) -> Result<(), NoMemory>
+    ensures { OnOk result (channels.new.items ≡ channels.old.items ++ channels_over bare (bit_at reading.now) (device.now ∷ [])) }
+{
+    if !is_on(device, bare, reading) {
+        return Ok(());
+    }
+    append(channels, Channel::through(device))
+}
+
 /// The channels of the devices that conduct at a reading, in the bare or the kept circuit.
 pub(crate) fn channels(
     alloc: Global,
@@ -60,13 +85,9 @@ pub(crate) fn channels(
 ) -> Result<Vec<Channel>, NoMemory>
     ensures { IfOk result (λ t. t.items ≡ channels_of bare (bit_at reading.now) circuit.now) }
 {
-    let devices = circuit.devices.as_slice().iter();
-    match devices
-        .filter(|device| is_on(device, bare, reading))
-        .map(Channel::through)
-        .collect(alloc)
-    {
-        Ok(channels) => Ok(channels),
-        Err(_) => Err(NoMemory),
+    let mut channels = Vec::new(alloc);
+    for device in circuit.devices.as_slice() {
+        add(device, bare, reading, &mut channels)?;
     }
+    Ok(channels)
 }
