@@ -1,5 +1,5 @@
 -- Parts that are made of groups, by the least nets of parts in their order, are the parts of the circuit in their order.
-use Rattle.std.proofs.Common.{◌≡◌, ℕ, zero, suc, ◌<◌, ◌≤◌, ◌⊎◌, Bool, true, false, cond, List, [], ◌∷◌, ◌++◌, ◌+◌, length, None, Option, Some, get_or, replicate, slice_index, take, arith, ap, subst, sym, refl, ◌∙◌, inl, inr}
+use Rattle.std.proofs.Common.{◌≡◌, ℕ, zero, suc, ◌<◌, ◌≤◌, ◌⊎◌, Bool, true, false, cond, List, [], ◌∷◌, ◌++◌, ◌+◌, length, None, Option, Some, get_or, replicate, slice_index, arith, ap, subst, sym, refl, ◌∙◌, inl, inr}
 use Rattle.std.specs.Prelude.{◌↔◌, ◌&&◌, filter, option_map, slice_get, unwrap_or}
 use Rattle.std.specs.List.{IsDistinct, AllByRecursion}
 use Rattle.std.specs.List.Sorted.{IsSorted}
@@ -10,8 +10,8 @@ use Rattle.std.specs.declared.cmp.Ordering.TheVariants.{Less, Equal, Greater}
 use Rattle.std.proofs.lemmas.Bool.{and_from, and_parts, cases_Bool, cases_lt, cond-false, cond-true, eq-eqb, eqb-true, false≢true}
 use Rattle.std.proofs.lemmas.Cmp.{nat_cmp_total, on_total, then_total}
 use Rattle.std.proofs.Math.Path.{fun_ext}
-use Rattle.std.proofs.Math.Seq.{take-suc}
-use Rattle.std.proofs.lemmas.List.{get_or-replicate, get_or_past, length-append, length-replicate}
+use Rattle.std.proofs.lemmas.List.{append-nil, get_or-replicate, get_or_past, length-append, length-replicate}
+use Rattle.std.proofs.lemmas.List.Elements.{filter-append}
 use Rattle.std.proofs.lemmas.List.MinMax.{ranks_by}
 use Rattle.std.proofs.lemmas.List.Sorted.{sorted_far}
 use Rattle.std.proofs.lemmas.Option.{get_or_from_slice_get, none-some, same_Some, slice_get_within}
@@ -119,11 +119,11 @@ heads_rise c ranks least nets order i j x y p q lt =
     (distinct_at nets order.distinct found.0 found.1 x y found.2 found.3 found.4)
     (sorted_at nets order.sorted found.0 found.1 x y found.2 found.3 (omega (arith, less)))
 
--- a least net is a net of the circuit
-pub head_inside : (c : Circuit) (ranks least : List ℕ) (order : List ((ℕ × ℕ) × ℕ)) → AreInOrder c ranks least order → (i : ℕ) (head : (ℕ × ℕ) × ℕ) → At (filter is_head order) i head → head.1 < length c.nets
-head_inside c ranks least order are i head at =
-    let plain = (are.each head (filter_among is_head order head (i, at)).0).0 in
-    slice_get_within c.nets head.1 plain.0 plain.1
+-- what is in the order is a net of the circuit
+pub pair_inside : (c : Circuit) (ranks least : List ℕ) (order : List ((ℕ × ℕ) × ℕ)) → AreInOrder c ranks least order → (i : ℕ) (pair : (ℕ × ℕ) × ℕ) → At order i pair → pair.1 < length c.nets
+pair_inside c ranks least order are i pair at =
+    let plain = (are.each pair (i, at)).0 in
+    slice_get_within c.nets pair.1 plain.0 plain.1
 
 -- ---- a part more
 
@@ -141,12 +141,21 @@ made_last nets devices heads list head part are made = record {
   ];
 }
 
-pub made_more : (nets devices : List (List ℕ)) (heads : List ((ℕ × ℕ) × ℕ)) (list : List Part) (i : ℕ) (d : (ℕ × ℕ) × ℕ) (part : Part) → i < length heads → AreMade nets devices (take i heads) list
-    → IsMade nets devices (get_or heads i d) part → AreMade nets devices (take (i + 1) heads) (list ++ part ∷ [])
-made_more nets devices heads list i d part lt are made =
-    let next : suc i ≡ i + 1 = omega arith in
-    subst (λ (hs : List ((ℕ × ℕ) × ℕ)). AreMade nets devices hs (list ++ part ∷ [])) (sym (take-suc heads i d lt) ∙ ap (λ (k : ℕ). take k heads) next)
-    (made_last nets devices (take i heads) list (get_or heads i d) part are made)
+-- the next in the order is a least net
+pub made_head : (nets devices : List (List ℕ)) (order : List ((ℕ × ℕ) × ℕ)) (list : List Part) (head : (ℕ × ℕ) × ℕ) (part : Part) → is_head head ≡ true
+    → AreMade nets devices (filter is_head order) list → IsMade nets devices head part → AreMade nets devices (filter is_head (order ++ head ∷ [])) (list ++ part ∷ [])
+made_head nets devices order list head part is are made =
+    let heads = filter is_head order in
+    let more : filter is_head (order ++ head ∷ []) ≡ heads ++ head ∷ [] = filter-append is_head order (head ∷ []) ∙ ap (λ (b : Bool). heads ++ cond b (head ∷ []) []) is in
+    subst (λ (hs : List ((ℕ × ℕ) × ℕ)). AreMade nets devices hs (list ++ part ∷ [])) (sym more) (made_last nets devices heads list head part are made)
+
+-- and one that is not
+pub made_other : (nets devices : List (List ℕ)) (order : List ((ℕ × ℕ) × ℕ)) (list : List Part) (pair : (ℕ × ℕ) × ℕ) → is_head pair ≡ false
+    → AreMade nets devices (filter is_head order) list → AreMade nets devices (filter is_head (order ++ pair ∷ [])) list
+made_other nets devices order list pair is are =
+    let heads = filter is_head order in
+    let same : filter is_head (order ++ pair ∷ []) ≡ heads = filter-append is_head order (pair ∷ []) ∙ (ap (λ (b : Bool). heads ++ cond b (pair ∷ []) []) is ∙ append-nil heads) in
+    subst (λ (hs : List ((ℕ × ℕ) × ℕ)). AreMade nets devices hs list) (sym same) are
 
 -- ---- ranks are the same all over a part
 

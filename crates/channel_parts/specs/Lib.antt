@@ -1,10 +1,14 @@
+pub mod ClassTests
+pub mod Classes
 pub mod Groups
 pub mod Labels
+pub mod LinkedParts
 pub mod Listings
 pub mod NetGraphs
 pub mod OneSolution
 pub mod Orders
 pub mod PartLists
+pub mod PhaseTables
 pub mod Ranks
 pub mod Sources
 pub mod Unions

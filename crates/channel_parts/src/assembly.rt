@@ -1,6 +1,6 @@
 //! The channel-connected parts of a circuit with their devices, by rank.
 
-ghost use Rattle.std.specs.Prelude.{◌≡◌, ℕ, ◌<◌, ◌++◌, ◌∷◌, [], Ok, Err, false, true, filter, length, replicate, slice_index, IfOk, OnOk};
+ghost use Rattle.std.specs.Prelude.{◌≡◌, ℕ, ◌<◌, ◌++◌, ◌∷◌, [], Ok, Err, List, false, true, filter, length, replicate, slice_index, IfOk, OnOk};
 ghost use Rattle.channel_parts.specs.Groups.{AreMade, IsMade, is_head};
 ghost use Rattle.channel_parts.specs.Labels.{IsLeastTogether};
 ghost use Rattle.channel_parts.specs.PartLists.{AreParts, PartsGive, device_numbers, net_numbers};
@@ -12,6 +12,7 @@ ghost use Rattle.vrt_model.specs.declared.rules.Phase.{Phase as PhaseValue};
 
 use crate::cycle::search_all;
 use crate::grouping::{devices_by_part, nets_by_part};
+use crate::known_bits::copied;
 use crate::least::least_nets;
 use crate::listing::in_order;
 use crate::part::{Part, PartFault, Parts};
@@ -26,9 +27,7 @@ fn nets_of(alloc: Global, numbers: &[u32]) -> Result<Seq<Net>, NoMemory>
 {
     let mut nets = Seq::new(alloc);
     for number in numbers {
-        let Ok(()) = nets.push(Net(*number)) else {
-            return Err(NoMemory);
-        };
+        nets.append(Net(*number))?;
     }
     Ok(nets)
 }
@@ -39,24 +38,9 @@ fn devices_of(alloc: Global, numbers: &[u32]) -> Result<Seq<Dev>, NoMemory>
 {
     let mut devices = Seq::new(alloc);
     for number in numbers {
-        let Ok(()) = devices.push(Dev(*number)) else {
-            return Err(NoMemory);
-        };
+        devices.append(Dev(*number))?;
     }
     Ok(devices)
-}
-
-/// A copy of the bits of known nets.
-fn copied(alloc: Global, known: &[Option<bool>]) -> Result<Seq<Option<bool>>, NoMemory>
-    ensures { IfOk result (λ copy. copy ≡ known.now) }
-{
-    let mut copy = Seq::new(alloc);
-    for bit in known {
-        let Ok(()) = copy.push(*bit) else {
-            return Err(NoMemory);
-        };
-    }
-    Ok(copy)
 }
 
 /// As many ranks of 0 as there are nets.
@@ -65,20 +49,6 @@ fn zeros(alloc: Global, count: usize) -> Result<Vec<usize>, NoMemory>
 {
     match vec![in alloc; 0; count] {
         Ok(ranks) => Ok(ranks),
-        Err(_) => Err(NoMemory),
-    }
-}
-
-/// Those of some nets that are the least of their parts.
-fn heads(
-    alloc: Global,
-    nets: &[((usize, usize), usize)],
-) -> Result<Vec<((usize, usize), usize)>, NoMemory>
-    ensures { IfOk result (λ t. t.items ≡ filter is_head nets.now) }
-{
-    let all = nets.iter().copied();
-    match all.filter(|pair| pair.0.1 == pair.1).collect(alloc) {
-        Ok(heads) => Ok(heads),
         Err(_) => Err(NoMemory),
     }
 }
@@ -104,31 +74,47 @@ fn part_of(
     })
 }
 
-/// Adds a part at the end.
-fn append(list: &mut Seq<Part>, part: Part) -> Result<(), NoMemory>
-    ensures { OnOk result (list.new ≡ list.old ++ part ∷ []) }
+/// Whether a net is the least of its part.
+fn is_head(pair: ((usize, usize), usize)) -> bool
+    ensures { result ≡ is_head pair }
 {
-    match list.push(part) {
-        Ok(()) => Ok(()),
-        Err(_) => Err(NoMemory),
-    }
+    pair.0.1 == pair.1
 }
 
-/// The parts of the least nets, in their order.
+/// Adds the part of a net at the end, where the net is the least of its part.
+fn add_part(
+    alloc: Global,
+    pair: ((usize, usize), usize),
+    nets: &[Seq<u32>],
+    devices: &[Seq<u32>],
+    list: &mut Seq<Part>,
+) -> Result<(), NoMemory>
+    requires nets { pair.1 < length nets.now }
+    requires devices { pair.1 < length devices.now }
+    ensures { OnOk result ((order : List ((ℕ × ℕ) × ℕ)) → AreMade nets.now devices.now (filter is_head order) list.old → AreMade nets.now devices.now (filter is_head (order ++ pair ∷ [])) list.new) }
+{
+    if !is_head(pair) {
+        return Ok(());
+    }
+    let part = part_of(alloc, pair, nets, devices)?;
+    list.append(part)?;
+    Ok(())
+}
+
+/// The parts of those of some nets that are the least of their parts, in their order.
 fn parts_of(
     alloc: Global,
-    heads: &[((usize, usize), usize)],
+    order: &[((usize, usize), usize)],
     nets: &[Seq<u32>],
     devices: &[Seq<u32>],
 ) -> Result<Seq<Part>, NoMemory>
-    requires nets { (i : ℕ) (head : (ℕ × ℕ) × ℕ) → At heads.now i head → head.1 < length nets.now }
+    requires nets { (i : ℕ) (pair : (ℕ × ℕ) × ℕ) → At order.now i pair → pair.1 < length nets.now }
     requires devices { length devices.now ≡ length nets.now }
-    ensures { IfOk result (λ list. AreMade nets.now devices.now heads.now list) }
+    ensures { IfOk result (λ list. AreMade nets.now devices.now (filter is_head order.now) list) }
 {
     let mut list = Seq::new(alloc);
-    for head in heads {
-        let part = part_of(alloc, *head, nets, devices)?;
-        append(&mut list, part)?;
+    for pair in order {
+        add_part(alloc, *pair, nets, devices, &mut list)?;
     }
     Ok(list)
 }
@@ -150,10 +136,9 @@ fn listed(
     ensures { IfOk result (λ parts. (phase : PhaseValue) → IsKnownTable circuit.now phase (known_at known.now) → ((n : ℕ) → IsPlain circuit.now n → IsLeastTogether circuit.now phase bare n (slice_index least.now n)) → ((n m : ℕ) → IsTogether circuit.now phase bare n m → slice_index ranks.now n ≡ slice_index ranks.now m) → AreParts circuit.now phase bare (slice_index ranks.now) parts) }
 {
     let order = in_order(alloc, circuit, ranks, least)?;
-    let first = heads(alloc, order.as_slice())?;
     let nets = nets_by_part(alloc, circuit, least)?;
     let devices = devices_by_part(alloc, circuit, known, least, bare)?;
-    let list = parts_of(alloc, first.as_slice(), nets.as_slice(), devices.as_slice())?;
+    let list = parts_of(alloc, order.as_slice(), nets.as_slice(), devices.as_slice())?;
     let bits = copied(alloc, known)?;
     Ok(Parts { known: bits, list })
 }
@@ -191,7 +176,7 @@ fn bare_parts(
 }
 
 /// The parts of the kept circuit, all of rank 0.
-fn kept_parts(alloc: Global, circuit: &Circuit, phase: &Phase) -> Result<Parts, NoMemory>
+pub(crate) fn kept_parts(alloc: Global, circuit: &Circuit, phase: &Phase) -> Result<Parts, NoMemory>
     requires { IsFlat circuit.now }
     ensures { IfOk result (λ parts. AreParts circuit.now phase.now false (λ n. 0) parts) }
 {

@@ -3,7 +3,7 @@
 use crate::asks::phase;
 use crate::stop::Stop;
 use anyhow::Result;
-use part_classes::{ClassLine, classes};
+use channel_parts::{ClassLine, classes};
 use plain_paths::is_flat;
 use std::alloc::Global;
 use vrt_model::{Circuit, Phase, Seq};

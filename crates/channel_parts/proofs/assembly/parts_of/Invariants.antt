@@ -1,7 +1,8 @@
 use Rattle.std.proofs.Common.{take}
-use Rattle.channel_parts.specs.Groups.{AreMade}
+use Rattle.std.specs.Prelude.{filter}
+use Rattle.channel_parts.specs.Groups.{AreMade, is_head}
 use Rattle.channel_parts.proofs.assembly.parts_of.Given as goal
 
--- the parts so far
-abbrev pub invariant-loop-head : goal.invariant-loop-head
-invariant-loop-head l = AreMade l.nets l.devices (take l.head-index l.heads) l.list
+-- the parts of the least nets so far
+abbrev pub invariant-loop-pair : goal.invariant-loop-pair
+invariant-loop-pair l = AreMade l.nets l.devices (filter is_head (take l.pair-index l.order)) l.list

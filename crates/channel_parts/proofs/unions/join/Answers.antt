@@ -3,6 +3,16 @@ use Rattle.channel_parts.proofs.RankLaws.{together_back}
 use Rattle.channel_parts.proofs.UnionLaws.{least_together}
 use Rattle.channel_parts.proofs.unions.join.Goals as goal
 
+pub link-requires-else-one-other-clause-own : goal.link-requires-else-one-other-clause-own
+link-requires-else-one-other-clause-own c = c.least_of-other.ensures.stay c.least_of-one.result c.least_of-one.ensures.own
+
+pub returns-then-one-other-clause-same : goal.returns-then-one-other-clause-same
+returns-then-one-other-clause-same c f r =
+    let linked = c.link.ensures.same f r in
+    let second = c.least_of-other.ensures.same f linked.0 in
+    let first = c.least_of-one.ensures.same f second.0 in
+    (first.0, sym first.1 ∙ linked.1 ∙ second.1)
+
 pub returns-else-one-other-clause-same : goal.returns-else-one-other-clause-same
 returns-else-one-other-clause-same c f r =
     let linked = c.link-else-one-other.ensures.same f r in

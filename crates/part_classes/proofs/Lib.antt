@@ -1,5 +1,0 @@
--- Classes of parts.
-pub mod ChannelLaws
-pub mod ClassLaws
-pub mod JudgedLaws
-pub mod TableLaws

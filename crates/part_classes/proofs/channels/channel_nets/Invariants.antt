@@ -1,7 +1,0 @@
-use Rattle.std.proofs.Common.{◌≡◌, map, take}
-use Rattle.part_classes.specs.Channels.{channel_net}
-use Rattle.part_classes.proofs.channels.channel_nets.Given as goal
-
--- the nets so far
-abbrev pub invariant-loop-net : goal.invariant-loop-net
-invariant-loop-net l = l.list ≡ map channel_net (take l.net-index l.nets)

@@ -1,4 +1,0 @@
-pub mod Channels
-pub mod Classes
-pub mod Judged
-pub mod Tables
