@@ -1,7 +1,7 @@
 -- One device: what it passes on in one direction, and in both.
 use Rattle.std.proofs.Common.{◌≡◌, ◌≢◌, ℕ, ◌+◌, ◌<◌, ◌≤◌, Bool, true, false, cond, not, ◌||◌, ◌&&◌, List, Option, Some, None, Ok, get_or, ap, ap₂, refl, sym, subst, ◌∙◌, inl, inr}
 use Rattle.std.specs.Prelude.{IfSome, IsNone}
-use Rattle.std.proofs.lemmas.Bool.{cases_eq, or_cases, and_parts, false≢true, or_left, or_right}
+use Rattle.std.proofs.lemmas.Bool.{cases_eq, or_cases, and_parts, or_left, or_right, and_from}
 use Rattle.std.proofs.lemmas.Option.{same_Some}
 use Rattle.node_pool.specs.declared.region.Span.{Span}
 use Rattle.bdd_core.specs.declared.handle.H.{H}
@@ -23,10 +23,6 @@ use Rattle.path_fixpoint.specs.Strengths.{HasPaths, HasWords, IsStrong, Passes, 
 use Rattle.bdd_core.specs.Words.{IsFilled, Writes, word_at}
 use Rattle.bdd_core.proofs.Frames.{shows_kept, adds_words, writes_added}
 use Rattle.path_fixpoint.proofs.Places.{place_once, place_word, words_differ}
-
-pub and_both : (a b : Bool) → a ≡ true → b ≡ true → (a && b) ≡ true
-and_both true b e f = f
-and_both false b e f = absurd (false≢true e)
 
 -- a p-device conducts where its gate is 0
 pub blocked_choice : (a b : Bool) → cond a false b ≡ (not a && b)
@@ -65,7 +61,7 @@ module _ (out : Span) (level : ℕ) (kind : Kind) (gate : ℕ) (from : Option �
     ];
     passed = λ j is v on seen. subst (λ (x : ℕ). strong new out level x v ≡ true) (same_Some i j is)
         (here v ∙ or_right (strong old out level i v) (conducts_at kind (meaning old.nodes gate v) && strong_end old out level from v)
-        (and_both (conducts_at kind (meaning old.nodes gate v)) (strong_end old out level from v) on seen));
+        (and_from (conducts_at kind (meaning old.nodes gate v)) (strong_end old out level from v) on seen));
     only = λ j lt v e. elim (cases_eq j i) [
       | inl is ↦ elim (or_cases (strong old out level i v) (conducts_at kind (meaning old.nodes gate v) && strong_end old out level from v)
           (sym (here v) ∙ subst (λ (x : ℕ). strong new out level x v ≡ true) is e)) [

@@ -3,6 +3,7 @@ use Rattle.std.proofs.Common.{◌≡◌, ℕ, zero, suc, ◌+◌, ◌<◌, ◌�
 use Rattle.std.specs.Prelude.{slice_get}
 use Rattle.std.proofs.lemmas.Bool.{cases_lt}
 use Rattle.std.proofs.lemmas.Option.{get_or_from_slice_get, slice_get-get_or}
+use Rattle.vrt_model.proofs.Lists.{among_filter_map}
 use Rattle.vrt_model.proofs.Members.{all_among}
 use Rattle.vrt_model.specs.Circuits.{IsNet}
 use Rattle.vrt_model.specs.declared.circuit.Circuit.{Circuit}
@@ -11,7 +12,6 @@ use Rattle.vrt_model.specs.declared.ids.Net.{Net}
 use Rattle.channel_parts.specs.declared.part.Part.{Part}
 use Rattle.path_fixpoint.specs.Parts.{IsPart, IsPartDevice, IsPlace, Rises}
 use Rattle.path_fixpoint.proofs.Places.{place_in}
-use Rattle.path_fixpoint.proofs.Spreading.{among_filter_map}
 
 -- the number at a place
 abbrev pub net_at : List Net → ℕ → ℕ

@@ -1,7 +1,7 @@
 -- One word that shows a signal too, where the device conducts and the signal fits the strengths.
 use Rattle.std.proofs.Common.{◌≡◌, ◌≢◌, ℕ, ◌+◌, ◌*◌, ◌<◌, ◌≤◌, Bool, true, ◌||◌, List, Option, Some, Ok, get_or, ap, sym, subst, ◌∙◌, inl, inr}
 use Rattle.std.specs.Prelude.{◌↔◌, IfSome}
-use Rattle.std.proofs.lemmas.Bool.{cases_eq, or_cases, and_parts, or_left, or_right}
+use Rattle.std.proofs.lemmas.Bool.{cases_eq, or_cases, and_parts, or_left, or_right, and_from}
 use Rattle.std.proofs.lemmas.Option.{same_Some}
 use Rattle.node_pool.specs.declared.region.Span.{Span}
 use Rattle.bdd_core.specs.declared.handle.H.{H}
@@ -15,7 +15,6 @@ use Rattle.path_fixpoint.specs.Strengths.{strong, word_of}
 use Rattle.bdd_core.specs.Words.{IsFilled, Writes, word_at}
 use Rattle.path_fixpoint.proofs.Fitting.{end_old, strong_old}
 use Rattle.bdd_core.proofs.Frames.{shows_kept, writes_then, adds_words, writes_added}
-use Rattle.path_fixpoint.proofs.Passing.{and_both}
 use Rattle.path_fixpoint.proofs.Places.{words_differ}
 
 module _ (out : Span) (value : Bool) (kind : Kind) (gate signal : ℕ) (from : Option ℕ) (i device : ℕ) (old mid late new : Diagrams) (passed fits : H) (changed : Bool)
@@ -66,7 +65,7 @@ module _ (out : Span) (value : Bool) (kind : Kind) (gate signal : ℕ) (from : O
     passed = λ j is v on seen fit. subst (λ (x : ℕ). strong new out (slot_of value) x v ≡ true) (same_Some i j is)
         (here v ∙ or_right (strong old out (slot_of value) i v) (meaning late.nodes fits.0 v)
         ((fits_is v).1 (
-          made.ok.same v ∙ and_both (conducts_at kind (meaning old.nodes gate v)) (meaning old.nodes signal v) on seen,
+          made.ok.same v ∙ and_from (conducts_at kind (meaning old.nodes gate v)) (meaning old.nodes signal v) on seen,
           fit_mid v (subst (λ (x : ℕ). FitsAt old out from x device v) (sym (same_Some i j is)) fit),
         )));
     only = λ j lt v e. elim (cases_eq j i) [

@@ -1,13 +1,13 @@
 -- Both directions of a device, and one device after another.
-use Rattle.std.proofs.Common.{◌≡◌, ℕ, ◌+◌, ◌<◌, ◌≤◌, ◌⊎◌, Bool, true, false, ◌||◌, List, [], ◌∷◌, length, Option, Some, None, arith, ap, refl, sym, subst, ◌∙◌, inl, inr}
-use Rattle.std.specs.Prelude.{zero, suc, slice_get, filter_map}
-use Rattle.std.specs.List.{cons_option}
+use Rattle.std.proofs.Common.{◌≡◌, ℕ, ◌+◌, ◌<◌, ◌≤◌, ◌⊎◌, Bool, true, false, ◌||◌, List, length, Option, Some, None, arith, ap, refl, sym, subst, ◌∙◌, inl, inr}
+use Rattle.std.specs.Prelude.{slice_get}
 use Rattle.std.proofs.lemmas.Bool.{cases_lt, or_parts}
 use Rattle.std.proofs.lemmas.Option.{same_Some, slice_get_within}
+use Rattle.vrt_model.proofs.Lists.{among_filter_map}
 use Rattle.node_pool.specs.declared.region.Span.{Span}
 use Rattle.bdd_core.specs.Diagram.{Valuation, meaning}
 use Rattle.bdd_core.specs.Store.{Diagrams}
-use Rattle.vrt_model.proofs.Members.{all_among, among_later, at_none}
+use Rattle.vrt_model.proofs.Members.{all_among}
 use Rattle.vrt_model.specs.Circuits.{IsDevice, IsFlat}
 use Rattle.vrt_model.specs.Lists.{At, Among}
 use Rattle.vrt_model.specs.Path.{Joins, Network}
@@ -23,31 +23,6 @@ use Rattle.bdd_core.specs.Words.{Writes, word_at}
 use Rattle.path_fixpoint.proofs.RoundLaws.{stands_kept, words_kept}
 use Rattle.path_fixpoint.proofs.Passing.{EndIs, given_path, over, over_paths}
 use Rattle.path_fixpoint.proofs.Places.{place_word}
-
-later : {X Y : Type 0} (h : X → Option Y) (x : X) (xs : List X) (y : Y) → ((z : X) × Among xs z × (h z ≡ Some y)) → (z : X) × Among (x ∷ xs) z × (h z ≡ Some y)
-later h x xs y r = (r.0, among_later x xs r.0 r.1, r.2)
-
-from_cons : {X Y : Type 0} (h : X → Option Y) (x : X) (xs : List X) (y : Y) → (Among (filter_map h xs) y → (z : X) × Among xs z × (h z ≡ Some y))
-    → (o : Option Y) → h x ≡ o → Among (cons_option o (filter_map h xs)) y → (z : X) × Among (x ∷ xs) z × (h z ≡ Some y)
-from_cons h x xs y rest None e q = later h x xs y (rest q)
-from_cons h x xs y rest (Some z) e (zero, q) = (x, (0, refl), e ∙ q)
-from_cons h x xs y rest (Some z) e (suc i, q) = later h x xs y (rest (i, q))
-
--- what a device of the part is in the lists
-pub among_filter_map : {X Y : Type 0} (h : X → Option Y) (xs : List X) (y : Y) → Among (filter_map h xs) y → (z : X) × Among xs z × (h z ≡ Some y)
-among_filter_map h [] y m = absurd (at_none m.0 y m.1)
-among_filter_map h (x ∷ xs) y m = from_cons h x xs y (among_filter_map h xs y) (h x) refl m
-
-cons_filter_map : {X Y : Type 0} (h : X → Option Y) (x : X) (xs : List X) (y : Y) → (o : Option Y) → Among (filter_map h xs) y → Among (cons_option o (filter_map h xs)) y
-cons_filter_map h x xs y None m = m
-cons_filter_map h x xs y (Some z) m = among_later z (filter_map h xs) y m
-
-pub filter_map_among : {X Y : Type 0} (h : X → Option Y) (xs : List X) (i : ℕ) (x : X) (y : Y) → At xs i x → h x ≡ Some y → Among (filter_map h xs) y
-filter_map_among h [] i x y at is = absurd (at_none i x at)
-filter_map_among {X} {Y} h (z ∷ xs) zero x y at is =
-    let first : h z ≡ Some y = ap h (same_Some z x at) ∙ is in
-    subst (λ (o : Option Y). Among (cons_option o (filter_map h xs)) y) (sym first) (0, refl)
-filter_map_among h (z ∷ xs) (suc i) x y at is = cons_filter_map h z xs y (h z) (filter_map_among h xs i x y at is)
 
 pub device_of_circuit : (c : Circuit) (part : Part) (d : Device) → Among (part_devices c part) d → Among c.devices d
 device_of_circuit c part d m = let r = among_filter_map (λ (x : Dev). slice_get c.devices x.0) part.devices d m in (r.0.0, r.2)

@@ -28,6 +28,13 @@ returns-clause-writes c =
     (writes_then c.args.out c.args.store.now c.through.new.store c.fitting.new.store
     (writes_added c.args.out c.args.store.now c.through.new.store c.requires.out.1 c.in-Ok.ensures.adds) c.in-Ok-fitting.ensures.writes) c.widen.ensures.writes
 
+pub returns-in-Err-clause-apart : goal.returns-in-Err-clause-apart
+returns-in-Err-clause-apart c k away = ap (λ (ws : List ℕ). slice_index ws (c.args.out.start + k)) (adds_words c.args.store.now c.through.new.store c.args.store.now.words c.in-Err.ensures.adds)
+
+pub returns-in-Err-fitting-clause-apart : goal.returns-in-Err-fitting-clause-apart
+returns-in-Err-fitting-clause-apart c k away =
+    ap (λ (ws : List ℕ). slice_index ws (c.args.out.start + k)) (c.in-Err-fitting.ensures.words ∙ adds_words c.args.store.now c.through.new.store c.args.store.now.words c.in-Ok.ensures.adds)
+
 pub returns-clause-apart : goal.returns-clause-apart
 returns-clause-apart c k away =
     let at : c.word-at.result ≡ word_of (slot_of c.args.value) c.in-Some.to = c.word-at.ensures ∙ ap (λ (l : ℕ). word_of l c.in-Some.to) c.slot.ensures in

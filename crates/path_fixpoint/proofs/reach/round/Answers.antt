@@ -2,6 +2,7 @@ use Rattle.std.proofs.Common.{◌≡◌, ◌+◌, ◌*◌, ◌≤◌, Ok, Err, L
 use Rattle.bdd_ops.proofs.CountingLaws.{counted_more, counted_then, counts_more, counts_ok}
 use Rattle.path_fixpoint.proofs.SpendingLaws.{span_beside, spends_behind, spends_err, spends_more}
 use Rattle.std.proofs.lemmas.Option.{slice_get-get_or}
+use Rattle.vrt_model.proofs.Lists.{filter_map_among}
 use Rattle.vrt_model.specs.Lists.{At, Among}
 use Rattle.vrt_model.specs.declared.circuit.Device.{Device}
 use Rattle.vrt_model.specs.declared.ids.Dev.{Dev}
@@ -9,7 +10,7 @@ use Rattle.path_fixpoint.specs.Parts.{part_devices}
 use Rattle.bdd_core.proofs.Frames.{writes_then}
 use Rattle.path_fixpoint.proofs.ReachLaws.{root_words_kept}
 use Rattle.path_fixpoint.proofs.ReachSpreading.{spreads_value_less, spreads_value_then}
-use Rattle.path_fixpoint.proofs.Spreading.{Visited, all_visited, filter_map_among, visited_more}
+use Rattle.path_fixpoint.proofs.Spreading.{Visited, all_visited, visited_more}
 use Rattle.path_fixpoint.proofs.reach.round.Goals as goal
 
 pub visit-requires-clause-device : goal.visit-requires-clause-device
@@ -24,6 +25,12 @@ visit-requires-clause-device c =
 pub visit-requires-clause-words : goal.visit-requires-clause-words
 visit-requires-clause-words c =
     root_words_kept c.args.circuit.now c.args.part.now c.requires.part.1 c.requires.part.0 c.args.gates c.args.roots c.args.out c.args.value c.args.store.now c.loop-dev.store c.requires.words c.loop-dev.invariant.writes
+
+pub returns-in-Err-clause-writes : goal.returns-in-Err-clause-writes
+returns-in-Err-clause-writes c = writes_then c.args.out c.args.store.now c.loop-dev.store c.visit.new.store c.loop-dev.invariant.writes c.in-Err.ensures.writes
+
+pub returns-in-Err-clause-apart : goal.returns-in-Err-clause-apart
+returns-in-Err-clause-apart c k away = c.in-Err.ensures.apart k away ∙ c.loop-dev.invariant.apart k away
 
 pub loop-dev-preserved : goal.loop-dev-preserved
 loop-dev-preserved c =

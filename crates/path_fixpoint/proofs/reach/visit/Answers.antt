@@ -1,4 +1,4 @@
-use Rattle.std.proofs.Common.{◌≡◌, ℕ, ◌<◌, ◌≤◌, ◌||◌, length, Ok, Err, arith, sym, subst, ◌∙◌}
+use Rattle.std.proofs.Common.{◌≡◌, ℕ, ◌+◌, ◌<◌, ◌≤◌, ◌||◌, List, length, slice_index, Ok, Err, arith, ap, sym, subst, ◌∙◌}
 use Rattle.bdd_core.specs.Diagram.{Function, IsWithin, meaning}
 use Rattle.bdd_ops.proofs.CountingLaws.{counted_then, counts_made, counts_more, counts_then}
 use Rattle.path_fixpoint.specs.Reaching.{HasRootWords, reached_end}
@@ -84,6 +84,36 @@ returns-clause-writes c =
     let second = writes_then out c.args.store.now c.reached.new.store c.pass.new.store first c.in-Ok-pass.ensures.writes in
     let third = writes_added out c.pass.new.store c.reached-2.new.store second.live c.in-Ok-reached.ensures.adds in
     writes_then out c.args.store.now c.reached-2.new.store c.pass-2.new.store (writes_then out c.args.store.now c.pass.new.store c.reached-2.new.store second third) c.in-Ok-pass-2.ensures.writes
+
+pub returns-in-Err-clause-apart : goal.returns-in-Err-clause-apart
+returns-in-Err-clause-apart c k away =
+    let word : List ℕ → ℕ = λ ws. slice_index ws (c.args.out.start + k) in
+    ap word (adds_words c.args.store.now c.reached.new.store c.args.store.now.words c.in-Err.ensures.adds)
+
+pub returns-in-Err-pass-clause-apart : goal.returns-in-Err-pass-clause-apart
+returns-in-Err-pass-clause-apart c k away =
+    let word : List ℕ → ℕ = λ ws. slice_index ws (c.args.out.start + k) in
+    c.in-Err-pass.ensures.apart k away ∙ ap word (adds_words c.args.store.now c.reached.new.store c.args.store.now.words c.in-Ok.ensures.adds)
+
+pub returns-in-Err-reached-clause-apart : goal.returns-in-Err-reached-clause-apart
+returns-in-Err-reached-clause-apart c k away =
+    let word : List ℕ → ℕ = λ ws. slice_index ws (c.args.out.start + k) in
+    let first = ap word (adds_words c.args.store.now c.reached.new.store c.args.store.now.words c.in-Ok.ensures.adds) in
+    ap word (adds_words c.pass.new.store c.reached-2.new.store c.pass.new.store.words c.in-Err-reached.ensures.adds) ∙ (c.in-Ok-pass.ensures.apart k away ∙ first)
+
+pub returns-in-Err-pass-2-clause-apart : goal.returns-in-Err-pass-2-clause-apart
+returns-in-Err-pass-2-clause-apart c k away =
+    let word : List ℕ → ℕ = λ ws. slice_index ws (c.args.out.start + k) in
+    let first = ap word (adds_words c.args.store.now c.reached.new.store c.args.store.now.words c.in-Ok.ensures.adds) in
+    let third = ap word (adds_words c.pass.new.store c.reached-2.new.store c.pass.new.store.words c.in-Ok-reached.ensures.adds) in
+    c.in-Err-pass-2.ensures.apart k away ∙ (third ∙ (c.in-Ok-pass.ensures.apart k away ∙ first))
+
+pub returns-clause-apart : goal.returns-clause-apart
+returns-clause-apart c k away =
+    let word : List ℕ → ℕ = λ ws. slice_index ws (c.args.out.start + k) in
+    let first = ap word (adds_words c.args.store.now c.reached.new.store c.args.store.now.words c.in-Ok.ensures.adds) in
+    let third = ap word (adds_words c.pass.new.store c.reached-2.new.store c.pass.new.store.words c.in-Ok-reached.ensures.adds) in
+    c.in-Ok-pass-2.ensures.apart k away ∙ (third ∙ (c.in-Ok-pass.ensures.apart k away ∙ first))
 
 pub returns-clause-spreads : goal.returns-clause-spreads
 returns-clause-spreads c =

@@ -20,6 +20,9 @@ returns-clause-writes c =
     writes_then c.args.out c.args.store.now c.through.new.store c.widen.new.store
     (writes_added c.args.out c.args.store.now c.through.new.store c.requires.out.1 c.in-Ok.ensures.adds) c.widen.ensures.writes
 
+pub returns-in-Err-clause-apart : goal.returns-in-Err-clause-apart
+returns-in-Err-clause-apart c k away = ap (λ (ws : List ℕ). slice_index ws (c.args.out.start + k)) (adds_words c.args.store.now c.through.new.store c.args.store.now.words c.in-Err.ensures.adds)
+
 pub returns-clause-apart : goal.returns-clause-apart
 returns-clause-apart c k away =
     c.widen.ensures.apart k (λ e. away c.in-Some.to (e ∙ c.word-at.ensures))

@@ -1,5 +1,6 @@
 use Rattle.std.proofs.Common.{ℕ, ◌<◌, ◌||◌, length, Ok, Err, arith, sym, subst, ◌∙◌}
 use Rattle.bdd_core.specs.Diagram.{IsWithin, meaning}
+use Rattle.bdd_core.proofs.Frames.{writes_then}
 use Rattle.path_fixpoint.proofs.SpendingLaws.{handle_kept, spends_behind, spends_more, spends_value}
 use Rattle.path_fixpoint.proofs.Passing.{EndIs}
 use Rattle.path_fixpoint.proofs.Places.{place_fits}
@@ -31,6 +32,18 @@ pass-requires-2-clause-from c = place_fits c.args.part.now c.args.out c.place-ri
 
 pub pass-requires-2-clause-to : goal.pass-requires-2-clause-to
 pass-requires-2-clause-to c = place_fits c.args.part.now c.args.out c.place-left.result c.args.device.now.left.0 c.requires.words.out_len c.place-left.ensures.some
+
+pub returns-in-Err-pass-clause-writes : goal.returns-in-Err-pass-clause-writes
+returns-in-Err-pass-clause-writes c = writes_then c.args.out c.args.store.now c.pass.new.store c.pass-2.new.store c.in-Ok.ensures.writes c.in-Err-pass.ensures.writes
+
+pub returns-in-Err-pass-clause-apart : goal.returns-in-Err-pass-clause-apart
+returns-in-Err-pass-clause-apart c k away = c.in-Err-pass.ensures.apart k away ∙ c.in-Ok.ensures.apart k away
+
+pub returns-clause-writes : goal.returns-clause-writes
+returns-clause-writes c = writes_then c.args.out c.args.store.now c.pass.new.store c.pass-2.new.store c.in-Ok.ensures.writes c.in-Ok-pass.ensures.writes
+
+pub returns-clause-apart : goal.returns-clause-apart
+returns-clause-apart c k away = c.in-Ok-pass.ensures.apart k away ∙ c.in-Ok.ensures.apart k away
 
 pub returns-clause-spreads : goal.returns-clause-spreads
 returns-clause-spreads c =
