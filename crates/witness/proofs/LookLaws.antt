@@ -3,6 +3,7 @@ use Rattle.std.proofs.Common.{◌≡◌, ℕ, Bool, true, false, cond, List, Non
 use Rattle.std.specs.Prelude.{is_none, option_map, unwrap_or}
 use Rattle.std.proofs.lemmas.Bool.{cases_Bool, false≢true}
 use Rattle.std.proofs.lemmas.Option.{none-some}
+use Rattle.channel_parts.proofs.PhaseTableLaws.{some_there}
 use Rattle.channel_parts.proofs.RankLaws.{together_back}
 use Rattle.channel_parts.proofs.Labels.{together_further}
 use Rattle.channel_parts.specs.PartLists.{IsPartOf, least_of, net_numbers}
@@ -50,10 +51,6 @@ stopped_there c bits k t = found (slice_get c.devices k.0) refl t
         → (d : Device) × At c.devices k.0 d × (known_at bits d.gate.0 ≡ None)
     found None e t = absurd (false≢true t)
     found (Some d) e t = (d, e, none (known_at bits d.gate.0) t)
-
-some_there : (o : Option Bool) → is_none o ≡ false → (v : Bool) × (o ≡ Some v)
-some_there None e = absurd (false≢true (sym e))
-some_there (Some v) e = (v, refl)
 
 module _ (c : Circuit) (phase : Phase) (flat : IsFlat c) (setting : Setting) (which : Bool) (bits : List (Option Bool)) (given : HasGivenBits c phase setting.inputs (known_at bits))
     (known : HasKnownNets c phase (known_at bits)) where

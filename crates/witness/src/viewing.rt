@@ -1,6 +1,6 @@
 //! What all nets show at given bits.
 
-ghost use Rattle.std.specs.Prelude.{◌≡◌, ℕ, ◌<◌, ◌&&◌, ◌||◌, ◌==◌, All, Some, false, length, replicate, slice_get, IfOk};
+ghost use Rattle.std.specs.Prelude.{◌≡◌, ℕ, ◌<◌, ◌||◌, ◌==◌, All, Some, length, slice_get, IfOk};
 ghost use Rattle.std.specs.List.{list_any};
 ghost use Rattle.channel_parts.specs.PartLists.{IsPartOf, net_numbers};
 ghost use Rattle.channel_parts.specs.declared.part.Part.{Part as PartValue};
@@ -18,19 +18,10 @@ ghost use Rattle.witness.specs.declared.seen.Seen.{Seen as SeenValue};
 use crate::looking::{is_stopped, seen_by};
 use crate::seen::Seen;
 use channel_parts::Part;
+use known_nets::{is_marked, no_marks};
 use plain_paths::{bit, signals_at};
 use std::alloc::Global;
 use vrt_model::{Circuit, Net, NoMemory, Seq};
-
-/// No mark yet.
-fn no_marks(alloc: Global, count: usize) -> Result<Vec<bool>, NoMemory>
-    ensures { IfOk result (λ marks. marks.items ≡ replicate count false) }
-{
-    match vec![in alloc; false; count] {
-        Ok(marks) => Ok(marks),
-        Err(_) => Err(NoMemory),
-    }
-}
 
 /// Marks a net.
 fn mark(marks: &mut Vec<bool>, net: Net)
@@ -77,17 +68,13 @@ fn mark_parts(circuit: &Circuit, bits: &[Option<bool>], marks: &mut Vec<bool>, p
 fn filled(alloc: Global, bits: &[Option<bool>]) -> Result<Vec<bool>, NoMemory>
     ensures { IfOk result (λ reading. reading.items ≡ filled_list bits.now) }
 {
-    match bits.iter().map(|bit| bit.unwrap_or(false)).collect(alloc) {
-        Ok(reading) => Ok(reading),
-        Err(_) => Err(NoMemory),
+    let mut reading = Vec::new(alloc);
+    for bit in bits {
+        let Ok(()) = reading.push(bit.unwrap_or(false)) else {
+            return Err(NoMemory);
+        };
     }
-}
-
-/// Whether a net is marked.
-fn is_marked(marks: &[bool], net: usize) -> bool
-    ensures { result ≡ mark_at marks.now net }
-{
-    if net < marks.len() { marks[net] } else { false }
+    Ok(reading)
 }
 
 /// What a net shows by these marks and signals.
