@@ -139,7 +139,7 @@ pub(crate) fn flatten_cell(
         return Err(Hindrance::Because(why));
     }
     let pairing = pairing_of(alloc, index, design, cell, model, &flat_model, rules)?;
-    match flat_with(alloc, index, design, rules, cell, &pairing) {
+    match flat_with(alloc, index, &prepared.nets, design, rules, cell, &pairing) {
         Ok(circuit) => Ok(Flattened {
             pairing,
             circuit,

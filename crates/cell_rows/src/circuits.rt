@@ -4,12 +4,16 @@ ghost use Rattle.vrt_model.specs.Inputs.{AreRules, IsDesign};
 
 use crate::MOST_BYTES;
 use anyhow::{Result, bail};
-use flatten::{FlatFault, flat, has_no_hold, is_leaf, sizes, structure};
+use flatten::{FlatFault, flat, sizes, structure};
+use hierarchy::order;
 use row_script::{Script, add, number, shown};
 use rules_reader::read_rules;
 use spice_reader::read_spice;
 use std::alloc::Global;
-use vrt_model::{Circuit, Design, Device, FlatNet, Kind, NetKind, Pairing, PortRole, Rules, Seq};
+use vrt_model::{
+    Circuit, Design, Device, FlatInstance, FlatNet, Hold, HoldEnd, Kind, Net, NetKind, Pairing,
+    PortRole, Rules, Seq,
+};
 
 /// What gives a net its value.
 fn kind_word(kind: NetKind) -> &'static str {
@@ -63,13 +67,70 @@ fn add_devices(alloc: Global, told: &mut String, devices: &[Device]) -> Result<(
     Ok(())
 }
 
-/// The nets and the devices of a circuit.
+/// Adds the numbers of nets.
+fn add_numbers(alloc: Global, told: &mut String, nets: &[Net]) -> Result<()> {
+    for net in nets {
+        let number = net.0;
+        add(told, format!(in alloc; " {number}")?)?;
+    }
+    Ok(())
+}
+
+/// Adds instances, each with its cell and the nets of its ports.
+fn add_instances(alloc: Global, told: &mut String, instances: &[FlatInstance]) -> Result<()> {
+    for instance in instances {
+        let path = shown(instance.path.as_bytes());
+        let cell = instance.cell;
+        add(told, format!(in alloc; ", {path} of cell {cell} at")?)?;
+        add_numbers(alloc, told, instance.ports.as_slice())?;
+    }
+    Ok(())
+}
+
+/// Where a hold leads.
+fn end_told(alloc: Global, end: &HoldEnd) -> Result<String> {
+    match end {
+        HoldEnd::Own(net) => {
+            let number = net.0;
+            Ok(format!(in alloc; "net {number}")?)
+        }
+        HoldEnd::Latch { instance, element } => {
+            let element = shown(element.as_bytes());
+            match instance {
+                Some(number) => Ok(format!(in alloc; "{element} of instance {number}")?),
+                None => Ok(format!(in alloc; "{element}")?),
+            }
+        }
+    }
+}
+
+/// A hold: its net, its size, where it leads, whether it is inverted, and with how many phases it has a constant.
+fn hold_told(alloc: Global, hold: &Hold) -> Result<String> {
+    let net = hold.net.0;
+    let size = hold.size;
+    let inverted = hold.inverted;
+    let enters = hold.enters.len();
+    let end = end_told(alloc, &hold.end)?;
+    Ok(format!(in alloc; ", hold {net} size {size} to {end} inverted {inverted} enters {enters}")?)
+}
+
+/// Adds holds.
+fn add_holds(alloc: Global, told: &mut String, holds: &[Hold]) -> Result<()> {
+    for hold in holds {
+        add(told, hold_told(alloc, hold)?)?;
+    }
+    Ok(())
+}
+
+/// The nets, the devices, the instances and the holds of a circuit.
 fn drawn(alloc: Global, circuit: &Circuit) -> Result<String> {
     let nets = circuit.nets.len();
     let devices = circuit.devices.len();
     let mut told = format!(in alloc; "{nets} nets, {devices} devices")?;
     add_nets(alloc, &mut told, circuit.nets.as_slice())?;
     add_devices(alloc, &mut told, circuit.devices.as_slice())?;
+    add_instances(alloc, &mut told, circuit.instances.as_slice())?;
+    add_holds(alloc, &mut told, circuit.holds.as_slice())?;
     Ok(told)
 }
 
@@ -115,12 +176,15 @@ fn circuit_told(alloc: Global, design: &Design, rules: &Rules, pairing: &Pairing
     requires netlist { IsDesign design.now }
     requires ruled { AreRules rules.now }
 {
-    if !is_leaf(design, 0) || !has_no_hold(rules) {
-        bail!("instances or holds");
+    if design.cells.is_empty() {
+        bail!("no cell");
     }
-    match flat(alloc, design, rules, 0, pairing) {
-        Ok(circuit) => drawn(alloc, &circuit),
-        Err(fault) => refused(alloc, &fault),
+    match order(alloc, design, rules) {
+        Ok(_) => match flat(alloc, design, rules, 0, pairing) {
+            Ok(circuit) => drawn(alloc, &circuit),
+            Err(fault) => refused(alloc, &fault),
+        },
+        Err(_) => bail!("cells without an order"),
     }
 }
 

@@ -253,7 +253,7 @@ module _ (design : Design) (rules : Rules) (tables : NetTables) (unrolled : Unro
 
 -- ---- all holds
 
-all_from : (t : Top) (k : ℕ) (nets : List FlatNet) → filter_map (λ (p : ℕ × FlatNet). option_map (flat_hold t p.0) (rule_on t p.0)) (enumerate_from k nets) ≡ holds_from t k (length nets)
+pub all_from : (t : Top) (k : ℕ) (nets : List FlatNet) → filter_map (λ (p : ℕ × FlatNet). option_map (flat_hold t p.0) (rule_on t p.0)) (enumerate_from k nets) ≡ holds_from t k (length nets)
 all_from t k [] = refl
 all_from t k (net ∷ nets) =
     let next : k + 1 ≡ suc k = omega arith in

@@ -1,5 +1,5 @@
 mod EndLaws
-mod FallLaws
+pub mod FallLaws
 mod ListLaws
 mod PathLaws
 mod RuleLaws

@@ -1,9 +1,11 @@
 pub mod CellFlat
 pub mod CellNets
 pub mod CellTests
-pub mod CircuitParts
-pub mod NameLists
-pub mod NetNumbers
+pub mod CircuitLaws
+pub mod FormLaws
+pub mod HoldNames
+pub mod NetLaws
+pub mod RangeLaws
 pub mod NetTurns
 pub mod StructureLaws
 pub mod WalkLaws

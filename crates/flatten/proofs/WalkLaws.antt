@@ -7,8 +7,8 @@ use Rattle.std.proofs.lemmas.Grind.{flat_map-append}
 use Rattle.std.proofs.lemmas.List.{append-nil, drop_all, drop_more}
 use Rattle.std.proofs.lemmas.List.Folds.{find-append}
 use Rattle.std.proofs.lemmas.Option.{slice_get_within}
+use Rattle.names.proofs.ApartLaws.{apart_named}
 use Rattle.flatten.proofs.CellTests.{cell_there}
-use Rattle.flatten.proofs.NameLists.{apart_all}
 use Rattle.flatten.specs.NetTables.{Supplies}
 use Rattle.flat_devices.specs.DeviceTables.{first_some}
 use Rattle.flatten.specs.Walks.{AreNumbered, are_apart, card_without_kind, first_card, first_tie, has_no_kind, is_apart, own_tie, port_supply, spot_by, spot_in, supply_at, tie_from, tied_supply, top_spot}
@@ -312,7 +312,7 @@ pub spot_is : (design : Design) (cells : FirstValues ℕ) (supply : Supplies) (k
 spot_is design cells supply k found ports at card read named e same =
     let is = cell_found design at.cell found e in
     let once : ports ≡ (cell_at design at.cell).ports =
-    same ∙ apart_all found.ports (subst (λ (c : Cell). AllApart bytes_eq c.ports) (sym is) (cell_apart design at.cell found read e)) ∙ ap (λ (c : Cell). c.ports) is in
+    same ∙ apart_named found.ports (subst (λ (c : Cell). AllApart bytes_eq c.ports) (sym is) (cell_apart design at.cell found read e)) ∙ ap (λ (c : Cell). c.ports) is in
     ap₂ (λ (m : ℕ) (ps : List (List ℕ)). let s : Spot = record { cell = m; path = path_name at.path card.name; values = map (tied_supply supply ps at.values) card.nets } in s) (ap (λ (o : Option ℕ). unwrap_or o 0) (named card.cell)) once
 
 pub tied_here : (design : Design) (supply : Supplies) (depth : ℕ) (at : Spot) (found : Cell) (ports : List (List ℕ)) (values : List (Option Bool)) (b : Bool) → Some found ≡ slice_get design.cells at.cell

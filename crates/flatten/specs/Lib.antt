@@ -1,4 +1,3 @@
-pub mod CellTables
 pub mod Circuits
 pub mod NetTables
 pub mod Structures

@@ -5,7 +5,7 @@ ghost use Rattle.rule_index.specs.Firsts.{value_in};
 ghost use Rattle.vrt_model.specs.Comparison.{cell_at};
 
 use rule_index::FirstValues;
-use vrt_model::{Cell, Design, Rules};
+use vrt_model::{Cell, Design};
 
 /// A cell by its number.
 pub fn cell_of(design: &Design, cell: u32) -> &Cell
@@ -34,11 +34,4 @@ pub fn is_leaf(design: &Design, cell: u32) -> bool
         Some(found) => found.instances.is_empty(),
         None => false,
     }
-}
-
-/// Whether no rule declares a hold.
-pub fn has_no_hold(rules: &Rules) -> bool
-    ensures { result ≡ true → rules.now.holds ≡ [] }
-{
-    rules.holds.is_empty()
 }

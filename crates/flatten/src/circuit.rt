@@ -1,75 +1,108 @@
 //! The flat circuit.
 
-ghost use Rattle.std.specs.Prelude.{◌≡◌, ◌<◌, ◌≤◌, ◌+◌, [], IfOk, length, map};
-ghost use Rattle.flatten.specs.CellTables.{AreFreshCellTables};
+ghost use Rattle.std.specs.Prelude.{◌≡◌, ◌<◌, ◌≤◌, List, None, IfOk, length};
+ghost use Rattle.flat_holds.specs.Falls.{AreNets};
 ghost use Rattle.flatten.specs.Circuits.{FlatGives};
-ghost use Rattle.flatten.specs.NetTables.{device_in, nets_in, of_parts};
-ghost use Rattle.rule_index.specs.Tables.{AreIndexed, supply_in};
-ghost use Rattle.vrt_model.specs.Comparison.{cell_at};
+ghost use Rattle.net_places.specs.Links.{IsUnrolled};
+ghost use Rattle.net_places.specs.Whole.{whole_of};
+ghost use Rattle.net_tables.specs.Tables.{AreNetTables};
+ghost use Rattle.rule_index.specs.Tables.{AreIndexed};
+ghost use Rattle.vrt_model.specs.FlatCircuit.{flat_circuit, flat_nets};
 ghost use Rattle.vrt_model.specs.Inputs.{AreRules, IsDesign};
+ghost use Rattle.vrt_model.specs.Unsupported.{circuit_limits, too_large, top_before};
+ghost use Rattle.vrt_model.specs.declared.pairing.PortRole.{PortRole as RoleValue};
 
-use crate::cells::cell_of;
-use crate::devices::devices;
 use crate::faults::FlatFault;
 use crate::nets::nets;
-use crate::structures::test;
-use crate::tables::CellTables;
+use crate::structures::structure_with;
+use flat_devices::flat_devices;
+use flat_holds::flat_holds;
+use net_places::{Unrolled, flat_instances, unroll};
+use net_tables::{NetTables, net_tables};
 use rule_index::{RuleIndex, index_of};
 use std::alloc::Global;
-use vrt_model::{Cell, Circuit, Design, NoMemory, Pairing, Rules, Seq};
+use vrt_model::{Circuit, Design, NoMemory, Pairing, Rules, Seq};
 
-/// The circuit of a cell, by its tables.
-fn assemble(
+/// The circuit of an unrolled cell: its nets, and what stands at them.
+fn circuit_of(
     alloc: Global,
     index: &RuleIndex,
+    tables: &NetTables,
+    design: &Design,
     rules: &Rules,
-    tables: &CellTables,
-    cell: &Cell,
+    unrolled: &Unrolled,
+    cell: u32,
     pairing: &Pairing,
 ) -> Result<Circuit, NoMemory>
-    requires few { length tables.now.nets.names + 2 ≤ 20000 }
-    requires within { tables.now.nets.port_count ≤ length tables.now.nets.names }
-    ensures { IfOk result (λ circuit. circuit ≡ of_parts (nets_in rules.now (supply_in index.now.supplies) cell.now.ports pairing.now.ports tables.now.nets) (map (device_in index.now tables.now.devices tables.now.nets.names) cell.now.devices)) }
+    requires netlist { IsDesign design.now }
+    requires names { AreNets design.now rules.now }
+    requires indexed { AreIndexed design.now rules.now index.now }
+    requires tables { AreNetTables design.now rules.now tables.now }
+    requires there { cell < length design.now.cells }
+    requires unrolled { (roles : List RoleValue) → IsUnrolled (whole_of design.now rules.now cell roles) unrolled.now }
+    requires small { length (flat_nets (top_before design.now rules.now cell)) ≤ 20000 }
+    ensures { IfOk result (λ circuit. circuit ≡ flat_circuit design.now rules.now cell pairing.now) }
 {
-    let supplies = &index.supplies;
-    let ports = cell.ports.as_slice();
-    let roles = pairing.ports.as_slice();
-    let nets = nets(alloc, rules, supplies, ports, roles, &tables.nets)?;
-    let names = &tables.nets.names;
-    let cards = cell.devices.as_slice();
-    let devices = devices(alloc, index, &tables.devices, names, cards)?;
+    let nets = nets(alloc, index, tables, design, rules, unrolled, cell, pairing)?;
+    let devices = flat_devices(alloc, index, design, rules, tables, unrolled)?;
+    let instances = flat_instances(alloc, unrolled)?;
+    let count = nets.len() as u32;
+    let holds = flat_holds(alloc, design, rules, tables, unrolled, cell, count)?;
     Ok(Circuit {
         nets,
         devices,
-        holds: Seq::new(alloc),
-        instances: Seq::new(alloc),
+        holds,
+        instances,
         wholes: Seq::new(alloc),
     })
 }
 
-/// The flat circuit of a cell, by tables of the cell that are filled first.
-fn flat_by(
+/// The circuit of a cell in whose way nothing stands.
+fn assemble(
+    alloc: Global,
     index: &RuleIndex,
+    tables: &NetTables,
     design: &Design,
     rules: &Rules,
     cell: u32,
     pairing: &Pairing,
-    tables: &mut CellTables,
+) -> Result<Circuit, NoMemory>
+    requires netlist { IsDesign design.now }
+    requires names { AreNets design.now rules.now }
+    requires indexed { AreIndexed design.now rules.now index.now }
+    requires tables { AreNetTables design.now rules.now tables.now }
+    requires there { cell < length design.now.cells }
+    requires small { too_large (circuit_limits (top_before design.now rules.now cell)) ≡ None }
+    ensures { IfOk result (λ circuit. circuit ≡ flat_circuit design.now rules.now cell pairing.now) }
+{
+    let unrolled = unroll(alloc, design, rules, tables, cell)?;
+    circuit_of(
+        alloc, index, tables, design, rules, &unrolled, cell, pairing,
+    )
+}
+
+/// The flat circuit of a cell by the tables of its netlist and rules: the same as `flat`, in time and memory in proportion
+/// to the flat circuit and the rules of the cells in it; where there are `hold` rules, also to the nets times the places
+/// times these rules.
+pub fn flat_with(
+    alloc: Global,
+    index: &RuleIndex,
+    tables: &NetTables,
+    design: &Design,
+    rules: &Rules,
+    cell: u32,
+    pairing: &Pairing,
 ) -> Result<Circuit, FlatFault>
     requires netlist { IsDesign design.now }
     requires ruled { AreRules rules.now }
+    requires names { AreNets design.now rules.now }
     requires indexed { AreIndexed design.now rules.now index.now }
+    requires tables { AreNetTables design.now rules.now tables.now }
     requires there { cell < length design.now.cells }
-    requires leaf { (cell_at design.now cell).instances ≡ [] }
-    requires unheld { rules.now.holds ≡ [] }
-    requires fresh { AreFreshCellTables tables.old }
     ensures { FlatGives design.now rules.now cell pairing.now result }
 {
-    let cell = cell_of(design, cell);
-    tables.fill(index, design, rules, cell)?;
-    let cards = cell.devices.as_slice();
-    match test(tables.alloc, &index.models, &tables.nets.names, cards) {
-        Ok(()) => match assemble(tables.alloc, index, rules, tables, cell, pairing) {
+    match structure_with(alloc, index, design, rules, cell) {
+        Ok(()) => match assemble(alloc, index, tables, design, rules, cell, pairing) {
             Ok(circuit) => Ok(circuit),
             Err(_) => Err(FlatFault::NoMemory),
         },
@@ -77,32 +110,12 @@ fn flat_by(
     }
 }
 
-/// The flat circuit of a cell by the tables of its netlist and rules: the same as `flat`, in time and memory in proportion
-/// to the cell, the global nets, the supplies and the rules of this cell.
-pub fn flat_with(
-    alloc: Global,
-    index: &RuleIndex,
-    design: &Design,
-    rules: &Rules,
-    cell: u32,
-    pairing: &Pairing,
-) -> Result<Circuit, FlatFault>
-    requires netlist { IsDesign design.now }
-    requires ruled { AreRules rules.now }
-    requires indexed { AreIndexed design.now rules.now index.now }
-    requires there { cell < length design.now.cells }
-    requires leaf { (cell_at design.now cell).instances ≡ [] }
-    requires unheld { rules.now.holds ≡ [] }
-    ensures { FlatGives design.now rules.now cell pairing.now result }
-{
-    let mut tables = CellTables::new(alloc);
-    flat_by(index, design, rules, cell, pairing, &mut tables)
-}
-
-/// The flat circuit of a cell whose ports have the roles of the pairing. Its nets are the two supplies, the other ports,
-/// the global nets that a card names, and the other nets in the order of first mention; its devices are those of the
-/// cards, in their order. It is a condition that the cell has no instances, and that no rule declares a hold. The faults
-/// are those of `structure`, tested in the same order.
+/// The flat circuit of a cell whose ports have the roles of the pairing: its netlist with all instances unrolled. Its nets
+/// are the two supplies, the other ports, the global nets that a card names, and the own nets of the cell and of each
+/// instance in it by their path names; its devices are those of the cards at each place, its instances all places but the
+/// cell itself. A net on which `hold` rules fall has the hold of the outermost place, with the latch element to which its
+/// `match` lines lead up. It is a condition that each `hold` rule is of a net of its cell, as where `order` of `hierarchy`
+/// refuses nothing. The faults are those of `structure`, tested in the same order.
 pub fn flat(
     alloc: Global,
     design: &Design,
@@ -112,11 +125,11 @@ pub fn flat(
 ) -> Result<Circuit, FlatFault>
     requires netlist { IsDesign design.now }
     requires ruled { AreRules rules.now }
+    requires names { AreNets design.now rules.now }
     requires there { cell < length design.now.cells }
-    requires leaf { (cell_at design.now cell).instances ≡ [] }
-    requires unheld { rules.now.holds ≡ [] }
     ensures { FlatGives design.now rules.now cell pairing.now result }
 {
     let index = index_of(alloc, design, rules)?;
-    flat_with(alloc, &index, design, rules, cell, pairing)
+    let tables = net_tables(alloc, design, rules)?;
+    flat_with(alloc, &index, &tables, design, rules, cell, pairing)
 }

@@ -1,4 +1,4 @@
-//! The flat circuit of a cell without instances, and what stands in the way of that of any cell.
+//! The flat circuit of a cell, and what stands in its way.
 #![tactic(auto)]
 
 mod cells;
@@ -10,10 +10,8 @@ mod lists;
 mod net_names;
 mod nets;
 mod structures;
-mod tables;
 mod ties;
 
-pub use cells::{has_no_hold, is_leaf};
 pub use circuit::{flat, flat_with};
 pub use faults::FlatFault;
 pub use flat_sizes::{FlatSizes, sizes};

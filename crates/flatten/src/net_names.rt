@@ -1,25 +1,15 @@
 //! The names of the nets of a cell, in the order of its flat circuit.
 
-ghost use Rattle.std.specs.Prelude.{◌≡◌, ◌≤◌, ◌+◌, [], length, filter, OnOk};
+ghost use Rattle.std.specs.Prelude.{◌≡◌, [], filter, OnOk};
 ghost use Rattle.vrt_model.specs.Lists.{has_name};
 ghost use Rattle.names.specs.Names.{with_names};
-ghost use Rattle.flatten.specs.NetTables.{IsNetTable, card_nets, globals_named, nets_named, number_in, place_in, with_named, with_net, with_nets};
+ghost use Rattle.flatten.specs.NetTables.{card_nets, globals_named, names_table, nets_named, with_named, with_net, with_nets};
 ghost use Rattle.rule_index.specs.Tables.{supply_in};
 
 use names::Names;
 use rule_index::{FirstValues, supply};
 use std::alloc::Global;
-use vrt_model::{Cell, Design, DeviceCard, Net, NoMemory, Text};
-
-/// The names of nets without the two supplies: the other ports, how many they are, then the global nets that a card
-/// names and the other nets in the order of first mention.
-#[derive(Drop)]
-pub struct NetTable {
-    /// The names of the nets. The place of a name and 2 more is the number of its net in the flat circuit.
-    pub names: Names,
-    /// How many of the names, the first ones, are those of ports.
-    pub port_count: usize,
-}
+use vrt_model::{Cell, Design, DeviceCard, NoMemory, Text};
 
 /// Adds the name of a net, the last, unless it is there or is a supply.
 fn add_net(names: &mut Names, supplies: &FirstValues<bool>, name: &[u8]) -> Result<(), NoMemory>
@@ -139,65 +129,22 @@ fn add_globals(
     Ok(())
 }
 
-impl NetTable {
-    /// With no names. It takes no memory.
-    pub fn new(alloc: Global) -> Self
-        ensures { result.names ≡ [] }
-    {
-        NetTable {
-            names: Names::new(alloc),
-            port_count: 0,
-        }
-    }
-
-    /// Adds the names of the nets of a cell of a netlist, to none.
-    pub fn fill(
-        &mut self,
-        alloc: Global,
-        supplies: &FirstValues<bool>,
-        design: &Design,
-        cell: &Cell,
-    ) -> Result<(), NoMemory>
-        requires { self.old.names ≡ [] }
-        ensures { OnOk result (IsNetTable (supply_in supplies.now) design.now.globals cell.now self.new) }
-    {
-        let globals = design.globals.as_slice();
-        let cards = cell.devices.as_slice();
-        add_ports(&mut self.names, supplies, cell.ports.as_slice())?;
-        self.port_count = self.names.len();
-        add_globals(alloc, &mut self.names, supplies, globals, cards)?;
-        add_cards(&mut self.names, supplies, cards)?;
-        Ok(())
-    }
-}
-
-/// The number of a net that is no supply.
-fn place(names: &Names, name: &[u8]) -> usize
-    requires few { length names.now + 2 ≤ 20000 }
-    ensures { result ≡ place_in names.now name.now }
+/// Adds the names of the nets of a cell of a netlist without the two supplies, to none: the other ports, the global nets
+/// that a card names, and the other nets in the order of first mention.
+pub fn name_nets(
+    alloc: Global,
+    names: &mut Names,
+    supplies: &FirstValues<bool>,
+    design: &Design,
+    cell: &Cell,
+) -> Result<(), NoMemory>
+    requires { names.old ≡ [] }
+    ensures { OnOk result (names.new ≡ names_table (supply_in supplies.now) design.now.globals cell.now) }
 {
-    match names.place(name) {
-        Some(place) => place + 2,
-        None => 0,
-    }
-}
-
-/// The number of a net by its name: the supplies are 0 and 1.
-fn number(names: &Names, supplies: &FirstValues<bool>, name: &[u8]) -> usize
-    requires few { length names.now + 2 ≤ 20000 }
-    ensures { result ≡ number_in (supply_in supplies.now) names.now name.now }
-{
-    match supply(supplies, name) {
-        Some(false) => 0,
-        Some(true) => 1,
-        None => place(names, name),
-    }
-}
-
-/// A net by its name.
-pub fn net(names: &Names, supplies: &FirstValues<bool>, name: &[u8]) -> Net
-    requires few { length names.now + 2 ≤ 20000 }
-    ensures { result.0 ≡ number_in (supply_in supplies.now) names.now name.now }
-{
-    Net(number(names, supplies, name) as u32)
+    let globals = design.globals.as_slice();
+    let cards = cell.devices.as_slice();
+    add_ports(names, supplies, cell.ports.as_slice())?;
+    add_globals(alloc, names, supplies, globals, cards)?;
+    add_cards(names, supplies, cards)?;
+    Ok(())
 }

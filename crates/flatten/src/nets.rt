@@ -1,18 +1,26 @@
 //! The nets of a circuit.
 
-ghost use Rattle.std.specs.Prelude.{◌≡◌, ◌≤◌, ◌++◌, ◌∷◌, [], false, true, IfOk, OnOk, codes, cond, drop, find, length, map, not, slice_get};
+ghost use Rattle.std.specs.Prelude.{◌≡◌, ◌<◌, ◌++◌, ◌∷◌, List, [], IfOk, OnOk, codes, cond, drop, find, length, not, slice_get};
 ghost use Rattle.std.specs.Option.{option_copied};
-ghost use Rattle.flatten.specs.NetTables.{nets_in, port_nets_in, port_net_in};
-ghost use Rattle.rule_index.specs.Tables.{supply_in};
-ghost use Rattle.vrt_model.specs.FlatCircuit.{kind_by, kind_by_role, plain_net, supply_flat, supply_name};
+ghost use Rattle.flatten.specs.NetTables.{port_net_in, port_nets_in};
+ghost use Rattle.net_places.specs.Links.{IsUnrolled};
+ghost use Rattle.net_places.specs.Whole.{whole_of};
+ghost use Rattle.net_tables.specs.Tables.{AreNetTables};
+ghost use Rattle.rule_index.specs.Tables.{AreIndexed, supply_in};
+ghost use Rattle.vrt_model.specs.FlatCircuit.{flat_nets, kind_by, kind_by_role, supply_flat, supply_name};
 ghost use Rattle.vrt_model.specs.Lists.{differ};
+ghost use Rattle.vrt_model.specs.declared.pairing.PortRole.{PortRole as RoleValue};
 ghost use Rattle.vrt_model.specs.declared.rules.SupplyRule.{SupplyRule as RuleValue};
 
+use crate::cells::cell_of;
 use crate::lists::append;
-use crate::net_names::NetTable;
-use rule_index::{FirstValues, supply};
+use net_places::{Unrolled, add_inner_nets};
+use net_tables::NetTables;
+use rule_index::{FirstValues, RuleIndex, supply};
 use std::alloc::Global;
-use vrt_model::{FlatNet, NetKind, NoMemory, PortRole, Rules, Seq, SupplyRule, Text};
+use vrt_model::{
+    Design, FlatNet, NetKind, NoMemory, Pairing, PortRole, Rules, Seq, SupplyRule, Text,
+};
 
 /// Whether a rule declares a supply of this value.
 fn is_of(rule: &SupplyRule, value: bool) -> bool
@@ -127,26 +135,6 @@ fn add_ports(
     Ok(())
 }
 
-/// A plain net.
-fn plain(alloc: Global, name: &[u8]) -> Result<FlatNet, NoMemory>
-    ensures { IfOk result (λ net. net ≡ plain_net name.now) }
-{
-    Ok(FlatNet {
-        name: Text::from_bytes(alloc, name)?,
-        kind: NetKind::Plain,
-    })
-}
-
-/// Adds plain nets of these names.
-fn add_plain(alloc: Global, nets: &mut Seq<FlatNet>, names: &[Text]) -> Result<(), NoMemory>
-    ensures { OnOk result (nets.new ≡ nets.old ++ map plain_net names.now) }
-{
-    'names: for name in names {
-        append(nets, plain(alloc, name.as_bytes())?)?;
-    }
-    Ok(())
-}
-
 /// Adds the net of a supply.
 fn add_supply(
     alloc: Global,
@@ -160,50 +148,55 @@ fn add_supply(
     Ok(())
 }
 
-/// Adds the nets behind the ports of a table.
-fn add_inner(alloc: Global, nets: &mut Seq<FlatNet>, table: &NetTable) -> Result<(), NoMemory>
-    requires { table.now.port_count ≤ length table.now.names }
-    ensures { OnOk result (nets.new ≡ nets.old ++ map plain_net (drop table.now.port_count table.now.names)) }
-{
-    let names = table.names.to_texts(alloc)?;
-    add_plain(alloc, nets, &names.as_slice()[table.port_count..])?;
-    Ok(())
-}
-
-/// Adds the nets of a cell, to none.
+/// Adds the nets of an unrolled cell, to none.
 fn add_nets(
     alloc: Global,
     nets: &mut Seq<FlatNet>,
+    index: &RuleIndex,
+    tables: &NetTables,
+    design: &Design,
     rules: &Rules,
-    supplies: &FirstValues<bool>,
-    ports: &[Text],
-    roles: &[PortRole],
-    table: &NetTable,
+    unrolled: &Unrolled,
+    cell: u32,
+    pairing: &Pairing,
 ) -> Result<(), NoMemory>
     requires empty { nets.old ≡ [] }
-    requires within { table.now.port_count ≤ length table.now.names }
-    ensures { OnOk result (nets.new ≡ nets_in rules.now (supply_in supplies.now) ports.now roles.now table.now) }
+    requires indexed { AreIndexed design.now rules.now index.now }
+    requires tables { AreNetTables design.now rules.now tables.now }
+    requires there { cell < length design.now.cells }
+    requires unrolled { (roles : List RoleValue) → IsUnrolled (whole_of design.now rules.now cell roles) unrolled.now }
+    ensures { OnOk result (nets.new ≡ flat_nets (whole_of design.now rules.now cell pairing.now.ports)) }
 {
     add_supply(alloc, nets, rules, false)?;
     add_supply(alloc, nets, rules, true)?;
-    add_ports(alloc, nets, supplies, ports, roles)?;
-    add_inner(alloc, nets, table)?;
+    let ports = cell_of(design, cell).ports.as_slice();
+    let roles = pairing.ports.as_slice();
+    add_ports(alloc, nets, &index.supplies, ports, roles)?;
+    add_inner_nets(alloc, nets, design, tables, unrolled)?;
     Ok(())
 }
 
-/// The nets of a cell: the two supplies, the other ports by their roles, and the nets behind these in the table.
+/// The nets of an unrolled cell: the two supplies, the other ports by their roles, its global nets, and the own nets of
+/// each place.
 pub fn nets(
     alloc: Global,
+    index: &RuleIndex,
+    tables: &NetTables,
+    design: &Design,
     rules: &Rules,
-    supplies: &FirstValues<bool>,
-    ports: &[Text],
-    roles: &[PortRole],
-    table: &NetTable,
+    unrolled: &Unrolled,
+    cell: u32,
+    pairing: &Pairing,
 ) -> Result<Seq<FlatNet>, NoMemory>
-    requires within { table.now.port_count ≤ length table.now.names }
-    ensures { IfOk result (λ nets. nets ≡ nets_in rules.now (supply_in supplies.now) ports.now roles.now table.now) }
+    requires indexed { AreIndexed design.now rules.now index.now }
+    requires tables { AreNetTables design.now rules.now tables.now }
+    requires there { cell < length design.now.cells }
+    requires unrolled { (roles : List RoleValue) → IsUnrolled (whole_of design.now rules.now cell roles) unrolled.now }
+    ensures { IfOk result (λ nets. nets ≡ flat_nets (whole_of design.now rules.now cell pairing.now.ports)) }
 {
     let mut nets = Seq::new(alloc);
-    add_nets(alloc, &mut nets, rules, supplies, ports, roles, table)?;
+    add_nets(
+        alloc, &mut nets, index, tables, design, rules, unrolled, cell, pairing,
+    )?;
     Ok(nets)
 }

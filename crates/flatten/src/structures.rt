@@ -14,7 +14,7 @@ use crate::cells::{cell_of, is_leaf};
 use crate::devices::without_kind;
 use crate::faults::FlatFault;
 use crate::kinds::unrolled_without_kind;
-use crate::net_names::NetTable;
+use crate::net_names::name_nets;
 use crate::ties::tied_apart;
 use flat_sizes::{FlatSizes, sizes};
 use names::Names;
@@ -37,7 +37,7 @@ fn is_too_large(count: usize) -> bool
 }
 
 /// Tests the count of nets, then the models of the devices.
-pub fn test(
+fn test(
     alloc: Global,
     models: &ModelTable,
     names: &Names,
@@ -60,24 +60,24 @@ pub fn test(
     }
 }
 
-/// Tests a cell, by a table of its nets that is filled first.
+/// Tests a cell without instances, by the names of its nets, which are added first.
 fn structure_by(
     alloc: Global,
     index: &RuleIndex,
     design: &Design,
     cell: u32,
-    nets: &mut NetTable,
+    names: &mut Names,
 ) -> Result<(), FlatFault>
     requires netlist { IsDesign design.now }
     requires there { cell < length design.now.cells }
     requires leaf { (cell_at design.now cell).instances ≡ [] }
-    requires fresh { nets.old.names ≡ [] }
+    requires fresh { names.old ≡ [] }
     ensures { (rules : RulesValue) → AreIndexed design.now rules index.now → StructureGives (top_before design.now rules cell) result }
 {
     let cell = cell_of(design, cell);
-    nets.fill(alloc, &index.supplies, design, cell)?;
+    name_nets(alloc, names, &index.supplies, design, cell)?;
     let cards = cell.devices.as_slice();
-    test(alloc, &index.models, &nets.names, cards)
+    test(alloc, &index.models, names, cards)
 }
 
 /// The first count that passes its limit.
@@ -165,8 +165,8 @@ pub fn structure_with(
     ensures { StructureGives (top_before design.now rules.now cell) result }
 {
     if is_leaf(design, cell) {
-        let mut nets = NetTable::new(alloc);
-        return structure_by(alloc, index, design, cell, &mut nets);
+        let mut names = Names::new(alloc);
+        return structure_by(alloc, index, design, cell, &mut names);
     }
     test_whole(alloc, index, design, rules, cell)
 }

@@ -2,8 +2,8 @@ pub mod CallerLaws
 mod CellLaws
 mod GlobalLaws
 mod InstanceLaws
-mod LinkLaws
+pub mod LinkLaws
 mod OwnNetLaws
 mod PortLaws
 mod UnrollLaws
-mod WholeLaws
+pub mod WholeLaws

@@ -39,7 +39,8 @@ at_right : {X : Type 0} (xs ys : List X) (j : ℕ) (x : X) → At (xs ++ ys) (le
 at_right [] ys j x e = let n : 0 + j ≡ j = omega arith in subst (λ (k : ℕ). At ys k x) n e
 at_right (z ∷ xs) ys j x e = let n : suc (length xs) + j ≡ suc (length xs + j) = omega arith in at_right xs ys j x (subst (λ (k : ℕ). At (z ∷ xs ++ ys) k x) n e)
 
-flat_among : {X Y : Type 0} (f : X → List Y) (xs : List X) (x : X) (y : Y) → Among xs x → Among (f x) y → Among (flat_map f xs) y
+-- what stands in one of the lists stands in all joined
+pub flat_among : {X Y : Type 0} (f : X → List Y) (xs : List X) (x : X) (y : Y) → Among xs x → Among (f x) y → Among (flat_map f xs) y
 flat_among f [] x y (i, e) m = absurd (none-some x e)
 flat_among {X} {Y} f (z ∷ xs) x y (zero, e) m = among_left (f z) (flat_map f xs) y (subst (λ (w : X). Among (f w) y) (sym (same_Some z x e)) m)
 flat_among f (z ∷ xs) x y (suc i, e) m = among_right (f z) (flat_map f xs) y (flat_among f xs x y (i, e) m)

@@ -2,10 +2,11 @@
 
 ghost use Rattle.std.specs.Prelude.{IfOk};
 ghost use Rattle.prepared_tables.specs.Prepared.{ArePrepared};
-ghost use Rattle.vrt_model.specs.Inputs.{IsBlif};
+ghost use Rattle.vrt_model.specs.Inputs.{IsBlif, IsDesign};
 
 use crate::by_name::{ModelNames, model_names};
 use blif_flat::{ModelTables, model_tables};
+use net_tables::{NetTables, net_tables};
 use rule_index::{RuleIndex, index_of};
 use std::alloc::Global;
 use vrt_model::{Blif, Design, NoMemory, Rules};
@@ -14,6 +15,8 @@ use vrt_model::{Blif, Design, NoMemory, Rules};
 pub struct Prepared {
     /// What the netlist and the rules say, by names.
     pub index: RuleIndex,
+    /// The nets of the cells.
+    pub nets: NetTables,
     /// What is looked up of the models to unroll one.
     pub models: ModelTables,
     /// The models by their names.
@@ -25,6 +28,7 @@ impl Drop for Prepared {
     fn drop(self) {
         let Prepared {
             index: _index,
+            nets: _nets,
             models: _models,
             names: _names,
         } = self;
@@ -39,14 +43,17 @@ pub fn prepare(
     blif: &Blif,
     rules: &Rules,
 ) -> Result<Prepared, NoMemory>
-    requires { IsBlif blif.now }
+    requires netlist { IsDesign design.now }
+    requires models { IsBlif blif.now }
     ensures { IfOk result (ArePrepared design.now blif.now rules.now) }
 {
     let names = model_names(alloc, blif)?;
     let models = model_tables(alloc, blif)?;
+    let nets = net_tables(alloc, design, rules)?;
     let index = index_of(alloc, design, rules)?;
     Ok(Prepared {
         index,
+        nets,
         models,
         names,
     })

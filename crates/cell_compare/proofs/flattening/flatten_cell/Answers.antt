@@ -1,12 +1,15 @@
 -- What each test finds is the cause, and where none finds anything, all is known that is asked.
-use Rattle.std.proofs.Common.{Option, Some, subst}
+use Rattle.std.proofs.Common.{List, Option, Some, subst}
 use Rattle.std.specs.Prelude.{Ok}
 use Rattle.std.proofs.lemmas.Result.{err_from_is_err_and}
 use Rattle.cell_compare.proofs.StepLaws.{by_circuit, by_device, by_model, by_pairing, counted_of, stops_for, structured_of}
 use Rattle.cell_compare.specs.Steps.{CircuitTells, IsEarlyWhy, IsFoundBy, circuit_why, model_why, pairing_why}
 use Rattle.flatten.specs.Circuits.{IsFlatCircuit}
 use Rattle.latch_match.specs.Paired.{IsPairing}
+use Rattle.vrt_model.proofs.Members.{at_none}
+use Rattle.vrt_model.specs.Lists.{At}
 use Rattle.vrt_model.specs.Unsupported.{top_before}
+use Rattle.vrt_model.specs.declared.rules.HoldRule.{HoldRule}
 use Rattle.vrt_model.specs.declared.verdict.Why.{Why}
 use Rattle.cell_compare.proofs.flattening.flatten_cell.Goals as goal
 
@@ -21,6 +24,12 @@ pairing_of-requires-clause-indexed c = c.requires.prepared.index_is
 
 pub flat_with-requires-clause-indexed : goal.flat_with-requires-clause-indexed
 flat_with-requires-clause-indexed c = c.requires.prepared.index_is
+
+pub flat_with-requires-clause-tables : goal.flat_with-requires-clause-tables
+flat_with-requires-clause-tables c = c.requires.prepared.nets_are
+
+pub flat_with-requires-clause-names : goal.flat_with-requires-clause-names
+flat_with-requires-clause-names c rule m = absurd (at_none m.0 rule (subst (λ (xs : List HoldRule). At xs m.0 rule) c.requires.built.holds m.1))
 
 pub returns-in_err-cause : goal.returns-in_err-cause
 returns-in_err-cause c =
