@@ -1,11 +1,11 @@
 //! Why models are refused.
 
-use std::error::Error;
 use std::fmt;
+use thiserror::Error;
 use vrt_model::Text;
 
 /// Each fault but the last has the line of the card that it is about.
-#[derive(Drop)]
+#[derive(Drop, Error)]
 pub enum ModelFault {
     /// A sub-model of a name that no model has.
     UnknownModel { line: u32, name: Text },
@@ -56,5 +56,3 @@ impl fmt::Debug for ModelFault {
         fmt::Display::fmt(self, f)
     }
 }
-
-impl Error for ModelFault {}

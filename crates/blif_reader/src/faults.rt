@@ -1,12 +1,12 @@
 //! Why a BLIF text is refused.
 
-use std::error::Error;
 use std::fmt;
+use thiserror::Error;
 use vrt_model::Text;
 
 /// Each fault but the last has the line on which its card begins. Of several faults on one card the first of these is
 /// answered.
-#[derive(Drop)]
+#[derive(Drop, Error)]
 pub enum BlifFault {
     /// A byte of the card that is neither a tab nor from the space to the tilde.
     NotText { line: u32 },
@@ -68,5 +68,3 @@ impl fmt::Debug for BlifFault {
         fmt::Display::fmt(self, f)
     }
 }
-
-impl Error for BlifFault {}

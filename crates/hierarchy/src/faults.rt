@@ -1,11 +1,11 @@
 //! Why cells have no order.
 
-use std::error::Error;
 use std::fmt;
+use thiserror::Error;
 use vrt_model::{Seq, Text};
 
 /// The first fault of a netlist and its rules, in this order.
-#[derive(Drop)]
+#[derive(Drop, Error)]
 pub enum HierFault {
     /// An instance of a cell that is not there: the line of its card in the SPICE file, and the name, in lower case.
     UnknownCell { line: u32, name: Text },
@@ -49,5 +49,3 @@ impl fmt::Debug for HierFault {
         fmt::Display::fmt(self, f)
     }
 }
-
-impl Error for HierFault {}

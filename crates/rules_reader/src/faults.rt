@@ -1,11 +1,11 @@
 //! Why a rules file is refused.
 
-use std::error::Error;
 use std::fmt;
+use thiserror::Error;
 use vrt_model::Text;
 
 /// Each fault but the last has its line. Of several faults on one line the first of these is answered.
-#[derive(Drop)]
+#[derive(Drop, Error)]
 pub enum RulesFault {
     /// A byte of the line that is neither a tab nor from the space to the tilde.
     NotText { line: u32 },
@@ -62,5 +62,3 @@ impl fmt::Debug for RulesFault {
         fmt::Display::fmt(self, f)
     }
 }
-
-impl Error for RulesFault {}
