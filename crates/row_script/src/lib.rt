@@ -1,9 +1,9 @@
-//! Texts that the lines of standard input give, for programs that tell what is answered of them.
+//! For programs that tell what is answered of rows: texts that the lines of standard input give, and a page for the answers.
 #![tactic(auto)]
 
 mod marks;
+mod page;
 mod script;
-mod texts;
 
-pub use script::{Part, Script};
-pub use texts::{add, add_number, before, number, shown};
+pub use page::{Page, number, shown};
+pub use script::{Part, Script, word_and_rest};

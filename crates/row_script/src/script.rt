@@ -9,11 +9,10 @@
 //! | `times N BYTES` | the same so many times, with the numbers from 0 on |
 //!
 //! In all of them `%HH` is the byte of two hexadecimal digits, and in the last `%#` is the number and `%+` the one after it.
-//! Empty lines and those that begin with `# ` are passed over.
+//! Empty lines and those that begin with `# ` are passed over. A line that is none of these is told as it is.
 
 use crate::marks::add_marked;
-use crate::texts::number;
-use anyhow::{Result, bail};
+use crate::page::{Page, number};
 use std::alloc::Global;
 
 /// Which reader reads a text.
@@ -30,11 +29,11 @@ pub enum Part {
 /// The texts that the lines so far give, and which was begun last.
 pub struct Script {
     /// The netlist that was begun last.
-    pub netlist: Vec<u8>,
+    pub netlist: Page,
     /// The models that were begun last.
-    pub models: Vec<u8>,
+    pub models: Page,
     /// The rules that were begun last.
-    pub rules: Vec<u8>,
+    pub rules: Page,
     /// Which of the three goes on.
     pub part: Part,
 }
@@ -51,13 +50,18 @@ impl Drop for Script {
     }
 }
 
+/// A line that begins with a word, and the rest behind a blank.
+pub fn word_and_rest(line: &str) -> (&str, &str) {
+    line.split_once(' ').unwrap_or((line, ""))
+}
+
 impl Script {
     /// No text is given yet.
     pub fn new(alloc: Global) -> Script {
         Script {
-            netlist: Vec::new(alloc),
-            models: Vec::new(alloc),
-            rules: Vec::new(alloc),
+            netlist: Page::new(alloc),
+            models: Page::new(alloc),
+            rules: Page::new(alloc),
             part: Part::Netlist,
         }
     }
@@ -65,14 +69,14 @@ impl Script {
     /// The text that was begun last.
     pub fn text(&self) -> &[u8] {
         match self.part {
-            Part::Netlist => self.netlist.as_slice(),
-            Part::Models => self.models.as_slice(),
-            Part::Rules => self.rules.as_slice(),
+            Part::Netlist => self.netlist.written(),
+            Part::Models => self.models.written(),
+            Part::Rules => self.rules.written(),
         }
     }
 
     /// The same to be gone on with.
-    fn begun(&mut self) -> &mut Vec<u8> {
+    fn begun(&mut self) -> &mut Page {
         match self.part {
             Part::Netlist => &mut self.netlist,
             Part::Models => &mut self.models,
@@ -86,49 +90,47 @@ impl Script {
         self.begun().clear();
     }
 
-    /// Takes a line, and gives what it asks and the name of the case; none of a line that gives text.
-    pub fn take<'a>(&mut self, alloc: Global, line: &'a str) -> Result<Option<(&'a str, &'a str)>> {
-        let (word, rest) = line.split_once(' ').unwrap_or((line, ""));
-        if self.give(alloc, word, rest)? {
-            return Ok(None);
+    /// Takes a line, and gives what it asks and the name of the case; none of a line that gives text. A line that is neither
+    /// is told.
+    pub fn take<'a>(&mut self, page: &mut Page, line: &'a str) -> Option<(&'a str, &'a str)> {
+        let (word, rest) = word_and_rest(line);
+        if self.give(word, rest) {
+            return None;
         }
-        match line.split_once(": ") {
-            Some(asked) => Ok(Some(asked)),
-            None => bail!("no such line: {line}"),
+        let asked = line.split_once(": ");
+        if asked.is_none() {
+            page.word(line);
         }
+        asked
     }
 
     /// Takes a line that gives text, and says whether it was one.
-    pub fn give(&mut self, alloc: Global, word: &str, rest: &str) -> Result<bool> {
+    pub fn give(&mut self, word: &str, rest: &str) -> bool {
         match word {
             "" => {}
             "#" => {}
             "netlist" => self.begin(Part::Netlist),
             "models" => self.begin(Part::Models),
             "rules" => self.begin(Part::Rules),
-            "|" => add_line(alloc, self.begun(), rest)?,
-            ">" => add_marked(alloc, self.begun(), rest, 0)?,
-            "times" => add_times(alloc, self.begun(), rest)?,
-            _ => return Ok(false),
+            "|" => add_line(self.begun(), rest),
+            ">" => add_marked(self.begun(), rest, 0),
+            "times" => add_times(self.begun(), rest),
+            _ => return false,
         }
-        Ok(true)
+        true
     }
 }
 
 /// Adds a line.
-fn add_line(alloc: Global, text: &mut Vec<u8>, line: &str) -> Result<()> {
-    add_marked(alloc, text, line, 0)?;
-    text.push(b'\n')?;
-    Ok(())
+fn add_line(text: &mut Page, line: &str) {
+    add_marked(text, line, 0);
+    text.word("\n");
 }
 
 /// Adds bytes so many times.
-fn add_times(alloc: Global, text: &mut Vec<u8>, rest: &str) -> Result<()> {
-    let Some((times, bytes)) = rest.split_once(' ') else {
-        bail!("nothing to repeat");
-    };
-    for at in 0..number(times)? {
-        add_marked(alloc, text, bytes, at)?;
+fn add_times(text: &mut Page, rest: &str) {
+    let (times, bytes) = word_and_rest(rest);
+    for at in 0..number(times) {
+        add_marked(text, bytes, at);
     }
-    Ok(())
 }
