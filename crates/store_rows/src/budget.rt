@@ -1,9 +1,10 @@
 //! A budget that is met exactly.
 
-use crate::handles::bit;
 use crate::operations::{Operation, apply};
+use crate::spans::bit;
 use crate::stop::Stop;
 use bdd_core::{H, Spent, Store};
+use row_script::Page;
 use std::alloc::Global;
 
 /// Two variables, their product, their sum and the product again, in a store with room for five nodes.
@@ -19,8 +20,14 @@ fn made(alloc: Global) -> Result<[Result<H, Spent>; 3], Stop> {
 
 /// Tells that two variables and their product fill a store of five nodes, so that their sum is refused, and the product
 /// is there.
-pub(crate) fn tell(rt: HostRuntime) -> anyhow::Result<()> {
-    let [both, either, again] = made(rt.alloc())?;
-    println!(rt; "budget: {both:?}, {either:?}, {again:?}")?;
+pub(crate) fn tell(page: &mut Page) -> Result<(), Stop> {
+    let [both, either, again] = made(page.alloc())?;
+    page.word("budget: ");
+    page.debug(&both);
+    page.word(", ");
+    page.debug(&either);
+    page.word(", ");
+    page.debug(&again);
+    page.word("\n");
     Ok(())
 }

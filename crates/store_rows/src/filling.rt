@@ -2,8 +2,8 @@
 
 use crate::handles::{both, leave};
 use crate::stop::Stop;
-use anyhow::Result;
 use bdd_core::{H, ONE, Spent, Store};
+use row_script::Page;
 use std::alloc::Global;
 use vrt_model::Var;
 
@@ -74,20 +74,33 @@ fn fill_and_leave(alloc: Global) -> Result<Filled, Stop> {
     })
 }
 
+/// Tells what was made.
+fn tell_made(page: &mut Page, made: Result<H, Spent>) {
+    page.word(" product is ");
+    page.debug(&made);
+}
+
 /// Tells what a store answers that is filled and left.
-pub(crate) fn tell(rt: HostRuntime) -> Result<()> {
-    let store = fill_and_leave(rt.alloc())?;
-    println!(rt;
-        "store: equal branches are {:?}, {} nodes",
-        store.equal, store.opened
-    )?;
-    println!(rt; "store: a product is {:?}", store.first)?;
-    println!(rt; "store: {:?} at {} nodes", store.refused, store.full)?;
-    println!(rt; "store: the product is {:?}", store.again)?;
-    println!(rt; "store: {:?} nodes and words left", store.left)?;
-    println!(rt;
-        "store: the product is {:?}, {} nodes",
-        store.anew, store.nodes
-    )?;
+pub(crate) fn tell(page: &mut Page) -> Result<(), Stop> {
+    let store = fill_and_leave(page.alloc())?;
+    page.word("store: equal branches are ");
+    page.debug(&store.equal);
+    page.word(",");
+    page.behind_blank(store.opened);
+    page.word(" nodes\nstore: a");
+    tell_made(page, store.first);
+    page.word("\nstore: ");
+    page.debug(&store.refused);
+    page.word(" at");
+    page.behind_blank(store.full);
+    page.word(" nodes\nstore: the");
+    tell_made(page, store.again);
+    page.word("\nstore: ");
+    page.debug(&store.left);
+    page.word(" nodes and words left\nstore: the");
+    tell_made(page, store.anew);
+    page.word(",");
+    page.behind_blank(store.nodes);
+    page.word(" nodes\n");
     Ok(())
 }

@@ -1,21 +1,10 @@
 //! Calls of a store whose conditions are tested first.
 
-ghost use Rattle.std.specs.Prelude.{◌≡◌, IsTrue};
-ghost use Rattle.bdd_core.specs.Store.{IsSpan};
-
+use crate::spans::is_live;
 use crate::stop::Stop;
 use bdd_core::{H, Spent, Store, ZERO};
 use node_pool::{Mark, Span};
-use std::alloc::Global;
-use vrt_model::{Seq, Valuation, Var};
-
-/// The bit of a variable.
-pub(crate) fn bit(store: &mut Store, var: u32) -> Result<H, Stop> {
-    if var >= store.vars() {
-        return Err(Stop::Unfit);
-    }
-    Ok(store.bit(Var(var))?)
-}
+use vrt_model::Var;
 
 /// The function that is 1 where both of two variables are, `u` before `v`, made node by node.
 pub(crate) fn both(store: &mut Store, u: u32, v: u32) -> Result<Result<H, Spent>, Stop> {
@@ -48,14 +37,6 @@ pub(crate) fn leave(store: &mut Store, mark: Mark) -> Result<(), Stop> {
     Ok(())
 }
 
-/// Whether a span is live in a store.
-pub(crate) fn is_live(store: &Store, span: Span) -> bool
-    ensures { IsTrue result → IsSpan store.now span }
-{
-    let words = store.mark().words as u64;
-    store.own_words() <= span.start && span.start as u64 + span.len as u64 <= words
-}
-
 /// A word of a span.
 pub(crate) fn word(store: &Store, span: Span, at: u32) -> Result<u32, Stop> {
     if at >= span.len || !is_live(store, span) {
@@ -70,23 +51,4 @@ pub(crate) fn least(store: &mut Store, f: H, into: Span) -> Result<bool, Stop> {
         return Err(Stop::Unfit);
     }
     Ok(bdd_ops::least(store, f, into))
-}
-
-/// The value of a function at a valuation.
-pub(crate) fn value(store: &Store, f: H, at: &Valuation) -> Result<bool, Stop> {
-    if f.0 >= store.node_count() || (store.vars() as usize) > at.bits.len() {
-        return Err(Stop::Unfit);
-    }
-    Ok(bdd_ops::value_at(store, f, at))
-}
-
-/// The valuation of three variables whose bits are those of a number below 8.
-pub(crate) fn valuation(alloc: Global, at: u8) -> Result<Valuation, Stop> {
-    let mut bits = Seq::new(alloc);
-    for place in [4u8, 2, 1] {
-        if bits.push(at & place != 0).is_err() {
-            return Err(Stop::NoMemory);
-        }
-    }
-    Ok(Valuation { bits })
 }

@@ -1,9 +1,11 @@
 //! The least valuation among those of 1,000 variables.
 
-use crate::handles::{bit, least, word};
+use crate::handles::{least, word};
+use crate::spans::bit;
 use crate::stop::Stop;
 use bdd_core::{Store, ZERO};
 use node_pool::Span;
+use row_script::Page;
 use std::alloc::Global;
 
 /// How many variables the store has.
@@ -36,8 +38,14 @@ fn found(alloc: Global) -> Result<(bool, Vec<u32>, bool), Stop> {
 }
 
 /// Tells where the second variable is 1 first, and that the constant 0 is 1 nowhere.
-pub(crate) fn tell(rt: HostRuntime) -> anyhow::Result<()> {
-    let (there, ones, never) = found(rt.alloc())?;
-    println!(rt; "least: {there} with 1 at {ones:?}, and {never} for the constant 0")?;
+pub(crate) fn tell(page: &mut Page) -> Result<(), Stop> {
+    let (there, ones, never) = found(page.alloc())?;
+    page.word("least: ");
+    page.bit(there);
+    page.word(" with 1 at ");
+    page.debug(&ones);
+    page.word(", and ");
+    page.bit(never);
+    page.word(" for the constant 0\n");
     Ok(())
 }

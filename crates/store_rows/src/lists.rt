@@ -1,7 +1,7 @@
 //! Texts and lists keep what is pushed.
 
 use crate::stop::Stop;
-use anyhow::Result;
+use row_script::Page;
 use std::alloc::Global;
 use vrt_model::{Seq, Text};
 
@@ -16,11 +16,16 @@ fn text(alloc: Global) -> Result<Text, Stop> {
 }
 
 /// Tells a text of three pieces, by its bytes, and one without any.
-pub(crate) fn tell_text(rt: HostRuntime) -> Result<()> {
-    let text = text(rt.alloc())?;
-    println!(rt; "text: {:?}, {} bytes", text.as_bytes(), text.len())?;
-    let none = Text::new(rt.alloc());
-    println!(rt; "text: empty {} and {}", text.is_empty(), none.is_empty())?;
+pub(crate) fn tell_text(page: &mut Page) -> Result<(), Stop> {
+    let text = text(page.alloc())?;
+    page.word("text: ");
+    page.debug(&text.as_bytes());
+    page.word(", ");
+    page.count(text.len(), " bytes\ntext: empty ");
+    page.bit(text.is_empty());
+    page.word(" and ");
+    page.bit(Text::new(page.alloc()).is_empty());
+    page.word("\n");
     Ok(())
 }
 
@@ -36,9 +41,16 @@ fn list(alloc: Global) -> Result<Seq<u32>, Stop> {
 }
 
 /// Tells a list of three numbers, and what stands at its end and behind it.
-pub(crate) fn tell_list(rt: HostRuntime) -> Result<()> {
-    let list = list(rt.alloc())?;
-    println!(rt; "list: {:?}, empty {}", list.as_slice(), list.is_empty())?;
-    println!(rt; "list: {:?} at 2, {:?} at 3", list.get(2), list.get(3))?;
+pub(crate) fn tell_list(page: &mut Page) -> Result<(), Stop> {
+    let list = list(page.alloc())?;
+    page.word("list: ");
+    page.debug(&list.as_slice());
+    page.word(", empty ");
+    page.bit(list.is_empty());
+    page.word("\nlist: ");
+    page.debug(&list.get(2));
+    page.word(" at 2, ");
+    page.debug(&list.get(3));
+    page.word(" at 3\n");
     Ok(())
 }

@@ -4,10 +4,11 @@ use crate::stop::Stop;
 use crate::tables::Tables;
 use bdd_core::{H, Spent, Store};
 use bdd_ops::{and, implies, or, xor};
+use row_script::Page;
 use std::alloc::Global;
 
 /// An operation of two functions.
-#[derive(Clone, Copy, Debug, PartialEq, Eq)]
+#[derive(Clone, Copy)]
 pub enum Operation {
     /// 1 where both are.
     And,
@@ -90,8 +91,12 @@ fn right(alloc: Global) -> Result<(u32, u32), Stop> {
 }
 
 /// Tells how many operations of any two functions of three variables come out right, in each of two stores.
-pub(crate) fn tell(rt: HostRuntime) -> anyhow::Result<()> {
-    let (first, second) = right(rt.alloc())?;
-    println!(rt; "operations: {first} in one store, {second} in another")?;
+pub(crate) fn tell(page: &mut Page) -> Result<(), Stop> {
+    let (first, second) = right(page.alloc())?;
+    page.word("operations:");
+    page.behind_blank(first);
+    page.word(" in one store,");
+    page.behind_blank(second);
+    page.word(" in another\n");
     Ok(())
 }

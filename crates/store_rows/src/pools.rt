@@ -1,8 +1,8 @@
 //! A pool of nodes and words.
 
 use crate::stop::Stop;
-use anyhow::Result;
 use node_pool::{Mark, Node, Pool};
+use row_script::Page;
 use std::alloc::Global;
 
 /// How many nodes the pool has room for: more than it has heads at first, so that its chains are made anew.
@@ -87,18 +87,21 @@ fn fill_and_leave(alloc: Global) -> Result<Filled, Stop> {
 }
 
 /// Tells that nodes fill a pool, are found, and are gone when it is left.
-pub(crate) fn tell_nodes(rt: HostRuntime) -> Result<()> {
-    let pool = fill_and_leave(rt.alloc())?;
-    println!(rt;
-        "pool: {} nodes added, one more {:?}",
-        pool.added, pool.refused
-    )?;
-    println!(rt; "pool: {} nodes found", pool.found)?;
-    println!(rt;
-        "pool: {} nodes when left, the first {:?}",
-        pool.left, pool.first
-    )?;
-    println!(rt; "pool: another at {:?}", pool.another)?;
+pub(crate) fn tell_nodes(page: &mut Page) -> Result<(), Stop> {
+    let pool = fill_and_leave(page.alloc())?;
+    page.word("pool:");
+    page.behind_blank(pool.added);
+    page.word(" nodes added, one more ");
+    page.debug(&pool.refused);
+    page.word("\npool:");
+    page.behind_blank(pool.found);
+    page.word(" nodes found\npool:");
+    page.behind_blank(pool.left);
+    page.word(" nodes when left, the first ");
+    page.debug(&pool.first);
+    page.word("\npool: another at ");
+    page.debug(&pool.another);
+    page.word("\n");
     Ok(())
 }
 
@@ -129,11 +132,14 @@ fn write_and_read(alloc: Global) -> Result<Words, Stop> {
 }
 
 /// Tells that two spans fill the words of a pool.
-pub(crate) fn tell_words(rt: HostRuntime) -> Result<()> {
-    let pool = write_and_read(rt.alloc())?;
-    println!(rt;
-        "words: {:?}, {} left, one more {}",
-        pool.read, pool.left, pool.more
-    )?;
+pub(crate) fn tell_words(page: &mut Page) -> Result<(), Stop> {
+    let pool = write_and_read(page.alloc())?;
+    page.word("words: ");
+    page.debug(&pool.read);
+    page.word(",");
+    page.behind_blank(pool.left);
+    page.word(" left, one more ");
+    page.bit(pool.more);
+    page.word("\n");
     Ok(())
 }

@@ -2,31 +2,17 @@
 
 use bdd_core::Spent;
 use std::alloc::{AllocError, AllocFailed};
-use std::error::Error;
-use std::fmt;
 
 /// Why the rows end early.
-#[derive(Clone, Copy, Debug, PartialEq, Eq)]
+#[derive(Clone, Copy, Debug)]
 pub enum Stop {
     /// Memory could not be had.
     NoMemory,
     /// The budget of nodes is used up.
     Spent,
-    /// A handle, a variable or a span is not as the call asks.
+    /// A handle, a variable, a span or a model is not as the call asks.
     Unfit,
 }
-
-impl fmt::Display for Stop {
-    fn fmt<W: fmt::Write>(&self, f: &mut fmt::Formatter<W>) -> fmt::Result {
-        match self {
-            Stop::NoMemory => write!(f, "out of memory"),
-            Stop::Spent => write!(f, "the budget is used up"),
-            Stop::Unfit => write!(f, "a call does not fit"),
-        }
-    }
-}
-
-impl Error for Stop {}
 
 impl From<node_pool::NoMemory> for Stop {
     fn from(_none: node_pool::NoMemory) -> Stop {

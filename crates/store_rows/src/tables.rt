@@ -2,11 +2,14 @@
 //!
 //! A table has a bit for each valuation of three variables: the bit 4 x + 2 y + z is the value at x, y and z.
 
-use crate::handles::{bit, least, valuation, value, word};
+use crate::handles::{least, word};
+use crate::spans::bit;
 use crate::stop::Stop;
+use crate::values::{valuation, value};
 use bdd_core::{H, ONE, Store, ZERO};
 use bdd_ops::{not, restrict};
 use node_pool::Span;
+use row_script::Page;
 use std::alloc::Global;
 use vrt_model::{Valuation, Var};
 
@@ -193,7 +196,7 @@ fn leasts(tables: &mut Tables) -> Result<u32, Stop> {
 fn values(alloc: Global, tables: &Tables) -> Result<u32, Stop> {
     let mut right = 0u32;
     for number in 0..8u8 {
-        let at = valuation(alloc, number)?;
+        let at = valuation(alloc, [4, 2, 1].as_slice(), number as u32)?;
         right = right.saturating_add(tables.right_at(number, &at)?);
     }
     Ok(right)
@@ -210,9 +213,16 @@ fn right(alloc: Global) -> Result<[u32; 4], Stop> {
 
 /// Tells how many complements of all functions of three variables, functions with a variable fixed, least valuations and
 /// values come out right.
-pub(crate) fn tell(rt: HostRuntime) -> anyhow::Result<()> {
-    let [complements, fixes, leasts, values] = right(rt.alloc())?;
-    println!(rt; "tables: {complements} complements, {fixes} with a variable fixed")?;
-    println!(rt; "tables: {leasts} least valuations, {values} values")?;
+pub(crate) fn tell(page: &mut Page) -> Result<(), Stop> {
+    let [complements, fixes, leasts, values] = right(page.alloc())?;
+    page.word("tables:");
+    page.behind_blank(complements);
+    page.word(" complements,");
+    page.behind_blank(fixes);
+    page.word(" with a variable fixed\ntables:");
+    page.behind_blank(leasts);
+    page.word(" least valuations,");
+    page.behind_blank(values);
+    page.word(" values\n");
     Ok(())
 }
