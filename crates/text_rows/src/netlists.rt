@@ -1,8 +1,7 @@
 //! Netlists.
 
 use crate::MOST_BYTES;
-use anyhow::{Result, bail};
-use row_script::{before, shown};
+use row_script::Page;
 use spice_reader::{SpiceFault, read_spice};
 use std::alloc::Global;
 use vrt_model::{Cell, Design};
@@ -15,15 +14,15 @@ fn first_sizes(cells: &[Cell]) -> (usize, usize, usize) {
     }
 }
 
-/// What a netlist has.
-fn counted(alloc: Global, design: &Design) -> Result<String> {
-    let cells = design.cells.len();
-    let globals = design.globals.len();
-    let models = design.models.len();
+/// Tells what a netlist has.
+fn tell_counts(page: &mut Page, design: &Design) {
     let (ports, devices, instances) = first_sizes(design.cells.as_slice());
-    Ok(format!(in alloc;
-        "{cells} cells, {ports} ports, {devices} transistors and {instances} instances in the first, {globals} globals, {models} models"
-    )?)
+    page.count(design.cells.len(), " cells, ");
+    page.count(ports, " ports, ");
+    page.count(devices, " transistors and ");
+    page.count(instances, " instances in the first, ");
+    page.count(design.globals.len(), " globals, ");
+    page.count(design.models.len(), " models");
 }
 
 /// The word or the name that a fault has.
@@ -37,26 +36,19 @@ fn name_of(fault: &SpiceFault) -> &[u8] {
     }
 }
 
-/// Why a netlist is refused.
-fn refused(alloc: Global, fault: &SpiceFault) -> Result<String> {
-    let name = name_of(fault);
-    let (mark, name) = (before(name), shown(name));
-    Ok(format!(in alloc; "{fault}{mark}{name}")?)
-}
-
-/// What a netlist has, or why it is refused.
-pub fn told(alloc: Global, text: &[u8]) -> Result<String> {
+/// Tells what a netlist has, or why it is refused.
+pub(crate) fn tell(page: &mut Page, text: &[u8]) {
     if text.len() > MOST_BYTES {
-        bail!("more than {MOST_BYTES} bytes");
+        return page.word("too many bytes");
     }
-    match read_spice(alloc, text) {
-        Ok(design) => counted(alloc, &design),
-        Err(fault) => refused(alloc, &fault),
+    match read_spice(page.alloc(), text) {
+        Ok(design) => tell_counts(page, &design),
+        Err(fault) => page.fault(&fault, name_of(&fault)),
     }
 }
 
 /// Whether a netlist is read and has no more cells than so many, or is refused for another cause than want of memory.
-pub fn is_answered(alloc: Global, text: &[u8], most: usize) -> bool {
+pub(crate) fn is_answered(alloc: Global, text: &[u8], most: usize) -> bool {
     if text.len() > MOST_BYTES {
         return false;
     }
