@@ -8,12 +8,10 @@ use crate::inputs::has_inputs;
 use crate::stop::Stop;
 use crate::texts::Given;
 use crate::values::add_bits;
-use anyhow::Result;
 use bdd_core::{H, Store};
 use constraints::care;
 use node_pool::Span;
-use row_script::add_number;
-use std::alloc::Global;
+use row_script::Page;
 use vrt_model::{Group, Seq, Vars};
 
 /// The care set of the first cell.
@@ -42,20 +40,19 @@ fn cared(
 
 /// Tells the bits of the care set in a phase.
 pub(crate) fn tell(
-    alloc: Global,
-    told: &mut String,
+    page: &mut Page,
     given: Given<'_>,
     groups: &Seq<Group>,
     vars: &Vars,
     phase: u32,
-) -> Result<()>
+) -> Result<(), Stop>
     requires { AreGroups given.circuit.now groups.now }
 {
-    let mut board = Board::open(alloc, given.circuit.nets.len(), vars.sources.len())?;
+    let mut board = Board::open(page.alloc(), given.circuit.nets.len(), vars.sources.len())?;
     board.put_inputs(given.circuit)?;
     let f = cared(&mut board.store, board.values, given, groups, vars, phase)?;
-    told.push_str("variables")?;
-    add_number(alloc, told, board.store.vars())?;
-    told.push_str(", care ")?;
-    add_bits(alloc, told, &board.store, f)
+    page.word("variables");
+    page.behind_blank(board.store.vars());
+    page.word(", care ");
+    add_bits(page, &board.store, f)
 }

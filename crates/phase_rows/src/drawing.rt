@@ -11,6 +11,7 @@
 //! instance, by its number, and has a `!` before it for the inverse.
 
 use crate::stop::Stop;
+use row_script::word_and_rest;
 use std::alloc::Global;
 use vrt_model::{
     Circuit, ClockRef, Enter, FlatInstance, FlatNet, Hold, HoldEnd, Net, NetKind, Seq, Text,
@@ -38,11 +39,6 @@ pub(crate) fn number(word: &str) -> Result<u32, Stop> {
     }
 }
 
-/// The first word of a line, and what is behind it.
-pub(crate) fn cut(line: &str) -> (&str, &str) {
-    line.split_once(' ').unwrap_or((line, ""))
-}
-
 /// The kind of a net with the first clock.
 fn clock(inverted: bool) -> NetKind {
     NetKind::Clock(ClockRef { clock: 0, inverted })
@@ -63,8 +59,8 @@ fn kind_of(word: &str) -> Result<NetKind, Stop> {
 
 /// Adds nets of one name and kind: so many, or one where no number is said.
 fn add_nets(alloc: Global, circuit: &mut Circuit, rest: &str) -> Result<(), Stop> {
-    let (name, rest) = cut(rest);
-    let (word, times) = cut(rest);
+    let (name, rest) = word_and_rest(rest);
+    let (word, times) = word_and_rest(rest);
     let kind = kind_of(word)?;
     let count = if times.is_empty() { 1 } else { number(times)? };
     for _ in 0..count {
@@ -118,8 +114,8 @@ fn add_enters(enters: &mut Seq<Enter>, words: &str) -> Result<(), Stop> {
 
 /// Adds a hold.
 fn add_hold(alloc: Global, circuit: &mut Circuit, rest: &str) -> Result<(), Stop> {
-    let (name, rest) = cut(rest);
-    let (word, bits) = cut(rest);
+    let (name, rest) = word_and_rest(rest);
+    let (word, bits) = word_and_rest(rest);
     let net = net_of(circuit, name)?;
     let (inverted, end) = match word.strip_prefix("!") {
         Some(end) => (true, end),
@@ -148,7 +144,7 @@ fn add_ports(ports: &mut Seq<Net>, circuit: &Circuit, words: &str) -> Result<(),
 
 /// Adds an instance.
 fn add_instance(alloc: Global, circuit: &mut Circuit, rest: &str) -> Result<(), Stop> {
-    let (word, nets) = cut(rest);
+    let (word, nets) = word_and_rest(rest);
     let cell = number(word)?;
     let mut ports = Seq::new(alloc);
     add_ports(&mut ports, circuit, nets)?;

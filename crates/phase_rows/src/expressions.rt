@@ -4,11 +4,11 @@ use crate::board::Board;
 use crate::checks::{are_live, is_live};
 use crate::stop::Stop;
 use crate::values::add_bits;
-use anyhow::Result;
 use bdd_core::{H, Store, ZERO};
 use constraints::expr;
 use hold_keep::{KeptFaults, kept_faults};
 use node_pool::Span;
+use row_script::Page;
 use std::alloc::Global;
 use vrt_model::{Cell, Design, Rules};
 
@@ -50,16 +50,15 @@ fn diagram(
 
 /// Tells the bits of the `assume` line of a number.
 pub(crate) fn tell(
-    alloc: Global,
-    told: &mut String,
+    page: &mut Page,
     design: &Design,
     rules: &Rules,
     number: u32,
-) -> Result<()> {
+) -> Result<(), Stop> {
     let cell = first_cell(design)?;
-    let mut board = board_of(alloc, cell)?;
+    let mut board = board_of(page.alloc(), cell)?;
     let f = diagram(&mut board.store, board.values, cell, rules, number as usize)?;
-    add_bits(alloc, told, &board.store, f)
+    add_bits(page, &board.store, f)
 }
 
 /// The functions of the first four `assume` lines.
@@ -81,23 +80,18 @@ fn faults(store: &mut Store, [care, wanted, zero, one]: [H; 4]) -> Result<KeptFa
 }
 
 /// Tells the bits of the two faults.
-fn tell_faults(alloc: Global, told: &mut String, store: &Store, faults: KeptFaults) -> Result<()> {
-    told.push_str("fight ")?;
-    add_bits(alloc, told, store, faults.fight)?;
-    told.push_str(", unsettled ")?;
-    add_bits(alloc, told, store, faults.unsettled)
+fn tell_faults(page: &mut Page, store: &Store, faults: KeptFaults) -> Result<(), Stop> {
+    page.word("fight ");
+    add_bits(page, store, faults.fight)?;
+    page.word(", unsettled ");
+    add_bits(page, store, faults.unsettled)
 }
 
 /// Tells where the faults of a net stand.
-pub(crate) fn tell_kept(
-    alloc: Global,
-    told: &mut String,
-    design: &Design,
-    rules: &Rules,
-) -> Result<()> {
+pub(crate) fn tell_kept(page: &mut Page, design: &Design, rules: &Rules) -> Result<(), Stop> {
     let cell = first_cell(design)?;
-    let mut board = board_of(alloc, cell)?;
+    let mut board = board_of(page.alloc(), cell)?;
     let known = diagrams(&mut board, cell, rules)?;
     let faults = faults(&mut board.store, known)?;
-    tell_faults(alloc, told, &board.store, faults)
+    tell_faults(page, &board.store, faults)
 }

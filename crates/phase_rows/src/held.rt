@@ -8,12 +8,10 @@ use crate::checks::is_live;
 use crate::groups::net_name;
 use crate::stop::Stop;
 use crate::values::add_bits;
-use anyhow::Result;
 use bdd_core::Store;
 use hold_keep::held_roots;
 use node_pool::Span;
-use row_script::add_number;
-use std::alloc::Global;
+use row_script::Page;
 use vrt_model::{Circuit, Group, Seq, Vars};
 
 /// Writes the held values.
@@ -38,38 +36,31 @@ fn write(
 }
 
 /// Adds the held value of the hold at a net.
-fn add_held(
-    alloc: Global,
-    told: &mut String,
-    circuit: &Circuit,
-    board: &Board,
-    net: u32,
-) -> Result<()> {
-    told.push_str(", ")?;
-    told.push_str(net_name(circuit, net))?;
-    told.push(' ')?;
+fn add_held(page: &mut Page, circuit: &Circuit, board: &Board, net: u32) -> Result<(), Stop> {
+    page.word(", ");
+    page.word(net_name(circuit, net));
+    page.word(" ");
     let held = word(&board.store, board.values, net);
-    add_bits(alloc, told, &board.store, held)
+    add_bits(page, &board.store, held)
 }
 
 /// Tells the held value of each hold in a phase.
 pub(crate) fn tell(
-    alloc: Global,
-    told: &mut String,
+    page: &mut Page,
     circuit: &Circuit,
     groups: &Seq<Group>,
     vars: &Vars,
     phase: u32,
-) -> Result<()>
+) -> Result<(), Stop>
     requires circuit { IsCircuit circuit.now }
     requires groups { AreGroups circuit.now groups.now }
 {
-    let mut board = Board::open(alloc, circuit.nets.len(), vars.sources.len())?;
+    let mut board = Board::open(page.alloc(), circuit.nets.len(), vars.sources.len())?;
     write(&mut board.store, board.values, circuit, groups, vars, phase)?;
-    told.push_str("variables")?;
-    add_number(alloc, told, board.store.vars())?;
+    page.word("variables");
+    page.behind_blank(board.store.vars());
     for hold in circuit.holds.as_slice() {
-        add_held(alloc, told, circuit, &board, hold.net.0)?;
+        add_held(page, circuit, &board, hold.net.0)?;
     }
     Ok(())
 }

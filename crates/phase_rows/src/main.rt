@@ -19,48 +19,49 @@ mod texts;
 mod values;
 mod variables;
 
-use anyhow::Result;
-use drawing::{cut, draw, empty};
-use row_script::Script;
-use std::alloc::Global;
-use texts::tell;
+use drawing::{draw, empty};
+use row_script::{Page, Script, word_and_rest};
+use std::io;
+use std::io::Write;
+use stop::Stop;
 use vrt_model::Circuit;
 
-/// Takes a line, and adds what is to be printed of it.
+/// Takes a line, and tells what it asks for.
 fn answer(
-    alloc: Global,
-    told: &mut String,
+    page: &mut Page,
     script: &mut Script,
     circuit: &mut Circuit,
     line: &str,
-) -> Result<()> {
-    let (word, rest) = cut(line);
-    if draw(alloc, circuit, word, rest)? {
+) -> Result<(), Stop> {
+    let (word, rest) = word_and_rest(line);
+    if draw(page.alloc(), circuit, word, rest)? {
         return Ok(());
     }
-    let Some((asked, name)) = script.take(alloc, line)? else {
+    let Some((asked, name)) = script.take(page, line) else {
         return Ok(());
     };
-    told.push_str(name)?;
-    told.push_str(": ")?;
-    tell(alloc, told, script, circuit, asked)?;
-    told.push('\n')?;
+    page.word(name);
+    page.word(": ");
+    texts::tell(page, script, circuit, asked)?;
+    page.word("\n");
     Ok(())
 }
 
-/// Takes a line, and prints what it asks for.
-fn follow(rt: HostRuntime, script: &mut Script, circuit: &mut Circuit, line: &str) -> Result<()> {
-    let mut told = String::new(rt.alloc());
-    answer(rt.alloc(), &mut told, script, circuit, line)?;
-    print!(rt; "{told}")?;
-    Ok(())
+/// Tells why a row is not told, where it is not.
+fn tell_stop(page: &mut Page, told: Result<(), Stop>) {
+    if let Err(stop) = told {
+        page.debug(&stop);
+    }
 }
 
-fn main(rt: HostRuntime) -> Result<()> {
+fn main(rt: HostRuntime) -> io::Result<()> {
+    let mut page = Page::new(rt.alloc());
     let mut script = Script::new(rt.alloc());
     let mut circuit = empty(rt.alloc());
     for line in rt.lines(rt.alloc()) {
-        follow(rt, &mut script, &mut circuit, line?.as_str())?;
+        let told = answer(&mut page, &mut script, &mut circuit, line?.as_str());
+        tell_stop(&mut page, told);
     }
-    Ok(())
+    page.end();
+    io::writer(&rt).write_all(page.written())
 }

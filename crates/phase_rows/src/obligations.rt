@@ -5,16 +5,15 @@ ghost use Rattle.vrt_model.specs.Inputs.{AreRules, IsDesign};
 
 use crate::board::{Board, inputs};
 use crate::checks::{are_below, are_live, is_live, is_tied};
-use crate::drawing::{cut, number};
+use crate::drawing::number;
 use crate::stop::Stop;
 use crate::texts::Given;
 use crate::values::add_bits;
-use anyhow::{Result, bail};
 use bdd_core::{H, Store};
 use constraints::obligation;
 use hierarchy::order;
 use node_pool::Span;
-use std::alloc::Global;
+use row_script::{Page, word_and_rest};
 use vrt_model::{Design, FlatInstance, Rules};
 
 /// The function that says where the constraints of an instance hold.
@@ -41,37 +40,35 @@ fn obliged(
 }
 
 /// Tells the bits of that function.
-fn tell_bits(
-    alloc: Global,
-    told: &mut String,
-    given: Given<'_>,
-    phase: u32,
-    number: u32,
-) -> Result<()>
+fn tell_bits(page: &mut Page, given: Given<'_>, phase: u32, number: u32) -> Result<(), Stop>
     requires netlist { IsDesign given.design.now }
     requires ruled { AreRules given.rules.now }
     requires ordered { IsOrdered given.design.now given.rules.now }
 {
     let Some(instance) = given.circuit.instances.get(number as usize) else {
-        return Err(Stop::NotRead.into());
+        return Err(Stop::NotRead);
     };
-    let mut board = Board::open(alloc, given.circuit.nets.len(), inputs(given.circuit))?;
+    let mut board = Board::open(
+        page.alloc(),
+        given.circuit.nets.len(),
+        inputs(given.circuit),
+    )?;
     board.put_inputs(given.circuit)?;
     let values = board.values;
     let (design, rules) = (given.design, given.rules);
     let f = obliged(&mut board.store, design, rules, instance, phase, values)?;
-    add_bits(alloc, told, &board.store, f)
+    add_bits(page, &board.store, f)
 }
 
 /// Tells where the constraints of an instance hold in a phase, by the numbers of both.
-pub(crate) fn tell(alloc: Global, told: &mut String, given: Given<'_>, rest: &str) -> Result<()>
+pub(crate) fn tell(page: &mut Page, given: Given<'_>, rest: &str) -> Result<(), Stop>
     requires netlist { IsDesign given.design.now }
     requires ruled { AreRules given.rules.now }
 {
-    let (phase, instance) = cut(rest);
+    let (phase, instance) = word_and_rest(rest);
     let (phase, instance) = (number(phase)?, number(instance)?);
-    match order(alloc, given.design, given.rules) {
-        Ok(_) => tell_bits(alloc, told, given, phase, instance),
-        Err(_) => bail!("a netlist and rules that do not fit"),
+    match order(page.alloc(), given.design, given.rules) {
+        Ok(_) => tell_bits(page, given, phase, instance),
+        Err(_) => Err(Stop::Unfit),
     }
 }

@@ -1,27 +1,23 @@
-//! Why the rows end early.
+//! Why a row is not told.
 
 use bdd_core::Spent;
-use thiserror::Error;
+use vrt_model::NoMemory;
 
-/// Why the rows end early.
-#[derive(Clone, Copy, Debug, Drop, Error)]
+/// Why a row is not told.
+#[derive(Clone, Copy, Debug)]
 pub enum Stop {
     /// Memory could not be had.
-    #[error("out of memory")]
     NoMemory,
     /// A line is not as the lines are to be.
-    #[error("a line is not read")]
     NotRead,
     /// The budget of nodes is used up.
-    #[error("the budget is used up")]
     Spent,
     /// A circuit, a handle or a span is not as the call asks.
-    #[error("a call does not fit")]
     Unfit,
 }
 
-impl From<vrt_model::NoMemory> for Stop {
-    fn from(_none: vrt_model::NoMemory) -> Stop {
+impl From<NoMemory> for Stop {
+    fn from(_none: NoMemory) -> Stop {
         Stop::NoMemory
     }
 }

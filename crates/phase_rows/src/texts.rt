@@ -12,15 +12,14 @@
 
 ghost use Rattle.vrt_model.specs.Inputs.{AreRules, IsBlif, IsDesign};
 
-use crate::drawing::{cut, number};
+use crate::drawing::number;
+use crate::stop::Stop;
 use crate::{expressions, groups, obligations};
-use anyhow::{Result, bail};
 use blif_flat::{check_models, flat_model};
 use blif_reader::read_blif;
-use row_script::Script;
+use row_script::{Page, Script, word_and_rest};
 use rules_reader::read_rules;
 use spice_reader::read_spice;
-use std::alloc::Global;
 use vrt_model::{Blif, Circuit, Design, Rules};
 
 /// The most bytes of a text that a reader takes.
@@ -38,101 +37,83 @@ pub(crate) struct Given<'a> {
 }
 
 /// Tells what is asked of the first model, where all are as they are to be.
-fn with_blif(
-    alloc: Global,
-    told: &mut String,
-    given: Given<'_>,
-    blif: &Blif,
-    asked: &str,
-) -> Result<()>
+fn with_blif(page: &mut Page, given: Given<'_>, blif: &Blif, asked: &str) -> Result<(), Stop>
     requires { IsBlif blif.now }
 {
-    if check_models(alloc, blif).is_err() {
-        bail!("models that can not be unrolled");
+    if check_models(page.alloc(), blif).is_err() {
+        return Err(Stop::Unfit);
     }
-    match flat_model(alloc, blif, 0) {
-        Ok(flat) => groups::tell(alloc, told, given, &flat, asked),
-        Err(_) => bail!("a model that is not unrolled"),
+    match flat_model(page.alloc(), blif, 0) {
+        Ok(flat) => groups::tell(page, given, &flat, asked),
+        Err(_) => Err(Stop::Unfit),
     }
 }
 
 /// The same with the text of the models.
-fn with_models(
-    alloc: Global,
-    told: &mut String,
-    given: Given<'_>,
-    text: &[u8],
-    asked: &str,
-) -> Result<()> {
+fn with_models(page: &mut Page, given: Given<'_>, text: &[u8], asked: &str) -> Result<(), Stop> {
     if text.len() > MOST_BYTES {
-        bail!("more than {MOST_BYTES} bytes");
+        return Err(Stop::Unfit);
     }
-    match read_blif(alloc, text) {
-        Ok(blif) => with_blif(alloc, told, given, &blif, asked),
-        Err(_) => bail!("models that are not read"),
+    match read_blif(page.alloc(), text) {
+        Ok(blif) => with_blif(page, given, &blif, asked),
+        Err(_) => Err(Stop::NotRead),
     }
 }
 
 /// Tells what is asked of a design, rules and a circuit.
-fn answered(
-    alloc: Global,
-    told: &mut String,
-    given: Given<'_>,
-    models: &[u8],
-    asked: &str,
-) -> Result<()>
+fn answered(page: &mut Page, given: Given<'_>, models: &[u8], asked: &str) -> Result<(), Stop>
     requires netlist { IsDesign given.design.now }
     requires ruled { AreRules given.rules.now }
 {
-    let (word, rest) = cut(asked);
+    let (word, rest) = word_and_rest(asked);
     match word {
-        "expression" => expressions::tell(alloc, told, given.design, given.rules, number(rest)?),
-        "kept" => expressions::tell_kept(alloc, told, given.design, given.rules),
-        "obligation" => obligations::tell(alloc, told, given, rest),
-        _ => with_models(alloc, told, given, models, asked),
+        "expression" => expressions::tell(page, given.design, given.rules, number(rest)?),
+        "kept" => expressions::tell_kept(page, given.design, given.rules),
+        "obligation" => obligations::tell(page, given, rest),
+        _ => with_models(page, given, models, asked),
     }
 }
 
 /// The same with the text of the rules.
 fn with_rules(
-    alloc: Global,
-    told: &mut String,
+    page: &mut Page,
     design: &Design,
     script: &Script,
     circuit: &Circuit,
     asked: &str,
-) -> Result<()>
+) -> Result<(), Stop>
     requires { IsDesign design.now }
 {
-    if script.rules.len() > MOST_BYTES {
-        bail!("more than {MOST_BYTES} bytes");
+    let text = script.rules.written();
+    if text.len() > MOST_BYTES {
+        return Err(Stop::Unfit);
     }
-    match read_rules(alloc, script.rules.as_slice()) {
+    match read_rules(page.alloc(), text) {
         Ok(rules) => {
             let given = Given {
                 design,
                 rules: &rules,
                 circuit,
             };
-            answered(alloc, told, given, script.models.as_slice(), asked)
+            answered(page, given, script.models.written(), asked)
         }
-        Err(_) => bail!("rules that are not read"),
+        Err(_) => Err(Stop::NotRead),
     }
 }
 
 /// Tells what is asked of the texts and the circuit.
 pub(crate) fn tell(
-    alloc: Global,
-    told: &mut String,
+    page: &mut Page,
     script: &Script,
     circuit: &Circuit,
     asked: &str,
-) -> Result<()> {
-    if script.netlist.len() > MOST_BYTES {
-        bail!("more than {MOST_BYTES} bytes");
+) -> Result<(), Stop> {
+    let text = script.netlist.written();
+    if text.len() > MOST_BYTES {
+        return Err(Stop::Unfit);
     }
-    match read_spice(alloc, script.netlist.as_slice()) {
-        Ok(design) => with_rules(alloc, told, &design, script, circuit, asked),
-        Err(_) => bail!("a netlist that is not read"),
+    match read_spice(page.alloc(), text) {
+        Ok(design) => with_rules(page, &design, script, circuit, asked),
+        Err(_) => Err(Stop::NotRead),
     }
 }

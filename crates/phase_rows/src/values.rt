@@ -3,9 +3,9 @@
 ghost use Rattle.std.specs.Prelude.{◌≤◌};
 
 use crate::stop::Stop;
-use anyhow::Result;
 use bdd_core::{H, Store};
 use bdd_ops::value_at;
+use row_script::Page;
 use std::alloc::Global;
 use vrt_model::{Seq, Valuation};
 
@@ -24,23 +24,23 @@ fn valuation(alloc: Global, vars: u32, number: u32) -> Result<Valuation, Stop>
 }
 
 /// The value of a function at a valuation, a digit.
-fn digit(alloc: Global, store: &Store, f: H, number: u32) -> Result<char, Stop>
+fn digit(alloc: Global, store: &Store, f: H, number: u32) -> Result<&'static str, Stop>
     requires { store.now.vars ≤ 8 }
 {
     let at = valuation(alloc, store.vars(), number)?;
     if f.0 >= store.node_count() || (store.vars() as usize) > at.bits.len() {
         return Err(Stop::Unfit);
     }
-    Ok(if value_at(store, f, &at) { '1' } else { '0' })
+    Ok(if value_at(store, f, &at) { "1" } else { "0" })
 }
 
 /// Adds the bits of a function at all valuations.
-pub(crate) fn add_bits(alloc: Global, told: &mut String, store: &Store, f: H) -> Result<()> {
+pub(crate) fn add_bits(page: &mut Page, store: &Store, f: H) -> Result<(), Stop> {
     if store.vars() > FEW {
-        return Err(Stop::Unfit.into());
+        return Err(Stop::Unfit);
     }
     for number in 0..1u32 << store.vars() {
-        told.push(digit(alloc, store, f, number)?)?;
+        page.word(digit(page.alloc(), store, f, number)?);
     }
     Ok(())
 }

@@ -3,12 +3,11 @@
 ghost use Rattle.hold_groups.specs.Grouped.{AreGroups};
 ghost use Rattle.vrt_model.specs.Circuits.{IsCircuit};
 
+use crate::stop::Stop;
 use crate::texts::Given;
 use crate::{care, held};
-use anyhow::{Result, bail};
 use hold_groups::{VarsFault, variables};
-use row_script::{add_number, shown};
-use std::alloc::Global;
+use row_script::Page;
 use vrt_model::{FlatModel, Group, Seq, Source, Vars};
 
 /// What a variable stands for, and its number.
@@ -21,69 +20,69 @@ fn source_of(source: Source) -> (&'static str, u32) {
 }
 
 /// Adds the variable of a place.
-fn add_variable(alloc: Global, told: &mut String, vars: &Vars, at: usize) -> Result<()> {
+fn add_variable(page: &mut Page, vars: &Vars, at: usize) -> Result<(), Stop> {
     let (Some(name), Some(source)) = (vars.names.get(at), vars.sources.get(at)) else {
-        bail!("a variable without name");
+        return Err(Stop::Unfit);
     };
     let (kind, number) = source_of(*source);
-    told.push_str(", ")?;
-    told.push_str(shown(name.as_bytes()))?;
-    told.push_str(" is ")?;
-    told.push_str(kind)?;
-    add_number(alloc, told, number)
+    page.word(", ");
+    page.name(name.as_bytes());
+    page.word(" is ");
+    page.word(kind);
+    page.behind_blank(number);
+    Ok(())
 }
 
 /// Tells all variables.
-fn tell_all(alloc: Global, told: &mut String, vars: &Vars) -> Result<()> {
+fn tell_all(page: &mut Page, vars: &Vars) -> Result<(), Stop> {
     let count = vars.sources.len();
-    told.push_str("variables")?;
-    add_number(alloc, told, count.min(u32::MAX as usize) as u32)?;
+    page.word("variables ");
+    page.count(count, "");
     for at in 0..count {
-        add_variable(alloc, told, vars, at)?;
+        add_variable(page, vars, at)?;
     }
     Ok(())
 }
 
 /// Tells what is asked of a phase with its variables.
 fn tell_with(
-    alloc: Global,
-    told: &mut String,
+    page: &mut Page,
     given: Given<'_>,
     groups: &Seq<Group>,
     vars: &Vars,
     word: &str,
     phase: u32,
-) -> Result<()>
+) -> Result<(), Stop>
     requires circuit { IsCircuit given.circuit.now }
     requires groups { AreGroups given.circuit.now groups.now }
 {
     match word {
-        "variables" => tell_all(alloc, told, vars),
-        "care" => care::tell(alloc, told, given, groups, vars, phase),
-        "held" => held::tell(alloc, told, given.circuit, groups, vars, phase),
-        _ => bail!("no such line: {word}"),
+        "variables" => tell_all(page, vars),
+        "care" => care::tell(page, given, groups, vars, phase),
+        "held" => held::tell(page, given.circuit, groups, vars, phase),
+        _ => Err(Stop::NotRead),
     }
 }
 
 /// Tells what is asked of a phase.
 pub(crate) fn tell(
-    alloc: Global,
-    told: &mut String,
+    page: &mut Page,
     given: Given<'_>,
     flat: &FlatModel,
     groups: &Seq<Group>,
     word: &str,
     phase: u32,
-) -> Result<()>
+) -> Result<(), Stop>
     requires circuit { IsCircuit given.circuit.now }
     requires groups { AreGroups given.circuit.now groups.now }
 {
-    match variables(alloc, given.circuit, flat, groups, phase) {
-        Ok(vars) => tell_with(alloc, told, given, groups, &vars, word, phase),
+    match variables(page.alloc(), given.circuit, flat, groups, phase) {
+        Ok(vars) => tell_with(page, given, groups, &vars, word, phase),
         Err(VarsFault::TooMany { count }) => {
-            told.push_str("too many")?;
-            add_number(alloc, told, count)
+            page.word("too many");
+            page.behind_blank(count);
+            Ok(())
         }
-        Err(VarsFault::NoMemory) => bail!("memory"),
+        Err(VarsFault::NoMemory) => Err(Stop::NoMemory),
     }
 }
