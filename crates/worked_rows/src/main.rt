@@ -1,34 +1,32 @@
 //! Runs over files in memory, each with what it answers and writes. Standard input says what each run is given, a line at a
 //! time (`script`): cells whose verdicts were worked out by hand, what is refused and how it is told, the words, and
-//! failures of the files and of the output.
+//! failures of the files and of the output. Behind them the files and sinks alone: in memory, and on the disk.
 #![tactic(auto)]
 
-mod made;
+mod host;
 mod memory;
 mod row;
 mod script;
 mod told;
 
-use anyhow::Result;
+use row_script::Page;
 use script::Runs;
+use std::io;
+use std::io::Write;
 
-/// Prints what was made, where memory sufficed.
-fn show(rt: HostRuntime, made: Result<String>) -> Result<()> {
-    let text = made?;
-    print!(rt; "{text}")?;
-    Ok(())
-}
-
-fn main(rt: HostRuntime) -> Result<()> {
+fn main(rt: HostRuntime) -> io::Result<()> {
+    let mut page = Page::new(rt.alloc());
     let mut runs = Runs::new(rt.alloc());
     for line in rt.lines(rt.alloc()) {
-        show(rt, runs.take(rt.alloc(), line?.as_str()))?;
+        runs.take(&mut page, line?.as_str());
     }
-    show(rt, made::nested(rt.alloc(), 32))?;
-    show(rt, made::nested(rt.alloc(), 33))?;
-    show(rt, made::wide(rt.alloc(), 1001))?;
-    show(rt, memory::loads(rt.alloc()))?;
-    show(rt, memory::puts(rt.alloc()))?;
-    show(rt, memory::sure_ones(rt.alloc()))?;
-    show(rt, memory::later_runs(rt.alloc()))
+    memory::tell_loads(&mut page);
+    memory::tell_puts(&mut page);
+    memory::tell_sure_ones(&mut page);
+    memory::tell_later_runs(&mut page);
+    host::write_long(rt, &mut page)?;
+    host::tell_loads(rt, &mut page);
+    host::tell_puts(&mut page);
+    page.end();
+    io::writer(&rt).write_all(page.written())
 }

@@ -1,8 +1,7 @@
 //! A run over three files in memory, and what it answers and writes.
 
-use anyhow::{Result, bail};
-use std::alloc::Global;
-use verity_run::run;
+use row_script::Page;
+use verity_run::{Status, run};
 use vrt_io::{MemFiles, MemSink, NoMemory, SureFiles, SureSink};
 
 /// What a run is given.
@@ -39,91 +38,99 @@ pub const SOUND: Failures = Failures {
     absent: 0,
 };
 
+/// Tells where memory was wanting.
+pub(crate) fn suffice(page: &mut Page, answer: Result<(), NoMemory>) {
+    if answer.is_err() {
+        page.word("memory was wanting\n");
+    }
+}
+
+/// Adds a word.
+fn add_word(page: &mut Page, words: &mut Vec<String>, word: &str) {
+    if let Ok(word) = String::from_str(page.alloc(), word)
+        && words.push(word).is_ok()
+    {
+        return;
+    }
+    page.word("memory was wanting\n");
+}
+
 /// The words of a line, with the program's name in front.
-pub fn words_of(alloc: Global, line: &str) -> Result<Vec<String>> {
-    let mut words = Vec::new(alloc);
-    words.push(String::from_str(alloc, "verity")?)?;
-    if line.is_empty() {
-        return Ok(words);
+pub(crate) fn words_of(page: &mut Page, line: &str) -> Vec<String> {
+    let mut words = Vec::new(page.alloc());
+    add_word(page, &mut words, "verity");
+    if !line.is_empty() {
+        for word in line.split(' ') {
+            add_word(page, &mut words, word);
+        }
     }
-    for word in line.split(' ') {
-        words.push(String::from_str(alloc, word)?)?;
-    }
-    Ok(words)
+    words
 }
 
-/// Bytes that are to be text.
-pub fn text_of(bytes: &[u8]) -> &str {
-    std::str::from_utf8(bytes).unwrap_or("bytes that are no text\n")
+/// Tells how a run ended, and what it wrote.
+fn tell_end(page: &mut Page, name: &str, status: Status, written: &[u8]) {
+    page.word(name);
+    page.word(": ");
+    page.debug(&status);
+    page.word("\n");
+    page.name(written);
 }
 
-/// Gives an error where memory was wanting.
-pub fn sufficed(answer: std::result::Result<(), NoMemory>) -> Result<()> {
-    match answer {
-        Ok(()) => Ok(()),
-        Err(_) => bail!("memory was wanting"),
-    }
-}
-
-/// The files of a row, which never fail.
-fn sure_files(alloc: Global, row: Row<'_>) -> Result<SureFiles> {
-    let mut files = SureFiles::new(alloc);
-    sufficed(files.add("c.sp", row.netlist))?;
-    sufficed(files.add("m.blif", row.models))?;
-    sufficed(files.add("r.txt", row.rules))?;
-    Ok(files)
+/// Adds the files of a row, which never fail.
+fn add_sure(page: &mut Page, files: &mut SureFiles, row: Row<'_>) {
+    suffice(page, files.add("c.sp", row.netlist));
+    suffice(page, files.add("m.blif", row.models));
+    suffice(page, files.add("r.txt", row.rules));
 }
 
 /// Runs a row: its name and the status, and behind them the lines that are written.
-pub fn shown(alloc: Global, name: &str, row: Row<'_>) -> Result<String> {
-    let words = words_of(alloc, row.words)?;
-    let mut files = sure_files(alloc, row)?;
-    let mut out = SureSink::new(alloc);
-    let status = run(alloc, words.as_slice(), &mut files, &mut out);
-    let lines = text_of(out.bytes());
-    Ok(format!(in alloc; "{name}: {status:?}\n{lines}")?)
+pub(crate) fn run_sure(page: &mut Page, name: &str, row: Row<'_>) {
+    let words = words_of(page, row.words);
+    let mut files = SureFiles::new(page.alloc());
+    add_sure(page, &mut files, row);
+    let mut out = SureSink::new(page.alloc());
+    let status = run(page.alloc(), words.as_slice(), &mut files, &mut out);
+    tell_end(page, name, status, out.bytes());
 }
 
 /// Adds a file that is there.
-fn add_present(files: &mut MemFiles, name: &str, text: &[u8], is_absent: bool) -> Result<()> {
-    if is_absent {
-        return Ok(());
+fn add_present(page: &mut Page, files: &mut MemFiles, name: &str, text: &[u8], is_absent: bool) {
+    if !is_absent {
+        suffice(page, files.add(name, text));
     }
-    sufficed(files.add(name, text))
 }
 
-/// The files of a row, of which one may not be there and one load may fail.
-fn failing_files(alloc: Global, row: Row<'_>, failures: Failures) -> Result<MemFiles> {
-    let mut files = MemFiles::new(alloc);
-    add_present(&mut files, "c.sp", row.netlist, failures.absent == 1)?;
-    add_present(&mut files, "m.blif", row.models, failures.absent == 2)?;
-    add_present(&mut files, "r.txt", row.rules, failures.absent == 3)?;
+/// Adds the files of a row, of which one may not be there and one load may fail.
+fn add_failing(page: &mut Page, files: &mut MemFiles, row: Row<'_>, failures: Failures) {
+    add_present(page, files, "c.sp", row.netlist, failures.absent == 1);
+    add_present(page, files, "m.blif", row.models, failures.absent == 2);
+    add_present(page, files, "r.txt", row.rules, failures.absent == 3);
     if failures.load > 0 {
-        sufficed(files.fail_at(failures.load))?;
+        suffice(page, files.fail_at(failures.load));
     }
-    Ok(files)
 }
 
 /// Runs these words: a name, the status, and what was written, with a bar where it ends.
-pub fn ended(
-    alloc: Global,
+pub(crate) fn run_failing(
+    page: &mut Page,
     name: &str,
     words: &str,
     files: &mut MemFiles,
     out: &mut MemSink,
-) -> Result<String> {
-    let words = words_of(alloc, words)?;
-    let status = run(alloc, words.as_slice(), files, out);
-    let lines = text_of(out.bytes());
-    Ok(format!(in alloc; "{name}: {status:?}\n{lines}|\n")?)
+) {
+    let words = words_of(page, words);
+    let status = run(page.alloc(), words.as_slice(), files, out);
+    tell_end(page, name, status, out.bytes());
+    page.word("|\n");
 }
 
 /// Runs a row in which calls fail.
-pub fn failed(alloc: Global, name: &str, row: Row<'_>, failures: Failures) -> Result<String> {
-    let mut files = failing_files(alloc, row, failures)?;
-    let mut out = MemSink::new(alloc);
+pub(crate) fn run_row(page: &mut Page, name: &str, row: Row<'_>, failures: Failures) {
+    let mut files = MemFiles::new(page.alloc());
+    add_failing(page, &mut files, row, failures);
+    let mut out = MemSink::new(page.alloc());
     if failures.put > 0 {
-        sufficed(out.fail_at(failures.put, failures.kept))?;
+        suffice(page, out.fail_at(failures.put, failures.kept));
     }
-    ended(alloc, name, row.words, &mut files, &mut out)
+    run_failing(page, name, row.words, &mut files, &mut out);
 }

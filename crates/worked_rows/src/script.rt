@@ -9,16 +9,15 @@
 //! | `try NAME` | a run in which calls fail as was said; then nothing fails again |
 //! | `tell WORDS` | what the words ask for |
 
-use crate::row::{Failures, Row, SOUND, failed, shown};
-use crate::told::told;
-use anyhow::{Result, bail};
-use row_script::{Script, number};
+use crate::row::{Failures, Row, SOUND, run_row, run_sure};
+use crate::told::tell;
+use row_script::{Page, Script, number, shown, word_and_rest};
 use std::alloc::Global;
 
 /// What the lines so far give.
 pub struct Runs {
     texts: Script,
-    words: String,
+    words: Page,
     failures: Failures,
 }
 
@@ -35,10 +34,10 @@ impl Drop for Runs {
 
 impl Runs {
     /// Nothing is given yet.
-    pub fn new(alloc: Global) -> Runs {
+    pub(crate) fn new(alloc: Global) -> Runs {
         Runs {
             texts: Script::new(alloc),
-            words: String::new(alloc),
+            words: Page::new(alloc),
             failures: SOUND,
         }
     }
@@ -46,47 +45,47 @@ impl Runs {
     /// What the next run is given.
     fn row(&self) -> Row<'_> {
         Row {
-            words: self.words.as_str(),
-            netlist: self.texts.netlist.as_slice(),
-            models: self.texts.models.as_slice(),
-            rules: self.texts.rules.as_slice(),
+            words: shown(self.words.written()),
+            netlist: self.texts.netlist.written(),
+            models: self.texts.models.written(),
+            rules: self.texts.rules.written(),
         }
     }
 
-    /// Takes a line that says what fails, or the words.
-    fn give(&mut self, alloc: Global, word: &str, rest: &str) -> Result<()> {
-        match word {
-            "words" => self.words = String::from_str(alloc, rest)?,
-            "load" => self.failures.load = number(rest)?,
-            "absent" => self.failures.absent = number(rest)?,
-            "put" => {
-                let (put, kept) = rest.split_once(' ').unwrap_or((rest, "0"));
-                self.failures.put = number(put)?;
-                self.failures.kept = number(kept)?;
-            }
-            _ => bail!("no such line: {word}"),
-        }
-        Ok(())
+    /// The next run has these words.
+    fn give_words(&mut self, words: &str) {
+        self.words.clear();
+        self.words.word(words);
     }
 
-    /// Takes a line, and gives what is to be printed of it.
-    pub fn take(&mut self, alloc: Global, line: &str) -> Result<String> {
-        let (word, rest) = line.split_once(' ').unwrap_or((line, ""));
-        if self.texts.give(alloc, word, rest)? {
-            return Ok(String::new(alloc));
+    /// The put that fails in the next `try`, and how many bytes it takes.
+    fn give_put(&mut self, rest: &str) {
+        let (put, kept) = word_and_rest(rest);
+        self.failures.put = number(put);
+        self.failures.kept = number(kept);
+    }
+
+    /// A run in which calls fail as was said.
+    fn run_failing(&mut self, page: &mut Page, name: &str) {
+        run_row(page, name, self.row(), self.failures);
+        self.failures = SOUND;
+    }
+
+    /// Takes a line, and tells what it asks for.
+    pub(crate) fn take(&mut self, page: &mut Page, line: &str) {
+        let (word, rest) = word_and_rest(line);
+        if self.texts.give(word, rest) {
+            return;
         }
         match word {
-            "run" => shown(alloc, rest, self.row()),
-            "try" => {
-                let failures = self.failures;
-                self.failures = SOUND;
-                failed(alloc, rest, self.row(), failures)
-            }
-            "tell" => told(alloc, rest),
-            _ => {
-                self.give(alloc, word, rest)?;
-                Ok(String::new(alloc))
-            }
+            "words" => self.give_words(rest),
+            "load" => self.failures.load = number(rest),
+            "absent" => self.failures.absent = number(rest),
+            "put" => self.give_put(rest),
+            "run" => run_sure(page, rest, self.row()),
+            "try" => self.run_failing(page, rest),
+            "tell" => tell(page, rest),
+            _ => page.word(line),
         }
     }
 }

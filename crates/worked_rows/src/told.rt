@@ -1,71 +1,99 @@
 //! What the words of the command line ask for.
 
 use crate::row::words_of;
-use anyhow::Result;
 use command_line::{Asked, FileWords, Request, WordsFault, read_words};
-use std::alloc::Global;
+use row_script::Page;
 
-/// The values of a request.
-fn request_text(alloc: Global, request: &Request<'_>) -> Result<String> {
-    Ok(match request {
+/// Tells a kind of requests and the cell.
+fn tell_cell(page: &mut Page, kind: &str, cell: Option<&str>) {
+    page.word(kind);
+    page.word(cell.unwrap_or("none"));
+    page.word(", ");
+}
+
+/// Tells the three files.
+fn tell_files(page: &mut Page, files: &FileWords<'_>) {
+    page.word("files ");
+    page.word(files.spice);
+    page.word(" ");
+    page.word(files.blif);
+    page.word(" ");
+    page.word(files.rules);
+}
+
+/// Tells the budget.
+fn tell_budget(page: &mut Page, budget: Option<u32>) {
+    match budget {
+        Some(nodes) => {
+            page.word("budget");
+            page.behind_blank(nodes);
+        }
+        None => page.word("no budget"),
+    }
+}
+
+/// Tells the phase and the valuation.
+fn tell_phase(page: &mut Page, phase: &str, at: Option<&str>) {
+    page.word("phase ");
+    page.word(phase);
+    page.word(", at ");
+    page.word(at.unwrap_or("none"));
+    page.word(", ");
+}
+
+/// Tells the values of a request.
+fn tell_request(page: &mut Page, request: &Request<'_>) {
+    match request {
         Request::Check {
             cell,
             budget,
             files,
-        } => format!(in alloc;
-            "check, cell {}, {}, {}",
-            cell.unwrap_or("none"),
-            budget_text(alloc, *budget)?,
-            files_text(alloc, files)?
-        )?,
+        } => {
+            tell_cell(page, "check, cell ", *cell);
+            tell_budget(page, *budget);
+            page.word(", ");
+            tell_files(page, files);
+        }
         Request::Replay {
             cell,
             phase,
             at,
             files,
-        } => format!(in alloc;
-            "replay, cell {cell}, phase {phase}, at {}, {}",
-            at.unwrap_or("none"),
-            files_text(alloc, files)?
-        )?,
+        } => {
+            tell_cell(page, "replay, cell ", Some(*cell));
+            tell_phase(page, phase, *at);
+            tell_files(page, files);
+        }
         Request::Classes { cell, files } => {
-            format!(in alloc;
-                "classes, cell {}, {}",
-                cell.unwrap_or("none"),
-                files_text(alloc, files)?
-            )?
+            tell_cell(page, "classes, cell ", *cell);
+            tell_files(page, files);
         }
         Request::Generate { size, budget } => {
-            format!(in alloc; "gen, size {size}, {}", budget_text(alloc, *budget)?)?
+            page.word("gen, size");
+            page.behind_blank(*size);
+            page.word(", ");
+            tell_budget(page, *budget);
         }
-    })
+    }
 }
 
-fn files_text(alloc: Global, files: &FileWords<'_>) -> Result<String> {
-    Ok(format!(in alloc; "files {} {} {}", files.spice, files.blif, files.rules)?)
+/// Tells what words ask for.
+fn tell_words(page: &mut Page, words: &[String]) {
+    match read_words(page.alloc(), words) {
+        Ok(Asked::Help) => page.word("help"),
+        Ok(Asked::Version) => page.word("version"),
+        Ok(Asked::Run(request)) => tell_request(page, &request),
+        Err(WordsFault::Usage) => page.word("usage"),
+        Err(WordsFault::NoMemory) => page.word("memory"),
+    }
 }
 
-fn budget_text(alloc: Global, budget: Option<u32>) -> Result<String> {
-    Ok(match budget {
-        Some(nodes) => format!(in alloc; "budget {nodes}")?,
-        None => String::from_str(alloc, "no budget")?,
-    })
-}
-
-/// What a line of words asks for.
-fn asked(alloc: Global, line: &str) -> Result<String> {
-    let words = words_of(alloc, line)?;
-    Ok(match read_words(alloc, words.as_slice()) {
-        Ok(Asked::Help) => String::from_str(alloc, "help")?,
-        Ok(Asked::Version) => String::from_str(alloc, "version")?,
-        Ok(Asked::Run(request)) => request_text(alloc, &request)?,
-        Err(WordsFault::Usage) => String::from_str(alloc, "usage")?,
-        Err(WordsFault::NoMemory) => String::from_str(alloc, "memory")?,
-    })
-}
-
-/// A line of words, and what it asks for.
-pub fn told(alloc: Global, line: &str) -> Result<String> {
-    let asked = asked(alloc, line)?;
-    Ok(format!(in alloc; "words '{line}': {asked}\n")?)
+/// Tells a line of words, and what it asks for.
+pub(crate) fn tell(page: &mut Page, line: &str) {
+    let words = words_of(page, line);
+    page.word("words '");
+    page.word(line);
+    page.word("': ");
+    tell_words(page, words.as_slice());
+    page.word("\n");
 }
