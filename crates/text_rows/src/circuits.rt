@@ -2,9 +2,13 @@
 
 ghost use Rattle.vrt_model.specs.Inputs.{AreRules, IsDesign};
 
-use flatten::{FlatFault, flat, has_no_hold, is_leaf, sizes, structure};
+use flatten::{FlatFault, flat, sizes, structure};
+use hierarchy::order;
 use row_script::{Page, number};
-use vrt_model::{Circuit, Design, Device, FlatNet, Kind, NetKind, Pairing, PortRole, Rules, Seq};
+use vrt_model::{
+    Circuit, Design, Device, FlatInstance, FlatNet, Hold, HoldEnd, Kind, NetKind, Pairing,
+    PortRole, Rules, Seq,
+};
 
 /// What gives a net its value.
 fn kind_word(kind: NetKind) -> &'static str {
@@ -55,12 +59,69 @@ fn tell_devices(page: &mut Page, devices: &[Device]) {
     }
 }
 
-/// Tells the nets and the devices of a circuit.
+/// Tells instances, each with its cell and the nets of its ports.
+fn tell_instances(page: &mut Page, instances: &[FlatInstance]) {
+    for instance in instances {
+        page.word(", ");
+        page.name(instance.path.as_bytes());
+        page.word(" of cell");
+        page.behind_blank(instance.cell);
+        page.word(" at");
+        for net in instance.ports.as_slice() {
+            page.behind_blank(net.0);
+        }
+    }
+}
+
+/// Tells the latch element to which a hold leads: of an instance, or of the cell itself.
+fn tell_element(page: &mut Page, element: &[u8], instance: Option<u32>) {
+    page.name(element);
+    if let Some(number) = instance {
+        page.word(" of instance");
+        page.behind_blank(number);
+    }
+}
+
+/// Tells where a hold leads.
+fn tell_end(page: &mut Page, end: &HoldEnd) {
+    match end {
+        HoldEnd::Own(net) => {
+            page.word("net");
+            page.behind_blank(net.0);
+        }
+        HoldEnd::Latch { instance, element } => tell_element(page, element.as_bytes(), *instance),
+    }
+}
+
+/// Tells a hold: its net, its size, where it leads, whether it is inverted, and for how many phases it has a constant.
+fn tell_hold(page: &mut Page, hold: &Hold) {
+    page.word(", hold");
+    page.behind_blank(hold.net.0);
+    page.word(" size");
+    page.behind_blank(hold.size as u32);
+    page.word(" to ");
+    tell_end(page, &hold.end);
+    page.word(" inverted ");
+    page.bit(hold.inverted);
+    page.word(" constants ");
+    page.display(&hold.enters.len());
+}
+
+/// Tells holds.
+fn tell_holds(page: &mut Page, holds: &[Hold]) {
+    for hold in holds {
+        tell_hold(page, hold);
+    }
+}
+
+/// Tells the nets, the devices, the instances and the holds of a circuit.
 fn tell_circuit(page: &mut Page, circuit: &Circuit) {
     page.count(circuit.nets.len(), " nets, ");
     page.count(circuit.devices.len(), " devices");
     tell_nets(page, circuit.nets.as_slice());
     tell_devices(page, circuit.devices.as_slice());
+    tell_instances(page, circuit.instances.as_slice());
+    tell_holds(page, circuit.holds.as_slice());
 }
 
 /// The name that a fault has.
@@ -105,12 +166,15 @@ fn with_pairing(page: &mut Page, design: &Design, rules: &Rules, pairing: &Pairi
     requires netlist { IsDesign design.now }
     requires ruled { AreRules rules.now }
 {
-    if !is_leaf(design, 0) || !has_no_hold(rules) {
-        return page.word("instances or holds");
+    if design.cells.is_empty() {
+        return page.word("no cell");
     }
-    match flat(page.alloc(), design, rules, 0, pairing) {
-        Ok(circuit) => tell_circuit(page, &circuit),
-        Err(fault) => page.fault(&fault, name_of(&fault)),
+    match order(page.alloc(), design, rules) {
+        Ok(_) => match flat(page.alloc(), design, rules, 0, pairing) {
+            Ok(circuit) => tell_circuit(page, &circuit),
+            Err(fault) => page.fault(&fault, name_of(&fault)),
+        },
+        Err(_) => page.word("cells without an order"),
     }
 }
 
