@@ -1,7 +1,7 @@
 //! How a run ends.
 
 /// How a run ended. The program ends with its number.
-#[derive(Clone, Copy)]
+#[derive(Clone, Copy, Debug, PartialEq, Eq)]
 pub enum Status {
     /// 0: no cell has a fault, and each was decided; or help or the version was asked for.
     AllEqual,
