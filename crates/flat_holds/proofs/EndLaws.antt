@@ -91,13 +91,13 @@ module _ (design : Design) (rules : Rules) (unrolled : Unrolled) where
       let before = (is.nested i p at here there).2.before in absurd (omega (arith, before, le))
 
   -- no line leads on
-  pub lead_last : (place : ℕ) (p : Place) (name : List ℕ) (inverted : Bool) (lines : List InstanceMatchRule) → lines ≡ rules.instance_matches → slice_get unrolled.places place ≡ Some p
-      → p.around < place → line_above lines design unrolled p name ≡ None → AllLead design rules unrolled place name inverted place name inverted
-  lead_last zero p name inverted lines ls here lt none cell roles at is there = absurd (omega (arith, lt))
-  lead_last (suc i) p name inverted lines ls here lt none cell roles at is there =
+  pub lead_last : (place : ℕ) (p : Place) (name : List ℕ) (inverted : Bool) → slice_get unrolled.places place ≡ Some p
+      → p.around < place → line_above rules.instance_matches design unrolled p name ≡ None → AllLead design rules unrolled place name inverted place name inverted
+  lead_last zero p name inverted here lt none cell roles at is there = absurd (omega (arith, lt))
+  lead_last (suc i) p name inverted here lt none cell roles at is there =
       let inside = is.nested i p at here there in
       stays cell roles is at (step_of (whole_of design rules cell roles) inside.0 inside.1) inside.0.path name inverted (suc i) there inside.2.path
-      (sym (line_is cell roles is (0 + suc i) p at inside.0 inside.1 inside.2 name) ∙ ap (λ (xs : List InstanceMatchRule). line_above xs design unrolled p name) (sym ls) ∙ none)
+      (sym (line_is cell roles is (0 + suc i) p at inside.0 inside.1 inside.2 name) ∙ none)
 
   -- a line leads on
   line_on : (place : ℕ) (p : Place) (name : List ℕ) (inverted : Bool) (line : InstanceMatchRule) (n : ℕ) (element : List ℕ) (differs : Bool) → slice_get unrolled.places place ≡ Some p
@@ -109,24 +109,21 @@ module _ (design : Design) (rules : Rules) (unrolled : Unrolled) where
       goes_on cell roles is at (step_of (whole_of design rules cell roles) inside.0 inside.1) inside.0.path name inverted line n element differs inside.2.path
       (sym (line_is cell roles is (0 + suc i) p at inside.0 inside.1 inside.2 name) ∙ some) (above cell roles inside.0 is inside.2.around)
 
-  pub lead_on : (place : ℕ) (p : Place) (name : List ℕ) (inverted : Bool) (lines : List InstanceMatchRule) (line : InstanceMatchRule) (latch : List ℕ) (polarity : Bool)
-      (n : ℕ) (element : List ℕ) (differs : Bool) → lines ≡ rules.instance_matches → slice_get unrolled.places place ≡ Some p → p.around < place
-      → line_above lines design unrolled p name ≡ Some line → latch ≡ line.latch → polarity ≡ differ inverted line.inverted
+  pub lead_on : (place : ℕ) (p : Place) (name : List ℕ) (inverted : Bool) (line : InstanceMatchRule) (latch : List ℕ) (polarity : Bool)
+      (n : ℕ) (element : List ℕ) (differs : Bool) → slice_get unrolled.places place ≡ Some p → p.around < place
+      → line_above rules.instance_matches design unrolled p name ≡ Some line → latch ≡ line.latch → polarity ≡ differ inverted line.inverted
       → AllLead design rules unrolled p.around latch polarity n element differs → AllLead design rules unrolled place name inverted n element differs
-  lead_on place p name inverted lines line latch polarity n element differs ls here lt some le pe above =
-      line_on place p name inverted line n element differs here lt (ap (λ (xs : List InstanceMatchRule). line_above xs design unrolled p name) (sym ls) ∙ some)
+  lead_on place p name inverted line latch polarity n element differs here lt some le pe above =
+      line_on place p name inverted line n element differs here lt some
       (subst (λ (x : List ℕ). AllLead design rules unrolled p.around x (differ inverted line.inverted) n element differs) le
       (subst (λ (b : Bool). AllLead design rules unrolled p.around latch b n element differs) pe above))
 
   -- the first line of a hold
-  pub first_line : (place : ℕ) (rule : HoldRule) (lines : List MatchRule) (line : MatchRule) (latch : List ℕ) (n : ℕ) (element : List ℕ) (differs : Bool) → lines ≡ rules.matches
-      → find (is_match_of rule) lines ≡ Some line → latch ≡ line.latch → AllLead design rules unrolled place latch line.inverted n element differs
+  pub first_line : (place : ℕ) (rule : HoldRule) (line : MatchRule) (latch : List ℕ) (n : ℕ) (element : List ℕ) (differs : Bool)
+      → find (is_match_of rule) rules.matches ≡ Some line → latch ≡ line.latch → AllLead design rules unrolled place latch line.inverted n element differs
       → (l : MatchRule) × (match_of rules rule ≡ Some l) × AllLead design rules unrolled place l.latch l.inverted n element differs
-  first_line place rule lines line latch n element differs ls found le leads = (
-    line,
-    ap (λ (xs : List MatchRule). find (is_match_of rule) xs) (sym ls) ∙ found,
-    subst (λ (x : List ℕ). AllLead design rules unrolled place x line.inverted n element differs) le leads,
-  )
+  first_line place rule line latch n element differs found le leads =
+      (line, found, subst (λ (x : List ℕ). AllLead design rules unrolled place x line.inverted n element differs) le leads)
 
   -- ---- the number of an instance
 

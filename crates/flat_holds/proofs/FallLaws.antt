@@ -1,16 +1,18 @@
 -- The rule that counts on a flat net is that of the definition.
-use Rattle.std.proofs.Common.{◌≡◌, ◌<◌, ◌≤◌, ◌+◌, ◌-◌, ◌++◌, ◌∷◌, [], ℕ, suc, Bool, true, false, List, map, flat_map, length, drop, Option, Some, None, refl, ap, ap₂, sym, subst, ◌∙◌, arith, inl, inr}
-use Rattle.std.specs.Prelude.{◌&&◌, ◌==◌, bytes_eq, cond, find, nat_lt, option_map, unwrap_or}
+use Rattle.std.proofs.Common.{◌≡◌, ◌<◌, ◌≤◌, ◌+◌, ◌-◌, ◌++◌, ◌∷◌, [], ℕ, suc, Bool, true, false, List, map, flat_map, filter, length, Option, Some, None, refl, ap, ap₂, sym, subst, ◌∙◌, arith, inl, inr}
+use Rattle.std.specs.Prelude.{◌&&◌, ◌==◌, bytes_eq, cond, nat_lt, option_and_then, option_map, slice_get, unwrap_or}
 use Rattle.std.specs.List.{cons_option, enumerate_from, filter_map}
 use Rattle.std.specs.Option.{option_or}
-use Rattle.std.proofs.lemmas.Bool.{cases_Bool, false≢true, le-ltb}
-use Rattle.std.proofs.lemmas.List.{drop_all, length-map}
+use Rattle.std.proofs.lemmas.Bool.{cases_Bool, false≢true}
+use Rattle.std.proofs.lemmas.List.{length-map}
+use Rattle.std.proofs.lemmas.List.Elements.{filter_passes}
 use Rattle.std.proofs.lemmas.List.Quantifiers.{position-Some}
-use Rattle.std.proofs.lemmas.Option.{none-some, same_Some, slice_get_within}
+use Rattle.std.proofs.lemmas.Option.{none-some, slice_get_within}
 use Rattle.std.proofs.lemmas.Slice.Eq.{bytes_eq-Decides}
-use Rattle.flat_holds.proofs.ListLaws.{position_is, pushed}
-use Rattle.flat_holds.proofs.RuleLaws.{closer_assoc, found, least, least_append}
-use Rattle.flat_holds.specs.Falls.{AreNets, AreRoomy, Fall, HoldBy, best_from, closer_by, depth_of, fall_at, falls_here, holds_from, number_in}
+use Rattle.flat_holds.proofs.ListLaws.{first_same, made_kept, none_behind, position_is, pushed, rest_same}
+use Rattle.flat_holds.proofs.RuleLaws.{found, least, least_append}
+use Rattle.flat_holds.specs.Falls.{AreNets, AreRoomy, HoldBy, best_at, best_from, closer_by, depth_of, holds_from, number_in, own_places, spot_by}
+use Rattle.flat_holds.specs.declared.falls.Spot.{Spot}
 use Rattle.net_places.specs.Links.{Bare, IsUnrolled, bare, shown}
 use Rattle.net_places.specs.Whole.{whole_of}
 use Rattle.net_places.specs.declared.places.Place.{Place}
@@ -22,7 +24,10 @@ use Rattle.net_tables.specs.Tables.{AreNetTables}
 use Rattle.net_tables.specs.declared.tables.NetTables.{NetTables}
 use Rattle.net_tables.specs.declared.types.CellNet.{CellNet}
 use Rattle.net_tables.specs.declared.types.CellNet.TheVariants.{Supply, Port, Global, Own}
-use Rattle.vrt_model.proofs.Lists.{at_there, drop_one, map_at, one_at}
+use Rattle.rule_index.specs.Lines.{IsIndex}
+use Rattle.rule_index.specs.declared.by_cell.ByCell.{ByCell}
+use Rattle.vrt_model.proofs.Lists.{at_there, map_at, one_at}
+use Rattle.vrt_model.proofs.Members.{all_among, among_filter}
 use Rattle.vrt_model.specs.CellRules.{supply_of}
 use Rattle.vrt_model.specs.Comparison.{cell_at}
 use Rattle.vrt_model.specs.FlatCircuit.{Ruled, falls_on, flat_hold, flat_holds, flat_nets, rule_on, rules_on}
@@ -60,18 +65,7 @@ pub named_in : (t : Top) (n : ℕ) (at : FlatPlace) (name : List ℕ) → At (al
 unfolding all_places
 named_in t n at name there named = (deepest, omega arith, (n, there), named)
 
--- ---- tests
-
-find_same : {X : Type 0} (p q : X → Bool) (xs : List X) → ((x : X) → Among xs x → p x ≡ q x) → find p xs ≡ find q xs
-find_same p q [] same = refl
-find_same {X} p q (x ∷ xs) same =
-    ap₂ (λ (b : Bool) (o : Option X). cond b (Some x) o) (same x (0, refl)) (find_same p q xs (λ y m. same y (suc m.0, m.1)))
-
-both_same : (a b x y : Bool) → a ≡ b → (b ≡ true → x ≡ y) → (a && x) ≡ (b && y)
-both_same true true x y e f = f refl
-both_same true false x y e f = absurd (false≢true (sym e))
-both_same false true x y e f = absurd (false≢true e)
-both_same false false x y e f = refl
+-- ---- cells
 
 -- the number of the cell of a name
 named_is : (design : Design) → IsDesign design → (k : ℕ) → k < length design.cells → (name : List ℕ) → bytes_eq name (cell_at design k).name ≡ true → cell_named design name ≡ k
@@ -92,7 +86,7 @@ named_is design is k lt name same =
           (bytes_eq-Decides name (cell_at design k).name).0 same
           ∙ ap (λ (o : Option Cell). (let c : Cell = unwrap_or o (record { line = 0; name = []; ports = []; devices = []; instances = [] }) in c).name) here.1
 
-module _ (design : Design) (rules : Rules) (tables : NetTables) (unrolled : Unrolled) (cell : ℕ) where
+module _ (design : Design) (rules : Rules) (unrolled : Unrolled) (cell : ℕ) where
   -- ---- the places of tables and of the definition
 
   module _ (roles : List PortRole) (is : IsUnrolled (whole_of design rules cell roles) unrolled) where
@@ -122,16 +116,21 @@ module _ (design : Design) (rules : Rules) (tables : NetTables) (unrolled : Unro
 
     -- ---- the rules that fall on a net
 
-    module _ (netlist : IsDesign design) (names : AreNets design rules) (n : ℕ) where
-      falls_same : (k : ℕ) (p : Place) (at : FlatPlace) → At unrolled.places k p → At (all_places (whole_of design rules cell roles)) k at → (rule : HoldRule) → Among rules.holds rule
-          → falls_here design rules unrolled n p rule ≡ falls_on (whole_of design rules cell roles) n at rule
-      falls_same k p at here there rule m =
+    module _ (netlist : IsDesign design) (names : AreNets design rules) (holds : ByCell) (indexed : IsIndex (λ (r : HoldRule). r.cell) rules.holds holds) (n : ℕ) where
+      abbrev is_own : Place → HoldRule → Bool
+      is_own p rule = bytes_eq rule.cell (cell_at design p.cell).name
+
+      own_same : (k : ℕ) (p : Place) (at : FlatPlace) → At unrolled.places k p → At (all_places (whole_of design rules cell roles)) k at → (rule : HoldRule) → is_own p rule ≡ bytes_eq rule.cell (cell_at design at.cell).name
+      own_same k p at here there rule = ap (λ (b : Bare). bytes_eq rule.cell (cell_at design b.cell).name) (same_at k p at here there)
+
+      falls_same : (k : ℕ) (p : Place) (at : FlatPlace) → At unrolled.places k p → At (all_places (whole_of design rules cell roles)) k at → (rule : HoldRule) → Among rules.holds rule → is_own p rule ≡ true
+          → (number_in design rules unrolled p rule.net == n) ≡ falls_on (whole_of design rules cell roles) n at rule
+      falls_same k p at here there rule m own =
           let same = same_at k p at here there in
-          both_same (bytes_eq rule.cell (cell_at design p.cell).name) (bytes_eq rule.cell (cell_at design at.cell).name) (number_in design rules unrolled p rule.net == n)
-          (net_at (whole_of design rules cell roles) at rule.net == n) (ap (λ (b : Bare). bytes_eq rule.cell (cell_at design b.cell).name) same)
-          (λ alike.
+          let alike : bytes_eq rule.cell (cell_at design at.cell).name ≡ true = sym (own_same k p at here there rule) ∙ own in
           let number : cell_named design rule.cell ≡ at.cell = named_is design netlist at.cell (is.cells at (k, there)) rule.cell alike in
-          ap (λ (x : ℕ). x == n) (number_is p k at same there rule.net (subst (λ (c : ℕ). is_net_of (cell_at design c) rule.net ≡ true) number (names rule m))))
+          ap (λ (x : ℕ). x == n) (number_is p k at same there rule.net (subst (λ (c : ℕ). is_net_of (cell_at design c) rule.net ≡ true) number (names rule m)))
+          ∙ sym (ap (λ (b : Bool). b && (net_at (whole_of design rules cell roles) at rule.net == n)) alike)
 
       abbrev deep : Ruled → ℕ
       deep one = length one.at.path
@@ -139,37 +138,27 @@ module _ (design : Design) (rules : Rules) (tables : NetTables) (unrolled : Unro
       abbrev ruled : FlatPlace → HoldRule → Ruled
       ruled at rule = record { at = at; rule = rule }
 
+      abbrev ruled_by : FlatPlace → HoldRule → Option Ruled
+      ruled_by at rule = cond (falls_on (whole_of design rules cell roles) n at rule) (let one : Ruled = record { at = at; rule = rule } in Some one) None
+
       abbrev rules_at : FlatPlace → List HoldRule → List Ruled
       rules_at at lines = filter_map (λ (rule : HoldRule). cond (falls_on (whole_of design rules cell roles) n at rule) (let one : Ruled = record { at = at; rule = rule } in Some one) None) lines
-
-      -- of those of one place the first
-      first_at : (at : FlatPlace) (lines : List HoldRule) → least deep (rules_at at lines) ≡ option_map (ruled at) (find (falls_on (whole_of design rules cell roles) n at) lines)
-      first_at at [] = refl
-      first_at at (rule ∷ lines) = by_bit (falls_on (whole_of design rules cell roles) n at rule) (first_at at lines) where
-        one_depth : (o : Option HoldRule) → closer_by deep (Some (ruled at rule)) (option_map (ruled at) o) ≡ Some (ruled at rule)
-        one_depth None = refl
-        one_depth (Some other) = ap (λ (b : Bool). cond b (Some (ruled at other)) (Some (ruled at rule))) (le-ltb (length at.path) (length at.path) (let le : length at.path ≤ length at.path = omega arith in le))
-
-        by_bit : (b : Bool) → least deep (rules_at at lines) ≡ option_map (ruled at) (find (falls_on (whole_of design rules cell roles) n at) lines)
-            → least deep (cons_option (cond b (let one : Ruled = record { at = at; rule = rule } in Some one) None) (rules_at at lines)) ≡ option_map (ruled at) (cond b (Some rule) (find (falls_on (whole_of design rules cell roles) n at) lines))
-        by_bit true below = ap (closer_by deep (Some (ruled at rule))) below ∙ one_depth (find (falls_on (whole_of design rules cell roles) n at) lines)
-        by_bit false below = below
 
       -- ---- the rule that counts
 
       -- a rule at the place of a number, and one of the definition
-      record IsOne (f : Fall) (r : Ruled) : Type 0 where
-        there : At (all_places (whole_of design rules cell roles)) f.place r.at
-        depth_is : f.depth ≡ length r.at.path
-        rule_is : f.rule ≡ r.rule
+      record IsOne (s : Spot) (r : Ruled) : Type 0 where
+        there : At (all_places (whole_of design rules cell roles)) s.place r.at
+        depth_is : s.depth ≡ length r.at.path
+        rule_is : slice_get rules.holds s.rule ≡ Some r.rule
 
-      abbrev IsSame : Option Fall → Option Ruled → Type 0
+      abbrev IsSame : Option Spot → Option Ruled → Type 0
       IsSame None None = Unit {0}
       IsSame None (Some r) = ⊥
-      IsSame (Some f) None = ⊥
-      IsSame (Some f) (Some r) = IsOne f r
+      IsSame (Some s) None = ⊥
+      IsSame (Some s) (Some r) = IsOne s r
 
-      closer_same : (a : Option Fall) (x : Option Ruled) (b : Option Fall) (y : Option Ruled) → IsSame a x → IsSame b y → IsSame (closer_by depth_of a b) (closer_by deep x y)
+      closer_same : (a : Option Spot) (x : Option Ruled) (b : Option Spot) (y : Option Ruled) → IsSame a x → IsSame b y → IsSame (closer_by depth_of a b) (closer_by deep x y)
       closer_same None None b y p q = q
       closer_same None (Some r) b y p q = absurd p
       closer_same (Some f) None b y p q = absurd p
@@ -184,30 +173,59 @@ module _ (design : Design) (rules : Rules) (tables : NetTables) (unrolled : Unro
             by_bits false true e = absurd (false≢true e)
             by_bits false false e = p
 
+      -- ---- the rules of one place
+
+      placed_same : (k : ℕ) (p : Place) (at : FlatPlace) → At unrolled.places k p → At (all_places (whole_of design rules cell roles)) k at → (lines : List ℕ) (own : List HoldRule) → map (slice_get rules.holds) lines ≡ map Some own
+          → ((r : HoldRule) → Among own r → Among rules.holds r × (is_own p r ≡ true)) → IsSame (best_at design rules unrolled n k p lines) (least deep (rules_at at own))
+      placed_same k p at here there [] [] e each = tt
+      placed_same k p at here there [] (r ∷ own) e each = absurd (none_behind (Some r) (map Some own) e)
+      placed_same k p at here there (line ∷ lines) [] e each = absurd (none_behind (slice_get rules.holds line) (map (slice_get rules.holds) lines) (sym e))
+      placed_same k p at here there (line ∷ lines) (r ∷ own) e each =
+          subst (λ (o : Option HoldRule). IsSame (closer_by depth_of (option_and_then (spot_by design rules unrolled n k p line) o) (best_at design rules unrolled n k p lines)) (least deep (rules_at at (r ∷ own)))) (sym found_there)
+          (by_bits (number_in design rules unrolled p r.net == n) (falls_on (whole_of design rules cell roles) n at r) (falls_same k p at here there r (each r (0, refl)).0 (each r (0, refl)).1)
+          (placed_same k p at here there lines own (rest_same (slice_get rules.holds line) (Some r) (map (slice_get rules.holds) lines) (map Some own) e) (λ q m. each q (suc m.0, m.1)))) where
+            found_there : slice_get rules.holds line ≡ Some r
+            found_there = first_same (slice_get rules.holds line) (Some r) (map (slice_get rules.holds) lines) (map Some own) e
+
+            one : IsOne (record { place = k; depth = p.depth; rule = line }) (ruled at r)
+            one = record { there = there; depth_is = ap (λ (b : Bare). b.depth) (same_at k p at here there); rule_is = found_there }
+
+            by_bits : (t u : Bool) → t ≡ u → IsSame (best_at design rules unrolled n k p lines) (least deep (rules_at at own))
+                → IsSame (closer_by depth_of (cond t (let s : Spot = record { place = k; depth = p.depth; rule = line } in Some s) None) (best_at design rules unrolled n k p lines))
+                (least deep (cons_option (cond u (let q : Ruled = record { at = at; rule = r } in Some q) None) (rules_at at own)))
+            by_bits true true f below =
+                closer_same (let s : Spot = record { place = k; depth = p.depth; rule = line } in Some s) (Some (ruled at r)) (best_at design rules unrolled n k p lines) (least deep (rules_at at own)) one below
+            by_bits true false f below = absurd (false≢true (sym f))
+            by_bits false true f below = absurd (false≢true f)
+            by_bits false false f below = below
+
+      -- a rule of another cell does not fall on a net there
+      others : (k : ℕ) (p : Place) (at : FlatPlace) → At unrolled.places k p → At (all_places (whole_of design rules cell roles)) k at → (rule : HoldRule) → is_own p rule ≡ false → ruled_by at rule ≡ None
+      others k p at here there rule other =
+          ap (λ (b : Bool). cond (b && (net_at (whole_of design rules cell roles) at rule.net == n)) (let one : Ruled = record { at = at; rule = rule } in Some one) None)
+          (sym (own_same k p at here there rule) ∙ other)
+
       here_same : (k : ℕ) (p : Place) (at : FlatPlace) → At unrolled.places k p → At (all_places (whole_of design rules cell roles)) k at
-          → IsSame (fall_at design rules unrolled n k p) (least deep (rules_at at rules.holds))
+          → IsSame (best_at design rules unrolled n k p (own_places design holds p)) (least deep (rules_at at rules.holds))
       here_same k p at here there =
-          subst (IsSame (fall_at design rules unrolled n k p)) (sym (first_at at rules.holds))
-          (by_rule (find (falls_here design rules unrolled n p) rules.holds) (find (falls_on (whole_of design rules cell roles) n at) rules.holds)
-          (find_same (falls_here design rules unrolled n p) (falls_on (whole_of design rules cell roles) n at) rules.holds (falls_same k p at here there))) where
-            by_rule : (o q : Option HoldRule) → o ≡ q → IsSame (option_map (λ (rule : HoldRule). let one : Fall = record { place = k; depth = p.depth; rule = rule } in one) o) (option_map (ruled at) q)
-            by_rule None None e = tt
-            by_rule None (Some r) e = absurd (none-some r e)
-            by_rule (Some r) None e = absurd (none-some r (sym e))
-            by_rule (Some r) (Some s) e = record { there = there; depth_is = ap (λ (b : Bare). b.depth) (same_at k p at here there); rule_is = same_Some r s e }
+          subst (λ (rs : List Ruled). IsSame (best_at design rules unrolled n k p (own_places design holds p)) (least deep rs)) (made_kept (is_own p) (ruled_by at) rules.holds (others k p at here there))
+          (placed_same k p at here there (own_places design holds p) (filter (is_own p) rules.holds) (indexed (cell_at design p.cell).name)
+          (λ r m. (among_filter (is_own p) rules.holds r m, all_among (λ (q : HoldRule). is_own p q ≡ true) (filter (is_own p) rules.holds) r (filter_passes (is_own p) rules.holds) m)))
+
+      -- ---- the rules of all places
 
       span_same : (k : ℕ) (places : List Place) (flat : List FlatPlace) → length places ≡ length flat
           → ((j : ℕ) (p : Place) (at : FlatPlace) → At places j p → At flat j at → At unrolled.places (k + j) p × At (all_places (whole_of design rules cell roles)) (k + j) at)
-          → IsSame (best_from design rules unrolled n k places) (least deep (flat_map (λ (at : FlatPlace). rules_at at rules.holds) flat))
+          → IsSame (best_from design rules holds unrolled n k places) (least deep (flat_map (λ (at : FlatPlace). rules_at at rules.holds) flat))
       span_same k [] [] size each = tt
       span_same k [] (at ∷ flat) size each = absurd (omega (arith, size))
       span_same k (p ∷ places) [] size each = absurd (omega (arith, size))
       span_same k (p ∷ places) (at ∷ flat) size each =
           let first : k + 0 ≡ k = omega arith in
           let h = each 0 p at refl refl in
-          subst (IsSame (closer_by depth_of (fall_at design rules unrolled n k p) (best_from design rules unrolled n (suc k) places)))
+          subst (IsSame (closer_by depth_of (best_at design rules unrolled n k p (own_places design holds p)) (best_from design rules holds unrolled n (suc k) places)))
           (sym (least_append deep (rules_at at rules.holds) (flat_map (λ (other : FlatPlace). rules_at other rules.holds) flat)))
-          (closer_same (fall_at design rules unrolled n k p) (least deep (rules_at at rules.holds)) (best_from design rules unrolled n (suc k) places)
+          (closer_same (best_at design rules unrolled n k p (own_places design holds p)) (least deep (rules_at at rules.holds)) (best_from design rules holds unrolled n (suc k) places)
           (least deep (flat_map (λ (other : FlatPlace). rules_at other rules.holds) flat))
           (here_same k p at (subst (λ (m : ℕ). At unrolled.places m p) first h.0) (subst (λ (m : ℕ). At (all_places (whole_of design rules cell roles)) m at) first h.1))
           (span_same (suc k) places flat (omega (arith, size))
@@ -216,32 +234,30 @@ module _ (design : Design) (rules : Rules) (tables : NetTables) (unrolled : Unro
           let e = each (suc j) q other here there in
           (subst (λ (m : ℕ). At unrolled.places m q) next e.0, subst (λ (m : ℕ). At (all_places (whole_of design rules cell roles)) m other) next e.1))))
 
-      rule_same : IsSame (best_from design rules unrolled n 0 unrolled.places) (rule_on (whole_of design rules cell roles) n)
+      rule_same : IsSame (best_from design rules holds unrolled n 0 unrolled.places) (rule_on (whole_of design rules cell roles) n)
       rule_same =
-          subst (IsSame (best_from design rules unrolled n 0 unrolled.places)) (sym (found deep (rules_on (whole_of design rules cell roles) n)))
+          subst (IsSame (best_from design rules holds unrolled n 0 unrolled.places)) (sym (found deep (rules_on (whole_of design rules cell roles) n)))
           (span_same 0 unrolled.places (all_places (whole_of design rules cell roles)) same_size
           (λ j p at here there.
           let e : j ≡ 0 + j = omega arith in
           (subst (λ (m : ℕ). At unrolled.places m p) e here, subst (λ (m : ℕ). At (all_places (whole_of design rules cell roles)) m at) e there)))
 
-      pub hold_same : (o : Option Hold) → HoldBy design rules unrolled n (best_from design rules unrolled n 0 unrolled.places) o
+      pub hold_same : (spot : Option Spot) (o : Option Hold) → spot ≡ best_from design rules holds unrolled n 0 unrolled.places → HoldBy design rules unrolled n spot o
           → o ≡ option_map (flat_hold (whole_of design rules cell roles) n) (rule_on (whole_of design rules cell roles) n)
-      hold_same o h = by_rule (best_from design rules unrolled n 0 unrolled.places) (rule_on (whole_of design rules cell roles) n) o rule_same h where
-        by_rule : (b : Option Fall) (r : Option Ruled) (o : Option Hold) → IsSame b r → HoldBy design rules unrolled n b o → o ≡ option_map (flat_hold (whole_of design rules cell roles) n) r
+      hold_same spot o e h = by_rule spot (rule_on (whole_of design rules cell roles) n) o (subst (λ (s : Option Spot). IsSame s (rule_on (whole_of design rules cell roles) n)) (sym e) rule_same) h where
+        by_rule : (b : Option Spot) (r : Option Ruled) (o : Option Hold) → IsSame b r → HoldBy design rules unrolled n b o → o ≡ option_map (flat_hold (whole_of design rules cell roles) n) r
         by_rule None None None same by = refl
         by_rule None None (Some x) same by = absurd by
         by_rule None (Some r) o same by = absurd same
-        by_rule (Some f) None o same by = absurd same
-        by_rule (Some f) (Some r) None same by = absurd by
-        by_rule (Some f) (Some r) (Some x) same by =
-            ap Some (by cell roles r.at is same.there
-            ∙ ap (λ (rule : HoldRule). flat_hold (whole_of design rules cell roles) n (ruled r.at rule)) same.rule_is)
+        by_rule (Some s) None o same by = absurd same
+        by_rule (Some s) (Some r) None same by = absurd (none-some r.rule (sym by ∙ same.rule_is))
+        by_rule (Some s) (Some r) (Some x) same by = ap Some (by r.rule same.rule_is cell roles r.at is same.there)
 
   -- ---- room
 
-  pub are_roomy : AreNetTables design rules tables → ((roles : List PortRole) → IsUnrolled (whole_of design rules cell roles) unrolled) → length (flat_nets (top_before design rules cell)) ≤ 20000
+  pub are_roomy : (tables : NetTables) → AreNetTables design rules tables → ((roles : List PortRole) → IsUnrolled (whole_of design rules cell roles) unrolled) → length (flat_nets (top_before design rules cell)) ≤ 20000
       → AreRoomy design rules tables unrolled.places
-  are_roomy tables_are is small p m =
+  are_roomy tables tables_are is small p m =
       let lt : m.0 < length (all_places (whole_of design rules cell [])) = let size = same_size [] (is []) in let below = slice_get_within unrolled.places m.0 p m.1 in omega (arith, size, below) in
       let q = at_there (all_places (whole_of design rules cell [])) m.0 lt in
       let same = same_at [] (is []) m.0 p q.0 m.1 q.1 in
@@ -278,30 +294,3 @@ one_more t net nets old new o lt grown is before =
     ∙ pushed old o (holds_from t (net + 1) (nets - (net + 1)))
     ∙ ap₂ (λ (x : Option Hold) (m : ℕ). old ++ cons_option x (holds_from t m (nets - (net + 1)))) is next
     ∙ sym (ap (λ (m : ℕ). old ++ holds_from t net m) count) ∙ before
-
--- before the first
-pub none_yet : (t : Top) (net nets : ℕ) (holds : List Hold) → holds ≡ [] → net ≡ 0 → holds ++ holds_from t net (nets - net) ≡ holds_from t 0 nets
-none_yet t net nets holds none first =
-    let all : nets - 0 ≡ nets = omega arith in
-    ap₂ (λ (xs : List Hold) (m : ℕ). xs ++ holds_from t m (nets - m)) none first ∙ ap (holds_from t 0) all
-
--- ---- places one behind the other
-
-pub one_place : (design : Design) (rules : Rules) (unrolled : Unrolled) (n k : ℕ) (p : Place) (best spot new : Option Fall) → At unrolled.places k p → spot ≡ fall_at design rules unrolled n k p
-    → new ≡ closer_by depth_of best spot → closer_by depth_of best (best_from design rules unrolled n k (drop k unrolled.places)) ≡ best_from design rules unrolled n 0 unrolled.places
-    → closer_by depth_of new (best_from design rules unrolled n (k + 1) (drop (k + 1) unrolled.places)) ≡ best_from design rules unrolled n 0 unrolled.places
-one_place design rules unrolled n k p best spot new here s e before =
-    let next : k + 1 ≡ suc k = omega arith in
-    let rest : Option Fall = best_from design rules unrolled n (suc k) (drop (k + 1) unrolled.places) in
-    ap₂ (λ (x : Option Fall) (m : ℕ). closer_by depth_of x (best_from design rules unrolled n m (drop (k + 1) unrolled.places))) (e ∙ ap (closer_by depth_of best) s) next
-    ∙ closer_assoc depth_of best (fall_at design rules unrolled n k p) rest
-    ∙ sym (ap (λ (ps : List Place). closer_by depth_of best (best_from design rules unrolled n k ps)) (drop_one unrolled.places k p here)) ∙ before
-
-pub last_place : (design : Design) (rules : Rules) (unrolled : Unrolled) (n k : ℕ) (best : Option Fall) → length unrolled.places ≤ k
-    → closer_by depth_of best (best_from design rules unrolled n k (drop k unrolled.places)) ≡ best_from design rules unrolled n 0 unrolled.places
-    → best ≡ best_from design rules unrolled n 0 unrolled.places
-last_place design rules unrolled n k best past before =
-    sym (alone best) ∙ sym (ap (λ (ps : List Place). closer_by depth_of best (best_from design rules unrolled n k ps)) (drop_all k unrolled.places past)) ∙ before where
-      alone : (o : Option Fall) → closer_by depth_of o None ≡ o
-      alone None = refl
-      alone (Some f) = refl

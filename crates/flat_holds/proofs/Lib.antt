@@ -1,5 +1,7 @@
 mod EndLaws
 pub mod FallLaws
+mod LineLaws
 mod ListLaws
+mod NoteLaws
 mod PathLaws
 mod RuleLaws

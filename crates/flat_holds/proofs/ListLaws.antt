@@ -1,10 +1,12 @@
 -- Laws of lists.
-use Rattle.std.proofs.Common.{◌≡◌, ◌<◌, ◌++◌, [], ℕ, Bool, true, false, List, Option, Some, None, get_or, length, ap, ◌∙◌, arith}
-use Rattle.std.specs.Prelude.{cond, nat_lt, position}
-use Rattle.std.specs.List.{cons_option}
+use Rattle.std.proofs.Common.{◌≡◌, ◌<◌, ◌++◌, ◌∷◌, [], ℕ, suc, Bool, true, false, List, Option, Some, None, drop, filter, get_or, length, map, refl, ap, ap₂, sym, ◌∙◌, arith}
+use Rattle.std.specs.Prelude.{cond, find, nat_lt, option_and_then, position, slice_get}
+use Rattle.std.specs.List.{cons_option, filter_map}
+use Rattle.std.specs.Option.{option_or}
 use Rattle.std.proofs.lemmas.Bool.{lt-ltb}
 use Rattle.std.proofs.lemmas.List.Sums.{position_or_len_is}
-use Rattle.std.proofs.lemmas.Option.{get_or_from_slice_get, slice_get-get_or, slice_get_within}
+use Rattle.std.proofs.lemmas.Option.{get_or_from_slice_get, same_Some, slice_get-get_or, slice_get_within}
+use Rattle.flat_holds.specs.Ends.{first_at, if_passes}
 use Rattle.vrt_model.proofs.Lists.{pushed as pushed_there}
 use Rattle.vrt_model.specs.Lists.{At}
 
@@ -20,3 +22,61 @@ position_is {X} test xs i x here passes before =
     (λ k less. before k (get_or xs k x) less (slice_get-get_or xs k x (omega (arith, less, lt))))
     (λ under. ap test (get_or_from_slice_get xs i x x here) ∙ passes) in
     ap (λ (n : ℕ). cond (nat_lt n (length xs)) (Some n) None) first ∙ ap (λ (b : Bool). cond b (Some i) None) (lt-ltb i (length xs) lt)
+
+-- ---- what is found among the items that pass another test
+
+pub find_kept : {X : Type 0} (kept test : X → Bool) (xs : List X) → ((x : X) → kept x ≡ false → test x ≡ false) → find test (filter kept xs) ≡ find test xs
+find_kept kept test [] fails = refl
+find_kept {X} kept test (x ∷ xs) fails = by_bit (kept x) refl (find_kept kept test xs fails) where
+  by_bit : (b : Bool) → kept x ≡ b → find test (filter kept xs) ≡ find test xs → find test (cond b (x ∷ filter kept xs) (filter kept xs)) ≡ cond (test x) (Some x) (find test xs)
+  by_bit true e below = ap (cond (test x) (Some x)) below
+  by_bit false e below = below ∙ sym (ap (λ (b : Bool). cond b (Some x) (find test xs)) (fails x e))
+
+pub made_kept : {X Y : Type 0} (kept : X → Bool) (f : X → Option Y) (xs : List X) → ((x : X) → kept x ≡ false → f x ≡ None) → filter_map f (filter kept xs) ≡ filter_map f xs
+made_kept kept f [] fails = refl
+made_kept {X} {Y} kept f (x ∷ xs) fails = by_bit (kept x) refl (made_kept kept f xs fails) where
+  by_bit : (b : Bool) → kept x ≡ b → filter_map f (filter kept xs) ≡ filter_map f xs → filter_map f (cond b (x ∷ filter kept xs) (filter kept xs)) ≡ cons_option (f x) (filter_map f xs)
+  by_bit true e below = ap (cons_option (f x)) below
+  by_bit false e below = below ∙ sym (ap (λ (o : Option Y). cons_option o (filter_map f xs)) (fails x e))
+
+-- ---- items at places
+
+pub none_behind : {X : Type 0} (x : X) (xs : List X) → [] ≡ x ∷ xs → ⊥
+none_behind {X} x xs e = let l : 0 ≡ suc (length xs) = ap (λ (zs : List X). length zs) e in omega (arith, l)
+
+pub first_same : {X : Type 0} (x y : X) (xs ys : List X) → x ∷ xs ≡ y ∷ ys → x ≡ y
+first_same {X} x y xs ys e = same_Some x y (ap (λ (zs : List X). slice_get zs 0) e)
+
+pub rest_same : {X : Type 0} (x y : X) (xs ys : List X) → x ∷ xs ≡ y ∷ ys → xs ≡ ys
+rest_same {X} x y xs ys e = ap (λ (zs : List X). drop 1 zs) e
+
+find_placed : {X : Type 0} (test : X → Bool) (xs : List X) (places : List ℕ) (own : List X) → map (slice_get xs) places ≡ map Some own → first_at test xs places ≡ find test own
+find_placed test xs [] [] e = refl
+find_placed test xs [] (x ∷ own) e = absurd (none_behind (Some x) (map Some own) e)
+find_placed test xs (at ∷ places) [] e = absurd (none_behind (slice_get xs at) (map (slice_get xs) places) (sym e))
+find_placed {X} test xs (at ∷ places) (x ∷ own) e =
+    ap₂ (λ (o p : Option X). option_or (if_passes test o) p) (first_same (slice_get xs at) (Some x) (map (slice_get xs) places) (map Some own) e)
+    (find_placed test xs places own (rest_same (slice_get xs at) (Some x) (map (slice_get xs) places) (map Some own) e))
+    ∙ by_bit (test x) (find test own) where
+      by_bit : (b : Bool) (o : Option X) → option_or (cond b (Some x) None) o ≡ cond b (Some x) o
+      by_bit true o = refl
+      by_bit false o = refl
+
+made_placed : {X Y : Type 0} (f : X → Option Y) (xs : List X) (places : List ℕ) (own : List X) → map (slice_get xs) places ≡ map Some own
+    → filter_map (λ (at : ℕ). option_and_then f (slice_get xs at)) places ≡ filter_map f own
+made_placed f xs [] [] e = refl
+made_placed f xs [] (x ∷ own) e = absurd (none_behind (Some x) (map Some own) e)
+made_placed f xs (at ∷ places) [] e = absurd (none_behind (slice_get xs at) (map (slice_get xs) places) (sym e))
+made_placed {X} {Y} f xs (at ∷ places) (x ∷ own) e =
+    ap₂ (λ (o : Option X) (ys : List Y). cons_option (option_and_then f o) ys) (first_same (slice_get xs at) (Some x) (map (slice_get xs) places) (map Some own) e)
+    (made_placed f xs places own (rest_same (slice_get xs at) (Some x) (map (slice_get xs) places) (map Some own) e))
+
+-- the first that passes, where those at places are all that may pass
+pub first_placed : {X : Type 0} (kept test : X → Bool) (xs : List X) (places : List ℕ) → map (slice_get xs) places ≡ map Some (filter kept xs) → ((x : X) → kept x ≡ false → test x ≡ false)
+    → first_at test xs places ≡ find test xs
+first_placed kept test xs places e fails = find_placed test xs places (filter kept xs) e ∙ find_kept kept test xs fails
+
+-- what is made of all, where those at places are all of which something is made
+pub all_placed : {X Y : Type 0} (kept : X → Bool) (f : X → Option Y) (xs : List X) (places : List ℕ) → map (slice_get xs) places ≡ map Some (filter kept xs) → ((x : X) → kept x ≡ false → f x ≡ None)
+    → filter_map (λ (at : ℕ). option_and_then f (slice_get xs at)) places ≡ filter_map f xs
+all_placed kept f xs places e fails = made_placed f xs places (filter kept xs) e ∙ made_kept kept f xs fails

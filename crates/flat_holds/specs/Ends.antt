@@ -1,5 +1,6 @@
 -- Where the `match` lines of a hold lead to, by the places around it.
-use Rattle.std.specs.Prelude.{◌≡◌, ℕ, zero, suc, Bool, false, ◌&&◌, cond, List, Option, Some, None, bytes_eq, find, slice_get}
+use Rattle.std.specs.Prelude.{◌≡◌, ℕ, zero, suc, Bool, false, ◌&&◌, cond, List, [], ◌∷◌, Option, Some, None, bytes_eq, find, option_and_then, slice_get}
+use Rattle.std.specs.Option.{option_or}
 use Rattle.flat_holds.specs.declared.elements.Element.{Element}
 use Rattle.net_places.specs.Links.{IsUnrolled}
 use Rattle.net_places.specs.Places.{name_at}
@@ -24,6 +25,15 @@ use Rattle.vrt_model.specs.declared.rules.Rules.{Rules}
 
 -- ---- lines
 
+-- an item, if it passes
+abbrev pub if_passes : {X : Type 0} → (X → Bool) → Option X → Option X
+if_passes test o = option_and_then (λ x. cond (test x) (Some x) None) o
+
+-- the first that passes of the items at places
+abbrev pub first_at : {X : Type 0} → (X → Bool) → List X → List ℕ → Option X
+first_at test xs [] = None
+first_at test xs (at ∷ places) = option_or (if_passes test (slice_get xs at)) (first_at test xs places)
+
 abbrev pub is_match_of : HoldRule → MatchRule → Bool
 is_match_of hold r = bytes_eq r.cell hold.cell && bytes_eq r.net hold.net
 
@@ -40,6 +50,9 @@ line_above lines design unrolled p element = line_from lines design p element (s
 
 abbrev pub enter_by : HoldRule → EnterRule → Option Enter
 enter_by hold r = cond (bytes_eq r.cell hold.cell && bytes_eq r.net hold.net) (let one : Enter = record { phase = r.phase; value = r.value } in Some one) None
+
+abbrev pub enter_at : HoldRule → List EnterRule → ℕ → Option Enter
+enter_at hold lines at = option_and_then (enter_by hold) (slice_get lines at)
 
 -- ---- elements
 

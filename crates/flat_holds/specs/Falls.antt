@@ -1,5 +1,5 @@
 -- Which `hold` rule counts on a flat net, by the places of an unrolled cell.
-use Rattle.std.specs.Prelude.{◌≡◌, ℕ, zero, suc, ◌+◌, ◌<◌, ◌^◌, Bool, true, ◌&&◌, ◌==◌, nat_lt, cond, List, [], ◌∷◌, Option, Some, None, bytes_eq, find, length, option_map}
+use Rattle.std.specs.Prelude.{◌≡◌, ℕ, zero, suc, ◌+◌, ◌<◌, ◌^◌, true, ◌==◌, nat_lt, cond, List, [], ◌∷◌, Option, Some, None, get_or, length, option_and_then, option_map, slice_get}
 use Rattle.std.specs.List.{cons_option}
 use Rattle.flat_holds.specs.Ends.{IsHold}
 use Rattle.flat_holds.specs.declared.falls.Spot.{Spot}
@@ -9,6 +9,8 @@ use Rattle.net_tables.specs.Nets.{net_in}
 use Rattle.net_tables.specs.Places.{number_by}
 use Rattle.net_tables.specs.Tables.{AreNetTables}
 use Rattle.net_tables.specs.declared.tables.NetTables.{NetTables}
+use Rattle.rule_index.specs.Lines.{places_in}
+use Rattle.rule_index.specs.declared.by_cell.ByCell.{ByCell}
 use Rattle.vrt_model.specs.Comparison.{cell_at}
 use Rattle.vrt_model.specs.FlatCircuit.{flat_hold, rule_on}
 use Rattle.vrt_model.specs.Hierarchy.{is_net}
@@ -32,33 +34,6 @@ pub record IsRoomy (design : Design) (rules : Rules) (tables : NetTables) (p : P
 abbrev pub AreRoomy : Design → Rules → NetTables → List Place → Type 0
 AreRoomy design rules tables places = (p : Place) → Among places p → IsRoomy design rules tables p
 
--- ---- rules that fall on a net
-
--- the flat net of a name in the cell of a place
-abbrev pub number_in : Design → Rules → Unrolled → Place → List ℕ → ℕ
-number_in design rules unrolled p name = number_by p.ports p.base unrolled.globals (net_in design rules (cell_at design p.cell) name)
-
-abbrev pub falls_here : Design → Rules → Unrolled → ℕ → Place → HoldRule → Bool
-falls_here design rules unrolled n p rule =
-    bytes_eq rule.cell (cell_at design p.cell).name && (number_in design rules unrolled p rule.net == n)
-
--- a rule, and the number and the depth of a place of its cell
-pub record Fall : Type 0 where
-  pub place : ℕ
-  pub depth : ℕ
-  pub rule : HoldRule
-
-abbrev pub depth_of : Fall → ℕ
-depth_of f = f.depth
-
-abbrev pub fall_of : Spot → Fall
-fall_of s = record { place = s.place; depth = s.depth; rule = s.rule.now }
-
--- the first rule at a place
-abbrev pub fall_at : Design → Rules → Unrolled → ℕ → ℕ → Place → Option Fall
-fall_at design rules unrolled n number p =
-    option_map (λ (rule : HoldRule). let one : Fall = record { place = number; depth = p.depth; rule = rule } in one) (find (falls_here design rules unrolled n p) rules.holds)
-
 -- ---- the one that counts
 
 -- of two the one that is less deep, else the first
@@ -67,20 +42,53 @@ closer_by depth None other = other
 closer_by depth (Some a) None = Some a
 closer_by depth (Some a) (Some b) = cond (nat_lt (depth b) (depth a)) (Some b) (Some a)
 
--- of those at places from a number on
-abbrev pub best_from : Design → Rules → Unrolled → ℕ → ℕ → List Place → Option Fall
-best_from design rules unrolled n number [] = None
-best_from design rules unrolled n number (p ∷ places) =
-    closer_by depth_of (fall_at design rules unrolled n number p) (best_from design rules unrolled n (suc number) places)
+abbrev pub depth_of : Spot → ℕ
+depth_of s = s.depth
 
--- a hold is that of the rule that counts, none where there is no rule
-abbrev pub HoldBy : Design → Rules → Unrolled → ℕ → Option Fall → Option Hold → Type 0
-HoldBy design rules unrolled n None None = Unit {0}
-HoldBy design rules unrolled n None (Some hold) = ⊥
-HoldBy design rules unrolled n (Some f) None = ⊥
-HoldBy design rules unrolled n (Some f) (Some hold) = IsHold design rules unrolled f.place f.rule n hold
+-- ---- rules that fall on a net
+
+-- the flat net of a name in the cell of a place
+abbrev pub number_in : Design → Rules → Unrolled → Place → List ℕ → ℕ
+number_in design rules unrolled p name = number_by p.ports p.base unrolled.globals (net_in design rules (cell_at design p.cell) name)
+
+-- a rule of the cell of a place, if it falls on a net there
+abbrev pub spot_by : Design → Rules → Unrolled → ℕ → ℕ → Place → ℕ → HoldRule → Option Spot
+spot_by design rules unrolled n number p at rule =
+    cond (number_in design rules unrolled p rule.net == n) (let one : Spot = record { place = number; depth = p.depth; rule = at } in Some one) None
+
+abbrev pub spot_at : Design → Rules → Unrolled → ℕ → ℕ → Place → ℕ → Option Spot
+spot_at design rules unrolled n number p at = option_and_then (spot_by design rules unrolled n number p at) (slice_get rules.holds at)
+
+-- of rules of the cell of a place the one that counts
+abbrev pub best_at : Design → Rules → Unrolled → ℕ → ℕ → Place → List ℕ → Option Spot
+best_at design rules unrolled n number p [] = None
+best_at design rules unrolled n number p (at ∷ lines) = closer_by depth_of (spot_at design rules unrolled n number p at) (best_at design rules unrolled n number p lines)
+
+-- the places of the rules of the cell of a place
+abbrev pub own_places : Design → ByCell → Place → List ℕ
+own_places design holds p = places_in holds (cell_at design p.cell).name
+
+-- of those at places from a number on
+abbrev pub best_from : Design → Rules → ByCell → Unrolled → ℕ → ℕ → List Place → Option Spot
+best_from design rules holds unrolled n number [] = None
+best_from design rules holds unrolled n number (p ∷ places) =
+    closer_by depth_of (best_at design rules unrolled n number p (own_places design holds p)) (best_from design rules holds unrolled n (suc number) places)
+
+-- ---- a table of the one that counts on each net
+
+-- one more is noted at each net, or none
+pub record HasNoted (more : ℕ → Option Spot) (old new : List (Option Spot)) : Type 0 where
+  pub len : length new ≡ length old
+  pub noted : (n : ℕ) → n < length old → get_or new n None ≡ closer_by depth_of (get_or old n None) (more n)
 
 -- ---- all holds
+
+-- a hold is that of the rule that counts, none where there is no rule
+abbrev pub HoldBy : Design → Rules → Unrolled → ℕ → Option Spot → Option Hold → Type 0
+HoldBy design rules unrolled n None None = Unit {0}
+HoldBy design rules unrolled n None (Some hold) = ⊥
+HoldBy design rules unrolled n (Some s) None = slice_get rules.holds s.rule ≡ None
+HoldBy design rules unrolled n (Some s) (Some hold) = (rule : HoldRule) → slice_get rules.holds s.rule ≡ Some rule → IsHold design rules unrolled s.place rule n hold
 
 -- the holds of so many nets from one on
 abbrev pub holds_from : Top → ℕ → ℕ → List Hold

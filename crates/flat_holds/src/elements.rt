@@ -2,10 +2,12 @@
 
 ghost use Rattle.std.specs.Prelude.{◌≡◌, ◌<◌};
 ghost use Rattle.flat_holds.specs.Ends.{AllLead, HasElement};
+ghost use Rattle.rule_index.specs.Lines.{AreChargeLines};
 ghost use Rattle.vrt_model.specs.Lists.{differ};
 
 use crate::lines::{line_above, match_of};
 use net_places::Unrolled;
+use rule_index::ChargeLines;
 use vrt_model::{Design, HoldRule, Rules};
 
 /// A latch element to which `match` lines lead.
@@ -30,11 +32,13 @@ fn differ(one: bool, other: bool) -> bool
 fn led_up<'a>(
     design: &Design,
     rules: &'a Rules,
+    lines: &ChargeLines,
     unrolled: &Unrolled,
     place: usize,
     name: &'a [u8],
     inverted: bool,
 ) -> Element<'a>
+    requires { AreChargeLines rules.now lines.now }
     ensures { AllLead design.now rules.entry.now unrolled.now place name.entry.now inverted result.place result.name.now result.inverted }
 {
     let last = Element {
@@ -48,11 +52,11 @@ fn led_up<'a>(
     if here.around >= place {
         return last;
     }
-    let lines = rules.instance_matches.as_slice();
-    match line_above(lines, design, unrolled, here, name) {
+    match line_above(rules, lines, design, unrolled, here, name) {
         Some(line) => led_up(
             design,
             rules,
+            lines,
             unrolled,
             here.around,
             line.latch.as_bytes(),
@@ -66,16 +70,19 @@ fn led_up<'a>(
 pub(crate) fn element_of<'a>(
     design: &Design,
     rules: &'a Rules,
+    lines: &ChargeLines,
     unrolled: &Unrolled,
     place: usize,
     hold: &HoldRule,
 ) -> Option<Element<'a>>
+    requires { AreChargeLines rules.now lines.now }
     ensures { HasElement design.now rules.entry.now unrolled.now place hold.now result }
 {
-    match match_of(rules.matches.as_slice(), hold) {
+    match match_of(rules, lines, hold) {
         Some(line) => Some(led_up(
             design,
             rules,
+            lines,
             unrolled,
             place,
             line.latch.as_bytes(),

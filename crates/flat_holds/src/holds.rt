@@ -2,11 +2,13 @@
 
 ghost use Rattle.std.specs.Prelude.{◌≡◌, IfOk};
 ghost use Rattle.flat_holds.specs.Ends.{IsHold, end_from, instance_by, inverted_from};
+ghost use Rattle.rule_index.specs.Tables.{AreIndexed};
 ghost use Rattle.vrt_model.specs.Inputs.{IsDesign};
 
 use crate::elements::{Element, element_of};
 use crate::enters::enters_of;
 use net_places::Unrolled;
+use rule_index::RuleIndex;
 use std::alloc::Global;
 use vrt_model::{Design, Hold, HoldEnd, HoldRule, Net, NoMemory, Rules, Text};
 
@@ -55,10 +57,11 @@ fn is_inverted(element: Option<Element<'_>>) -> bool
 
 /// The hold that a `hold` rule gives a net, at a place of the rule's cell: its size, the latch element to which its
 /// `match` lines lead up through the places around it, with their polarities, or the net itself where it has no line, and
-/// the constants of its `enter` lines. It takes time in proportion to the `match` lines times the depth of the place, and
-/// to the `enter` lines.
+/// the constants of its `enter` lines. It takes time in proportion to the `match` and `enter` lines of its cell, and to
+/// the `match` lines of the cells around it.
 pub fn hold_at(
     alloc: Global,
+    index: &RuleIndex,
     design: &Design,
     rules: &Rules,
     unrolled: &Unrolled,
@@ -66,11 +69,13 @@ pub fn hold_at(
     rule: &HoldRule,
     net: Net,
 ) -> Result<Hold, NoMemory>
-    requires { IsDesign design.now }
+    requires netlist { IsDesign design.now }
+    requires indexed { AreIndexed design.now rules.now index.now }
     ensures { IfOk result (IsHold design.now rules.now unrolled.now place rule.now net.0) }
 {
-    let element = element_of(design, rules, unrolled, place, rule);
-    let enters = enters_of(alloc, rules.enters.as_slice(), rule)?;
+    let lines = &index.lines.charges;
+    let element = element_of(design, rules, lines, unrolled, place, rule);
+    let enters = enters_of(alloc, rules, lines, rule)?;
     let end = end_of(alloc, net, element)?;
     Ok(Hold {
         net,

@@ -1,18 +1,6 @@
-use Rattle.std.proofs.Common.{arith}
-use Rattle.flat_holds.proofs.FallLaws.{all_there, are_roomy, hold_same, one_more}
-use Rattle.net_places.specs.Whole.{whole_of}
+use Rattle.flat_holds.proofs.FallLaws.{are_roomy}
 use Rattle.flat_holds.proofs.all.flat_holds.Goals as goal
 
-pub hold_on-requires-clause-roomy : goal.hold_on-requires-clause-roomy
-hold_on-requires-clause-roomy c =
-    are_roomy c.args.design.now c.args.rules.now c.args.tables.now c.args.unrolled.now c.args.cell c.requires.tables c.requires.unrolled c.requires.small
-
-pub nets-preserved : goal.nets-preserved
-nets-preserved c roles =
-    one_more (whole_of c.args.design.now c.args.rules.now c.args.cell roles) c.nets.net c.args.nets c.nets.holds c.add.new.holds c.in_ok-hold.hold (omega (arith, c.nets-test.true)) c.in_ok-add.ensures
-    (hold_same c.args.design.now c.args.rules.now c.args.tables.now c.args.unrolled.now c.args.cell roles (c.requires.unrolled roles) c.requires.netlist c.requires.names c.nets.net c.in_ok-hold.hold c.in_ok-hold.ensures)
-    (c.nets.invariant roles)
-
-pub returns : goal.returns
-returns c roles count =
-    all_there (whole_of c.args.design.now c.args.rules.now c.args.cell roles) c.nets.net c.args.nets c.nets.holds (omega (arith, c.nets-test.false)) (c.nets.invariant roles) count
+pub best_spots-requires : goal.best_spots-requires
+best_spots-requires c =
+    are_roomy c.args.design.now c.args.rules.now c.args.unrolled.now c.args.cell c.args.tables.now c.requires.tables c.requires.unrolled c.requires.small

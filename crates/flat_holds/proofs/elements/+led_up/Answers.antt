@@ -8,11 +8,11 @@ returns-then-here-place t c =
 
 pub returns-in-Some-line_above : goal.returns-in-Some-line_above
 returns-in-Some-line_above t c =
-    lead_on c.args.design.now c.args.rules.now c.args.unrolled.now c.args.place c.in-Some.here.now c.args.name.now c.args.inverted c.as_slice-lines.result.now c.in-Some-line_above.line.now
-    c.as_bytes.result.now c.differ.result c.led_up.result.place c.led_up.result.name.now c.led_up.result.inverted c.as_slice-lines.ensures (sym c.in-Some.ensures) (omega (arith, c.if-here-place.false))
+    lead_on c.args.design.now c.args.rules.now c.args.unrolled.now c.args.place c.in-Some.here.now c.args.name.now c.args.inverted c.in-Some-line_above.line.now
+    c.as_bytes.result.now c.differ.result c.led_up.result.place c.led_up.result.name.now c.led_up.result.inverted (sym c.in-Some.ensures) (omega (arith, c.if-here-place.false))
     (sym c.in-Some-line_above.ensures) c.as_bytes.ensures c.differ.ensures c.led_up.ensures
 
 pub returns-in-None : goal.returns-in-None
 returns-in-None t c =
-    lead_last c.args.design.now c.args.rules.now c.args.unrolled.now c.args.place c.in-Some.here.now c.args.name.now c.args.inverted c.as_slice-lines.result.now c.as_slice-lines.ensures
+    lead_last c.args.design.now c.args.rules.now c.args.unrolled.now c.args.place c.in-Some.here.now c.args.name.now c.args.inverted
     (sym c.in-Some.ensures) (omega (arith, c.if-here-place.false)) (sym c.in-None.ensures)

@@ -2,7 +2,7 @@ use Rattle.std.proofs.Common.{◌≡◌, ◌++◌, ◌-◌, List}
 use Rattle.flat_holds.specs.Falls.{holds_from}
 use Rattle.net_places.specs.Whole.{whole_of}
 use Rattle.vrt_model.specs.declared.pairing.PortRole.{PortRole}
-use Rattle.flat_holds.proofs.all.flat_holds.Given as goal
+use Rattle.flat_holds.proofs.all.holds_by.Given as goal
 
 -- the holds so far, and those of the nets that are left
 abbrev pub invariant-nets : goal.invariant-nets
