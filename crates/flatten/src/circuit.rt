@@ -47,7 +47,7 @@ fn circuit_of(
     let devices = flat_devices(alloc, index, design, rules, tables, unrolled)?;
     let instances = flat_instances(alloc, unrolled)?;
     let count = nets.len() as u32;
-    let holds = flat_holds(alloc, design, rules, tables, unrolled, cell, count)?;
+    let holds = flat_holds(alloc, index, design, rules, tables, unrolled, cell, count)?;
     Ok(Circuit {
         nets,
         devices,
@@ -82,8 +82,8 @@ fn assemble(
 }
 
 /// The flat circuit of a cell by the tables of its netlist and rules: the same as `flat`, in time and memory in proportion
-/// to the flat circuit and the rules of the cells in it; where there are `hold` rules, also to the nets times the places
-/// times these rules.
+/// to the flat circuit and, for each instance in it, to the rules of the instance's cell; for each hold also to the `match`
+/// and `enter` lines of its cell, and to the `match` lines of the cells around it.
 pub fn flat_with(
     alloc: Global,
     index: &RuleIndex,
