@@ -105,7 +105,7 @@ fn holds_by(
 /// The holds of the flat circuit of a cell, which has so many nets, in the order of their nets. Of several `hold` rules that
 /// fall on one flat net the one of the outermost place counts, and of one depth the first in instance order. It takes
 /// time and memory in proportion to the nets and the places, for each place to the `hold` rules of its cell, and for each
-/// hold to the `match` and `enter` lines of its cell and of the cells around it.
+/// hold to the `match` and `enter` lines of its cell and to the `match` lines of the cells around it.
 pub fn flat_holds(
     alloc: Global,
     index: &RuleIndex,
