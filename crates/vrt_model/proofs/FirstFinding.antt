@@ -16,7 +16,8 @@ tri_heads x y =
       | inr ge ↦ elim (cases_eq x y) [ inl e ↦ inr (inl e) | inr ne ↦ inr (inr (omega arith)) ]
     ]
 
-less_head : (x y : ℕ) (xs ys : List ℕ) → x < y → comes_before (x ∷ xs) (y ∷ ys) ≡ true
+-- a lesser head decides
+pub less_head : (x y : ℕ) (xs ys : List ℕ) → x < y → comes_before (x ∷ xs) (y ∷ ys) ≡ true
 less_head x y xs ys lt = or_left (nat_lt x y) (nat_eq x y && comes_before xs ys) (lt-ltb x y lt)
 
 same_head : (x y : ℕ) (xs ys : List ℕ) → x ≡ y → comes_before xs ys ≡ true → comes_before (x ∷ xs) (y ∷ ys) ≡ true

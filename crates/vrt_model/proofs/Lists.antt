@@ -1,8 +1,8 @@
 -- Laws of lists: what stands at a place, and what is made of a list. What `std` has is not stated again: `slice_get_within`,
 -- `slice_get_cases`, `map-append`, `filter-append`, `filter_map-append`, `list_any-append`, `length-set`.
-use Rattle.std.proofs.Common.{◌≡◌, ℕ, zero, suc, ◌+◌, ◌<◌, ◌⊎◌, ◌&&◌, Bool, true, false, cond, List, [], ◌∷◌, ◌++◌, length, map, take, drop, replicate, get_or, Option, Some, None, append_assoc, append-nil, arith, ap, ap₂, sym, subst, refl, ◌∙◌, inl, inr}
+use Rattle.std.proofs.Common.{◌≡◌, ℕ, zero, suc, ◌+◌, ◌<◌, ◌⊎◌, ◌&&◌, ◌||◌, Bool, true, false, cond, List, [], ◌∷◌, ◌++◌, length, map, take, drop, replicate, get_or, Option, Some, None, append_assoc, append-nil, arith, ap, ap₂, sym, subst, refl, ◌∙◌, inl, inr}
 use Rattle.std.specs.Prelude.{filter, option_map}
-use Rattle.std.specs.List.{cons_option, filter_map}
+use Rattle.std.specs.List.{cons_option, filter_map, list_any}
 use Rattle.std.proofs.Math.Bool.{and_comm}
 use Rattle.std.proofs.lemmas.Bool.{cases_lt}
 use Rattle.std.proofs.lemmas.List.{drop_more, get_or-replicate, get_or_past, length-replicate, take_more}
@@ -25,6 +25,11 @@ at_there (x ∷ xs) (suc i) lt = at_there xs i (omega (arith, lt))
 pub one_at : {X : Type 0} (xs : List X) (i : ℕ) (x y : X) → At xs i x → At xs i y → x ≡ y
 one_at xs i x y e f = same_Some x y (sym e ∙ f)
 
+-- a list of no length has no item
+pub no_items : {X : Type 0} (xs : List X) → length xs ≡ 0 → xs ≡ []
+no_items [] e = refl
+no_items (x ∷ xs) e = absurd (omega (arith, e))
+
 -- ---- lists behind one another
 
 pub at_front : {X : Type 0} (xs ys : List X) (i : ℕ) (x : X) → At xs i x → At (xs ++ ys) i x
@@ -36,6 +41,18 @@ pub at_back : {X : Type 0} (xs ys : List X) (i : ℕ) (x : X) → At ys i x → 
 at_back [] ys i x e = let h : i ≡ 0 + i = omega arith in subst (λ n. At ys n x) h e
 at_back (y ∷ xs) ys i x e =
     let h : suc (length xs + i) ≡ suc (length xs) + i = omega arith in subst (λ n. At (y ∷ xs ++ ys) n x) h (at_back xs ys i x e)
+
+-- what stands below the length of the first list stands in it
+pub at_left : {X : Type 0} (xs ys : List X) (i : ℕ) (x : X) → i < length xs → At (xs ++ ys) i x → At xs i x
+at_left [] ys i x lt e = absurd (omega (arith, lt))
+at_left (z ∷ xs) ys zero x lt e = e
+at_left (z ∷ xs) ys (suc i) x lt e = at_left xs ys i x (omega (arith, lt)) e
+
+-- what stands in two lists stands in the first, or in the second so far behind it
+pub at_either : {X : Type 0} (xs ys : List X) (i : ℕ) (x : X) → At (xs ++ ys) i x → At xs i x ⊎ ((j : ℕ) × (i ≡ length xs + j) × At ys j x)
+at_either [] ys i x e = inr (i, omega arith, e)
+at_either (z ∷ xs) ys zero x e = inl e
+at_either (z ∷ xs) ys (suc i) x e = elim (at_either xs ys i x e) [ inl a ↦ inl a | inr b ↦ inr (b.0, (let is = b.1 in omega (arith, is)), b.2) ]
 
 pub at_last : {X : Type 0} (xs : List X) (x : X) → At (xs ++ x ∷ []) (length xs) x
 at_last [] x = refl
@@ -79,6 +96,11 @@ at_map f (x ∷ xs) (suc i) y e = at_map f xs i y e
 pub map_among : {X Y : Type 0} (f : X → Y) (xs : List X) (x : X) → Among xs x → Among (map f xs) (f x)
 map_among f xs x m = (m.0, map_at f xs m.0 x m.1)
 
+-- two functions that agree on the items make the same list
+pub map_same : {X Y : Type 0} (f g : X → Y) (xs : List X) → ((i : ℕ) (x : X) → At xs i x → f x ≡ g x) → map f xs ≡ map g xs
+map_same f g [] h = refl
+map_same {X} {Y} f g (x ∷ xs) h = ap₂ (λ (y : Y) (ys : List Y). y ∷ ys) (h 0 x refl) (map_same f g xs (λ i y e. h (suc i) y e))
+
 -- ---- what is made of some items
 
 -- what is made comes from an item
@@ -112,6 +134,11 @@ filter_map_none f [] h = refl
 filter_map_none {X} {Y} f (x ∷ xs) h = ap (λ (o : Option Y). cons_option o (filter_map f xs)) (h x) ∙ filter_map_none f xs h
 
 -- ---- items that pass a test
+
+-- two tests that agree pass some item alike
+pub any_same : {X : Type 0} (p q : X → Bool) → ((x : X) → p x ≡ q x) → (xs : List X) → list_any p xs ≡ list_any q xs
+any_same p q same [] = refl
+any_same p q same (x ∷ xs) = ap₂ (λ (a b : Bool). a || b) (same x) (any_same p q same xs)
 
 pub filter_none : {X : Type 0} (p : X → Bool) (xs : List X) → ((x : X) → p x ≡ false) → filter p xs ≡ []
 filter_none p [] h = refl

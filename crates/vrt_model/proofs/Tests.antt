@@ -47,6 +47,11 @@ pub map_none : {X Y : Type 0} (f : X → Y) (o : Option X) → option_map f o �
 map_none f None e = refl
 map_none f (Some x) e = absurd (none-some (f x) (sym e))
 
+-- what is made of the first of two that is there is the first of what is made of each
+pub map_or : {X Y : Type 0} (f : X → Y) (o p : Option X) → option_map f (option_or o p) ≡ option_or (option_map f o) (option_map f p)
+map_or f None p = refl
+map_or f (Some x) p = refl
+
 -- where neither of two is there, each is not
 pub neither : {X : Type 0} (o p : Option X) → option_or o p ≡ None → (o ≡ None) × (p ≡ None)
 neither None p e = (refl, e)
