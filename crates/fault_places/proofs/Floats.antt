@@ -6,6 +6,7 @@ use Rattle.std.proofs.lemmas.Option.{same_Some}
 use Rattle.fault_places.specs.Searches.{IsFoundAt}
 use Rattle.vrt_model.proofs.GatesGiven.{IsGiven}
 use Rattle.vrt_model.proofs.GivenNets.{clear_from_source, source_strength}
+use Rattle.vrt_model.proofs.Laws.{shows_from, shows_no_float}
 use Rattle.vrt_model.proofs.Lists.{at_there}
 use Rattle.vrt_model.proofs.Members.{all_among, at_none}
 use Rattle.vrt_model.proofs.Networks.{flat_ranges, given_source, network_levels}
@@ -28,14 +29,6 @@ use Rattle.vrt_model.specs.declared.rules.Phase.{Phase}
 use Rattle.vrt_model.specs.declared.verdict.FaultKind.TheVariants.{Float as FloatFault}
 use Rattle.vrt_model.specs.declared.whole.Whole.{Whole}
 use Rattle.vrt_model.specs.declared.whole.WholePin.{WholePin}
-
-shows_from : (w : Network) (n : ℕ) (v : Bool) → Reaches w n v → ((u : Bool) → Reaches w n u → u ≡ v) → IsResponse w n (Shows v)
-shows_from w n true r h = (r, λ q. false≢true (h false q))
-shows_from w n false r h = (r, λ q. false≢true (sym (h true q)))
-
-shows_no_float : (w : Network) (n : ℕ) (v : Bool) → IsResponse w n (Shows v) → IsResponse w n Float → ⊥
-shows_no_float w n true s f = f.0 s.0
-shows_no_float w n false s f = f.1 s.0
 
 kind_cases : (net : FlatNet) (kind : NetKind) → net.kind ≡ kind → (is_given net.kind ≡ false) → net.kind ≡ Plain
 kind_cases net (Supply value) e f = absurd (false≢true (sym f ∙ ap is_given e))

@@ -2,13 +2,13 @@
 use Rattle.std.proofs.Common.{◌≡◌, ℕ, suc, Bool, List, [], ◌∷◌, ◌++◌, arith, ap, refl, sym, subst, ◌∙◌, inl, inr}
 use Rattle.std.specs.Prelude.{flat_map}
 use Rattle.fault_places.proofs.PartRanks.{one_least, same_rank}
-use Rattle.fault_places.proofs.SortedLists.{IsStage, IsUnder, flat_map_among, nested, one_stage, pair, rising_sorted, single, stages}
+use Rattle.fault_places.proofs.SortedLists.{IsStage, IsUnder, nested, one_stage, pair, rising_sorted, single, stages}
 use Rattle.fault_places.specs.PhaseSpots.{AreSites, HasConstraint, IsRising, Sites, Step, OfInstance, OfPart, spots_at, spots_each, spots_in, spots_of, step_key}
 use Rattle.fault_places.specs.Searches.{AreSpots, IsFoundAt, Spot}
 use Rattle.vrt_model.proofs.Lists.{map_among}
 use Rattle.vrt_model.proofs.Ranked.{together_first}
 use Rattle.vrt_model.specs.Reading.{bare}
-use Rattle.vrt_model.proofs.Members.{among_left, among_right}
+use Rattle.vrt_model.proofs.Members.{among_left, among_right, flat_map_among}
 use Rattle.vrt_model.specs.Comparison.{Comparison, phase_at}
 use Rattle.vrt_model.specs.Faults.{HoldAt}
 use Rattle.vrt_model.specs.Known.{IsPlain}

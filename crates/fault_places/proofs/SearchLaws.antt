@@ -4,10 +4,9 @@ use Rattle.std.specs.Prelude.{slice_get}
 use Rattle.std.proofs.lemmas.Bool.{cases_lt, cases_eq}
 use Rattle.vrt_model.specs.Comparison.{Comparison}
 use Rattle.vrt_model.specs.Places.{Finding, IsFinding, IsFirstInPhase, IsNoLater, comes_before, standing}
-use Rattle.fault_places.proofs.SortedLists.{split}
 use Rattle.fault_places.specs.Searches.{AreSpots, Case, HasCases, IsCare, IsClearOf, IsFoundAt, IsFoundFirst, IsFoundIn, IsLeastOf, Spot, StandsIn, finding_at}
 use Rattle.vrt_model.specs.Held.{IsValuation}
-use Rattle.vrt_model.proofs.Lists.{at_back, at_front}
+use Rattle.vrt_model.proofs.Lists.{at_back, at_either, at_front}
 use Rattle.vrt_model.specs.Variables.{is_less}
 use Rattle.vrt_model.specs.declared.verdict.FaultKind.{FaultKind}
 use Rattle.std.proofs.lemmas.Option.{same_Some, slice_get_within}
@@ -99,7 +98,7 @@ later_stage W Fault care f xs ys x clear found = record {
   stands = at_back xs ys found.place x found.stands;
   exact = found.exact;
   before = λ i y v lt e met.
-      elim (split xs ys i y e) [
+      elim (at_either xs ys i y e) [
         | inl a ↦ clear i y v a met
         | inr b ↦ found.before b.0 y v (let is = b.1 in omega (arith, is, lt)) b.2 met
       ];
@@ -112,7 +111,7 @@ earlier_stage W Fault care f xs ys x found = record {
   stands = at_front xs ys found.place x found.stands;
   exact = found.exact;
   before = λ i y v lt e met.
-      elim (split xs ys i y e) [
+      elim (at_either xs ys i y e) [
         | inl a ↦ found.before i y v lt a met
         | inr b ↦ absurd (let within = slice_get_within xs found.place x found.stands in let is = b.1 in omega (arith, within, is, lt))
       ];
@@ -121,4 +120,4 @@ earlier_stage W Fault care f xs ys x found = record {
 pub clear_stages : (W : Type 0) (Fault : Spot → W → Type 0) (care : W → Bool) (xs ys : List Spot)
     → IsClearOf Fault care xs → IsClearOf Fault care ys → IsClearOf Fault care (xs ++ ys)
 clear_stages W Fault care xs ys one two i y v e met =
-    elim (split xs ys i y e) [ inl a ↦ one i y v a met | inr b ↦ two b.0 y v b.2 met ]
+    elim (at_either xs ys i y e) [ inl a ↦ one i y v a met | inr b ↦ two b.0 y v b.2 met ]

@@ -1,13 +1,15 @@
 -- Lists sorted by lists of numbers: joined, and made item by item.
-use Rattle.std.proofs.Common.{◌≡◌, ℕ, zero, suc, ◌+◌, ◌<◌, ◌≤◌, ◌⊎◌, ◌&&◌, true, List, [], ◌∷◌, ◌++◌, length, arith, subst, sym, refl, ◌∙◌, inl, inr, ap}
+use Rattle.std.proofs.Common.{◌≡◌, ℕ, zero, suc, ◌<◌, ◌≤◌, ◌&&◌, true, List, [], ◌∷◌, ◌++◌, length, arith, subst, sym, refl, ◌∙◌, inl, inr, ap}
 use Rattle.std.specs.Prelude.{flat_map, nat_eq, nat_lt}
-use Rattle.std.proofs.lemmas.Bool.{and_from, and_parts, eq-eqb, false≢true, lt-ltb, or_cases, or_left, or_right}
+use Rattle.std.proofs.lemmas.Bool.{and_from, and_parts, eq-eqb, false≢true, or_cases, or_left, or_right}
 use Rattle.std.proofs.lemmas.List.{append_assoc}
 use Rattle.std.proofs.lemmas.Option.{same_Some, slice_get_within}
 use Rattle.fault_places.specs.PhaseSpots.{IsRising, IsSortedBy}
-use Rattle.vrt_model.proofs.Members.{among_either, among_flat_map, among_later, among_left, among_right, at_none}
-use Rattle.vrt_model.specs.Lists.{At, Among}
+use Rattle.vrt_model.proofs.Members.{among_either, among_flat_map, among_later, at_none}
+use Rattle.vrt_model.specs.Lists.{Among}
 use Rattle.vrt_model.specs.Places.{comes_before}
+use Rattle.vrt_model.proofs.FirstFinding.{less_head}
+use Rattle.vrt_model.proofs.Lists.{at_either}
 
 -- ---- lists of numbers
 
@@ -31,36 +33,21 @@ behind_front (n ∷ p) xs ys e =
     or_right (nat_lt n n) (nat_eq n n && comes_before (p ++ xs) (p ++ ys))
     (and_from (nat_eq n n) (comes_before (p ++ xs) (p ++ ys)) (eq-eqb n n refl) (behind_front p xs ys e))
 
-pub lesser_before : (x y : ℕ) (xs ys : List ℕ) → x < y → comes_before (x ∷ xs) (y ∷ ys) ≡ true
-lesser_before x y xs ys lt = or_left (nat_lt x y) (nat_eq x y && comes_before xs ys) (lt-ltb x y lt)
-
 pub rising_sorted : (xs : List ℕ) → IsRising xs → IsSortedBy (λ (n : ℕ). n ∷ []) xs
-rising_sorted xs rising i j x y a b lt = lesser_before x y [] [] (rising i j x y a b lt)
+rising_sorted xs rising i j x y a b lt = less_head x y [] [] (rising i j x y a b lt)
 
 -- ---- items
-
-pub flat_map_among : {X Y : Type 0} (f : X → List Y) (xs : List X) (x : X) (y : Y) → Among xs x → Among (f x) y → Among (flat_map f xs) y
-flat_map_among f [] x y m n = absurd (at_none m.0 x m.1)
-flat_map_among {X} {Y} f (z ∷ xs) x y (zero, e) n =
-    among_left (f z) (flat_map f xs) y (subst (λ (w : X). Among (f w) y) (sym (same_Some z x e)) n)
-flat_map_among f (z ∷ xs) x y (suc i, e) n = among_right (f z) (flat_map f xs) y (flat_map_among f xs x y (i, e) n)
-
--- what stands at a place of two lists
-pub split : {Y : Type 0} (xs ys : List Y) (i : ℕ) (y : Y) → At (xs ++ ys) i y → At xs i y ⊎ ((j : ℕ) × (i ≡ length xs + j) × At ys j y)
-split [] ys i y e = inr (i, omega arith, e)
-split (x ∷ xs) ys zero y e = inl e
-split (x ∷ xs) ys (suc i) y e = elim (split xs ys i y e) [ inl a ↦ inl a | inr b ↦ inr (b.0, (let is = b.1 in omega (arith, is)), b.2) ]
 
 -- two sorted lists, all of the first before all of the second
 joined : {Y : Type 0} (key : Y → List ℕ) (xs ys : List Y) → IsSortedBy key xs → IsSortedBy key ys
     → ((x y : Y) → Among xs x → Among ys y → comes_before (key x) (key y) ≡ true) → IsSortedBy key (xs ++ ys)
 joined key xs ys one two cross i j x y a b lt =
-    elim (split xs ys i x a) [
-      | inl p ↦ elim (split xs ys j y b) [
+    elim (at_either xs ys i x a) [
+      | inl p ↦ elim (at_either xs ys j y b) [
         | inl q ↦ one i j x y p q lt
         | inr q ↦ cross x y (i, p) (q.0, q.2)
       ]
-      | inr p ↦ elim (split xs ys j y b) [
+      | inr p ↦ elim (at_either xs ys j y b) [
         | inl q ↦ absurd (let within : j < length xs = slice_get_within xs j y q in let is = p.1 in omega (arith, within, is, lt))
         | inr q ↦ two p.0 q.0 x y p.2 q.2 (let is = p.1 in let also = q.1 in omega (arith, is, also, lt))
       ]
@@ -166,4 +153,4 @@ stages {Y} key a b c xs ys ab bc one two = record {
         let g = two.first y n in
         let lt : f.0 < g.0 = (let high = f.3 in let low = g.2 in omega (arith, high, low)) in
         subst (λ (l : List ℕ). comes_before l (key y) ≡ true) (sym f.4)
-        (subst (λ (l : List ℕ). comes_before (f.0 ∷ f.1) l ≡ true) (sym g.4) (lesser_before f.0 g.0 f.1 g.1 lt))
+        (subst (λ (l : List ℕ). comes_before (f.0 ∷ f.1) l ≡ true) (sym g.4) (less_head f.0 g.0 f.1 g.1 lt))
