@@ -1,5 +1,5 @@
 -- The nets of one card more, while a cell's own nets are counted.
-use Rattle.std.proofs.Common.{◌≡◌, ◌≤◌, ◌+◌, ◌++◌, ◌∷◌, [], ℕ, List, Bool, length, refl, ap, sym, ◌∙◌, arith}
+use Rattle.std.proofs.Common.{◌≡◌, ◌≤◌, ◌+◌, ◌++◌, ◌∷◌, [], ℕ, List, Bool, length, ap, sym, ◌∙◌, arith}
 use Rattle.flat_sizes.proofs.LastCounts.{counts_are}
 use Rattle.flat_sizes.specs.Mentions.{card_nets, last_count, mentioned, tied}
 use Rattle.vrt_model.specs.Unrolled.{is_own, mentions, own_nets}

@@ -1,14 +1,8 @@
--- Sums and products of numbers that are carried up to the greatest.
-use Rattle.std.proofs.Common.{◌≡◌, ◌<◌, ◌≤◌, ◌+◌, ◌-◌, ◌*◌, ◌^◌, ◌⊎◌, ℕ, zero, suc, refl, ap, sym, ◌∙◌, arith, inl, inr}
+-- Products of numbers that are carried up to the greatest.
+use Rattle.std.proofs.Common.{◌≡◌, ◌<◌, ◌≤◌, ◌-◌, ◌*◌, ◌^◌, ℕ, zero, suc, refl, ap, sym, ◌∙◌, arith, inl, inr}
 use Rattle.std.proofs.Math.Nat.{le-mul_of_pos_right, mul-zero}
 use Rattle.std.proofs.lemmas.Bool.{cases_lt}
 use Rattle.vrt_model.specs.Unsupported.{carried}
-
-pub carried_once : (n : ℕ) → carried (carried n) ≡ carried n
-carried_once n = omega arith
-
-pub carried_both : (a b c d : ℕ) → carried a ≡ carried c → carried b ≡ carried d → carried (a + b) ≡ carried (c + d)
-carried_both a b c d e f = omega (arith, e, f)
 
 large : (a c x y : ℕ) → c ≡ carried a → 2 ^ 64 - 1 < a → c ≤ x → a ≤ y → carried x ≡ carried y
 large a c x y e many f g = omega (arith, e, many, f, g)

@@ -1,14 +1,14 @@
 -- The global nets of a cell, by the cells that stand in it; and the counts of its flat circuit.
 use Rattle.std.proofs.Common.{◌≡◌, ◌<◌, ◌≤◌, ◌+◌, ◌*◌, ◌∷◌, ◌||◌, ◌&&◌, [], ℕ, zero, suc, List, Bool, true, false, cond, nat_lt, length, filter, get_or, drop, refl, ap, ap₂, sym, ◌∙◌, arith, add-one, inl, inr}
 use Rattle.std.specs.Prelude.{is_none}
-use Rattle.std.specs.List.{list_any, sum_by}
-use Rattle.std.proofs.Math.Nat.{add-zero, le-mul_of_pos_right, mul-zero, mul_comm, zero-mul}
+use Rattle.std.specs.List.{list_any}
+use Rattle.std.proofs.Math.Nat.{add-zero, le-mul_of_pos_right, mul-zero, mul_comm}
 use Rattle.std.proofs.lemmas.Bool.{cases_lt}
 use Rattle.std.proofs.lemmas.Bool.Decides.{nat_tests}
 use Rattle.std.proofs.lemmas.List.{drop_all, drop_more}
 use Rattle.std.proofs.lemmas.List.Sums.{sum_by-cons}
-use Rattle.flat_sizes.proofs.Carried.{carried_both, carried_once, carried_times}
-use Rattle.flat_sizes.proofs.PlaceLaws.{devices_counted, instances_counted, nets_counted}
+use Rattle.flat_sizes.proofs.Carried.{carried_times}
+use Rattle.flat_sizes.proofs.PlaceLaws.{devices_counted, nets_counted}
 use Rattle.flat_sizes.specs.Totals.{AreInside, global_weight, inside, names_inside, over, weighed, within}
 use Rattle.vrt_model.specs.CellRules.{supply_of}
 use Rattle.vrt_model.specs.Comparison.{cell_at}
@@ -19,6 +19,7 @@ use Rattle.vrt_model.specs.Unsupported.{carried, top_before}
 use Rattle.vrt_model.specs.declared.design.Design.{Design}
 use Rattle.vrt_model.specs.declared.design.InstanceCard.{InstanceCard}
 use Rattle.vrt_model.specs.declared.rules.Rules.{Rules}
+use Rattle.vrt_model.proofs.Sums.{carried_both, carried_once}
 
 -- ---- whether a number is above 0
 

@@ -4,13 +4,13 @@ use Rattle.std.specs.Prelude.{is_none, slice_get, unwrap_or}
 use Rattle.std.specs.List.{sum_by}
 use Rattle.std.proofs.lemmas.List.{length-map}
 use Rattle.std.proofs.lemmas.List.Concat.{length-flat_map}
-use Rattle.std.proofs.lemmas.List.Sums.{sum_by-append, sum_by-cons}
+use Rattle.std.proofs.lemmas.List.Sums.{sum_by-cons}
 use Rattle.flat_sizes.specs.Totals.{inside, over, within}
 use Rattle.vrt_model.specs.CellRules.{supply_of}
 use Rattle.vrt_model.specs.Comparison.{cell_at}
-use Rattle.vrt_model.specs.FlatCircuit.{flat_device, flat_devices, flat_instance, flat_instances, flat_nets, kind_by, own_flat_nets, plain_net, port_nets_of, supply_flat}
+use Rattle.vrt_model.specs.FlatCircuit.{flat_device, flat_devices, flat_instance, flat_instances, flat_nets, kind_by, own_flat_nets, plain_net, port_nets_of}
 use Rattle.vrt_model.specs.Lists.{path_name}
-use Rattle.vrt_model.specs.Unrolled.{Place, Top, all_places, cell_named, globals_of, global_nets, instances_from, instances_at, net_at, own_count, own_nets, path_text, places_in, top_cell, top_place}
+use Rattle.vrt_model.specs.Unrolled.{Place, Top, all_places, cell_named, globals_of, instances_from, instances_at, net_at, own_count, own_nets, path_text, places_in, top_cell, top_place}
 use Rattle.vrt_model.specs.Unsupported.{carried}
 use Rattle.vrt_model.specs.declared.circuit.FlatNet.{FlatNet}
 use Rattle.vrt_model.specs.declared.design.Cell.{Cell}
@@ -18,17 +18,7 @@ use Rattle.vrt_model.specs.declared.design.Design.{Design}
 use Rattle.vrt_model.specs.declared.design.InstanceCard.{InstanceCard}
 use Rattle.vrt_model.specs.declared.pairing.PortRole.{PortRole}
 use Rattle.vrt_model.specs.declared.rules.Rules.{Rules}
-
--- ---- sums
-
-sum_same : {X : Type 0} (f g : X → ℕ) → ((x : X) → f x ≡ g x) → (xs : List X) → sum_by f xs ≡ sum_by g xs
-sum_same f g h [] = refl
-sum_same f g h (x ∷ xs) = sum_by-cons f x xs ∙ ap₂ ◌+◌ (h x) (sum_same f g h xs) ∙ sym (sum_by-cons g x xs)
-
-sum_flat : {X Y : Type 0} (f : X → List Y) (g : Y → ℕ) (xs : List X) → sum_by g (flat_map f xs) ≡ sum_by (λ x. sum_by g (f x)) xs
-sum_flat f g [] = refl
-sum_flat f g (x ∷ xs) =
-    sum_by-append g (f x) (flat_map f xs) ∙ ap (λ n. sum_by g (f x) + n) (sum_flat f g xs) ∙ sym (sum_by-cons (λ x. sum_by g (f x)) x xs)
+use Rattle.vrt_model.proofs.Sums.{sum_flat, sum_same}
 
 -- ---- places
 

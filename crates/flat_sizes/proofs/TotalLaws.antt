@@ -1,18 +1,18 @@
 -- Tables of how often cells stand in a cell.
-use Rattle.std.proofs.Common.{◌≡◌, ◌<◌, ◌≤◌, ◌+◌, ◌-◌, ◌*◌, ◌^◌, ◌∷◌, [], ℕ, zero, suc, List, length, get_or, drop, replicate, refl, ap, ap₂, sym, subst, ◌∙◌, arith, add-one}
+use Rattle.std.proofs.Common.{◌≡◌, ◌<◌, ◌≤◌, ◌+◌, ◌*◌, ◌∷◌, [], ℕ, zero, suc, List, length, get_or, drop, replicate, refl, ap, ap₂, sym, ◌∙◌, arith, add-one}
 use Rattle.std.specs.Prelude.{slice_set}
-use Rattle.std.specs.List.{sum_by}
 use Rattle.std.proofs.Math.Nat.{add-mul, mul-add, mul-zero, zero-mul}
 use Rattle.std.proofs.Math.Path.{fun_ext}
 use Rattle.std.proofs.lemmas.List.{drop_all, drop_more, get_or-replicate, length-replicate}
 use Rattle.std.proofs.lemmas.List.Sums.{sum_by-cons}
-use Rattle.flat_sizes.proofs.Carried.{carried_both, carried_times}
+use Rattle.flat_sizes.proofs.Carried.{carried_times}
 use Rattle.flat_sizes.specs.Totals.{Adds, AddsAll, AddsOne, AreInside, below, inside, over, weighed, within}
 use Rattle.vrt_model.specs.Comparison.{cell_at}
 use Rattle.vrt_model.specs.Unrolled.{cell_named}
 use Rattle.vrt_model.specs.Unsupported.{carried}
 use Rattle.vrt_model.specs.declared.design.Design.{Design}
 use Rattle.vrt_model.specs.declared.design.InstanceCard.{InstanceCard}
+use Rattle.vrt_model.proofs.Sums.{carried_both}
 
 -- ---- tables
 

@@ -1,4 +1,4 @@
-use Rattle.flat_sizes.proofs.CardLaws.{all_counted, instance_more}
+use Rattle.flat_sizes.proofs.CardLaws.{all_counted}
 use Rattle.vrt_model.specs.Unrolled.{is_own}
 use Rattle.flat_sizes.proofs.own.own_of_instances.Goals as goal
 
