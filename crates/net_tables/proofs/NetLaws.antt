@@ -1,5 +1,5 @@
 -- The nets of a cell as they are made by look-ups are those of the cell.
-use Rattle.std.proofs.Common.{◌≡◌, ◌∷◌, ◌&&◌, [], ℕ, suc, not, List, Bool, true, map, filter, Option, Some, None, refl, ap, ap₂, sym, ◌∙◌}
+use Rattle.std.proofs.Common.{◌≡◌, ◌&&◌, [], ℕ, not, List, Bool, true, map, filter, Option, Some, None, refl, ap, ap₂, sym, ◌∙◌}
 use Rattle.std.specs.Prelude.{All, bytes_eq, is_none, is_some, option_map, unwrap_or}
 use Rattle.std.specs.Option.{option_or}
 use Rattle.std.proofs.Math.Path.{fun_ext}
@@ -21,13 +21,14 @@ use Rattle.net_tables.specs.declared.types.InstanceNets.{InstanceNets}
 use Rattle.vrt_model.proofs.Members.{all_among}
 use Rattle.vrt_model.specs.CellRules.{supply_of}
 use Rattle.vrt_model.specs.Inputs.{AllApart, IsCell}
-use Rattle.vrt_model.specs.Lists.{At, distinct, has_name, place_of}
+use Rattle.vrt_model.specs.Lists.{distinct, has_name, place_of}
 use Rattle.vrt_model.specs.Unrolled.{cell_named, is_own, mentions, own_nets}
 use Rattle.vrt_model.specs.declared.design.Cell.{Cell}
 use Rattle.vrt_model.specs.declared.design.Design.{Design}
 use Rattle.vrt_model.specs.declared.design.DeviceCard.{DeviceCard}
 use Rattle.vrt_model.specs.declared.design.InstanceCard.{InstanceCard}
 use Rattle.vrt_model.specs.declared.rules.Rules.{Rules}
+use Rattle.vrt_model.proofs.Lists.{map_same}
 
 -- ---- which names are own nets
 
@@ -62,10 +63,6 @@ own_alone design rules cell name k e =
     (own_test design rules cell name ∙ (and_parts (is_own design rules cell name) (has_name (mentions cell) name) passes).0)
 
 -- ---- one cell
-
-map_same : {X Y : Type 0} (f g : X → Y) (xs : List X) → ((i : ℕ) (x : X) → At xs i x → f x ≡ g x) → map f xs ≡ map g xs
-map_same f g [] h = refl
-map_same {X} {Y} f g (x ∷ xs) h = ap₂ (λ (y : Y) (ys : List Y). y ∷ ys) (h 0 x refl) (map_same f g xs (λ i y e. h (suc i) y e))
 
 module _ (design : Design) (rules : Rules) (shared : SharedNames) (are : AreShared design rules shared) where
   cell_is : (name : List ℕ) → cell_in shared name ≡ cell_named design name
