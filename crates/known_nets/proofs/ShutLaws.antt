@@ -27,14 +27,14 @@ use Rattle.vrt_model.specs.declared.rules.Phase.{Phase}
 
 -- ---- inputs
 
-input_is : (c : Circuit) (n : ℕ) → is_input_at c n ≡ true → IsInput c n
+pub input_is : (c : Circuit) (n : ℕ) → is_input_at c n ≡ true → IsInput c n
 input_is c n t = found (slice_get c.nets n) refl t
   where
     found : (o : Option FlatNet) → slice_get c.nets n ≡ o → unwrap_or (option_map (λ (net : FlatNet). is_input_kind net.kind) o) false ≡ true → IsInput c n
     found None e t = absurd (false≢true t)
     found (Some net) e t = (net, e, kind_is_input net.kind t)
 
-is_input : (c : Circuit) (n : ℕ) → IsInput c n → is_input_at c n ≡ true
+pub is_input : (c : Circuit) (n : ℕ) → IsInput c n → is_input_at c n ≡ true
 is_input c n i = ap (λ (o : Option FlatNet). unwrap_or (option_map (λ (net : FlatNet). is_input_kind net.kind) o) false) i.1 ∙ ap is_input_kind i.2
 
 -- an input is not plain, and has no fixed bit
