@@ -3,7 +3,7 @@ use Rattle.std.proofs.Common.{◌≡◌, ◌≤◌, ◌<◌, ◌+◌, ◌-◌, �
 use Rattle.std.specs.Prelude.{bytes_eq, unwrap_or}
 use Rattle.std.proofs.lemmas.Bool.{cases_lt, or_right}
 use Rattle.std.proofs.lemmas.List.{length-map, map-append}
-use Rattle.std.proofs.lemmas.Option.{none-some, same_Some}
+use Rattle.std.proofs.lemmas.Option.{none-some}
 use Rattle.std.proofs.lemmas.Slice.Eq.{bytes_eq-Decides}
 use Rattle.net_places.proofs.CellLaws.{nets_are, own_is}
 use Rattle.net_tables.proofs.PlaceNetLaws.{global_is, global_there, net_is, port_is}
@@ -18,8 +18,8 @@ use Rattle.net_tables.specs.declared.types.InstanceNets.{InstanceNets}
 use Rattle.net_places.specs.Links.{AreGlobalNets, AreNested, Bare, IsInside, bare, shown, step_of}
 use Rattle.net_places.specs.Places.{all_below, inner_from, inner_place, name_at, net_of, nets_at, own_at, own_below, places_below}
 use Rattle.net_places.specs.declared.places.Place.{Place}
-use Rattle.vrt_model.proofs.Lists.{at_back, at_front, one_at}
-use Rattle.vrt_model.proofs.Members.{among_any, among_later, among_left, among_right}
+use Rattle.vrt_model.proofs.Lists.{at_back, at_front, at_left, one_at}
+use Rattle.vrt_model.proofs.Members.{among_any, among_later, among_left, among_right, flat_map_among}
 use Rattle.vrt_model.specs.Comparison.{cell_at}
 use Rattle.vrt_model.specs.Lists.{Among, At, has_name, path_name}
 use Rattle.vrt_model.specs.Unrolled.{Place as FlatPlace, Top, all_places, cell_named, deepest, instances_at, instances_from, mentions, net_at, own_count, own_nets, path_text, places_in, top_place}
@@ -30,20 +30,9 @@ use Rattle.vrt_model.specs.declared.ids.Net.{Net}
 
 -- ---- lists
 
-at_left : {X : Type 0} (xs ys : List X) (i : ℕ) (x : X) → i < length xs → At (xs ++ ys) i x → At xs i x
-at_left [] ys i x lt e = absurd (omega (arith, lt))
-at_left (z ∷ xs) ys zero x lt e = e
-at_left (z ∷ xs) ys (suc i) x lt e = at_left xs ys i x (omega (arith, lt)) e
-
 at_right : {X : Type 0} (xs ys : List X) (j : ℕ) (x : X) → At (xs ++ ys) (length xs + j) x → At ys j x
 at_right [] ys j x e = let n : 0 + j ≡ j = omega arith in subst (λ (k : ℕ). At ys k x) n e
 at_right (z ∷ xs) ys j x e = let n : suc (length xs) + j ≡ suc (length xs + j) = omega arith in at_right xs ys j x (subst (λ (k : ℕ). At (z ∷ xs ++ ys) k x) n e)
-
--- what stands in one of the lists stands in all joined
-pub flat_among : {X Y : Type 0} (f : X → List Y) (xs : List X) (x : X) (y : Y) → Among xs x → Among (f x) y → Among (flat_map f xs) y
-flat_among f [] x y (i, e) m = absurd (none-some x e)
-flat_among {X} {Y} f (z ∷ xs) x y (zero, e) m = among_left (f z) (flat_map f xs) y (subst (λ (w : X). Among (f w) y) (sym (same_Some z x e)) m)
-flat_among f (z ∷ xs) x y (suc i, e) m = among_right (f z) (flat_map f xs) y (flat_among f xs x y (i, e) m)
 
 module _ (t : Top) (tables : NetTables) (are : AreNetTables t.design t.rules tables) where
   module _ (globals : List Net) (global : AreGlobalNets t globals) where
@@ -76,7 +65,7 @@ module _ (t : Top) (tables : NetTables) (are : AreNetTables t.design t.rules tab
     mentioned cell card name there m =
         among_any (bytes_eq name) (mentions cell) name
         (among_right (flat_map (λ (d : DeviceCard). d.drain ∷ d.gate ∷ d.source ∷ []) cell.devices) (flat_map (λ (i : InstanceCard). i.nets) cell.instances) name
-        (flat_among (λ (i : InstanceCard). i.nets) cell.instances card name there m))
+        (flat_map_among (λ (i : InstanceCard). i.nets) cell.instances card name there m))
         ((bytes_eq-Decides name name).1 refl)
 
     ports_same : (p : Place) (at : FlatPlace) → shown p ≡ bare at → IsNear at → (card : InstanceCard) → Among (cell_at t.design at.cell).instances card

@@ -22,6 +22,7 @@ use Rattle.net_tables.specs.Tables.{AreNetTables}
 use Rattle.net_tables.specs.declared.tables.NetTables.{NetTables}
 use Rattle.vrt_model.proofs.Lists.{at_there, map_at, one_at}
 use Rattle.vrt_model.proofs.Members.{all_among, among_flat_map}
+use Rattle.vrt_model.proofs.Sums.{sum_same}
 use Rattle.vrt_model.specs.CellRules.{supply_of}
 use Rattle.vrt_model.specs.Comparison.{cell_at}
 use Rattle.vrt_model.specs.FlatCircuit.{flat_nets}
@@ -50,10 +51,6 @@ few_ports design k is lt =
     omega (arith, one, few)
 
 -- ---- how many nets there are
-
-sum_same : {X : Type 0} (f g : X → ℕ) → ((x : X) → f x ≡ g x) → (xs : List X) → sum_by f xs ≡ sum_by g xs
-sum_same f g h [] = refl
-sum_same f g h (x ∷ xs) = sum_by-cons f x xs ∙ ap₂ ◌+◌ (h x) (sum_same f g h xs) ∙ sym (sum_by-cons g x xs)
 
 module _ (t : Top) where
   abbrev own_of : ℕ → ℕ

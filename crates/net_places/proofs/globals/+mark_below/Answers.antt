@@ -1,8 +1,9 @@
 use Rattle.std.proofs.Common.{◌≡◌, ◌-◌, flat_map, suc, subst, sym, ℕ, List, arith}
-use Rattle.net_places.proofs.GlobalLaws.{cards_alone, cards_first, ended, more, no_items, nothing_there}
+use Rattle.net_places.proofs.GlobalLaws.{cards_alone, cards_first, ended, more, nothing_there}
 use Rattle.net_places.specs.Globals.{HasMarked, IsMarking, nets_below}
 use Rattle.net_tables.specs.declared.types.InstanceNets.{InstanceNets}
 use Rattle.net_places.proofs.globals.+mark_below.Goals as goal
+use Rattle.vrt_model.proofs.Lists.{no_items}
 
 pub returns-in_default : goal.returns-in_default
 returns-in_default t c = nothing_there c.args.tables.now c.args.depth c.args.cell c.args.marks.now.items (sym c.in_default.ensures)

@@ -1,5 +1,6 @@
-use Rattle.net_places.proofs.GlobalLaws.{numbered_all, numbered_more, numbered_room, no_items}
+use Rattle.net_places.proofs.GlobalLaws.{numbered_all, numbered_more, numbered_room}
 use Rattle.net_places.proofs.globals.global_nets.Goals as goal
+use Rattle.vrt_model.proofs.Lists.{no_items}
 
 pub next_net-next-requires : goal.next_net-next-requires
 next_net-next-requires c =

@@ -1,7 +1,8 @@
 use Rattle.std.proofs.Common.{flat_map}
-use Rattle.net_places.proofs.GlobalLaws.{begun, ended, more, no_items}
+use Rattle.net_places.proofs.GlobalLaws.{begun, ended, more}
 use Rattle.net_places.specs.Globals.{nets_on}
 use Rattle.net_places.proofs.globals.mark_devices.Goals as goal
+use Rattle.vrt_model.proofs.Lists.{no_items}
 
 pub devices-init : goal.devices-init
 devices-init c = begun (flat_map nets_on c.args.devices.now) c.args.marks.now.items

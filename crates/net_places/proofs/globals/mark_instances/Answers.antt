@@ -1,9 +1,10 @@
 use Rattle.std.proofs.Common.{flat_map, subst, List}
-use Rattle.net_places.proofs.GlobalLaws.{begun, ended, more, no_items}
+use Rattle.net_places.proofs.GlobalLaws.{begun, ended, more}
 use Rattle.net_places.specs.Globals.{HasMarked}
 use Rattle.net_tables.specs.declared.types.CellNet.{CellNet}
 use Rattle.net_tables.specs.declared.types.InstanceNets.{InstanceNets}
 use Rattle.net_places.proofs.globals.mark_instances.Goals as goal
+use Rattle.vrt_model.proofs.Lists.{no_items}
 
 pub instances-init : goal.instances-init
 instances-init c = begun (flat_map (λ (i : InstanceNets). i.nets) c.args.instances.now) c.args.marks.now.items

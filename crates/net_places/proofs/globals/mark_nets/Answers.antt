@@ -1,6 +1,7 @@
 use Rattle.std.proofs.Common.{◌∷◌, []}
-use Rattle.net_places.proofs.GlobalLaws.{begun, done, one, step, no_items}
+use Rattle.net_places.proofs.GlobalLaws.{begun, done, one, step}
 use Rattle.net_places.proofs.globals.mark_nets.Goals as goal
+use Rattle.vrt_model.proofs.Lists.{no_items}
 
 pub nets-init : goal.nets-init
 nets-init c = begun c.args.nets.now c.args.marks.now.items

@@ -1,8 +1,8 @@
 use Rattle.std.proofs.Common.{◌∙◌, sym}
 use Rattle.std.proofs.lemmas.Result.{IfOk-weaker}
-use Rattle.net_places.proofs.GlobalLaws.{no_items}
 use Rattle.net_places.proofs.InstanceLaws.{instances_are, no_instances, small_behind}
 use Rattle.net_places.proofs.instances.flat_instances.Goals as goal
+use Rattle.vrt_model.proofs.Lists.{no_items}
 
 pub instances_at-requires : goal.instances_at-requires
 instances_at-requires c = small_behind c.args.unrolled.now.places c.in-Some.inner.now _ (sym c.as_slice.ensures ∙ c.in-Some.ensures.cases.0) c.requires

@@ -1,7 +1,7 @@
-use Rattle.net_places.proofs.GlobalLaws.{no_items}
 use Rattle.net_places.proofs.OwnNetLaws.{left_all, left_more}
 use Rattle.net_places.specs.OwnNets.{given_names}
 use Rattle.net_places.proofs.nets.add_globals.Goals as goal
+use Rattle.vrt_model.proofs.Lists.{no_items}
 
 pub names-preserved : goal.names-preserved
 names-preserved c =

@@ -1,9 +1,9 @@
 use Rattle.std.proofs.Common.{◌∙◌, ap, arith}
-use Rattle.net_places.proofs.GlobalLaws.{no_items}
 use Rattle.net_places.proofs.PortLaws.{begun, behind_small, done, step}
 use Rattle.net_places.specs.Ports.{net_behind, net_by}
 use Rattle.vrt_model.specs.CellRules.{supply_of}
 use Rattle.net_places.proofs.ports.port_nets.Goals as goal
+use Rattle.vrt_model.proofs.Lists.{no_items}
 
 pub names-init : goal.names-init
 names-init c = record {
