@@ -2,12 +2,11 @@
 use Rattle.std.proofs.Common.{◌≡◌, ◌<◌, ◌≤◌, ◌+◌, ◌*◌, ◌∷◌, ◌||◌, ◌&&◌, [], ℕ, zero, suc, List, Bool, true, false, cond, nat_lt, length, filter, get_or, drop, refl, ap, ap₂, sym, ◌∙◌, arith, add-one, inl, inr}
 use Rattle.std.specs.Prelude.{is_none}
 use Rattle.std.specs.List.{list_any}
-use Rattle.std.proofs.Math.Nat.{add-zero, le-mul_of_pos_right, mul-zero, mul_comm}
+use Rattle.std.proofs.Math.Nat.{add-zero}
 use Rattle.std.proofs.lemmas.Bool.{cases_lt}
 use Rattle.std.proofs.lemmas.Bool.Decides.{nat_tests}
 use Rattle.std.proofs.lemmas.List.{drop_all, drop_more}
 use Rattle.std.proofs.lemmas.List.Sums.{sum_by-cons}
-use Rattle.flat_sizes.proofs.Carried.{carried_times}
 use Rattle.flat_sizes.proofs.PlaceLaws.{devices_counted, nets_counted}
 use Rattle.flat_sizes.specs.Totals.{AreInside, global_weight, inside, names_inside, over, weighed, within}
 use Rattle.vrt_model.specs.CellRules.{supply_of}
@@ -37,13 +36,6 @@ some_sum m n =
     elim (cases_lt 0 m) [
       | inl some ↦ ap (λ (b : Bool). b || nat_lt 0 n) (some_there m some) ∙ sym (some_there (m + n) (omega (arith, some)))
       | inr none ↦ (let z : m ≡ 0 = omega (arith, none) in let s : n ≡ m + n = omega (arith, z) in ap (λ (b : Bool). b || nat_lt 0 n) (none_there m z) ∙ ap (nat_lt 0) s)
-    ]
-
-pub some_times : (count w : ℕ) → 0 < count → nat_lt 0 w ≡ nat_lt 0 (count * w)
-some_times count w some =
-    elim (cases_lt 0 w) [
-      | inl more ↦ (let le : count ≤ count * w = le-mul_of_pos_right count more in some_there w more ∙ sym (some_there (count * w) (omega (arith, le, some))))
-      | inr none ↦ (let z : w ≡ 0 = omega (arith, none) in none_there w z ∙ sym (none_there (count * w) (ap (λ n. count * n) z ∙ mul-zero count)))
     ]
 
 same_some : (a b : ℕ) → carried a ≡ carried b → nat_lt 0 a ≡ nat_lt 0 b
@@ -139,6 +131,3 @@ devices_summed design rules k own inner o i =
     carried_both own inner (length (cell_at design k).devices) (inside design (λ m. length (cell_at design m).devices) k)
     (ap carried o ∙ carried_once (length (cell_at design k).devices)) (ap carried i ∙ carried_once (inside design (λ m. length (cell_at design m).devices) k))
     ∙ ap carried (sym (devices_counted (top_before design rules k)))
-
-pub weight_times : (count w weight : ℕ) → w ≡ carried weight → carried (w * count) ≡ carried (count * weight)
-weight_times count w weight e = ap (λ n. carried (n * count)) e ∙ carried_times weight count ∙ ap carried (mul_comm weight count)

@@ -1,13 +1,11 @@
 -- Tables of how often cells stand in a cell.
-use Rattle.std.proofs.Common.{◌≡◌, ◌<◌, ◌≤◌, ◌+◌, ◌*◌, ◌∷◌, [], ℕ, zero, suc, List, length, get_or, drop, replicate, refl, ap, ap₂, sym, ◌∙◌, arith, add-one}
+use Rattle.std.proofs.Common.{◌≡◌, ◌<◌, ◌≤◌, ◌+◌, ◌*◌, ◌∷◌, [], ℕ, zero, suc, List, length, get_or, drop, replicate, refl, ap, ap₂, sym, ◌∙◌, arith}
 use Rattle.std.specs.Prelude.{slice_set}
 use Rattle.std.proofs.Math.Nat.{add-mul, mul-add, mul-zero, zero-mul}
-use Rattle.std.proofs.Math.Path.{fun_ext}
 use Rattle.std.proofs.lemmas.List.{drop_all, drop_more, get_or-replicate, length-replicate}
 use Rattle.std.proofs.lemmas.List.Sums.{sum_by-cons}
 use Rattle.flat_sizes.proofs.Carried.{carried_times}
-use Rattle.flat_sizes.specs.Totals.{Adds, AddsAll, AddsOne, AreInside, below, inside, over, weighed, within}
-use Rattle.vrt_model.specs.Comparison.{cell_at}
+use Rattle.flat_sizes.specs.Totals.{AddsAll, AddsOne, AreInside, below, inside, over, weighed, within}
 use Rattle.vrt_model.specs.Unrolled.{cell_named}
 use Rattle.vrt_model.specs.Unsupported.{carried}
 use Rattle.vrt_model.specs.declared.design.Design.{Design}
@@ -15,9 +13,6 @@ use Rattle.vrt_model.specs.declared.design.InstanceCard.{InstanceCard}
 use Rattle.vrt_model.proofs.Sums.{carried_both}
 
 -- ---- tables
-
-pub weighed_same : (f g : ℕ → ℕ) (at : ℕ) (xs : List ℕ) → ((k : ℕ) → f k ≡ g k) → weighed f at xs ≡ weighed g at xs
-weighed_same f g at xs same = ap (λ (h : ℕ → ℕ). weighed h at xs) (fun_ext same)
 
 four : (a b c d : ℕ) → a + b + (c + d) ≡ a + c + (b + d)
 four a b c d = omega arith
@@ -87,39 +82,11 @@ card_added design cards count i card first old new lt is adds so_far weight =
     ∙ ap (λ (m : ℕ). count * m) (sum_by-cons w card rest) ∙ mul-add count (w card) (over design weight rest) in
     card_step (weighed weight 0 old) (weighed weight 0 new) (count * over design weight (drop i cards)) (count * w card) (count * over design weight rest) _ (adds weight) n (so_far weight)
 
-pub cards_added : (design : Design) (cards : List InstanceCard) (count i : ℕ) (old new : List ℕ) → length cards ≤ i → Adding design cards count old new (drop i cards) → Adds design cards count old new
-cards_added design cards count i old new end so_far weight =
-    let none : weighed weight 0 new ≡ weighed weight 0 new + count * over design weight (drop i cards) =
-    let z : count * over design weight (drop i cards) ≡ 0 = ap (λ (cs : List InstanceCard). count * over design weight cs) (drop_all i cards end) ∙ mul-zero count in omega (arith, z) in
-    ap carried none ∙ so_far weight
-
--- a cell that stands nowhere, or is not there, adds nothing
-pub none_added : (design : Design) (cards : List InstanceCard) (count : ℕ) (old : List ℕ) → count ≡ 0 → Adds design cards count old old
-none_added design cards count old none weight =
-    let z : count * over design weight cards ≡ 0 = ap (λ (n : ℕ). n * over design weight cards) none ∙ zero-mul (over design weight cards) in
-    ap carried (omega (arith, z))
-
 -- ---- the cells of a level
 
 abbrev pub AddingAll : Design → List ℕ → List ℕ → List ℕ → ℕ → Type 0
 AddingAll design level old now k =
     (weight : ℕ → ℕ) → carried (weighed weight 0 now + weighed (below design weight) k (drop k level)) ≡ carried (weighed weight 0 old + weighed (below design weight) 0 level)
-
-pub cell_added : (design : Design) (level : List ℕ) (k count : ℕ) (first old new : List ℕ) → k < length level → count ≡ get_or level k 0
-    → Adds design (cell_at design k).instances count old new → AddingAll design level first old k → AddingAll design level first new (k + 1)
-cell_added design level k count first old new lt is adds so_far weight =
-    let f = below design weight in
-    let n : weighed f k (drop k level) ≡ count * f k + weighed f (k + 1) (drop (k + 1) level) =
-    ap (weighed f k) (drop_more level k 0 lt)
-    ∙ ap₂ (λ (x m : ℕ). x * f k + weighed f m (drop (k + 1) level)) (sym is) (sym (add-one k)) in
-    card_step (weighed weight 0 old) (weighed weight 0 new) (weighed f k (drop k level)) (count * f k) (weighed f (k + 1) (drop (k + 1) level)) _ (adds weight) n (so_far weight)
-
-pub level_added : (design : Design) (level : List ℕ) (k : ℕ) (old new : List ℕ) → length level ≤ k → AddingAll design level old new k → AddsAll design level old new
-level_added design level k old new end so_far weight =
-    let f = below design weight in
-    let none : weighed weight 0 new ≡ weighed weight 0 new + weighed f k (drop k level) =
-    let z : weighed f k (drop k level) ≡ 0 = ap (weighed f k) (drop_all k level end) in omega (arith, z) in
-    ap carried none ∙ so_far weight
 
 -- ---- level by level
 
@@ -174,19 +141,6 @@ level_last design k depth all level e down weight =
     ap carried none ∙ down weight
 
 -- ---- sums
-
-sum_step : (old new more n m q all : ℕ) → new ≡ carried (old + more) → more ≡ carried m → n ≡ m + q → carried (old + n) ≡ carried all → carried (new + q) ≡ carried all
-sum_step old new more n m q all e f g h = omega (arith, e, f, g, h)
-
--- one cell more
-pub cell_summed : (weight : ℕ → ℕ) (table : List ℕ) (k count old new more all : ℕ) → k < length table → count ≡ get_or table k 0
-    → more ≡ carried (count * weight k) → new ≡ carried (old + more)
-    → carried (old + weighed weight k (drop k table)) ≡ carried all → carried (new + weighed weight (k + 1) (drop (k + 1) table)) ≡ carried all
-cell_summed weight table k count old new more all lt is m e so_far =
-    let n : weighed weight k (drop k table) ≡ count * weight k + weighed weight (k + 1) (drop (k + 1) table) =
-    ap (weighed weight k) (drop_more table k 0 lt)
-    ∙ ap₂ (λ (x j : ℕ). x * weight k + weighed weight j (drop (k + 1) table)) (sym is) (sym (add-one k)) in
-    sum_step old new more (weighed weight k (drop k table)) (count * weight k) (weighed weight (k + 1) (drop (k + 1) table)) all e m n so_far
 
 pub all_summed : (weight : ℕ → ℕ) (table : List ℕ) (k sum all : ℕ) → length table ≤ k → sum ≤ 18446744073709551615 → carried (sum + weighed weight k (drop k table)) ≡ carried all → sum ≡ carried all
 all_summed weight table k sum all end few so_far =
