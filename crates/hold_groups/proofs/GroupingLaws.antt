@@ -6,7 +6,7 @@ use Rattle.std.proofs.lemmas.Bool.{cases_lt, false≢true}
 use Rattle.std.proofs.lemmas.Option.{get_or_from_slice_get, same_Some, none-some, slice_get-map}
 use Rattle.std.proofs.lemmas.List.{length-map, map-append}
 use Rattle.std.proofs.lemmas.Slice.Eq.{bytes_eq-Decides}
-use Rattle.vrt_model.proofs.Lists.{at_there, take_one}
+use Rattle.vrt_model.proofs.Lists.{at_left, at_there, take_one}
 use Rattle.names.specs.Names.{with_name}
 use Rattle.vrt_model.specs.Lists.{has_name, Among, At}
 use Rattle.vrt_model.proofs.Members.{among_any, among_either, among_filter, among_later, among_left, among_right}
@@ -19,11 +19,6 @@ use Rattle.hold_groups.proofs.LeaderLaws.{begun, joined, leaders_more, same}
 use Rattle.hold_groups.proofs.PlacedLaws.{hold_there}
 use Rattle.hold_groups.specs.Grouped.{Joins, group_in, groups_in, key_of, keys_in, member_of, new_group, places_by_net, with_member}
 use Rattle.hold_groups.specs.Steps.{AreGrouped, IsSmall}
-
-at_before : {X : Type 0} (xs ys : List X) (n : ℕ) (x : X) → n < length xs → At (xs ++ ys) n x → At xs n x
-at_before [] ys n x lt e = absurd (omega (arith, lt))
-at_before (z ∷ xs) ys zero x lt e = e
-at_before (z ∷ xs) ys (suc n) x lt e = at_before xs ys n x (omega (arith, lt)) e
 
 -- a leader is one of the holds
 pub leader_among : (hs : List Placed) (x : Placed) → Among (leaders hs) x → Among hs x
@@ -84,7 +79,7 @@ module _ (elements : List (List ℕ)) (done : List Placed) (h : Placed) (low : I
   past : (n : ℕ) (x : Placed) → list_any (same h) (leaders done) ≡ false → At (leaders done ++ h ∷ []) n x → same h x ≡ true → length (leaders done) ≤ n
   past n x e there t =
       elim (cases_lt n (length (leaders done))) [
-        | inl lt ↦ absurd (false≢true (sym e ∙ among_any (same h) (leaders done) x (n, at_before (leaders done) (h ∷ []) n x lt there) t))
+        | inl lt ↦ absurd (false≢true (sym e ∙ among_any (same h) (leaders done) x (n, at_left (leaders done) (h ∷ []) n x lt there) t))
         | inr ge ↦ ge
       ]
 

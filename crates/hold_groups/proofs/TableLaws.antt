@@ -1,8 +1,6 @@
 -- Names and the set of them.
-use Rattle.std.proofs.Common.{◌≡◌, ℕ, suc, ◌+◌, ◌++◌, ◌∷◌, ◌||◌, [], List, Bool, true, false, cond, length, length-append, append_assoc, append-nil, arith, refl, ap, sym, ◌∙◌}
+use Rattle.std.proofs.Common.{◌≡◌, ℕ, suc, ◌+◌, ◌++◌, ◌∷◌, [], List, Bool, true, false, cond, length, length-append, append_assoc, append-nil, arith, ap, sym, ◌∙◌}
 use Rattle.std.specs.Prelude.{bytes_eq, position}
-use Rattle.std.proofs.lemmas.List.Folds.{list_any-append}
-use Rattle.std.proofs.lemmas.Slice.Eq.{bytes_eq-Decides}
 use Rattle.names.proofs.NameLaws.{among_names, length-with_names}
 use Rattle.names.specs.Names.{with_names}
 use Rattle.vrt_model.specs.Lists.{has_name}
