@@ -1,23 +1,18 @@
 -- Models by their names, and their interfaces.
-use Rattle.std.proofs.Common.{◌≡◌, ◌++◌, ◌∷◌, ◌||◌, ◌<◌, ◌≤◌, ◌+◌, drop, not, nat_lt, [], ℕ, zero, suc, List, Bool, true, false, cond, map, length, Option, Some, None, option_map, refl, ap, ap₂, sym, ◌∙◌, arith}
+use Rattle.std.proofs.Common.{◌≡◌, ◌∷◌, ◌<◌, [], ℕ, zero, suc, List, true, false, length, Option, Some, None, option_map, ap, ap₂, sym, ◌∙◌, arith}
 use Rattle.std.specs.Prelude.{bytes_eq, slice_get, unwrap_or, is_some}
-use Rattle.std.specs.List.{list_any, position, position_or_len}
+use Rattle.std.specs.List.{position}
 use Rattle.std.proofs.lemmas.Option.{slice_get-map}
-use Rattle.std.proofs.lemmas.Bool.Decides.{nat_tests}
-use Rattle.std.proofs.lemmas.List.Folds.{list_any-append}
-use Rattle.std.proofs.lemmas.Slice.Eq.{bytes_eq-Decides}
-use Rattle.vrt_model.specs.Lists.{distinct, has_name}
+use Rattle.vrt_model.specs.Lists.{distinct}
 use Rattle.names.specs.Names.{with_names}
-use Rattle.std.proofs.lemmas.List.{drop_all, length-map}
+use Rattle.std.proofs.lemmas.List.{length-map}
 use Rattle.names.proofs.NameLaws.{once_of_three}
 use Rattle.names.proofs.PlaceLaws.{any_placed, placed_within, position_same}
 use Rattle.vrt_model.specs.FlatBlif.{model_at, model_numbered}
-use Rattle.vrt_model.specs.Inputs.{AllApart}
 use Rattle.vrt_model.specs.Models.{interface_of, is_model}
 use Rattle.vrt_model.specs.declared.blif.Blif.{Blif}
 use Rattle.blif_checks.specs.Tables.{AreTables}
 use Rattle.blif_checks.specs.declared.tables.Tables.{Tables}
-use Rattle.std.proofs.lemmas.List.Quantifiers.{position-Some}
 use Rattle.vrt_model.specs.declared.blif.BlifModel.{BlifModel}
 
 -- an interface, list by list

@@ -6,7 +6,7 @@ use Rattle.std.proofs.lemmas.List.{drop_all, map-append, take_more}
 use Rattle.std.proofs.lemmas.List.Folds.{find-append, list_any-append}
 use Rattle.std.proofs.lemmas.Option.{get_or_from_slice_get}
 use Rattle.vrt_model.proofs.Lists.{drop_one}
-use Rattle.vrt_model.proofs.Tests.{or_swap}
+use Rattle.vrt_model.proofs.Tests.{map_or, or_swap}
 use Rattle.text_lines.specs.Faults.{first_of, when}
 use Rattle.vrt_model.specs.Lists.{distinct, has_name}
 use Rattle.names.specs.Names.{first_missing, with_name}
@@ -103,10 +103,6 @@ formals_turn interface seen new ties i tie lt here so_far good e = (
       ∙ ap (λ ns. has_name ns name) (sym (map-append (λ (t : Tie). t.formal) (take i ties) (tie ∷ [])))
       ∙ ap (λ ts. has_name (map (λ (t : Tie). t.formal) ts) name) (ap (λ t. take i ties ++ t ∷ []) (sym (get_or_from_slice_get ties i tie tie here)) ∙ sym (take_more ties i tie lt)),
 )
-
-map_or : {X Y : Type 0} (g : X → Y) (a b : Option X) → option_map g (option_or a b) ≡ option_or (option_map g a) (option_map g b)
-map_or g None b = refl
-map_or g (Some x) b = refl
 
 bad_in : (line : ℕ) (m : BlifModel) (interface tied : List (List ℕ)) → interface ≡ distinct (interface_of m)
     → option_map (Formals line) (bad_formal_in m tied) ≡ option_or (option_map (Formals line) (bad_formal_after interface [] tied)) (option_map (Formals line) (first_missing tied (m.inputs ++ m.clocks)))
