@@ -1,12 +1,11 @@
 -- How much stands in models, by tables and by the unrolled model.
-use Rattle.std.proofs.Common.{◌≡◌, ◌<◌, ◌+◌, ◌-◌, ◌++◌, ◌∷◌, [], ℕ, zero, suc, not, List, map, flat_map, length, get_or, take, Some, None, Bool, true, false, refl, ap, ap₂, sym, ◌∙◌, arith, add-one, cond}
+use Rattle.std.proofs.Common.{◌≡◌, ◌+◌, ◌-◌, ◌++◌, ◌∷◌, [], ℕ, zero, suc, not, List, map, flat_map, length, get_or, Some, None, Bool, true, false, refl, ap, ap₂, sym, ◌∙◌, arith, add-one, cond}
 use Rattle.std.specs.Prelude.{bytes_eq, find, position, slice_get, unwrap_or, is_none}
 use Rattle.std.specs.List.{sum_by}
 use Rattle.std.proofs.lemmas.Bool.{or_parts}
-use Rattle.std.proofs.lemmas.List.{length-map, take_more}
+use Rattle.std.proofs.lemmas.List.{length-map}
 use Rattle.std.proofs.lemmas.List.Concat.{length-flat_map}
-use Rattle.std.proofs.lemmas.List.Sums.{sum_by-append, sum_by-cons}
-use Rattle.std.proofs.lemmas.Option.{get_or_from_slice_get}
+use Rattle.std.proofs.lemmas.List.Sums.{sum_by-cons}
 use Rattle.vrt_model.proofs.Tests.{is_none_is, neither}
 use Rattle.vrt_model.specs.FlatBlif.{ModelPlace, all_models, flat_cover, flat_model_of, flat_signals_at, formals, inner_count, inner_signals, model_at, model_numbered, models_in, signals_of, subs_at, subs_from, top_model}
 use Rattle.vrt_model.specs.Lists.{At, path_name}
@@ -30,26 +29,15 @@ use Rattle.blif_checks.specs.declared.tables.Tables.{Tables}
 use Rattle.blif_checks.proofs.NameLaws.{place_is}
 use Rattle.blif_flat.proofs.OnceLaws.{interface_among, left_untied, signals_apart}
 use Rattle.names.proofs.FilterLaws.{filter_new}
+use Rattle.vrt_model.proofs.Sums.{carried_both, carried_once, sum_flat, sum_same}
 
 -- ---- lists
-
-sum_same : {X : Type 0} (f g : X → ℕ) → ((x : X) → f x ≡ g x) → (xs : List X) → sum_by f xs ≡ sum_by g xs
-sum_same f g h [] = refl
-sum_same f g h (x ∷ xs) = sum_by-cons f x xs ∙ ap₂ ◌+◌ (h x) (sum_same f g h xs) ∙ sym (sum_by-cons g x xs)
 
 sum_map : {X Y : Type 0} (f : X → Y) (g : Y → ℕ) (xs : List X) → sum_by g (map f xs) ≡ sum_by (λ x. g (f x)) xs
 sum_map f g [] = refl
 sum_map f g (x ∷ xs) = sum_by-cons g (f x) (map f xs) ∙ ap (λ n. g (f x) + n) (sum_map f g xs) ∙ sym (sum_by-cons (λ x. g (f x)) x xs)
 
-sum_flat : {X Y : Type 0} (f : X → List Y) (g : Y → ℕ) (xs : List X) → sum_by g (flat_map f xs) ≡ sum_by (λ x. sum_by g (f x)) xs
-sum_flat f g [] = refl
-sum_flat f g (x ∷ xs) =
-    sum_by-append g (f x) (flat_map f xs) ∙ ap (λ n. sum_by g (f x) + n) (sum_flat f g xs) ∙ sym (sum_by-cons (λ x. sum_by g (f x)) x xs)
-
 -- ---- counts up to the greatest number
-
-carried_both : (a b c d : ℕ) → carried a ≡ carried c → carried b ≡ carried d → carried (a + b) ≡ carried (c + d)
-carried_both a b c d e f = omega (arith, e, f)
 
 carried_sums : {X Y : Type 0} (f : X → ℕ) (g : Y → ℕ) (h : Y → X) (ys : List Y) → ((i : ℕ) (y : Y) → At ys i y → carried (f (h y)) ≡ carried (g y)) → carried (sum_by f (map h ys)) ≡ carried (sum_by g ys)
 carried_sums f g h [] same = refl
@@ -63,9 +51,6 @@ carried_sums f g h (y ∷ ys) same =
 same_map : {X : Type 0} (xs : List X) → map (λ (x : X). x) xs ≡ xs
 same_map [] = refl
 same_map (x ∷ xs) = ap (λ rest. x ∷ rest) (same_map xs)
-
-carried_once : (n : ℕ) → carried (carried n) ≡ carried n
-carried_once n = omega arith
 
 sum_next : (all : List (List Inside)) (kind : Counted) (depth : ℕ) (sums : List ℕ) → AreSums all kind depth sums
     → (insides : List Inside) → sum_over kind sums insides ≡ carried (sum_by (λ (i : Inside). weight kind i + below all kind depth i.model) insides)

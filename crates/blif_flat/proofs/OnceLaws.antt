@@ -1,12 +1,12 @@
 -- Names that stand once, and those of them that are not tied.
-use Rattle.std.proofs.Common.{◌≡◌, ◌+◌, ◌++◌, ◌∷◌, ◌||◌, ◌&&◌, [], ℕ, suc, not, List, Bool, true, false, cond, filter, length, Some, None, Option, refl, ap, ap₂, sym, ◌∙◌, subst, arith}
+use Rattle.std.proofs.Common.{◌≡◌, ◌+◌, ◌++◌, ◌∷◌, ◌||◌, [], ℕ, suc, not, List, Bool, true, false, cond, filter, length, Some, None, Option, refl, ap, ap₂, sym, ◌∙◌, arith}
 use Rattle.std.specs.Prelude.{bytes_eq}
 use Rattle.std.proofs.lemmas.Bool.{or_left, or_parts}
 use Rattle.std.proofs.lemmas.List.Folds.{list_any-append}
 use Rattle.std.proofs.lemmas.Slice.Eq.{bytes_eq-Decides}
 use Rattle.vrt_model.proofs.Tests.{bytes_eq-sym}
-use Rattle.names.specs.Names.{distinct_from, with_names}
-use Rattle.vrt_model.specs.Lists.{distinct, has_name}
+use Rattle.names.specs.Names.{with_names}
+use Rattle.vrt_model.specs.Lists.{has_name}
 use Rattle.names.proofs.ApartLaws.{NoRepeat, once_apart}
 use Rattle.names.proofs.FilterLaws.{filter_new}
 use Rattle.names.proofs.NameLaws.{names_once, once_has_same}

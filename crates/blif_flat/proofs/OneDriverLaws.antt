@@ -1,7 +1,6 @@
 -- The flat model of good models is well formed.
-use Rattle.std.proofs.Common.{◌≡◌, ◌<◌, ◌≤◌, ◌+◌, ◌++◌, ◌∷◌, inl, inr, [], ℕ, zero, suc, List, true, false, not, map, flat_map, length, Option, Some, None, refl, ap, ap₂, sym, ◌∙◌, subst, arith}
+use Rattle.std.proofs.Common.{◌≡◌, ◌<◌, ◌≤◌, ◌+◌, ◌++◌, ◌∷◌, inl, inr, [], ℕ, zero, suc, List, true, false, not, map, flat_map, length, Option, None, refl, ap, ap₂, sym, ◌∙◌, subst, arith}
 use Rattle.std.specs.Prelude.{◌==◌, All, count_by, filter, find, is_none, slice_get, unwrap_or}
-use Rattle.std.specs.Option.{option_or}
 use Rattle.std.proofs.lemmas.Bool.{cases_lt, or_parts}
 use Rattle.std.proofs.lemmas.List.Elements.{All-head, All-tail}
 use Rattle.vrt_model.specs.FlatBlif.{ModelPlace, all_models, flat_cover, flat_latch, flat_model_of, formals, inner_count, model_at, model_numbered, models_in, signal_at, top_model}
@@ -19,7 +18,7 @@ use Rattle.vrt_model.specs.declared.blif.SubLine.{SubLine}
 use Rattle.vrt_model.specs.declared.flat_model.Cover.{Cover}
 use Rattle.vrt_model.specs.declared.flat_model.FlatLatch.{FlatLatch}
 use Rattle.vrt_model.specs.declared.flat_model.FlatModel.{FlatModel}
-use Rattle.vrt_model.proofs.Members.{among_left, among_right, at_none, find_none}
+use Rattle.vrt_model.proofs.Members.{all_by, among_left, among_right, at_none, find_none}
 use Rattle.vrt_model.proofs.Tests.{is_none_is, neither}
 use Rattle.blif_flat.proofs.CountLaws.{signals_in}
 use Rattle.blif_flat.proofs.OneDriverCounts.{hits, hits_flat, hits_is, hits_join, hits_map, span_within, total, total_both, total_same}
@@ -29,7 +28,7 @@ use Rattle.blif_flat.proofs.OneDriverNames.{AllTied, is_driven}
 use Rattle.blif_flat.proofs.OneDriverPlaces.{IsSubTied, IsTied, card_hits, gives, heads}
 use Rattle.blif_flat.proofs.OneDriverSubs.{tie_kind}
 use Rattle.blif_flat.proofs.OneDriverWhole.{AreDriven, counted}
-use Rattle.blif_flat.proofs.RangeLaws.{all_by, good_flat}
+use Rattle.blif_flat.proofs.RangeLaws.{good_flat}
 
 -- ---- each model by its number
 

@@ -18,13 +18,13 @@ use Rattle.vrt_model.specs.declared.blif.SubLine.{SubLine}
 use Rattle.vrt_model.specs.declared.blif.Tie.{Tie}
 use Rattle.vrt_model.proofs.Filtered.{among_kept, filter_among}
 use Rattle.vrt_model.proofs.Lists.{map_among}
-use Rattle.vrt_model.proofs.Members.{among_either, among_filter, among_flat_map, among_left, among_map, among_right, any_among, at_none, find_among}
+use Rattle.vrt_model.proofs.Members.{among_either, among_filter, among_flat_map, among_left, among_map, among_right, any_among, at_none, find_among, flat_map_among}
 use Rattle.vrt_model.proofs.Tests.{bytes_eq-sym}
 use Rattle.blif_checks.specs.Signals.{named_in}
 use Rattle.blif_checks.proofs.NoteLaws.{eq_yes}
 use Rattle.blif_flat.proofs.OnceLaws.{signals_once}
 use Rattle.blif_flat.proofs.OneDriverLines.{not_twice, not_undriven, twice_there, undriven_there}
-use Rattle.blif_flat.proofs.RangeLaws.{among_flat, clock_named, cover_named, input_named, latch_named, output_named, tie_named}
+use Rattle.blif_flat.proofs.RangeLaws.{clock_named, cover_named, input_named, latch_named, output_named, tie_named}
 
 -- ---- lists
 
@@ -90,18 +90,18 @@ cover_on : (m : BlifModel) (c : CoverLine) (n : List ℕ) → Among m.covers c �
 cover_on m c n a b =
     let l : ℕ = c.line in
     among_left (heads_on m l ++ covers_on m l ++ latches_on m l) (subs_on m l) n (among_left (heads_on m l ++ covers_on m l) (latches_on m l) n (among_right (heads_on m l) (covers_on m l) n
-    (among_flat (λ (x : CoverLine). cond (x.line == c.line) (cover_signals x) []) m.covers a.0 c n a.1 (on_card c.line (cover_signals c) n b))))
+    (flat_map_among (λ (x : CoverLine). cond (x.line == c.line) (cover_signals x) []) m.covers c n (a.0, a.1) (on_card c.line (cover_signals c) n b))))
 
 latch_on : (m : BlifModel) (c : LatchLine) (n : List ℕ) → Among m.latches c → Among (latch_signals c) n → IsNamed m (on_line c.line n)
 latch_on m c n a b =
     let l : ℕ = c.line in
     among_left (heads_on m l ++ covers_on m l ++ latches_on m l) (subs_on m l) n (among_right (heads_on m l ++ covers_on m l) (latches_on m l) n
-    (among_flat (λ (x : LatchLine). cond (x.line == c.line) (latch_signals x) []) m.latches a.0 c n a.1 (on_card c.line (latch_signals c) n b)))
+    (flat_map_among (λ (x : LatchLine). cond (x.line == c.line) (latch_signals x) []) m.latches c n (a.0, a.1) (on_card c.line (latch_signals c) n b)))
 
 sub_on : (m : BlifModel) (c : SubLine) (n : List ℕ) → Among m.subs c → Among (sub_signals c) n → IsNamed m (on_line c.line n)
 sub_on m c n a b =
     among_right _ (flat_map (λ (x : SubLine). cond (x.line == c.line) (sub_signals x) []) m.subs) n
-    (among_flat (λ (x : SubLine). cond (x.line == c.line) (sub_signals x) []) m.subs a.0 c n a.1 (on_card c.line (sub_signals c) n b))
+    (flat_map_among (λ (x : SubLine). cond (x.line == c.line) (sub_signals x) []) m.subs c n (a.0, a.1) (on_card c.line (sub_signals c) n b))
 
 min_either : (a b : ℕ) → (min a b ≡ a) ⊎ (min a b ≡ b)
 min_either a b = elim (cases_lt a b) [ inl lt ↦ inl (omega (arith, lt)) | inr le ↦ inr (omega (arith, le)) ]
@@ -251,7 +251,7 @@ cover_touched : (blif : Blif) (m : BlifModel) (c : CoverLine) (n : List ℕ) →
 cover_touched blif m c n a b = elim (among_either c.inputs (c.output ∷ []) n b) [
   | inl input ↦
       as_use blif m c.line n (among_left _ _ (on_line c.line n) (among_left _ _ (on_line c.line n) (among_left _ _ (on_line c.line n)
-      (among_flat (λ (c : CoverLine). map (on_line c.line) c.inputs) m.covers a.0 c (on_line c.line n) a.1 (map_among (on_line c.line) c.inputs n input)))))
+      (flat_map_among (λ (c : CoverLine). map (on_line c.line) c.inputs) m.covers c (on_line c.line n) (a.0, a.1) (map_among (on_line c.line) c.inputs n input)))))
   | inr output ↦ by_place output.0 output.1
 ] where
   by_place : (i : ℕ) → At (c.output ∷ []) i n → IsTouched blif m n
@@ -268,7 +268,7 @@ latch_touched blif m c n a b = by_place b.0 b.1 where
   used u =
       as_use blif m c.line n (among_left _ _ (on_line c.line n) (among_left _ _ (on_line c.line n)
       (among_right (flat_map (λ (c : CoverLine). map (on_line c.line) c.inputs) m.covers) _ (on_line c.line n)
-      (among_flat (λ (l : LatchLine). map (on_line l.line) (l.input ∷ option_to_list l.control)) m.latches a.0 c (on_line c.line n) a.1 (map_among (on_line c.line) (c.input ∷ option_to_list c.control) n u)))))
+      (flat_map_among (λ (l : LatchLine). map (on_line l.line) (l.input ∷ option_to_list l.control)) m.latches c (on_line c.line n) (a.0, a.1) (map_among (on_line c.line) (c.input ∷ option_to_list c.control) n u)))))
 
   by_place : (i : ℕ) → At (latch_signals c) i n → IsTouched blif m n
   by_place zero e = used (0, e)
@@ -283,7 +283,7 @@ tie_touched : (blif : Blif) (m : BlifModel) (s : SubLine) (t : Tie) → Among m.
 tie_touched blif m s t a b tied = by_test (is_driving blif s t) refl tied where
   card : (test : SubLine → Tie → Bool) → test s t ≡ true → Among (flat_map (λ (s : SubLine). ties_on (test s) s) m.subs) (on_line s.line t.actual)
   card test e =
-      among_flat (λ (s : SubLine). ties_on (test s) s) m.subs a.0 s (on_line s.line t.actual) a.1
+      flat_map_among (λ (s : SubLine). ties_on (test s) s) m.subs s (on_line s.line t.actual) (a.0, a.1)
       (map_among (λ (t : Tie). on_line s.line t.actual) (filter (test s) s.ties) t (among_kept (test s) s.ties t b e))
 
   by_test : (d : Bool) → is_driving blif s t ≡ d → (d || is_reading blif s t) ≡ true → IsTouched blif m t.actual

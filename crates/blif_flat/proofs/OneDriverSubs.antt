@@ -1,5 +1,5 @@
 -- The ties of a sub-model: those of inputs and clocks, and those that the sub-model drives.
-use Rattle.std.proofs.Common.{◌≡◌, ◌+◌, ◌++◌, ◌∷◌, ◌&&◌, ◌||◌, [], ℕ, List, Bool, true, false, cond, not, map, refl, ap, ap₂, sym, ◌∙◌, subst, arith}
+use Rattle.std.proofs.Common.{◌≡◌, ◌+◌, ◌++◌, ◌∷◌, ◌&&◌, ◌||◌, [], ℕ, List, Bool, true, false, cond, not, map, refl, ap, ap₂, sym, ◌∙◌, arith}
 use Rattle.std.proofs.lemmas.Bool.{and_parts, or_right}
 use Rattle.std.specs.Prelude.{◌==◌, bytes_eq, filter}
 use Rattle.std.proofs.lemmas.List.{length-map}
@@ -9,7 +9,7 @@ use Rattle.vrt_model.proofs.Lists.{map_among}
 use Rattle.vrt_model.specs.Lists.{Among, has_name}
 use Rattle.names.proofs.ApartLaws.{NoRepeat, kept_apart, once_by}
 use Rattle.vrt_model.specs.FlatBlif.{ModelPlace, formals, model_at, model_numbered, signal_at, sub_signals}
-use Rattle.vrt_model.specs.Inputs.{AllApart, IsModel}
+use Rattle.vrt_model.specs.Inputs.{IsModel}
 use Rattle.vrt_model.specs.Models.{interface_of, is_driving, is_reading}
 use Rattle.vrt_model.specs.declared.blif.Blif.{Blif}
 use Rattle.vrt_model.specs.declared.blif.BlifModel.{BlifModel}

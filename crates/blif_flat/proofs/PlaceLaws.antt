@@ -1,5 +1,5 @@
 -- Models at their places, and what is unrolled.
-use Rattle.std.proofs.Common.{◌≡◌, ◌<◌, ◌≤◌, ◌+◌, ◌++◌, ◌∷◌, [], ℕ, zero, suc, not, List, map, flat_map, filter, length, get_or, take, drop, Some, None, Bool, true, false, refl, ap, ap₂, sym, ◌∙◌, subst, arith, add-one, cond, append-nil, append_assoc, length-append}
+use Rattle.std.proofs.Common.{◌≡◌, ◌<◌, ◌≤◌, ◌+◌, ◌++◌, ◌∷◌, [], ℕ, zero, suc, not, List, map, flat_map, filter, length, get_or, take, drop, Some, None, Bool, refl, ap, ap₂, sym, ◌∙◌, subst, arith, add-one, append-nil, append_assoc, length-append}
 use Rattle.std.proofs.lemmas.Grind.{flat_map-append}
 use Rattle.std.proofs.lemmas.List.Elements.{filter-append, filter_agree}
 use Rattle.std.specs.Prelude.{bytes_eq, decimal, position, slice_get, unwrap_or, option_map}

@@ -5,7 +5,7 @@ use Rattle.std.proofs.lemmas.List.{length-map}
 use Rattle.std.proofs.lemmas.List.Elements.{All-head, All-tail}
 use Rattle.std.proofs.lemmas.List.Quantifiers.{position-Some}
 use Rattle.std.proofs.lemmas.List.Sums.{sum_by-cons}
-use Rattle.std.proofs.lemmas.Option.{get_or_from_slice_get, same_Some}
+use Rattle.std.proofs.lemmas.Option.{same_Some}
 use Rattle.std.proofs.lemmas.Slice.Eq.{bytes_eq-Decides}
 use Rattle.vrt_model.proofs.Lists.{at_there}
 use Rattle.vrt_model.specs.Lists.{Among, At, has_name, place_of}
@@ -20,7 +20,7 @@ use Rattle.vrt_model.specs.declared.blif.CoverLine.{CoverLine}
 use Rattle.vrt_model.specs.declared.blif.LatchLine.{LatchLine}
 use Rattle.vrt_model.specs.declared.blif.SubLine.{SubLine}
 use Rattle.vrt_model.specs.declared.blif.Tie.{Tie}
-use Rattle.vrt_model.proofs.Members.{all_among, among_any, among_filter, among_flat_map, among_left, among_map, among_right, at_none}
+use Rattle.vrt_model.proofs.Members.{all_among, all_by, among_any, among_filter, among_flat_map, among_left, among_map, among_right, at_none, flat_map_among}
 use Rattle.blif_flat.specs.Places.{placed, signals_left}
 use Rattle.blif_checks.specs.Signals.{named_in}
 use Rattle.blif_flat.proofs.CountLaws.{signals_in}
@@ -28,16 +28,6 @@ use Rattle.blif_flat.proofs.FlatLaws.{rows_within, signals_within}
 use Rattle.names.proofs.PlaceLaws.{any_placed}
 use Rattle.blif_flat.proofs.OnceLaws.{named_among}
 use Rattle.names.proofs.FilterLaws.{has_name_filter}
-
--- ---- lists
-
-pub all_by : {X : Type 0} (P : X → Type 0) (xs : List X) → ((x : X) → Among xs x → P x) → All P xs
-all_by P xs h = λ k d lt. let t = at_there xs k lt in subst P (sym (get_or_from_slice_get xs k t.0 d t.1)) (h t.0 (k, t.1))
-
-pub among_flat : {X Y : Type 0} (f : X → List Y) (xs : List X) (i : ℕ) (x : X) (y : Y) → At xs i x → Among (f x) y → Among (flat_map f xs) y
-among_flat f [] i x y a b = absurd (at_none i x a)
-among_flat f (z ∷ xs) zero x y a b = among_left (f z) (flat_map f xs) y (subst (λ w. Among (f w) y) (sym (same_Some z x a)) b)
-among_flat f (z ∷ xs) (suc i) x y a b = among_right (f z) (flat_map f xs) y (among_flat f xs i x y a b)
 
 -- ---- numbers at a place
 
@@ -92,15 +82,15 @@ output_named m n a = named_by_card m n (among_left _ _ n (among_left _ _ n (amon
 
 pub cover_named : (m : BlifModel) (c : CoverLine) (n : List ℕ) → Among m.covers c → Among (cover_signals c) n → has_name (signals_of m) n ≡ true
 cover_named m c n a b =
-    named_by_card m n (among_left _ _ n (among_left _ _ n (among_right (m.inputs ++ m.clocks ++ m.outputs) (flat_map cover_signals m.covers) n (among_flat cover_signals m.covers a.0 c n a.1 b))))
+    named_by_card m n (among_left _ _ n (among_left _ _ n (among_right (m.inputs ++ m.clocks ++ m.outputs) (flat_map cover_signals m.covers) n (flat_map_among cover_signals m.covers c n (a.0, a.1) b))))
 
 pub latch_named : (m : BlifModel) (l : LatchLine) (n : List ℕ) → Among m.latches l → Among (latch_signals l) n → has_name (signals_of m) n ≡ true
 latch_named m l n a b =
-    named_by_card m n (among_left _ _ n (among_right (m.inputs ++ m.clocks ++ m.outputs ++ flat_map cover_signals m.covers) (flat_map latch_signals m.latches) n (among_flat latch_signals m.latches a.0 l n a.1 b)))
+    named_by_card m n (among_left _ _ n (among_right (m.inputs ++ m.clocks ++ m.outputs ++ flat_map cover_signals m.covers) (flat_map latch_signals m.latches) n (flat_map_among latch_signals m.latches l n (a.0, a.1) b)))
 
 pub tie_named : (m : BlifModel) (s : SubLine) (n : List ℕ) → Among m.subs s → Among (sub_signals s) n → has_name (signals_of m) n ≡ true
 tie_named m s n a b =
-    named_by_card m n (among_right (m.inputs ++ m.clocks ++ m.outputs ++ flat_map cover_signals m.covers ++ flat_map latch_signals m.latches) (flat_map sub_signals m.subs) n (among_flat sub_signals m.subs a.0 s n a.1 b))
+    named_by_card m n (among_right (m.inputs ++ m.clocks ++ m.outputs ++ flat_map cover_signals m.covers ++ flat_map latch_signals m.latches) (flat_map sub_signals m.subs) n (flat_map_among sub_signals m.subs s n (a.0, a.1) b))
 
 -- ---- all places
 
