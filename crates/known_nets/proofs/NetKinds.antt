@@ -1,11 +1,12 @@
 -- Kinds of nets as tests and as facts, and the readings of tables of known nets.
-use Rattle.std.proofs.Common.{◌≡◌, ℕ, zero, suc, ◌<◌, ◌⊎◌, Bool, true, false, List, [], ◌∷◌, length, None, Option, Some, slice_get, arith, ap, subst, sym, refl, ◌∙◌, inl, inr}
+use Rattle.std.proofs.Common.{◌≡◌, ℕ, ◌<◌, ◌⊎◌, Bool, true, false, List, length, None, Option, Some, slice_get, ap, subst, sym, refl, ◌∙◌, inl, inr}
 use Rattle.std.specs.Prelude.{option_map, unwrap_or}
 use Rattle.std.proofs.lemmas.Bool.{cases_Bool, false≢true}
 use Rattle.known_nets.specs.Conduction.{is_input_kind, is_plain_at, is_plain_kind}
 use Rattle.known_nets.specs.KnownTables.{HasFixedNets, known_at}
 use Rattle.known_nets.specs.Regions.{reading_of}
 use Rattle.vrt_model.proofs.GatesGiven.{IsGiven}
+use Rattle.vrt_model.proofs.Lists.{at_there}
 use Rattle.vrt_model.specs.Known.{HasFixedBit, IsPlain}
 use Rattle.vrt_model.specs.Lists.{At}
 use Rattle.vrt_model.specs.Reading.{HasGivenBit, IsReading, clock_bit, is_given}
@@ -47,11 +48,6 @@ pub is_plain_is : (c : Circuit) (n : ℕ) → IsPlain c n → is_plain_at c n �
 is_plain_is c n p =
     ap (λ (o : Option FlatNet). unwrap_or (option_map (λ (net : FlatNet). is_plain_kind net.kind) o) false) p.1 ∙ ap is_plain_kind p.2
 
-net_there : (xs : List FlatNet) (k : ℕ) → k < length xs → (x : FlatNet) × At xs k x
-net_there [] k h = absurd (omega arith)
-net_there (x ∷ xs) zero h = (x, refl)
-net_there (x ∷ xs) (suc k) h = net_there xs k (omega arith)
-
 kind_plain : (k : NetKind) → is_given k ≡ false → k ≡ Plain
 kind_plain (Supply value) g = absurd (false≢true (sym g))
 kind_plain (Clock clock) g = absurd (false≢true (sym g))
@@ -61,7 +57,7 @@ kind_plain Plain g = refl
 -- a net of the circuit has a given value or is plain
 pub given_or_plain : (c : Circuit) (n : ℕ) → n < length c.nets → IsGiven c n ⊎ IsPlain c n
 given_or_plain c n lt =
-    let at = net_there c.nets n lt in
+    let at = at_there c.nets n lt in
     elim (cases_Bool (is_given at.0.kind)) [ inl t ↦ inl (at.0, at.1, t) | inr f ↦ inr (at.0, at.1, kind_plain at.0.kind f) ]
 
 -- ---- readings
