@@ -5,10 +5,11 @@ use Rattle.std.specs.List.{cons_option, list_any}
 use Rattle.std.proofs.lemmas.Option.{same_Some}
 use Rattle.names.proofs.FilterLaws.{first_is_found}
 
-first_same : {X : Type 0} (x y : X) (xs ys : List X) → x ∷ xs ≡ y ∷ ys → x ≡ y
+-- two lists that are the same have the same first item, and the same rest
+pub first_same : {X : Type 0} (x y : X) (xs ys : List X) → x ∷ xs ≡ y ∷ ys → x ≡ y
 first_same {X} x y xs ys e = same_Some x y (ap (λ (zs : List X). slice_get zs 0) e)
 
-rest_same : {X : Type 0} (x y : X) (xs ys : List X) → x ∷ xs ≡ y ∷ ys → xs ≡ ys
+pub rest_same : {X : Type 0} (x y : X) (xs ys : List X) → x ∷ xs ≡ y ∷ ys → xs ≡ ys
 rest_same {X} x y xs ys e = ap (λ (zs : List X). drop 1 zs) e
 
 -- ---- the items at places
