@@ -30,6 +30,7 @@ use Rattle.vrt_model.specs.declared.design.Kind.TheVariants.{N}
 use Rattle.vrt_model.specs.declared.ids.Net.{Net}
 use Rattle.vrt_model.specs.declared.pairing.PortRole.{PortRole}
 use Rattle.vrt_model.specs.declared.rules.Rules.{Rules}
+use Rattle.vrt_model.proofs.Lists.{map_same}
 
 -- ---- lists
 
@@ -37,11 +38,6 @@ use Rattle.vrt_model.specs.declared.rules.Rules.{Rules}
 pairwise_map : {X Y Z : Type 0} (f : X → Y → Z) (g : X → Y) (h : X → Z) → ((x : X) → f x (g x) ≡ h x) → (xs : List X) → pairwise f xs (map g xs) ≡ map h xs
 pairwise_map f g h e [] = refl
 pairwise_map {X} {Y} {Z} f g h e (x ∷ xs) = ap₂ (λ (z : Z) (zs : List Z). z ∷ zs) (e x) (pairwise_map f g h e xs)
-
--- two maps that agree on the items
-map_same : {X Y : Type 0} (f g : X → Y) (xs : List X) → ((i : ℕ) (x : X) → At xs i x → f x ≡ g x) → map f xs ≡ map g xs
-map_same f g [] h = refl
-map_same {X} {Y} f g (x ∷ xs) h = ap₂ (λ (y : Y) (ys : List Y). y ∷ ys) (h 0 x refl) (map_same f g xs (λ i y e. h (suc i) y e))
 
 -- two lists of places that show the same
 flat_map_same : (f : Place → List Device) (g : FlatPlace → List Device) (ps : List Place) (flat : List FlatPlace) → map shown ps ≡ map bare flat
