@@ -9,7 +9,7 @@ use Rattle.std.proofs.lemmas.List.Elements.{filter_passes}
 use Rattle.std.proofs.lemmas.List.Quantifiers.{position-Some}
 use Rattle.std.proofs.lemmas.Option.{none-some, slice_get_within}
 use Rattle.std.proofs.lemmas.Slice.Eq.{bytes_eq-Decides}
-use Rattle.flat_holds.proofs.ListLaws.{first_same, made_kept, none_behind, position_is, pushed, rest_same}
+use Rattle.flat_holds.proofs.ListLaws.{made_kept, none_behind, position_is}
 use Rattle.flat_holds.proofs.RuleLaws.{found, least, least_append}
 use Rattle.flat_holds.specs.Falls.{AreNets, AreRoomy, HoldBy, best_at, best_from, closer_by, depth_of, holds_from, number_in, own_places, spot_by}
 use Rattle.flat_holds.specs.declared.falls.Spot.{Spot}
@@ -19,21 +19,21 @@ use Rattle.net_places.specs.declared.places.Place.{Place}
 use Rattle.net_places.specs.declared.whole.Unrolled.{Unrolled}
 use Rattle.net_tables.proofs.PlaceNetLaws.{global_is, global_there, net_is, port_is}
 use Rattle.net_tables.specs.Nets.{net_in}
-use Rattle.net_tables.specs.Places.{ArePlaceNets, IsNamedAt, is_net_of, number_by, place_net}
+use Rattle.net_tables.specs.Places.{ArePlaceNets, is_net_of, number_by, place_net}
 use Rattle.net_tables.specs.Tables.{AreNetTables}
 use Rattle.net_tables.specs.declared.tables.NetTables.{NetTables}
 use Rattle.net_tables.specs.declared.types.CellNet.{CellNet}
 use Rattle.net_tables.specs.declared.types.CellNet.TheVariants.{Supply, Port, Global, Own}
 use Rattle.rule_index.specs.Lines.{IsIndex}
 use Rattle.rule_index.specs.declared.by_cell.ByCell.{ByCell}
-use Rattle.vrt_model.proofs.Lists.{at_there, map_at, one_at}
+use Rattle.vrt_model.proofs.Lists.{at_there, map_at, one_at, pushed}
 use Rattle.vrt_model.proofs.Members.{all_among, among_filter}
 use Rattle.vrt_model.specs.CellRules.{supply_of}
 use Rattle.vrt_model.specs.Comparison.{cell_at}
 use Rattle.vrt_model.specs.FlatCircuit.{Ruled, falls_on, flat_hold, flat_holds, flat_nets, rule_on, rules_on}
 use Rattle.vrt_model.specs.Inputs.{IsDesign}
 use Rattle.vrt_model.specs.Lists.{Among, At, place_of}
-use Rattle.vrt_model.specs.Unrolled.{Place as FlatPlace, Top, all_places, cell_named, deepest, net_at, own_nets}
+use Rattle.vrt_model.specs.Unrolled.{Place as FlatPlace, Top, all_places, cell_named, net_at, own_nets}
 use Rattle.vrt_model.specs.Unsupported.{top_before}
 use Rattle.vrt_model.specs.declared.circuit.FlatNet.{FlatNet}
 use Rattle.vrt_model.specs.declared.circuit.Hold.{Hold}
@@ -42,6 +42,8 @@ use Rattle.vrt_model.specs.declared.design.Design.{Design}
 use Rattle.vrt_model.specs.declared.pairing.PortRole.{PortRole}
 use Rattle.vrt_model.specs.declared.rules.HoldRule.{HoldRule}
 use Rattle.vrt_model.specs.declared.rules.Rules.{Rules}
+use Rattle.net_places.proofs.WholeLaws.{named_by}
+use Rattle.rule_index.proofs.PlacedLaws.{first_same, rest_same}
 
 -- ---- room
 
@@ -60,10 +62,6 @@ own_bound design rules cell name j is = by_test (supply_of rules name) (place_of
   by_test None (Some k) g h = cc
   by_test None None (Some i) h = cc
   by_test None None None h = by_place (place_of (own_nets design rules cell) name) refl h
-
-pub named_in : (t : Top) (n : ℕ) (at : FlatPlace) (name : List ℕ) → At (all_places t) n at → is_net_of (cell_at t.design at.cell) name ≡ true → IsNamedAt t at name
-unfolding all_places
-named_in t n at name there named = (deepest, omega arith, (n, there), named)
 
 -- ---- cells
 
@@ -110,7 +108,7 @@ module _ (design : Design) (rules : Rules) (unrolled : Unrolled) (cell : ℕ) wh
           by_net (Supply value) e = ap (place_net (whole_of design rules cell roles) at) e ∙ net_is (whole_of design rules cell roles) at name
           by_net (Port k) e = port_is (whole_of design rules cell roles) at p.ports p.base unrolled.globals nets k ∙ ap (place_net (whole_of design rules cell roles) at) e ∙ net_is (whole_of design rules cell roles) at name
           by_net (Global j) e =
-              let k = global_there (whole_of design rules cell roles) at name j (named_in (whole_of design rules cell roles) n at name there named) e in
+              let k = global_there (whole_of design rules cell roles) at name j (named_by (whole_of design rules cell roles) n at name there named) e in
               global_is (whole_of design rules cell roles) at p.ports p.base unrolled.globals nets j k.1 k.0 k.2 ∙ ap (place_net (whole_of design rules cell roles) at) e ∙ net_is (whole_of design rules cell roles) at name
           by_net (Own i) e = ap (λ (base : ℕ). base + i) nets.base_is ∙ ap (place_net (whole_of design rules cell roles) at) e ∙ net_is (whole_of design rules cell roles) at name
 

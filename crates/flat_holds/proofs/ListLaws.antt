@@ -1,18 +1,14 @@
 -- Laws of lists.
-use Rattle.std.proofs.Common.{◌≡◌, ◌<◌, ◌++◌, ◌∷◌, [], ℕ, suc, Bool, true, false, List, Option, Some, None, drop, filter, get_or, length, map, refl, ap, ap₂, sym, ◌∙◌, arith}
+use Rattle.std.proofs.Common.{◌≡◌, ◌<◌, ◌∷◌, [], ℕ, suc, Bool, true, false, List, Option, Some, None, filter, get_or, length, map, refl, ap, ap₂, sym, ◌∙◌, arith}
 use Rattle.std.specs.Prelude.{cond, find, nat_lt, option_and_then, position, slice_get}
 use Rattle.std.specs.List.{cons_option, filter_map}
 use Rattle.std.specs.Option.{option_or}
 use Rattle.std.proofs.lemmas.Bool.{lt-ltb}
 use Rattle.std.proofs.lemmas.List.Sums.{position_or_len_is}
-use Rattle.std.proofs.lemmas.Option.{get_or_from_slice_get, same_Some, slice_get-get_or, slice_get_within}
+use Rattle.std.proofs.lemmas.Option.{get_or_from_slice_get, slice_get-get_or, slice_get_within}
 use Rattle.flat_holds.specs.Ends.{first_at, if_passes}
-use Rattle.vrt_model.proofs.Lists.{pushed as pushed_there}
 use Rattle.vrt_model.specs.Lists.{At}
-
--- an item more or none, and those that are left
-pub pushed : {X : Type 0} (list : List X) (o : Option X) (ys : List X) → (list ++ cons_option o []) ++ ys ≡ list ++ cons_option o ys
-pushed list o ys = pushed_there list o ys
+use Rattle.rule_index.proofs.PlacedLaws.{first_same, rest_same}
 
 -- the first that passes
 pub position_is : {X : Type 0} (test : X → Bool) (xs : List X) (i : ℕ) (x : X) → At xs i x → test x ≡ true → ((j : ℕ) (y : X) → j < i → At xs j y → test y ≡ false) → position test xs ≡ Some i
@@ -43,12 +39,6 @@ made_kept {X} {Y} kept f (x ∷ xs) fails = by_bit (kept x) refl (made_kept kept
 
 pub none_behind : {X : Type 0} (x : X) (xs : List X) → [] ≡ x ∷ xs → ⊥
 none_behind {X} x xs e = let l : 0 ≡ suc (length xs) = ap (λ (zs : List X). length zs) e in omega (arith, l)
-
-pub first_same : {X : Type 0} (x y : X) (xs ys : List X) → x ∷ xs ≡ y ∷ ys → x ≡ y
-first_same {X} x y xs ys e = same_Some x y (ap (λ (zs : List X). slice_get zs 0) e)
-
-pub rest_same : {X : Type 0} (x y : X) (xs ys : List X) → x ∷ xs ≡ y ∷ ys → xs ≡ ys
-rest_same {X} x y xs ys e = ap (λ (zs : List X). drop 1 zs) e
 
 find_placed : {X : Type 0} (test : X → Bool) (xs : List X) (places : List ℕ) (own : List X) → map (slice_get xs) places ≡ map Some own → first_at test xs places ≡ find test own
 find_placed test xs [] [] e = refl

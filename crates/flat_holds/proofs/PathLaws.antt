@@ -4,7 +4,7 @@ use Rattle.std.specs.Prelude.{bytes_eq, slice_get, unwrap_or}
 use Rattle.std.proofs.lemmas.Bool.{and_parts, cases_lt, false≢true}
 use Rattle.std.proofs.lemmas.Option.{same_Some}
 use Rattle.net_places.specs.Links.{step_of}
-use Rattle.vrt_model.proofs.Lists.{at_back, map_at}
+use Rattle.vrt_model.proofs.Lists.{at_back, at_left, map_at}
 use Rattle.vrt_model.proofs.Members.{all_among, among_flat_map, at_none}
 use Rattle.vrt_model.specs.Comparison.{cell_at}
 use Rattle.vrt_model.specs.FlatCircuit.{same_path}
@@ -17,11 +17,6 @@ use Rattle.vrt_model.specs.declared.design.DeviceCard.{DeviceCard}
 use Rattle.vrt_model.specs.declared.design.InstanceCard.{InstanceCard}
 
 -- ---- lists
-
-at_left : {X : Type 0} (xs ys : List X) (i : ℕ) (x : X) → i < length xs → At (xs ++ ys) i x → At xs i x
-at_left [] ys i x lt e = absurd (omega (arith, lt))
-at_left (z ∷ xs) ys zero x lt e = e
-at_left (z ∷ xs) ys (suc i) x lt e = at_left xs ys i x (omega (arith, lt)) e
 
 at_right : {X : Type 0} (xs ys : List X) (i : ℕ) (x : X) → length xs ≤ i → At (xs ++ ys) i x → At ys (i - length xs) x
 at_right [] ys i x le e = let n : i ≡ i - 0 = omega arith in subst (λ (k : ℕ). At ys k x) n e
