@@ -5,13 +5,13 @@ use Rattle.std.specs.List.{cons_option, filter_map}
 use Rattle.std.specs.Option.{option_or}
 use Rattle.std.proofs.lemmas.List.{length-map}
 use Rattle.std.proofs.lemmas.List.Elements.{All-nil}
-use Rattle.std.proofs.lemmas.Option.{get_or_from_slice_get, none-some, same_Some}
+use Rattle.std.proofs.lemmas.Option.{none-some, same_Some}
 use Rattle.flat_holds.proofs.FallLaws.{all_from}
 use Rattle.flat_holds.specs.Falls.{holds_from}
 use Rattle.flatten.proofs.RangeLaws.{device_named, net_below, ports_in}
 use Rattle.names.proofs.PlaceLaws.{placed_within}
-use Rattle.vrt_model.proofs.Lists.{among_filter_map, at_there}
-use Rattle.vrt_model.proofs.Members.{all_among, among_flat_map, among_map, find_among, find_none}
+use Rattle.vrt_model.proofs.Lists.{among_filter_map}
+use Rattle.vrt_model.proofs.Members.{all_among, all_by, among_flat_map, among_map, find_among, find_none}
 use Rattle.vrt_model.specs.Circuits.{IsCircuit, IsDevice, IsEnd, IsFlat, IsHold, IsNet, IsWhole}
 use Rattle.vrt_model.specs.Comparison.{cell_at}
 use Rattle.vrt_model.specs.FlatCircuit.{Ruled, end_by, falls_on, flat_circuit_of, flat_device, flat_devices, flat_hold, flat_holds, flat_instance, flat_instances, flat_nets, instance_of, is_outermost, led_up, level_of, match_of, net_id, rule_on, rules_on, same_path}
@@ -32,10 +32,6 @@ use Rattle.vrt_model.specs.declared.rules.Rules.{Rules}
 use Rattle.vrt_model.specs.declared.rules.StrengthRule.{StrengthRule}
 
 -- ---- lists
-
--- what holds of all that stands in a list holds of each item
-all_of : {X : Type 0} (P : X → Type 0) (xs : List X) → ((x : X) → Among xs x → P x) → All P xs
-all_of P xs each i d lt = let found = at_there xs i lt in subst P (sym (get_or_from_slice_get xs i found.0 d found.1)) (each found.0 (i, found.1))
 
 behind : {X : Type 0} (xs : List X) (x : X) → Among (drop 1 xs) x → Among xs x
 behind [] x m = m
@@ -161,7 +157,7 @@ module _ (t : Top) where
 
     holds_are : AreRules t.rules → All (IsHold c) (flat_holds t)
     holds_are ruled =
-        all_of (IsHold c) (flat_holds t)
+        all_by (IsHold c) (flat_holds t)
         (λ h m.
         let f = hold_from 0 (length (flat_nets t)) m.0 h (subst (λ (hs : List Hold). At hs m.0 h) (all_from t 0 (flat_nets t)) m.1) in
         let high = f.2 in
@@ -180,7 +176,7 @@ module _ (t : Top) where
 
     devices_are : AreRules t.rules → All (IsDevice c) (flat_devices t)
     devices_are ruled =
-        all_of (IsDevice c) (flat_devices t)
+        all_by (IsDevice c) (flat_devices t)
         (λ d m.
         let place = among_flat_map (λ (at : Place). map (flat_device t at) (cell_at t.design at.cell).devices) (all_places t) d m in
         let card = among_map (flat_device t place.0) (cell_at t.design place.0.cell).devices d place.2 in
@@ -188,12 +184,12 @@ module _ (t : Top) where
 
     ports_are : All (λ (i : FlatInstance). All (IsNet c) i.ports) (flat_instances t)
     ports_are =
-        all_of (λ (i : FlatInstance). All (IsNet c) i.ports) (flat_instances t)
+        all_by (λ (i : FlatInstance). All (IsNet c) i.ports) (flat_instances t)
         (λ i m.
         let place = among_map flat_instance (drop 1 (all_places t)) i m in
         let there : Among (all_places t) place.0 = behind (all_places t) place.0 place.1 in
         subst (λ (x : FlatInstance). All (IsNet c) x.ports) place.2
-        (all_of (IsNet c) (map net_id place.0.ports)
+        (all_by (IsNet c) (map net_id place.0.ports)
         (λ net on.
         let n = among_map net_id place.0.ports net on in
         subst (IsNet c) n.2 (in_circuit n.0 (ports_in t place.0 there n.0 n.1)))))

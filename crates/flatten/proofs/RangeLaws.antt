@@ -8,11 +8,10 @@ use Rattle.std.proofs.lemmas.Slice.Eq.{bytes_eq-Decides}
 use Rattle.names.proofs.FilterLaws.{has_name_filter}
 use Rattle.names.proofs.NameLaws.{once_has_same}
 use Rattle.names.proofs.PlaceLaws.{any_placed, placed_within}
-use Rattle.net_places.proofs.LinkLaws.{flat_among}
 use Rattle.net_places.proofs.WholeLaws.{nets_total, room_of}
 use Rattle.net_tables.proofs.PlaceNetLaws.{global_among}
 use Rattle.net_tables.specs.Places.{is_net_of}
-use Rattle.vrt_model.proofs.Members.{among_any, among_flat_map, among_later, among_left, among_map, among_right}
+use Rattle.vrt_model.proofs.Members.{among_any, among_flat_map, among_later, among_left, among_map, among_right, flat_map_among}
 use Rattle.vrt_model.specs.CellRules.{supply_of}
 use Rattle.vrt_model.specs.Comparison.{cell_at, port_nets_from}
 use Rattle.vrt_model.specs.FlatCircuit.{flat_nets}
@@ -33,13 +32,13 @@ pub device_named : (cell : Cell) (card : DeviceCard) (name : List ℕ) → Among
 device_named cell card name m on =
     named cell name
     (among_left (flat_map (λ (d : DeviceCard). d.drain ∷ d.gate ∷ d.source ∷ []) cell.devices) (flat_map (λ (i : InstanceCard). i.nets) cell.instances) name
-    (flat_among (λ (d : DeviceCard). d.drain ∷ d.gate ∷ d.source ∷ []) cell.devices card name m on))
+    (flat_map_among (λ (d : DeviceCard). d.drain ∷ d.gate ∷ d.source ∷ []) cell.devices card name m on))
 
 instance_named : (cell : Cell) (card : InstanceCard) (name : List ℕ) → Among cell.instances card → Among card.nets name → is_net_of cell name ≡ true
 instance_named cell card name m on =
     named cell name
     (among_right (flat_map (λ (d : DeviceCard). d.drain ∷ d.gate ∷ d.source ∷ []) cell.devices) (flat_map (λ (i : InstanceCard). i.nets) cell.instances) name
-    (flat_among (λ (i : InstanceCard). i.nets) cell.instances card name m on))
+    (flat_map_among (λ (i : InstanceCard). i.nets) cell.instances card name m on))
 
 module _ (t : Top) where
   abbrev count : ℕ
@@ -163,7 +162,7 @@ module _ (t : Top) where
   ports_below (suc depth) at q all ports (suc i, e) =
       let found = among_flat_map (places_in t depth) (instances_at t depth at) q (i, e) in
       ports_below depth found.0 q
-      (λ p m. all p (among_later at (flat_map (places_in t depth) (instances_at t depth at)) p (flat_among (places_in t depth) (instances_at t depth at) found.0 p found.1 m)))
+      (λ p m. all p (among_later at (flat_map (places_in t depth) (instances_at t depth at)) p (flat_map_among (places_in t depth) (instances_at t depth at) found.0 p found.1 m)))
       (inner_in depth at found.0 (all at (zero, refl)) ports found.1) found.2
 
   -- the nets of the ports of each place

@@ -27,6 +27,8 @@ use Rattle.vrt_model.specs.declared.design.Cell.{Cell}
 use Rattle.vrt_model.specs.declared.design.Design.{Design}
 use Rattle.vrt_model.specs.declared.design.DeviceCard.{DeviceCard}
 use Rattle.vrt_model.specs.declared.design.InstanceCard.{InstanceCard}
+use Rattle.vrt_model.proofs.Tests.{map_or}
+use Rattle.rule_index.proofs.FirstNotes.{or_none}
 
 -- ---- cells
 
@@ -239,11 +241,6 @@ path_of at = path_text at.path
 abbrev own_apart : Top → Place → Bool
 own_apart t at = are_apart (supply_of t.rules) (cell_at t.design at.cell).ports (map supply_at at.ports)
 
--- of one found, or else of the rest
-either : {X Y : Type 0} (f : X → Y) (a b : Option X) → option_map f (option_or a b) ≡ option_or (option_map f a) (option_map f b)
-either f None b = refl
-either f (Some x) b = refl
-
 net_values : (t : Top) (at : Place) (nets : List (List ℕ)) → 2 ≤ at.base
     → map supply_at (map (net_at t at) nets) ≡ map (tied_supply (supply_of t.rules) (cell_at t.design at.cell).ports (map supply_at at.ports)) nets
 net_values t at [] large = refl
@@ -271,7 +268,7 @@ ties_of_cards t depth at large inner base high (i ∷ cards) =
     let spot : spot_of place ≡ spot_in t.design (supply_of t.rules) (spot_of at) i =
     ap (λ (vs : List (Option Bool)). let s : Spot = record { cell = m; path = path_name (path_text at.path) i.name; values = vs } in s) (net_values t at i.nets large) in
     ap (option_map path_of) (find-append (ties t) (places_in t depth place) rest)
-    ∙ either path_of (find (ties t) (places_in t depth place)) (find (ties t) rest)
+    ∙ map_or path_of (find (ties t) (places_in t depth place)) (find (ties t) rest)
     ∙ ap₂ (λ (a b : Option (List ℕ)). option_or a b)
     (inner place high (apart_is t (cell_at t.design m).ports place.ports) ∙ ap (first_tie t.design (supply_of t.rules) depth) spot)
     (ties_of_cards t depth at large inner next (omega (arith, high)) cards)
@@ -281,10 +278,6 @@ one_found true true at rest e = refl
 one_found false false at rest e = refl
 one_found true false at rest e = cc
 one_found false true at rest e = cc
-
-or_none : {X : Type 0} (o : Option X) → option_or o None ≡ o
-or_none None = refl
-or_none (Some x) = refl
 
 ties_of_places : (t : Top) (depth : ℕ) → Finds t depth
 ties_of_places t zero at large same =
