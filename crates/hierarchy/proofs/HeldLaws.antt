@@ -13,6 +13,7 @@ use Rattle.names.specs.Names.{with_name}
 use Rattle.vrt_model.specs.declared.rules.HoldRule.{HoldRule}
 use Rattle.names.proofs.NameLaws.{with_front}
 use Rattle.hierarchy.specs.Held.{AreHeld, HasHeld, is_numbered}
+use Rattle.vrt_model.proofs.Lists.{any_same}
 
 abbrev no_set : List (List ℕ)
 no_set = []
@@ -119,13 +120,9 @@ numbered cells n cell name e = by_name (bytes_eq name cell) refl where
   by_name true f = ap (λ m. Test (position (bytes_eq m) cells)) ((bytes_eq-Decides name cell).0 f) ∙ ap Test e ∙ at_itself ∙ sym f
   by_name false f = by_place (position (bytes_eq name) cells) refl f ∙ sym f
 
-same_any : {X : Type 0} (p q : X → Bool) → ((x : X) → p x ≡ q x) → (xs : List X) → list_any p xs ≡ list_any q xs
-same_any p q same [] = refl
-same_any p q same (x ∷ xs) = ap₂ (λ a b. a || b) (same x) (same_any p q same xs)
-
 pub held_in : (cells : List (List ℕ)) (rules : List HoldRule) (sets : List (List (List ℕ))) (n : ℕ) (cell net : List ℕ) → AreHeld cells rules sets → position (bytes_eq cell) cells ≡ Some n → n < length sets
     → has_name (get_or sets n []) net ≡ list_any (λ (r : HoldRule). bytes_eq r.cell cell && bytes_eq r.net net) rules
 held_in cells rules sets n cell net are e lt =
     are.each n net lt
-    ∙ same_any (λ (r : HoldRule). is_numbered cells n r.cell && bytes_eq r.net net) (λ (r : HoldRule). bytes_eq r.cell cell && bytes_eq r.net net)
+    ∙ any_same (λ (r : HoldRule). is_numbered cells n r.cell && bytes_eq r.net net) (λ (r : HoldRule). bytes_eq r.cell cell && bytes_eq r.net net)
     (λ r. ap (λ b. b && bytes_eq r.net net) (numbered cells n cell r.cell e)) rules
