@@ -4,7 +4,7 @@ use Rattle.std.proofs.lemmas.Bool.{cases_lt}
 use Rattle.std.proofs.lemmas.List.Sums.{sum_by_more}
 use Rattle.std.proofs.lemmas.Option.{get_or_from_slice_get, none-some, same_Some, slice_get_within}
 use Rattle.std.proofs.lemmas.List.{length-set}
-use Rattle.vrt_model.proofs.Lists.{at_front, one_at}
+use Rattle.vrt_model.proofs.Lists.{at_either, at_front, one_at}
 use Rattle.blif_eval.proofs.Drivers.{driven}
 use Rattle.blif_eval.proofs.LatchLaws.{latch_of, latch_part, names_before, numbered_at, part_latch}
 use Rattle.blif_eval.specs.Drivers.{AreDrivers, AreMade, AreNoted, HasElement, IsDriver, IsStorage, count_before, edge_elements, elements_by, level_elements}
@@ -32,14 +32,6 @@ at_set (z ∷ xs) (suc i) x zero y e = inr (λ is. omega (arith, is), e)
 at_set (z ∷ xs) (suc i) x (suc k) y e = elim (at_set xs i x k y e) [
   | inl p ↦ inl (ap suc p.0, p.1)
   | inr p ↦ inr (λ is. p.0 (omega (arith, is)), p.1)
-]
-
-at_either : {X : Type 0} (xs ys : List X) (k : ℕ) (y : X) → At (xs ++ ys) k y → At xs k y ⊎ ((j : ℕ) × (k ≡ length xs + j) × At ys j y)
-at_either [] ys k y e = inr (k, omega arith, e)
-at_either (x ∷ xs) ys zero y e = inl e
-at_either (x ∷ xs) ys (suc k) y e = elim (at_either xs ys k y e) [
-  | inl a ↦ inl a
-  | inr p ↦ inr (p.0, (let is = p.1 in omega (arith, is)), p.2)
 ]
 
 at_behind : {X : Type 0} (xs ys : List X) (j k : ℕ) (y : X) → k ≡ length xs + j → At ys j y → At (xs ++ ys) k y

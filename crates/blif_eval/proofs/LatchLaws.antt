@@ -5,7 +5,7 @@ use Rattle.std.proofs.lemmas.List.Sums.{sum_by-cons}
 use Rattle.std.proofs.lemmas.Option.{none-some, same_Some}
 use Rattle.blif_eval.proofs.Drivers.{latch_is}
 use Rattle.blif_eval.specs.Drivers.{count_before, node_count}
-use Rattle.vrt_model.proofs.Members.{among_flat_map, among_left, among_right}
+use Rattle.vrt_model.proofs.Members.{among_flat_map, flat_map_among}
 use Rattle.vrt_model.specs.Elements.{Numbered, element_count, element_names, names_by_kind, numbered_from, numbered_latches, signal_name}
 use Rattle.vrt_model.specs.FlatModels.{IsControl, IsFlatModel}
 use Rattle.vrt_model.specs.Lists.{At, Among}
@@ -14,12 +14,6 @@ use Rattle.vrt_model.specs.declared.blif.LatchKind.{LatchKind}
 use Rattle.vrt_model.specs.declared.blif.LatchKind.TheVariants.{Re, Fe, Ah, Al}
 use Rattle.vrt_model.specs.declared.flat_model.FlatLatch.{FlatLatch}
 use Rattle.vrt_model.specs.declared.flat_model.FlatModel.{FlatModel}
-
--- what stands in the list of one item stands in the lists of all
-pub among_in_flat_map : {X Y : Type 0} (f : X → List Y) (xs : List X) (x : X) (y : Y) → Among xs x → Among (f x) y → Among (flat_map f xs) y
-among_in_flat_map f [] x y m n = absurd (none-some x m.1)
-among_in_flat_map {X} {Y} f (z ∷ xs) x y (zero, e) n = among_left (f z) (flat_map f xs) y (subst (λ (k : X). Among (f k) y) (sym (same_Some z x e)) n)
-among_in_flat_map f (z ∷ xs) x y (suc i, e) n = among_right (f z) (flat_map f xs) y (among_in_flat_map f xs x y (i, e) n)
 
 -- ---- the numbers of latches
 
@@ -180,7 +174,7 @@ pub part_latch : (flat : FlatModel) (part : Part) → Among (parts_of flat) part
 part_latch flat part m = among_flat_map (λ (l : Numbered). parts_by (length flat.signals) l l.latch.kind) (numbered_latches flat) part m
 
 pub latch_part : (flat : FlatModel) (l : Numbered) (part : Part) → Among (numbered_latches flat) l → Among (parts_by (length flat.signals) l l.latch.kind) part → Among (parts_of flat) part
-latch_part flat l part m n = among_in_flat_map (λ (k : Numbered). parts_by (length flat.signals) k k.latch.kind) (numbered_latches flat) l part m n
+latch_part flat l part m n = flat_map_among (λ (k : Numbered). parts_by (length flat.signals) k k.latch.kind) (numbered_latches flat) l part m n
 
 -- what a part is by numbers
 pub record HasRanges (flat : FlatModel) (part : Part) : Type 0 where
