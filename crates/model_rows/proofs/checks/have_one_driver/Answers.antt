@@ -1,7 +1,7 @@
 use Rattle.std.proofs.Common.{◌≡◌, ℕ, ◌+◌, List, arith, ap, below_more, ◌∙◌}
 use Rattle.std.specs.Prelude.{count_by, ◌==◌}
 use Rattle.model_rows.proofs.CheckLaws.{times_drivers}
-use Rattle.model_rows.proofs.CheckLaws.{times}
+use Rattle.blif_eval.proofs.Drivers.{times}
 use Rattle.model_rows.specs.Outputs.{outputs_in}
 use Rattle.vrt_model.specs.FlatModels.{drivers_of}
 use Rattle.model_rows.proofs.checks.have_one_driver.Goals as goal

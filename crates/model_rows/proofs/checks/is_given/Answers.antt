@@ -1,7 +1,8 @@
 use Rattle.std.proofs.Common.{◌≡◌, ℕ, List, ap, arith, ◌∙◌, inl, inr}
 use Rattle.std.proofs.lemmas.Bool.{ltb-true}
-use Rattle.model_rows.proofs.CheckLaws.{among_one, times}
+use Rattle.model_rows.proofs.CheckLaws.{among_one}
 use Rattle.model_rows.proofs.checks.is_given.Goals as goal
+use Rattle.blif_eval.proofs.Drivers.{times}
 
 pub returns-then-inputs-gt0 : goal.returns-then-inputs-gt0
 returns-then-inputs-gt0 c e =
