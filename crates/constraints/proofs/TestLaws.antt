@@ -90,8 +90,3 @@ tests_then handle a b c m n start f g g' p r live same reads_f first second = re
       (second.counts u (within_after a b (λ v. start v && f v) (Ok p) first.gives handle live u reads)
       (within_same u (λ v. start v && f v) (function_of b p) first.gives.ok.same (within_and u start f starts (reads_f u reads))));
 }
-
--- a list without length is empty
-pub none_left : {X : Type 0} (xs : List X) → length xs ≡ 0 → xs ≡ []
-none_left [] e = refl
-none_left (x ∷ xs) e = absurd (omega (arith, e))

@@ -4,11 +4,12 @@ use Rattle.vrt_model.specs.declared.rules.AssumeRule.{AssumeRule}
 use Rattle.constraints.proofs.DiagramLaws.{adds_next, handles_after}
 use Rattle.constraints.proofs.HandleLaws.{handles_live}
 use Rattle.constraints.proofs.ObligedLaws.{assume_after, assume_within}
-use Rattle.constraints.proofs.TestLaws.{all_so_far, more_so_far, none_left, none_so_far, refused_so_far}
+use Rattle.constraints.proofs.TestLaws.{all_so_far, more_so_far, none_so_far, refused_so_far}
 use Rattle.constraints.specs.Evaluated.{AreLive}
 use Rattle.constraints.specs.Handles.{handle_in}
 use Rattle.constraints.specs.Obliged.{assume_holds, assume_operations}
 use Rattle.constraints.proofs.assumptions.add_assumptions.Goals as goal
+use Rattle.vrt_model.proofs.Lists.{no_items}
 
 pub rules-init : goal.rules-init
 rules-init c =
@@ -53,4 +54,4 @@ returns c =
     let old = c.args.store.now in
     let handle : List ℕ → ℕ = handle_in old.words c.args.ports in
     all_so_far (assume_holds old handle c.args.cell.now c.args.phase) (assume_operations c.args.cell.now c.args.phase) handle (function_of old c.args.start) c.args.rules.now old c.rules.store c.rules.rest.now c.rules.all
-    (none_left c.rules.rest.now c.in_default.ensures.cases) c.rules.invariant
+    (no_items c.rules.rest.now c.in_default.ensures.cases) c.rules.invariant

@@ -1,8 +1,8 @@
 use Rattle.std.proofs.Common.{◌∙◌, arith, length, ap, sym}
 use Rattle.vrt_model.specs.CellRules.{supply_of}
 use Rattle.constraints.proofs.PortLaws.{behind_low, port_found, port_missing, port_passed}
-use Rattle.constraints.proofs.TestLaws.{none_left}
 use Rattle.constraints.proofs.given_ports.port_net.Goals as goal
+use Rattle.vrt_model.proofs.Lists.{no_items}
 
 pub ports-preserved : goal.ports-preserved
 ports-preserved c =
@@ -23,4 +23,4 @@ returns-then-is_named c =
 
 pub returns : goal.returns
 returns c =
-    port_missing c.args.rules.now c.args.name.now c.args.names.now c.ports.rest.now c.ports.next (none_left c.ports.rest.now c.in_default.ensures.cases) c.ports.invariant.from
+    port_missing c.args.rules.now c.args.name.now c.args.names.now c.ports.rest.now c.ports.next (no_items c.ports.rest.now c.in_default.ensures.cases) c.ports.invariant.from
