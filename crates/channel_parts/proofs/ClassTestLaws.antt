@@ -6,12 +6,12 @@ use Rattle.std.proofs.lemmas.Bool.{and_from, and_parts, false≢true, or_cases, 
 use Rattle.std.proofs.lemmas.Option.{same_Some}
 use Rattle.channel_parts.specs.PartLists.{least_of}
 use Rattle.channel_parts.specs.declared.part.Part.{Part}
-use Rattle.known_nets.proofs.NetKinds.{is_plain_is, kind_is_input}
-use Rattle.known_nets.specs.Conduction.{is_input_at, is_input_kind}
+use Rattle.known_nets.proofs.NetKinds.{is_plain_is}
+use Rattle.known_nets.specs.Conduction.{is_input_at}
 use Rattle.known_nets.specs.Incidence.{AreHeldMarks}
 use Rattle.channel_parts.proofs.PhaseTableLaws.{is_switched_is, switched_is}
 use Rattle.channel_parts.specs.LinkedParts.{IsLinkedPart}
-use Rattle.channel_parts.specs.Classes.{IsDomino, IsInput, IsLinked, IsLinkedDevice, IsPass, IsStage, IsSupply, PassesInput, itself, onward, pulled_to}
+use Rattle.channel_parts.specs.Classes.{IsDomino, IsLinked, IsLinkedDevice, IsPass, IsStage, IsSupply, PassesInput, itself, onward, pulled_to}
 use Rattle.channel_parts.specs.ClassTests.{device_at, has_hold, has_input, has_stage, is_between, is_stage, is_stored, is_supply_kind, kind_at, meets_input}
 use Rattle.channel_parts.specs.PhaseTables.{AreTables, is_switched}
 use Rattle.vrt_model.proofs.Lists.{map_among, one_at}
@@ -27,6 +27,7 @@ use Rattle.vrt_model.specs.declared.circuit.NetKind.TheVariants.{Supply, Clock, 
 use Rattle.vrt_model.specs.declared.ids.Dev.{Dev}
 use Rattle.vrt_model.specs.declared.ids.Net.{Net}
 use Rattle.vrt_model.specs.declared.rules.Phase.{Phase}
+use Rattle.known_nets.proofs.ShutLaws.{input_is, is_input}
 
 -- ---- kinds of nets
 
@@ -59,12 +60,6 @@ supply_is c v n t = let net = kind_there (is_supply_kind v) c n t in (net.0, net
 
 is_supply_is : (c : Circuit) (v : Bool) (n : ℕ) → IsSupply c n v → kind_at (is_supply_kind v) c n ≡ true
 is_supply_is c v n s = there_kind (is_supply_kind v) c n s.0 s.1 (ap (is_supply_kind v) s.2 ∙ own_supply v)
-
-input_is : (c : Circuit) (n : ℕ) → is_input_at c n ≡ true → IsInput c n
-input_is c n t = let net = kind_there is_input_kind c n t in (net.0, net.1, kind_is_input net.0.kind net.2)
-
-is_input_is : (c : Circuit) (n : ℕ) → IsInput c n → is_input_at c n ≡ true
-is_input_is c n s = there_kind is_input_kind c n s.0 s.1 (ap is_input_kind s.2)
 
 -- a plain net has no other kind
 plain_alone : (c : Circuit) (n : ℕ) (kind : NetKind) → is_plain_kind kind ≡ false → (net : FlatNet) × At c.nets n net × (net.kind ≡ kind) → IsPlain c n → ⊥
@@ -162,7 +157,7 @@ passes_is c n d t inside =
 
 is_passes_is : (c : Circuit) (n : ℕ) (d : Device) → PassesInput c n d → meets_input c d ≡ true
 is_passes_is c n d s =
-    let given = is_input_is c s.input s.given in
+    let given = is_input c s.input s.given in
     elim s.joins [
       | inl j ↦ or_right (is_input_at c d.left.0) (is_input_at c d.right.0) (subst (λ (x : ℕ). is_input_at c x ≡ true) (sym j.1) given)
       | inr j ↦ or_left (is_input_at c d.left.0) (is_input_at c d.right.0) (subst (λ (x : ℕ). is_input_at c x ≡ true) (sym j.0) given)

@@ -37,7 +37,7 @@ use Rattle.vrt_model.specs.declared.rules.Phase.{Phase}
 use Rattle.vrt_model.specs.declared.whole.Whole.{Whole}
 use Rattle.vrt_model.specs.declared.whole.WholePin.{WholePin}
 use Rattle.vrt_model.proofs.Bounded.{reaches_inside}
-use Rattle.vrt_model.proofs.Laws.{turned}
+use Rattle.vrt_model.proofs.Laws.{shows_from, turned}
 use Rattle.vrt_model.proofs.Lists.{at_map}
 use Rattle.vrt_model.proofs.Tests.{some_or_none}
 
@@ -58,10 +58,6 @@ fixed_is_given phase inputs Input n v h = absurd h
 fixed_is_given phase inputs Plain n v h = absurd h
 
 -- ---- responses
-
-pub shows_from : (w : Network) (n : ℕ) (v : Bool) → Reaches w n v → ((u : Bool) → Reaches w n u → u ≡ v) → IsResponse w n (Shows v)
-shows_from w n true r h = (r, λ q. false≢true (h false q))
-shows_from w n false r h = (r, λ q. false≢true (sym (h true q)))
 
 shows_reaches : (w : Network) (n : ℕ) (v : Bool) → IsResponse w n (Shows v) → Reaches w n v
 shows_reaches w n true s = s.0
