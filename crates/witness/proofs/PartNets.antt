@@ -1,19 +1,16 @@
 -- The nets of parts are nets of the circuit.
-use Rattle.std.proofs.Common.{ℕ, ◌<◌, Bool, List, length, get_or}
+use Rattle.std.proofs.Common.{ℕ, ◌<◌, Bool, length}
 use Rattle.std.specs.Prelude.{All}
-use Rattle.std.proofs.lemmas.Option.{slice_get-get_or, slice_get_within}
+use Rattle.std.proofs.lemmas.Option.{slice_get_within}
 use Rattle.channel_parts.specs.PartLists.{AreParts, least_of}
 use Rattle.channel_parts.specs.declared.part.Part.{Part}
 use Rattle.channel_parts.specs.declared.part.Parts.{Parts}
 use Rattle.vrt_model.proofs.Lists.{map_among}
+use Rattle.vrt_model.proofs.Members.{all_by}
 use Rattle.vrt_model.proofs.Ranked.{together_plain}
-use Rattle.vrt_model.specs.Lists.{Among}
 use Rattle.vrt_model.specs.declared.circuit.Circuit.{Circuit}
 use Rattle.vrt_model.specs.declared.ids.Net.{Net}
 use Rattle.vrt_model.specs.declared.rules.Phase.{Phase}
-
-all_by : {X : Type 0} (P : X → Type 0) (xs : List X) → ((x : X) → Among xs x → P x) → All P xs
-all_by P xs each k d lt = each (get_or xs k d) (k, slice_get-get_or xs k d lt)
 
 pub part_nets : (c : Circuit) (phase : Phase) (which : Bool) (rank : ℕ → ℕ) (parts : Parts) → AreParts c phase which rank parts
     → All (λ (part : Part). All (λ (net : Net). net.0 < length c.nets) part.nets) parts.list

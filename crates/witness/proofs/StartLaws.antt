@@ -4,13 +4,13 @@ use Rattle.std.proofs.Common.{◌≡◌, ℕ, zero, suc, ◌+◌, ◌<◌, ◌�
 use Rattle.std.specs.Prelude.{filter, option_map, unwrap_or}
 use Rattle.std.proofs.lemmas.Bool.{false≢true}
 use Rattle.std.proofs.lemmas.Option.{none-some, slice_get_within}
-use Rattle.channel_parts.proofs.OneSolution.{shows_from}
 use Rattle.known_nets.proofs.KnownOnce.{fixed_not_plain}
 use Rattle.known_nets.proofs.NetKinds.{given_or_plain}
 use Rattle.known_nets.proofs.TableLaws.{flat_weak}
 use Rattle.known_nets.specs.KnownTables.{IsKnownTable, known_at}
 use Rattle.vrt_model.proofs.GatesGiven.{IsGiven}
 use Rattle.vrt_model.proofs.GivenNets.{clear_from_source, source_strength}
+use Rattle.vrt_model.proofs.Laws.{shows_from}
 use Rattle.vrt_model.proofs.Locality.{known_shows}
 use Rattle.vrt_model.proofs.Members.{all_among, at_none}
 use Rattle.vrt_model.proofs.Networks.{flat_outputs, flat_ranges, given_source, network_levels}
