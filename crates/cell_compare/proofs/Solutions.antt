@@ -3,11 +3,11 @@ use Rattle.std.proofs.Common.{◌≡◌, ℕ, ◌≤◌, Bool, true, false, cond
 use Rattle.std.specs.Prelude.{option_map, slice_get, unwrap_or}
 use Rattle.std.proofs.lemmas.Bool.{cases_Bool, cond-false, cond-true, false≢true}
 use Rattle.std.proofs.lemmas.Option.{same_Some}
-use Rattle.channel_parts.proofs.OneSolution.{shows_from}
 use Rattle.channel_parts.specs.OneSolution.{AreObserved}
 use Rattle.vrt_model.proofs.Filtered.{device_among}
 use Rattle.vrt_model.proofs.GatesGiven.{IsGiven, plain_any}
 use Rattle.vrt_model.proofs.GivenNets.{clear_from_source, source_strength}
+use Rattle.vrt_model.proofs.Laws.{shows_from, shows_no_float}
 use Rattle.vrt_model.proofs.Locality.{known_in_solution}
 use Rattle.vrt_model.proofs.Members.{all_among, at_none}
 use Rattle.vrt_model.proofs.Networks.{given_source, network_levels, flat_ranges}
@@ -30,13 +30,6 @@ use Rattle.vrt_model.specs.declared.whole.Whole.{Whole}
 use Rattle.vrt_model.specs.declared.whole.WholePin.{WholePin}
 use Rattle.cell_compare.specs.Faults.{HasFixedBits, IsSettingAt}
 use Rattle.vrt_model.specs.Networks.{HasLevels, IsSource}
-
--- ---- responses
-
--- a net that shows a bit does not float
-pub shows_no_float : (w : Network) (n : ℕ) (v : Bool) → IsResponse w n (Shows v) → IsResponse w n Float → ⊥
-shows_no_float w n true s f = f.0 s.0
-shows_no_float w n false s f = f.1 s.0
 
 -- whether a net is given
 abbrev given_in : Option FlatNet → Bool
