@@ -11,7 +11,7 @@ use Rattle.std.proofs.lemmas.Option.{none-some, slice_get_within}
 use Rattle.std.proofs.lemmas.Slice.Eq.{bytes_eq-Decides}
 use Rattle.flat_holds.proofs.ListLaws.{made_kept, none_behind, position_is}
 use Rattle.flat_holds.proofs.RuleLaws.{found, least, least_append}
-use Rattle.flat_holds.specs.Falls.{AreNets, AreRoomy, HoldBy, best_at, best_from, closer_by, depth_of, holds_from, number_in, own_places, spot_by}
+use Rattle.flat_holds.specs.Falls.{AreRoomy, HoldBy, best_at, best_from, closer_by, depth_of, holds_from, number_in, own_places, spot_by}
 use Rattle.flat_holds.specs.declared.falls.Spot.{Spot}
 use Rattle.net_places.specs.Links.{Bare, IsUnrolled, bare, shown}
 use Rattle.net_places.specs.Whole.{whole_of}
@@ -31,6 +31,7 @@ use Rattle.vrt_model.proofs.Members.{all_among, among_filter}
 use Rattle.vrt_model.specs.CellRules.{supply_of}
 use Rattle.vrt_model.specs.Comparison.{cell_at}
 use Rattle.vrt_model.specs.FlatCircuit.{Ruled, falls_on, flat_hold, flat_holds, flat_nets, rule_on, rules_on}
+use Rattle.vrt_model.specs.Hierarchy.{AreHoldNets}
 use Rattle.vrt_model.specs.Inputs.{IsDesign}
 use Rattle.vrt_model.specs.Lists.{Among, At, place_of}
 use Rattle.vrt_model.specs.Unrolled.{Place as FlatPlace, Top, all_places, cell_named, net_at, own_nets}
@@ -114,7 +115,7 @@ module _ (design : Design) (rules : Rules) (unrolled : Unrolled) (cell : ℕ) wh
 
     -- ---- the rules that fall on a net
 
-    module _ (netlist : IsDesign design) (names : AreNets design rules) (holds : ByCell) (indexed : IsIndex (λ (r : HoldRule). r.cell) rules.holds holds) (n : ℕ) where
+    module _ (netlist : IsDesign design) (names : AreHoldNets design rules) (holds : ByCell) (indexed : IsIndex (λ (r : HoldRule). r.cell) rules.holds holds) (n : ℕ) where
       abbrev is_own : Place → HoldRule → Bool
       is_own p rule = bytes_eq rule.cell (cell_at design p.cell).name
 

@@ -1,5 +1,5 @@
 -- Which `hold` rule counts on a flat net, by the places of an unrolled cell.
-use Rattle.std.specs.Prelude.{◌≡◌, ℕ, zero, suc, ◌+◌, ◌<◌, ◌^◌, true, ◌==◌, nat_lt, cond, List, [], ◌∷◌, Option, Some, None, get_or, length, option_and_then, option_map, slice_get}
+use Rattle.std.specs.Prelude.{◌≡◌, ℕ, zero, suc, ◌+◌, ◌<◌, ◌^◌, ◌==◌, nat_lt, cond, List, [], ◌∷◌, Option, Some, None, get_or, length, option_and_then, option_map, slice_get}
 use Rattle.std.specs.List.{cons_option}
 use Rattle.flat_holds.specs.Ends.{IsHold}
 use Rattle.flat_holds.specs.declared.falls.Spot.{Spot}
@@ -13,17 +13,12 @@ use Rattle.rule_index.specs.Lines.{places_in}
 use Rattle.rule_index.specs.declared.by_cell.ByCell.{ByCell}
 use Rattle.vrt_model.specs.Comparison.{cell_at}
 use Rattle.vrt_model.specs.FlatCircuit.{flat_hold, rule_on}
-use Rattle.vrt_model.specs.Hierarchy.{is_net}
 use Rattle.vrt_model.specs.Lists.{Among}
 use Rattle.vrt_model.specs.Unrolled.{Top, own_nets}
 use Rattle.vrt_model.specs.declared.circuit.Hold.{Hold}
 use Rattle.vrt_model.specs.declared.design.Design.{Design}
 use Rattle.vrt_model.specs.declared.rules.HoldRule.{HoldRule}
 use Rattle.vrt_model.specs.declared.rules.Rules.{Rules}
-
--- each `hold` rule is of a net of its cell
-abbrev pub AreNets : Design → Rules → Type 0
-AreNets design rules = (r : HoldRule) → Among rules.holds r → is_net design r.cell r.net ≡ true
 
 -- the own nets of a place have numbers
 pub record IsRoomy (design : Design) (rules : Rules) (tables : NetTables) (p : Place) : Type 0 where

@@ -2,12 +2,13 @@
 
 ghost use Rattle.std.specs.Prelude.{◌≡◌, ◌<◌, ◌≤◌, ◌++◌, ℕ, [], List, None, get_or, length, IfOk, OnOk};
 ghost use Rattle.std.specs.List.{cons_option};
-ghost use Rattle.flat_holds.specs.Falls.{AreNets, HoldBy, best_from};
+ghost use Rattle.flat_holds.specs.Falls.{HoldBy, best_from};
 ghost use Rattle.net_places.specs.Links.{IsUnrolled};
 ghost use Rattle.net_places.specs.Whole.{whole_of};
 ghost use Rattle.net_tables.specs.Tables.{AreNetTables};
 ghost use Rattle.rule_index.specs.Tables.{AreIndexed};
 ghost use Rattle.vrt_model.specs.FlatCircuit.{flat_holds, flat_nets};
+ghost use Rattle.vrt_model.specs.Hierarchy.{AreHoldNets};
 ghost use Rattle.vrt_model.specs.Inputs.{IsDesign};
 ghost use Rattle.vrt_model.specs.Unsupported.{top_before};
 ghost use Rattle.vrt_model.specs.declared.pairing.PortRole.{PortRole as RoleValue};
@@ -85,7 +86,7 @@ fn holds_by(
     nets: u32,
 ) -> Result<Seq<Hold>, NoMemory>
     requires netlist { IsDesign design.now }
-    requires names { AreNets design.now rules.now }
+    requires names { AreHoldNets design.now rules.now }
     requires indexed { AreIndexed design.now rules.now index.now }
     requires unrolled { (roles : List RoleValue) → IsUnrolled (whole_of design.now rules.now cell roles) unrolled.now }
     requires noted { (n : ℕ) → n < nets → get_or table.now n None ≡ best_from design.now rules.now index.now.lines.charges.holds unrolled.now n 0 unrolled.now.places }
@@ -117,7 +118,7 @@ pub fn flat_holds(
     nets: u32,
 ) -> Result<Seq<Hold>, NoMemory>
     requires netlist { IsDesign design.now }
-    requires names { AreNets design.now rules.now }
+    requires names { AreHoldNets design.now rules.now }
     requires indexed { AreIndexed design.now rules.now index.now }
     requires tables { AreNetTables design.now rules.now tables.now }
     requires unrolled { (roles : List RoleValue) → IsUnrolled (whole_of design.now rules.now cell roles) unrolled.now }

@@ -3,11 +3,10 @@ use Rattle.std.proofs.Common.{◌≡◌, ◌<◌, ◌++◌, ◌∷◌, [], ℕ, 
 use Rattle.std.specs.Prelude.{◌&&◌, filter_map, find, map, nat_lt}
 use Rattle.std.specs.List.{list_any}
 use Rattle.std.proofs.lemmas.Option.{none-some}
-use Rattle.flat_holds.specs.Falls.{AreNets}
 use Rattle.vrt_model.proofs.Lists.{filter_map_among}
 use Rattle.vrt_model.proofs.Members.{among_left, among_right, any_among, find_none}
 use Rattle.vrt_model.specs.Expressions.{names_in}
-use Rattle.vrt_model.specs.Hierarchy.{Missing, asked, first_missing, has_hold, is_cell, is_device, is_instance, is_net, is_port, missing_name, missing_names}
+use Rattle.vrt_model.specs.Hierarchy.{AreHoldNets, Missing, asked, first_missing, has_hold, is_cell, is_device, is_instance, is_net, is_port, missing_name, missing_names}
 use Rattle.vrt_model.specs.Lists.{Among}
 use Rattle.vrt_model.specs.declared.design.Design.{Design}
 use Rattle.vrt_model.specs.declared.rules.AssumeRule.{AssumeRule}
@@ -94,7 +93,7 @@ none_first xs none (suc n) x m lt =
     some true e = refl
     some false e = sym e
 
-pub names_there : (design : Design) (rules : Rules) → missing_name design rules ≡ None → AreNets design rules
+pub names_there : (design : Design) (rules : Rules) → missing_name design rules ≡ None → AreHoldNets design rules
 names_there design rules none r m = second_there r.line r.cell r.net (is_cell design r.cell) (is_net design r.cell r.net) (by_line (line_of design r) refl) where
   by_line : (o : Option Missing) → line_of design r ≡ o → o ≡ None
   by_line None e = refl

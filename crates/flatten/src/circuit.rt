@@ -1,13 +1,13 @@
 //! The flat circuit.
 
 ghost use Rattle.std.specs.Prelude.{◌≡◌, ◌<◌, ◌≤◌, List, None, IfOk, length};
-ghost use Rattle.flat_holds.specs.Falls.{AreNets};
 ghost use Rattle.flatten.specs.Circuits.{FlatGives};
 ghost use Rattle.net_places.specs.Links.{IsUnrolled};
 ghost use Rattle.net_places.specs.Whole.{whole_of};
 ghost use Rattle.net_tables.specs.Tables.{AreNetTables};
 ghost use Rattle.rule_index.specs.Tables.{AreIndexed};
 ghost use Rattle.vrt_model.specs.FlatCircuit.{flat_circuit, flat_nets};
+ghost use Rattle.vrt_model.specs.Hierarchy.{AreHoldNets};
 ghost use Rattle.vrt_model.specs.Inputs.{AreRules, IsDesign};
 ghost use Rattle.vrt_model.specs.Unsupported.{circuit_limits, too_large, top_before};
 ghost use Rattle.vrt_model.specs.declared.pairing.PortRole.{PortRole as RoleValue};
@@ -35,7 +35,7 @@ fn circuit_of(
     pairing: &Pairing,
 ) -> Result<Circuit, NoMemory>
     requires netlist { IsDesign design.now }
-    requires names { AreNets design.now rules.now }
+    requires names { AreHoldNets design.now rules.now }
     requires indexed { AreIndexed design.now rules.now index.now }
     requires tables { AreNetTables design.now rules.now tables.now }
     requires there { cell < length design.now.cells }
@@ -68,7 +68,7 @@ fn assemble(
     pairing: &Pairing,
 ) -> Result<Circuit, NoMemory>
     requires netlist { IsDesign design.now }
-    requires names { AreNets design.now rules.now }
+    requires names { AreHoldNets design.now rules.now }
     requires indexed { AreIndexed design.now rules.now index.now }
     requires tables { AreNetTables design.now rules.now tables.now }
     requires there { cell < length design.now.cells }
@@ -95,7 +95,7 @@ pub fn flat_with(
 ) -> Result<Circuit, FlatFault>
     requires netlist { IsDesign design.now }
     requires ruled { AreRules rules.now }
-    requires names { AreNets design.now rules.now }
+    requires names { AreHoldNets design.now rules.now }
     requires indexed { AreIndexed design.now rules.now index.now }
     requires tables { AreNetTables design.now rules.now tables.now }
     requires there { cell < length design.now.cells }
@@ -125,7 +125,7 @@ pub fn flat(
 ) -> Result<Circuit, FlatFault>
     requires netlist { IsDesign design.now }
     requires ruled { AreRules rules.now }
-    requires names { AreNets design.now rules.now }
+    requires names { AreHoldNets design.now rules.now }
     requires there { cell < length design.now.cells }
     ensures { FlatGives design.now rules.now cell pairing.now result }
 {
