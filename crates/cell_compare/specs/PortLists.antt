@@ -1,6 +1,6 @@
 -- The ports of a cell without their names, in their order, and what each gives: an observed output, or a signal that is
 -- tied to a net.
-use Rattle.std.specs.Prelude.{◌≡◌, ◌<◌, ℕ, ◌+◌, Bool, cond, List, [], ◌∷◌, Option, Some, None, option_and_then, slice_get}
+use Rattle.std.specs.Prelude.{◌≡◌, ◌<◌, ℕ, ◌+◌, Bool, false, bytes_eq, cond, List, [], ◌∷◌, Option, Some, None, option_and_then, option_map, slice_get, unwrap_or}
 use Rattle.cell_compare.specs.declared.outputs.Output.{Output}
 use Rattle.cell_compare.specs.declared.port_list.Port.{Port}
 use Rattle.vrt_model.specs.CellRules.{is_observed_port}
@@ -12,6 +12,7 @@ use Rattle.vrt_model.specs.declared.design.Cell.{Cell}
 use Rattle.vrt_model.specs.declared.ids.Net.{Net}
 use Rattle.vrt_model.specs.declared.pairing.PortRole.{PortRole}
 use Rattle.vrt_model.specs.declared.pairing.PortRole.TheVariants.{Supply, Clock, Input, Output as OutputRole}
+use Rattle.vrt_model.specs.declared.rules.ObserveRule.{ObserveRule}
 use Rattle.vrt_model.specs.declared.rules.Rules.{Rules}
 
 -- ---- the nets of ports by their roles
@@ -50,6 +51,10 @@ unnamed p = port_at p.place p.net p.role
 
 abbrev pub output_at : Port → ℕ → Output
 output_at p signal = let net : Net = record { 0 = p.net } in record { place = p.place; net = net; signal = signal }
+
+-- the rule at a place is of the port
+abbrev pub is_rule_of : List ObserveRule → List ℕ → ℕ → Bool
+is_rule_of rules port place = unwrap_or (option_map (λ (r : ObserveRule). bytes_eq r.port port) (slice_get rules place)) false
 
 -- the output at a port, if it is one that is observed in the phase
 abbrev pub seen_output : Rules → Cell → ℕ → Port → Option Output

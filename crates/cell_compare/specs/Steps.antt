@@ -13,6 +13,7 @@ use Rattle.cell_compare.specs.declared.hindrance.Hindrance.{Hindrance}
 use Rattle.cell_compare.specs.declared.hindrance.Hindrance.TheVariants.{Because, NoMemory}
 use Rattle.flatten.specs.Structures.{IsStructured}
 use Rattle.latch_match.specs.Paired.{IsPairing}
+use Rattle.rule_index.specs.Tables.{AreRuleTables}
 use Rattle.vrt_model.specs.Circuits.{IsFlat, IsCircuit}
 use Rattle.vrt_model.specs.Comparison.{Comparison, cell_at, output_signal, phase_at}
 use Rattle.vrt_model.specs.Equal.{IsEqual}
@@ -148,6 +149,7 @@ pub record IsComparable (s : CellComparison) : Type 0 where
   pub cell : s.cell < length s.design.now.cells
   pub plain : (phase : ℕ) → phase < length s.rules.now.phases → IsPlainComparison (comparison_in s) phase
   pub roles : HasRoles s.rules.now (cell_at s.design.now s.cell) s.flattened.now.pairing
+  pub tables : AreRuleTables s.rules.now s.index.now
   pub circuit : IsCircuit s.flattened.now.circuit
   pub flat : IsFlat s.flattened.now.circuit
   pub model : IsFlatModel s.flattened.now.model

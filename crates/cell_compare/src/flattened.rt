@@ -2,6 +2,7 @@
 
 use blif_eval::ModelPlan;
 use channel_parts::Parts;
+use rule_index::RuleIndex;
 use vrt_model::{Circuit, Design, FaultAt, FlatModel, Pairing, Rules};
 
 /// The flat circuit and the flat model of a cell, and how its ports and the signals of the model pair.
@@ -32,6 +33,8 @@ pub(crate) struct Comparison<'a> {
     pub(crate) design: &'a Design,
     /// The rules.
     pub(crate) rules: &'a Rules,
+    /// What the netlist and the rules say, by names.
+    pub(crate) index: &'a RuleIndex,
     /// The number of the cell.
     pub(crate) cell: u32,
     /// What was made of the cell and of its model.

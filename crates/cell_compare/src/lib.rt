@@ -8,6 +8,7 @@ mod hindrance;
 mod known_facts;
 mod least;
 mod net;
+mod observed;
 mod outputs;
 mod phase;
 mod phase_search;

@@ -4,6 +4,7 @@ ghost use Rattle.std.specs.Prelude.{◌≡◌, ◌≤◌, ◌<◌, length, IfOk}
 ghost use Rattle.cell_compare.specs.Compared.{IsPhasePlan, PhaseGives, comparison_in};
 ghost use Rattle.cell_compare.specs.PhaseSteps.{IsFresh, IsKnownModel, IsOpen, IsSolved};
 ghost use Rattle.cell_compare.specs.Phases.{AreSeenOutputs, IsPlainComparison, input_count};
+ghost use Rattle.rule_index.specs.Tables.{AreRuleTables};
 ghost use Rattle.vrt_model.specs.Circuits.{IsCircuit};
 ghost use Rattle.vrt_model.specs.Comparison.{cell_at};
 ghost use Rattle.vrt_model.specs.FlatModels.{IsFlatModel};
@@ -101,6 +102,7 @@ fn check_circuit(
     requires cell { task.compared.cell < length task.compared.design.now.cells }
     requires plain { IsPlainComparison (comparison_in task.compared) task.phase }
     requires roles { HasRoles task.compared.rules.now (cell_at task.compared.design.now task.compared.cell) task.compared.flattened.now.pairing }
+    requires tables { AreRuleTables task.compared.rules.now task.compared.index.now }
     requires model { IsFlatModel task.compared.flattened.now.model }
     requires plan { IsPhasePlan (comparison_in task.compared) task.phase task.plan.now }
     requires open { IsOpen (comparison_in task.compared) task.phase task.budget words store.old }
@@ -147,6 +149,7 @@ fn check_fresh(
     requires cell { task.compared.cell < length task.compared.design.now.cells }
     requires plain { IsPlainComparison (comparison_in task.compared) task.phase }
     requires roles { HasRoles task.compared.rules.now (cell_at task.compared.design.now task.compared.cell) task.compared.flattened.now.pairing }
+    requires tables { AreRuleTables task.compared.rules.now task.compared.index.now }
     requires model { IsFlatModel task.compared.flattened.now.model }
     requires plan { IsPhasePlan (comparison_in task.compared) task.phase task.plan.now }
     requires fresh { IsFresh (comparison_in task.compared) task.phase task.budget words store.old }
@@ -189,6 +192,7 @@ pub(crate) fn check_phase(
     requires cell { compared.cell < length compared.design.now.cells }
     requires plain { IsPlainComparison (comparison_in compared) phase }
     requires roles { HasRoles compared.rules.now (cell_at compared.design.now compared.cell) compared.flattened.now.pairing }
+    requires tables { AreRuleTables compared.rules.now compared.index.now }
     requires circuit { IsCircuit compared.flattened.now.circuit }
     requires model { IsFlatModel compared.flattened.now.model }
     requires inputs { input_count compared.flattened.now.circuit ≤ 1000 }

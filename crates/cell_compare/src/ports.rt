@@ -1,77 +1,49 @@
 //! The ports of a cell: which nets are observed, which outputs are compared, and what the model's inputs are given.
 
-ghost use Rattle.std.specs.Prelude.{◌∷◌, ◌≡◌, ◌≢◌, cond, Some, ◌==◌, ℕ, ◌+◌, ◌++◌, ◌&&◌, ◌||◌, ◌<◌, ◌≤◌, All, false, [], bytes_eq, filter_map, find, length, replicate, IfOk, OnOk};
+ghost use Rattle.std.specs.Prelude.{◌∷◌, ◌≡◌, ◌≢◌, cond, Some, ◌==◌, ℕ, ◌+◌, ◌++◌, ◌||◌, ◌<◌, ◌≤◌, All, false, [], filter_map, length, replicate, IfOk, OnOk};
 ghost use Rattle.std.specs.List.{cons_option, list_any};
-ghost use Rattle.std.specs.Option.{option_copied};
 ghost use Rattle.bdd_core.specs.Store.{IsSpan};
 ghost use Rattle.bdd_core.specs.Words.{IsApart, IsFilled, Writes, word_at};
 ghost use Rattle.cell_compare.specs.Compared.{comparison_in};
 ghost use Rattle.cell_compare.specs.Phases.{AreSeenOutputs, HasInputBits, HasRootBits, IsPlainComparison};
 ghost use Rattle.cell_compare.specs.PortLists.{AreTiesWithin, HasOneNet, IsTie, input_names_of, seen_output};
-ghost use Rattle.vrt_model.specs.CellRules.{is_observed_port};
+ghost use Rattle.rule_index.specs.Tables.{AreRuleTables};
 ghost use Rattle.vrt_model.specs.Comparison.{cell_at, input_signal, is_observed, phase_at};
 ghost use Rattle.vrt_model.specs.Held.{variable_names};
-ghost use Rattle.vrt_model.specs.Lists.{Among, has_number, mark_at};
+ghost use Rattle.vrt_model.specs.Lists.{Among, mark_at};
 ghost use Rattle.vrt_model.specs.Reading.{clock_bit};
 ghost use Rattle.vrt_model.specs.Variables.{is_input};
 ghost use Rattle.vrt_model.specs.declared.pairing.ClockedSignal.{ClockedSignal as ClockedValue};
 ghost use Rattle.vrt_model.specs.PairedPorts.{HasRoles};
 ghost use Rattle.vrt_model.specs.declared.circuit.Device.{Device as DeviceValue};
-ghost use Rattle.vrt_model.specs.declared.rules.ObserveRule.{ObserveRule as RuleValue};
 
 use crate::flattened::Comparison;
+use crate::observed::is_observed_port;
 use crate::outputs::Output;
 use crate::port_list::{Port, input_signal, output_signal, ports_by};
 use crate::roots::{bit_of_clock, constant};
 use bdd_core::Store;
 use node_pool::Span;
+use rule_index::RuleIndex;
 use std::alloc::Global;
 use vrt_model::{
-    Cell, ClockedSignal, Design, Device, FlatNet, Net, NetKind, NoMemory, ObserveRule, Phase,
-    Rules, Seq, Text,
+    Cell, ClockedSignal, Design, Device, FlatNet, Net, NetKind, NoMemory, Phase, Rules, Seq, Text,
 };
 
-/// Whether a rule is of this port of this cell.
-fn is_of(rule: &ObserveRule, cell: &Text, port: &Text) -> bool
-    ensures { result ≡ (bytes_eq rule.now.cell cell.now && bytes_eq rule.now.port port.now) }
-{
-    rule.cell.as_bytes() == cell.as_bytes() && rule.port.as_bytes() == port.as_bytes()
-}
-
-/// The first `observe` rule of a port of a cell.
-fn rule_of<'a>(rules: &'a [ObserveRule], cell: &Text, port: &Text) -> Option<&'a ObserveRule>
-    ensures { option_copied result ≡ find (λ (r : RuleValue). bytes_eq r.cell cell.now && bytes_eq r.port port.now) rules.entry.now }
-{
-    rules.iter().find(|rule| is_of(rule, cell, port))
-}
-
-/// Whether a rule names a phase.
-fn has_phase(rule: &ObserveRule, phase: u32) -> bool
-    ensures { result ≡ has_number rule.now.phases phase }
-{
-    rule.phases
-        .as_slice()
-        .iter()
-        .any(|observed| *observed == phase)
-}
-
-/// Whether an output port is observed in a phase: in those of its rule, and in all where it has none.
-fn is_observed_port(rules: &Rules, cell: &Text, port: &Text, phase: u32) -> bool
-    ensures { result ≡ is_observed_port rules.now cell.now port.now phase }
-{
-    match rule_of(rules.observes.as_slice(), cell, port) {
-        Some(rule) => has_phase(rule, phase),
-        None => true,
-    }
-}
-
 /// The output at a port, if it is one that is observed in the phase.
-fn seen_output(rules: &Rules, cell: &Cell, phase: u32, port: Port) -> Option<Output>
+fn seen_output(
+    index: &RuleIndex,
+    rules: &Rules,
+    cell: &Cell,
+    phase: u32,
+    port: Port,
+) -> Option<Output>
+    requires tables { AreRuleTables rules.now index.now }
     ensures { result ≡ seen_output rules.now cell.now phase port }
 {
     let signal = output_signal(port.role)?;
     let name = cell.ports.get(port.place as usize)?;
-    if !is_observed_port(rules, &cell.name, name, phase) {
+    if !is_observed_port(index, rules, &cell.name, name, phase) {
         return None;
     }
     Some(Output {
@@ -98,17 +70,20 @@ fn add_output(outputs: &mut Vec<Output>, output: Option<Output>) -> Result<(), N
 #[tactic(auto, using(crate::proofs::PortLaws::pushed))]
 fn outputs_at(
     alloc: Global,
+    index: &RuleIndex,
     rules: &Rules,
     cell: &Cell,
     phase: u32,
     ports: &[Port],
 ) -> Result<Vec<Output>, NoMemory>
+    requires tables { AreRuleTables rules.now index.now }
     ensures { IfOk result (λ outputs. outputs.items ≡ filter_map (seen_output rules.now cell.now phase) ports.now) }
 {
     let mut outputs = Vec::new(alloc);
     let mut rest = ports;
     'ports: while let Some((port, behind)) = rest.split_first() {
-        add_output(&mut outputs, seen_output(rules, cell, phase, *port))?;
+        let output = seen_output(index, rules, cell, phase, *port);
+        add_output(&mut outputs, output)?;
         rest = behind;
     }
     Ok(outputs)
@@ -131,12 +106,20 @@ pub(crate) fn seen_outputs(
     requires cell { compared.cell < length compared.design.now.cells }
     requires plain { IsPlainComparison (comparison_in compared) phase }
     requires roles { HasRoles compared.rules.now (cell_at compared.design.now compared.cell) compared.flattened.now.pairing }
+    requires tables { AreRuleTables compared.rules.now compared.index.now }
     ensures are { IfOk result (λ outputs. AreSeenOutputs (comparison_in compared.entry) phase outputs.items) }
     ensures few { IfOk result (λ outputs. length outputs.items ≤ length compared.entry.flattened.now.circuit.nets) }
 {
     let own = cell_of(compared.design, compared.cell);
     let ports = ports_by(alloc, compared.flattened.pairing.ports.as_slice())?;
-    outputs_at(alloc, compared.rules, own, phase, ports.as_slice())
+    outputs_at(
+        alloc,
+        compared.index,
+        compared.rules,
+        own,
+        phase,
+        ports.as_slice(),
+    )
 }
 
 /// No mark yet.

@@ -78,6 +78,7 @@ fn compare_with(
     let compared = Comparison {
         design,
         rules,
+        index: &prepared.index,
         cell,
         flattened: &flattened,
     };

@@ -31,6 +31,25 @@ any_at {R} test f (p ∷ places) (r ∷ own) e =
     ap₂ (λ (o : Option R) (b : Bool). unwrap_or (option_map test o) false || b) (first_same (f p) (Some r) (map f places) (map Some own) e)
     (any_at test f places own (rest_same (f p) (Some r) (map f places) (map Some own) e))
 
+-- the first of the items that passes a test
+found_at : {R : Type 0} (test : R → Bool) (f : ℕ → Option R) (places : List ℕ) (own : List R) → map f places ≡ map Some own
+    → option_and_then f (find (λ p. unwrap_or (option_map test (f p)) false) places) ≡ find test own
+found_at test f [] [] e = refl
+found_at test f [] (r ∷ own) e = cc
+found_at test f (p ∷ places) [] e = cc
+found_at {R} test f (p ∷ places) (r ∷ own) e =
+    ap (λ (b : Bool). option_and_then f (cond b (Some p) (find tested places))) (ap (λ (o : Option R). unwrap_or (option_map test o) false) first) ∙ by_test (test r)
+  where
+    tested : ℕ → Bool
+    tested q = unwrap_or (option_map test (f q)) false
+
+    first : f p ≡ Some r
+    first = first_same (f p) (Some r) (map f places) (map Some own) e
+
+    by_test : (b : Bool) → option_and_then f (cond b (Some p) (find tested places)) ≡ cond b (Some r) (find test own)
+    by_test true = first
+    by_test false = found_at test f places own (rest_same (f p) (Some r) (map f places) (map Some own) e)
+
 -- ---- the items that pass a test
 
 values_of : {R V : Type 0} (test : R → Bool) (g : R → V) (rules : List R) → map g (filter test rules) ≡ filter_map (λ r. cond (test r) (Some (g r)) None) rules
@@ -46,6 +65,13 @@ any_of {R} test more (r ∷ rules) = by_test (test r) ∙ ap (λ (b : Bool). (te
   by_test : (b : Bool) → list_any more (cond b (r ∷ filter test rules) (filter test rules)) ≡ ((b && more r) || list_any more (filter test rules))
   by_test true = refl
   by_test false = refl
+
+found_of : {R : Type 0} (test more : R → Bool) (rules : List R) → find more (filter test rules) ≡ find (λ r. test r && more r) rules
+found_of test more [] = refl
+found_of {R} test more (r ∷ rules) = by_test (test r) where
+  by_test : (b : Bool) → find more (cond b (r ∷ filter test rules) (filter test rules)) ≡ cond (b && more r) (Some r) (find (λ (x : R). test x && more x) rules)
+  by_test true = ap (λ (o : Option R). cond (more r) (Some r) o) (found_of test more rules)
+  by_test false = found_of test more rules
 
 -- ---- the rules of a cell
 
@@ -74,3 +100,9 @@ first_placed {R} cell_of rules places cell e =
       first_some : (rs : List R) → option_and_then (λ (o : Option R). o) (slice_get (map Some rs) 0) ≡ slice_get rs 0
       first_some [] = refl
       first_some (r ∷ rs) = refl
+
+-- the first rule of a cell that passes a test
+pub found_placed : {R : Type 0} (cell_of : R → List ℕ) (test : R → Bool) (rules : List R) (places : List ℕ) (cell : List ℕ) → map (slice_get rules) places ≡ map Some (filter (λ r. bytes_eq (cell_of r) cell) rules)
+    → option_and_then (slice_get rules) (find (λ p. unwrap_or (option_map test (slice_get rules p)) false) places) ≡ find (λ r. bytes_eq (cell_of r) cell && test r) rules
+found_placed cell_of test rules places cell e =
+    found_at test (slice_get rules) places (filter (λ r. bytes_eq (cell_of r) cell) rules) e ∙ found_of (λ r. bytes_eq (cell_of r) cell) test rules

@@ -16,6 +16,9 @@ check_phase-requires-clause-plain c = c.requires.comparable.plain c.loop-phase.p
 pub check_phase-requires-clause-roles : goal.check_phase-requires-clause-roles
 check_phase-requires-clause-roles c = c.requires.comparable.roles
 
+pub check_phase-requires-clause-tables : goal.check_phase-requires-clause-tables
+check_phase-requires-clause-tables c = c.requires.comparable.tables
+
 pub check_phase-requires-clause-circuit : goal.check_phase-requires-clause-circuit
 check_phase-requires-clause-circuit c = c.requires.comparable.circuit
 

@@ -32,6 +32,7 @@ check_cell-requires-clause-comparable c = record {
   cell = c.requires.inputs.there;
   plain = plain_comparison c.args.design.now c.args.blif.now c.args.rules.now c.args.cell c.args.model c.in-Ok.flattened c.requires.inputs.netlist c.requires.inputs.there c.requires.inputs.built c.in-Ok.ensures;
   roles = c.in-Ok.ensures.roles;
+  tables = c.requires.prepared.index_is.rules_are;
   circuit = c.in-Ok.ensures.circuit;
   flat = c.in-Ok.ensures.flat;
   model = c.in-Ok.ensures.model;
