@@ -246,7 +246,7 @@ module _ (c : Circuit) (phase : Phase) (setting : Setting) (ranges : HasRanges c
     source = refl;
     roots = λ root is at. elim is [
       | inl g ↦ inl (g.0, g.1, g.2, g.3, g.4 ∙ same_given c phase setting ranges observed rank driven drives r q okr.0 okq.0 root.net (g.0, g.1, g.2))
-      | inr other ↦ elim other [ inl h ↦ inr (inl h) | inr o ↦ inr (inr (output root o at)) ]
+      | inr other ↦ elim other [ inl h ↦ inr (inl h) | inr o ↦ inr (inr (output root o (elim at [ inl t ↦ inl t | inr g ↦ inr g.0 ]))) ]
     ];
     devices = λ l m d on j i. (on.0, subst (λ (b : Bool). conducts_at d.kind b ≡ true) (gate_same n r q okr okq same l m d on j i) on.1);
     bounded = λ l m d on j i.

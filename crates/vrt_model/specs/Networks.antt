@@ -30,11 +30,11 @@ pub record HasRanges (c : Circuit) : Type 0 where
   pub holds : All (IsHold c) c.holds
   pub wholes : All (IsWhole c) c.wholes
 
--- The second network has the roots of the first at the nets inside and at the edge, and its devices at the nets inside;
--- what the first joins to a net inside is inside or at the edge, and nets at the edge are sources.
+-- The second network has the roots of the first at the nets inside, those of the source level at the edge, and its devices at
+-- the nets inside; what the first joins to a net inside is inside or at the edge, and nets at the edge are sources.
 pub record Covers (w x : Network) (Inside Edge : ℕ → Type 0) : Type 0 where
   pub source : w.source ≡ x.source
-  pub roots : (root : Root) → IsRoot w root → Inside root.net ⊎ Edge root.net → IsRoot x root
+  pub roots : (root : Root) → IsRoot w root → Inside root.net ⊎ (Edge root.net × (root.level ≡ w.source)) → IsRoot x root
   pub devices : (m n : ℕ) (d : Device) → IsOn w d → Joins d m n → Inside n → IsOn x d
   pub bounded : (m n : ℕ) (d : Device) → IsOn w d → Joins d m n → Inside n → Inside m ⊎ Edge m
   pub edge : (n : ℕ) → Edge n → IsSource w n
