@@ -9,7 +9,7 @@ use Rattle.node_pool.specs.declared.region.Span.{Span}
 use Rattle.bdd_core.specs.Diagram.{meaning}
 use Rattle.bdd_core.specs.Store.{Diagrams}
 use Rattle.bdd_core.specs.Words.{IsApart, Writes, word_at}
-use Rattle.cell_compare.proofs.CircuitLaws.{constant_shows}
+use Rattle.circuit_faults.proofs.CircuitLaws.{constant_shows}
 use Rattle.cell_compare.specs.Phases.{HasInputBits, HasPairedInputs, HasRootBits, root_bit, variable_at}
 use Rattle.cell_compare.specs.PortLists.{AreTiesWithin, HasOneNet, IsTie, unnamed}
 use Rattle.cell_compare.specs.declared.port_list.Port.{Port}

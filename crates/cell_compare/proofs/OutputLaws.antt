@@ -15,8 +15,8 @@ use Rattle.bdd_ops.proofs.WithinLaws.{span_kept, within_and, within_same}
 use Rattle.bdd_ops.specs.Counting.{Counts, IsCounted, IsSpanWithin}
 use Rattle.bdd_ops.specs.Ops.{MakesBoth, and_of, xor_of}
 use Rattle.bdd_core.proofs.Frames.{adds_words}
-use Rattle.cell_compare.proofs.NetLaws.{nowhere}
-use Rattle.cell_compare.specs.Operations.{IsUsedUp}
+use Rattle.circuit_faults.proofs.NetLaws.{nowhere}
+use Rattle.circuit_faults.specs.Operations.{IsUsedUp}
 use Rattle.cell_compare.specs.Outputs.{Agrees, IsFirstDifference, difference_at, difference_of, net_bit, signal_bit}
 use Rattle.cell_compare.specs.declared.outputs.Output.{Output}
 use Rattle.cell_compare.specs.declared.outputs.OutputFault.{OutputFault}
@@ -125,8 +125,3 @@ module _ (outputs : List Output) (care : H) (gates values : Span) (first old : D
         (λ e. at.0 (sym same ∙ e), λ h. same ∙ at.1 h);
     before = before;
   }
-
--- the handles of a span in the store of a turn
-pub span_within : (u : ℕ) (span : Span) (first old : Diagrams) → AddsNodes first old → IsFilled first span → IsSpanWithin u first span → IsSpanWithin u old span
-span_within u span first old adds live all = span_kept u span first old
-    (λ k lt. ap (λ (ws : List ℕ). slice_index ws (span.start + k)) (adds_words first old first.words adds)) (λ k lt. adds.kept (word_at first span k) (live k lt)) all

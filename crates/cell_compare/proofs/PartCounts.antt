@@ -8,9 +8,10 @@ use Rattle.std.proofs.lemmas.List.{length-map}
 use Rattle.std.proofs.lemmas.List.Sums.{sum_by-take-le}
 use Rattle.std.proofs.lemmas.Option.{same_Some, slice_get-get_or, slice_get_within}
 use Rattle.bdd_core.proofs.Pigeon.{pigeon}
-use Rattle.cell_compare.proofs.CountLaws.{sum_next}
-use Rattle.cell_compare.proofs.OrderLaws.{is_least, number_inside, rising_once}
-use Rattle.cell_compare.specs.Operations.{circuit_operations, part_operations}
+use Rattle.circuit_faults.proofs.CountLaws.{sum_next}
+use Rattle.circuit_faults.proofs.OrderLaws.{is_least}
+use Rattle.circuit_faults.proofs.WholeParts.{number_inside, rising_once}
+use Rattle.circuit_faults.specs.Operations.{circuit_operations, part_operations}
 use Rattle.channel_parts.specs.PartLists.{AreParts, device_numbers, least_of, net_numbers}
 use Rattle.channel_parts.specs.declared.part.Part.{Part}
 use Rattle.channel_parts.specs.declared.part.Parts.{Parts}

@@ -6,8 +6,8 @@ use Rattle.std.specs.List.{enumerate_from, list_all}
 use Rattle.std.proofs.lemmas.Bool.{and_from}
 use Rattle.std.proofs.lemmas.List.{length-replicate}
 use Rattle.cell_compare.proofs.PhaseGiven.{no_hold, no_instance, observed_nets}
-use Rattle.cell_compare.proofs.Solutions.{some_state, some_state_agrees, some_state_is}
-use Rattle.cell_compare.specs.Faults.{HasFault, HasFixedBits, IsSettingAt}
+use Rattle.circuit_faults.proofs.Solutions.{some_state, some_state_agrees, some_state_is}
+use Rattle.circuit_faults.specs.Faults.{HasFault, HasFixedBits, IsSettingAt}
 use Rattle.cell_compare.specs.Phases.{HasOneModel, HasSignalBits, IsClearPhase, IsPlainComparison, IsSameOutput, IsSeenOutput}
 use Rattle.channel_parts.specs.OneSolution.{HasOneSolution}
 use Rattle.channel_parts.specs.Orders.{IsSolvedOnce}

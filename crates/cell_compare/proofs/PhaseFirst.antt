@@ -10,13 +10,14 @@ use Rattle.bdd_core.specs.Diagram.{Function, Valuation}
 use Rattle.bdd_core.specs.Store.{Diagrams, function_of}
 use Rattle.bdd_core.specs.declared.handle.H.{H}
 use Rattle.bdd_ops.specs.Ops.{bits_of}
-use Rattle.cell_compare.proofs.OrderLaws.{is_least, number_inside}
+use Rattle.circuit_faults.proofs.OrderLaws.{is_least}
+use Rattle.circuit_faults.proofs.WholeParts.{number_inside}
 use Rattle.cell_compare.proofs.PhaseEqual.{differs_there, meets_all, only_differs, output_bit, stands_there, wanted_bit}
 use Rattle.cell_compare.proofs.PhaseGiven.{is_setting, no_instance, observed_nets}
-use Rattle.cell_compare.specs.Faults.{HasFault, IsSolvedAt}
+use Rattle.circuit_faults.specs.Faults.{HasFault, IsSolvedAt}
 use Rattle.cell_compare.specs.Phases.{HasOneModel, HasRootBits, HasSignalBits, IsClearPhase, IsFirstUnequal, IsLeastAt, IsPlainComparison, IsSeenOutput}
-use Rattle.cell_compare.specs.Results.{IsFirstFault, root_at}
-use Rattle.cell_compare.specs.declared.net.CircuitFault.{CircuitFault}
+use Rattle.circuit_faults.specs.Results.{IsFirstFault, root_at}
+use Rattle.circuit_faults.specs.declared.net.CircuitFault.{CircuitFault}
 use Rattle.channel_parts.specs.Orders.{IsSolvedOnce}
 use Rattle.channel_parts.specs.PartLists.{AreParts, least_of}
 use Rattle.channel_parts.specs.declared.part.Parts.{Parts}

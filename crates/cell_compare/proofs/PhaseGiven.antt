@@ -17,9 +17,9 @@ use Rattle.blif_eval.specs.OneAssignment.{HasOneAssignment, IsAssigned}
 use Rattle.blif_eval.specs.Plans.{HasKnownBits, IsPlan}
 use Rattle.blif_eval.specs.declared.plan.ModelPlan.{ModelPlan}
 use Rattle.cell_compare.proofs.PhaseBits.{input_bit}
-use Rattle.cell_compare.specs.Faults.{HasFixedBits, IsSettingAt}
+use Rattle.circuit_faults.specs.Faults.{HasFixedBits, IsSettingAt}
 use Rattle.cell_compare.specs.Phases.{HasInputBits, HasKnownClocks, HasOneModel, HasRootBits, HasSignalBits, IsClearPhase, IsPlainComparison, root_bit, variable_at}
-use Rattle.cell_compare.specs.Results.{IsClearCircuit, root_at}
+use Rattle.circuit_faults.specs.Results.{IsClearCircuit, root_at}
 use Rattle.channel_parts.specs.OneSolution.{AreObserved}
 use Rattle.vrt_model.proofs.Filtered.{device_among}
 use Rattle.vrt_model.proofs.Members.{all_among, among_any, any_among, at_none}
@@ -129,7 +129,7 @@ module _ (k : Comparison) (phase : ℕ) (plain : IsPlainComparison k phase) wher
       → IsSettingAt k.circuit (root_at d roots (bits_of bits)) (setting_of k phase bits)
   is_setting roots d r bits = record {
     inputs = λ n net e kind. input_bit k phase bits n net e kind ∙ sym (root_input k.circuit (phase_at k.rules phase) roots d r n net e kind (bits_of bits));
-    held = λ at hold e. absurd (no_hold at hold e);
+    held = λ at hold e plain. absurd (no_hold at hold e);
   }
 
   -- what a clear circuit is at each valuation

@@ -11,7 +11,7 @@ use Rattle.bdd_core.specs.declared.handle.H.{H}
 use Rattle.bdd_core.specs.declared.handle.Spent.{Spent}
 use Rattle.bdd_ops.proofs.CountingLaws.{counted_more, counted_none, counts_err, counts_more, counts_ok, counts_then}
 use Rattle.bdd_ops.specs.Counting.{Counts, IsCounted}
-use Rattle.cell_compare.proofs.CircuitLaws.{constant_shows}
+use Rattle.circuit_faults.proofs.CircuitLaws.{constant_shows}
 use Rattle.cell_compare.proofs.PhaseBits.{input_below, variable_more, variables_few}
 use Rattle.cell_compare.specs.Phases.{HasRootsBefore, input_count, root_bit, variable_at}
 use Rattle.bdd_core.proofs.Frames.{shows_kept}

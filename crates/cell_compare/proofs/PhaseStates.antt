@@ -11,14 +11,14 @@ use Rattle.bdd_ops.specs.Counting.{IsCounted, IsSpanWithin}
 use Rattle.blif_eval.specs.Evaluated.{HasModelSpans, IsEvaluated, IsPlannedFor}
 use Rattle.blif_eval.specs.Plans.{IsPlan, entry_of}
 use Rattle.blif_eval.specs.declared.plan.ModelPlan.{ModelPlan}
-use Rattle.cell_compare.proofs.CountLaws.{reads_variables}
+use Rattle.circuit_faults.proofs.CountLaws.{reads_variables}
 use Rattle.cell_compare.proofs.PartCounts.{part_room}
 use Rattle.cell_compare.proofs.PhaseCounts.{used_more, used_words}
 use Rattle.cell_compare.proofs.PhaseGiven.{no_hold, observed_nets, one_model, signal_bits}
 use Rattle.cell_compare.specs.Compared.{nothing_known}
 use Rattle.cell_compare.specs.Phases.{AreSeenOutputs, HasInputBits, HasKnownClocks, HasRootBits, IsClearPhase, IsPlainComparison}
 use Rattle.cell_compare.specs.PhaseSteps.{HasPhaseWords, IsKnownModel, IsOpen, IsPhaseStore, IsSolved, evaluated_operations, gate_bits, opened_operations, solved_operations}
-use Rattle.cell_compare.specs.Results.{HasCircuitSpans}
+use Rattle.circuit_faults.specs.Results.{HasCircuitSpans}
 use Rattle.cell_compare.specs.declared.outputs.Output.{Output}
 use Rattle.cell_compare.specs.declared.phase_words.PhaseWords.{PhaseWords}
 use Rattle.channel_parts.specs.PartLists.{AreParts}

@@ -14,9 +14,9 @@ use Rattle.cell_compare.specs.Compared.{PhaseGives}
 use Rattle.cell_compare.specs.Outputs.{IsFirstDifference}
 use Rattle.cell_compare.specs.Phases.{AreSeenOutputs, HasOneModel, HasRootBits, HasSignalBits, IsClearPhase, IsFirstUnequal, IsPlainComparison}
 use Rattle.cell_compare.specs.PhaseSteps.{IsTold}
-use Rattle.cell_compare.specs.Results.{IsFirstFault}
+use Rattle.circuit_faults.specs.Results.{IsFirstFault}
 use Rattle.cell_compare.specs.declared.flattened.PhaseFound.TheVariants.{Fault}
-use Rattle.cell_compare.specs.declared.net.CircuitFault.{CircuitFault}
+use Rattle.circuit_faults.specs.declared.net.CircuitFault.{CircuitFault}
 use Rattle.cell_compare.specs.declared.outputs.Output.{Output}
 use Rattle.cell_compare.specs.declared.outputs.OutputFault.{OutputFault}
 use Rattle.channel_parts.specs.Orders.{IsSolvedOnce}

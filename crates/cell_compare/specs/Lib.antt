@@ -1,11 +1,7 @@
 pub mod Cells
 pub mod Compared
-pub mod Faults
-pub mod Operations
 pub mod Outputs
 pub mod PhaseSteps
 pub mod Phases
 pub mod PortLists
-pub mod Results
-pub mod Scans
 pub mod Steps

@@ -5,7 +5,7 @@ use Rattle.bdd_core.specs.Store.{Diagrams}
 use Rattle.bdd_core.specs.Words.{IsFilled, shows}
 use Rattle.bdd_ops.specs.Ops.{bits_of}
 use Rattle.channel_parts.specs.declared.part.Part.{Part}
-use Rattle.cell_compare.specs.Operations.{circuit_operations}
+use Rattle.circuit_faults.specs.Operations.{circuit_operations}
 use Rattle.cell_compare.specs.Phases.{HasInputBits, HasOneModel, HasRootBits, HasSignalBits, IsClearPhase, IsLeastAt}
 use Rattle.cell_compare.specs.declared.phase_words.PhaseWords.{PhaseWords}
 use Rattle.vrt_model.specs.Budget.{model_size}

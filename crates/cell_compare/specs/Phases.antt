@@ -7,7 +7,7 @@ use Rattle.bdd_core.specs.Store.{Diagrams}
 use Rattle.bdd_core.specs.Words.{shows}
 use Rattle.bdd_ops.specs.Ops.{bits_of}
 use Rattle.blif_eval.specs.Plans.{entry_of}
-use Rattle.cell_compare.specs.Faults.{HasFault}
+use Rattle.circuit_faults.specs.Faults.{HasFault}
 use Rattle.cell_compare.specs.declared.outputs.Output.{Output}
 use Rattle.vrt_model.specs.Circuits.{IsFlat}
 use Rattle.vrt_model.specs.Assignment.{Assignment, Tied}

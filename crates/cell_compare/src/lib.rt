@@ -1,13 +1,11 @@
 //! A cell compared with its model by decision diagrams: the verdict on the cell, the faults of a phase place by place.
 #![tactic(auto)]
 
-mod circuit;
 mod flattened;
 mod flattening;
 mod hindrance;
 mod known_facts;
 mod least;
-mod net;
 mod observed;
 mod outputs;
 mod phase;
@@ -17,15 +15,12 @@ mod plans;
 mod port_list;
 mod ports;
 mod roots;
-mod scan;
-mod solve;
 mod told_faults;
 mod verdict;
 
-pub use circuit::circuit_fault;
+pub use circuit_faults::{CircuitFault, circuit_fault};
 pub use flattened::{Flattened, PhaseFound, PhasePlan};
 pub use least::least_valuation;
-pub use net::CircuitFault;
 pub use outputs::{Output, OutputFault, output_fault};
 pub use roots::open_roots;
 pub use verdict::{Compared, compare, compare_prepared};

@@ -5,7 +5,7 @@ ghost use Rattle.bdd_core.specs.Diagram.{IsWithin};
 ghost use Rattle.bdd_core.specs.Store.{IsLive, IsSpan, Means, function_of, AddsNodes};
 ghost use Rattle.bdd_core.specs.Words.{IsFilled};
 ghost use Rattle.bdd_ops.specs.Counting.{Counts, IsSpanWithin};
-ghost use Rattle.cell_compare.specs.Operations.{IsUsedUp};
+ghost use Rattle.circuit_faults.specs.Operations.{IsUsedUp};
 ghost use Rattle.cell_compare.specs.Outputs.{OutputsGive, difference_at, difference_of};
 
 use bdd_core::{H, Spent, Store};

@@ -10,7 +10,6 @@ ghost use Rattle.vrt_model.specs.Comparison.{cell_at};
 ghost use Rattle.vrt_model.specs.FlatModels.{IsFlatModel};
 ghost use Rattle.vrt_model.specs.PairedPorts.{HasRoles};
 
-use crate::circuit::circuit_fault;
 use crate::flattened::{Comparison, PhaseFound, PhasePlan};
 use crate::outputs::{Output, output_fault};
 use crate::phase_words::{PhaseWords, input_nets, take_words, word_count};
@@ -19,6 +18,7 @@ use crate::roots::open_roots;
 use crate::told_faults::{told_circuit_fault, told_difference};
 use bdd_core::{ONE, Store};
 use blif_eval::eval_model;
+use circuit_faults::circuit_fault;
 use std::alloc::Global;
 use vrt_model::NoMemory;
 

@@ -5,7 +5,7 @@ ghost use Rattle.bdd_core.specs.Diagram.{Valuation};
 ghost use Rattle.bdd_core.specs.Store.{IsSpan, Means, AddsNodes};
 ghost use Rattle.bdd_core.specs.Words.{IsFilled, Writes, shows, word_at};
 ghost use Rattle.bdd_ops.specs.Counting.{Counts};
-ghost use Rattle.cell_compare.specs.Operations.{IsUsedUp};
+ghost use Rattle.circuit_faults.specs.Operations.{IsUsedUp};
 ghost use Rattle.cell_compare.specs.Phases.{HasRootBits, input_count, root_bit};
 ghost use Rattle.vrt_model.specs.Reading.{clock_bit};
 ghost use Rattle.vrt_model.specs.Variables.{is_input};

@@ -12,12 +12,12 @@ ghost use Rattle.vrt_model.specs.declared.verdict.FaultKind.TheVariants.{Differs
 
 use crate::flattened::Comparison;
 use crate::least::least_valuation;
-use crate::net::CircuitFault;
 use crate::outputs::OutputFault;
 use crate::phase_words::PhaseWords;
 use crate::ports::input_names;
 use bdd_core::{H, Store};
 use bdd_ops::value_at;
+use circuit_faults::CircuitFault;
 use node_pool::Span;
 use std::alloc::Global;
 use vrt_model::{Circuit, Design, FaultAt, FaultKind, Net, NoMemory, Text};

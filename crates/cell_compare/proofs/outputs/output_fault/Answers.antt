@@ -6,7 +6,8 @@ use Rattle.bdd_ops.proofs.WithinLaws.{within_same}
 use Rattle.bdd_core.specs.Store.{function_of}
 use Rattle.bdd_core.specs.declared.handle.H.{H}
 use Rattle.bdd_core.proofs.Frames.{adds_none, nodes_then, filled_added, span_added}
-use Rattle.cell_compare.proofs.OutputLaws.{agree_more, agrees_first, budget_added, differs_first, span_within, used_later}
+use Rattle.circuit_faults.proofs.CountLaws.{span_within}
+use Rattle.cell_compare.proofs.OutputLaws.{agree_more, agrees_first, budget_added, differs_first, used_later}
 use Rattle.cell_compare.specs.declared.outputs.Output.{Output}
 use Rattle.vrt_model.specs.Lists.{At}
 use Rattle.cell_compare.proofs.outputs.output_fault.Goals as goal

@@ -10,10 +10,10 @@ use Rattle.cell_compare.proofs.PhaseGiven.{clear_phase, observed_nets, one_model
 use Rattle.cell_compare.proofs.PhaseStates.{circuit_spans, clocks_none, one_hold, solved_next, span_reads, store_more}
 use Rattle.cell_compare.proofs.PhaseTold.{circuit_told}
 use Rattle.cell_compare.specs.Compared.{comparison_in, nothing_known}
-use Rattle.cell_compare.specs.Operations.{circuit_operations}
+use Rattle.circuit_faults.specs.Operations.{circuit_operations}
 use Rattle.cell_compare.specs.PhaseSteps.{IsTold, opened_operations}
-use Rattle.cell_compare.specs.Results.{CircuitGives, IsClearCircuit, IsFirstFault}
-use Rattle.cell_compare.specs.declared.net.CircuitFault.{CircuitFault}
+use Rattle.circuit_faults.specs.Results.{CircuitGives, IsClearCircuit, IsFirstFault}
+use Rattle.circuit_faults.specs.declared.net.CircuitFault.{CircuitFault}
 use Rattle.channel_parts.specs.OneSolution.{AreObserved}
 use Rattle.vrt_model.specs.Lists.{mark_at}
 use Rattle.vrt_model.specs.Budget.{model_size}

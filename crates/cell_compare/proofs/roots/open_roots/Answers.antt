@@ -4,7 +4,7 @@ use Rattle.bdd_core.specs.Store.{Diagrams}
 use Rattle.bdd_core.specs.Diagram.{Valuation}
 use Rattle.bdd_core.specs.Words.{shows}
 use Rattle.bdd_ops.proofs.CountingLaws.{counted_more, counts_ok}
-use Rattle.cell_compare.proofs.CountLaws.{used_counted}
+use Rattle.circuit_faults.proofs.CountLaws.{used_counted}
 use Rattle.cell_compare.proofs.PhaseRoots.{counted_next, next_few, refused_next, roots_more, variable_in, variable_next}
 use Rattle.cell_compare.specs.Phases.{root_bit, variable_at}
 use Rattle.bdd_core.proofs.Frames.{writes_then}

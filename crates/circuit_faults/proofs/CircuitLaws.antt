@@ -1,0 +1,340 @@
+-- The parts of a circuit, one after the other.
+use Rattle.std.proofs.Common.{◌≡◌, ℕ, zero, suc, ◌+◌, ◌*◌, ◌<◌, ◌≤◌, ◌⊎◌, Bool, true, false, cond, List, [], ◌∷◌, Option, Some, None, length, arith, ap, refl, sym, subst, ◌∙◌, inl, inr}
+use Rattle.std.specs.Prelude.{◌↔◌, slice_get}
+use Rattle.std.proofs.lemmas.Bool.{cases_eq, false≢true}
+use Rattle.std.proofs.lemmas.Option.{none-some, same_Some, slice_get_within}
+use Rattle.bdd_core.proofs.Meaning.{meaning_one, meaning_zero}
+use Rattle.bdd_core.specs.Diagram.{Valuation, meaning}
+use Rattle.bdd_core.specs.Store.{Diagrams, IsLive, function_of}
+use Rattle.bdd_core.specs.Words.{IsApart, IsFilled, Writes, shows, word_at, WritesTwo}
+use Rattle.bdd_core.specs.declared.handle.H.{H}
+use Rattle.bdd_core.proofs.Frames.{IsWithinSpan, two_filled, two_span, two_word}
+use Rattle.circuit_faults.proofs.Ordered.{AreOrderedParts, IsBefore, IsFirstPlace, IsInEarlier, IsNetAt, IsWholePart, Place}
+use Rattle.circuit_faults.proofs.PartNetworks.{bit_there, fault_alone, fault_there}
+use Rattle.circuit_faults.proofs.Solutions.{given_bit, given_no_float, known_bit}
+use Rattle.circuit_faults.specs.Faults.{HasFault, HasFixedBits, IsSettingAt, IsSolvedAt, ShowsFault}
+use Rattle.circuit_faults.specs.Results.{HasCircuitSpans, IsClearCircuit, first_word, root_at}
+use Rattle.circuit_faults.specs.Scans.{IsInside, IsPartClear, IsPartFault}
+use Rattle.circuit_faults.specs.declared.net.CircuitFault.{CircuitFault}
+use Rattle.channel_parts.specs.OneSolution.{AreObserved}
+use Rattle.channel_parts.specs.declared.part.Part.{Part}
+use Rattle.known_nets.proofs.NetKinds.{given_or_plain}
+use Rattle.known_nets.specs.KnownTables.{known_at}
+use Rattle.node_pool.specs.declared.region.Span.{Span}
+use Rattle.path_fixpoint.proofs.SolveLaws.{is_finite}
+use Rattle.path_fixpoint.specs.Parts.{IsPlace, part_devices}
+use Rattle.path_fixpoint.specs.Solved.{HasRootSpans, network_at}
+use Rattle.vrt_model.proofs.Decidable.{reaches_or_not}
+use Rattle.vrt_model.proofs.GatesGiven.{IsGiven}
+use Rattle.vrt_model.proofs.Members.{all_among}
+use Rattle.vrt_model.proofs.Tests.{some_or_none}
+use Rattle.vrt_model.specs.Circuits.{IsHold, IsFlat}
+use Rattle.vrt_model.specs.Known.{IsKnown}
+use Rattle.vrt_model.specs.Lists.{At, Among}
+use Rattle.vrt_model.specs.Path.{Network}
+use Rattle.vrt_model.specs.Reading.{bare}
+use Rattle.vrt_model.specs.Response.{Fight as Fights, Float as Floats, IsResponse, Reaches, Shows}
+use Rattle.vrt_model.specs.State.{Setting}
+use Rattle.vrt_model.specs.declared.circuit.Circuit.{Circuit}
+use Rattle.vrt_model.specs.declared.circuit.Device.{Device}
+use Rattle.vrt_model.specs.declared.circuit.FlatNet.{FlatNet}
+use Rattle.vrt_model.specs.declared.ids.Net.{Net}
+use Rattle.vrt_model.specs.declared.rules.Phase.{Phase}
+use Rattle.vrt_model.specs.declared.verdict.FaultKind.{FaultKind}
+use Rattle.vrt_model.specs.declared.verdict.FaultKind.TheVariants.{Fight, FightKept, Float, Unsettled, Constraint, Differs, Next, Apart, Enter}
+
+-- ---- whether a net is inside a part
+
+net_in : (nets : List Net) (n : ℕ) → ((i : ℕ) × (net : Net) × At nets i net × (net.0 ≡ n)) ⊎ ((i : ℕ) (net : Net) → At nets i net → net.0 ≡ n → ⊥)
+net_in [] n = inr (λ i net e is. none-some net e)
+net_in (x ∷ xs) n =
+    elim (cases_eq x.0 n) [
+      | inl e ↦ inl (zero, x, refl, e)
+      | inr ne ↦ elim (net_in xs n) [ inl h ↦ inl (suc h.0, h.1, h.2, h.3) | inr none ↦ inr (by_place none ne) ]
+    ]
+  where
+    by_place : ((i : ℕ) (net : Net) → At xs i net → net.0 ≡ n → ⊥) → (x.0 ≡ n → ⊥) → (i : ℕ) (net : Net) → At (x ∷ xs) i net → net.0 ≡ n → ⊥
+    by_place none ne zero net e is = ne (ap (λ (m : Net). m.0) (same_Some x net e) ∙ is)
+    by_place none ne (suc i) net e is = none i net e is
+
+inside_or_not : (part : Part) (n : ℕ) → IsInside part n ⊎ (¬ IsInside part n)
+inside_or_not part n =
+    elim (net_in part.nets n) [ inl h ↦ inl (h.0, (h.1, h.2, h.3)) | inr none ↦ inr (λ inside. none inside.0 inside.1.0 inside.1.1 inside.1.2) ]
+
+-- a constant shows its bit
+pub constant_shows : (d : Diagrams) (b : Bool) (v : Valuation) → meaning d.nodes (cond b 1 0) v ≡ b
+constant_shows d true v = meaning_one d.nodes v
+constant_shows d false v = meaning_zero d.nodes v
+
+-- the bits of a part's nets: a net that neither fights nor floats shows whether 1 reaches it
+shows_bit : (w : Network) (n : ℕ) (b : Bool) → ((b ≡ true) ↔ Reaches w n true) → (Reaches w n false ⊎ (¬ Reaches w n false)) → (¬ IsResponse w n Fights) → (¬ IsResponse w n Floats) → IsResponse w n (Shows b)
+shows_bit w n true tells zeros no_fight no_float = (tells.0 refl, λ r. no_fight (tells.0 refl, r))
+shows_bit w n false tells (inl r) no_fight no_float = (r, λ one. false≢true (tells.1 one))
+shows_bit w n false tells (inr none) no_fight no_float = absurd (no_float (λ one. false≢true (tells.1 one), none))
+
+-- ---- what is known before a part is looked at
+
+-- the nets whose handles are their bits
+abbrev pub IsDone : Circuit → Phase → List Part → ℕ → ℕ → Type 0
+IsDone c phase parts k n = IsGiven c n ⊎ ((b : Bool) × IsKnown c phase n b) ⊎ IsInEarlier parts k n
+
+-- in the care set, at a solution, the nets of the parts before it have their bits and no faults
+pub record IsSolvedBefore (c : Circuit) (phase : Phase) (observed : ℕ → Bool) (parts : List Part) (care : H) (roots gates : Span) (k : ℕ) (first now : Diagrams) : Type 0 where
+  pub bits :
+      (v : Valuation) (setting : Setting) (a : ℕ → Option Bool) → function_of first care v ≡ true → IsSolvedAt c phase observed (root_at first roots v) setting a
+      → (n : ℕ) → observed n ≡ true → IsDone c phase parts k n → a n ≡ Some (shows now gates n v)
+  pub clear :
+      (v : Valuation) (setting : Setting) (a : ℕ → Option Bool) → function_of first care v ≡ true → IsSolvedAt c phase observed (root_at first roots v) setting a
+      → (kind : FaultKind) (n : ℕ) → IsInEarlier parts k n → ¬ HasFault c phase observed setting a kind n
+
+module _ (c : Circuit) (phase : Phase) (observed : ℕ → Bool) (known : List (Option Bool)) (parts : List Part) (care : H) (roots gates : Span)
+    (flat : IsFlat c) (seen : AreObserved c observed) (are : AreOrderedParts c phase known parts) (roots_len : roots.len ≡ length c.nets) (gates_len : gates.len ≡ length c.nets) where
+  abbrev Before : ℕ → Diagrams → Diagrams → Type 0
+  Before k first now = IsSolvedBefore c phase observed parts care roots gates k first now
+
+  abbrev Done : ℕ → ℕ → Type 0
+  Done k n = IsDone c phase parts k n
+
+  none_earlier : (n : ℕ) → IsInEarlier parts 0 n → ⊥
+  none_earlier n e = (let lt = e.2 in omega (arith, lt))
+
+  -- ---- as the handles are opened
+
+  module _ (first now : Diagrams) (live : IsFilled first roots) (wr : Writes gates first now)
+      (fixed : (v : Valuation) → HasFixedBits c phase (root_at first roots v))
+      (opened : (n : ℕ) → n < gates.len → word_at now gates n ≡ first_word (known_at known n) (word_at first roots n)) where
+    opened_known : (n : ℕ) (b : Bool) (v : Valuation) → n < length c.nets → known_at known n ≡ Some b → shows now gates n v ≡ b
+    opened_known n b v lt e =
+        ap (λ (k : ℕ). meaning now.nodes k v) (opened n (omega (arith, lt, gates_len)) ∙ ap (λ (o : Option Bool). first_word o (word_at first roots n)) e)
+        ∙ constant_shows now b v
+
+    opened_root : (n : ℕ) (v : Valuation) → n < length c.nets → known_at known n ≡ None → shows now gates n v ≡ root_at first roots v n
+    opened_root n v lt e =
+        ap (λ (k : ℕ). meaning now.nodes k v) (opened n (omega (arith, lt, gates_len)) ∙ ap (λ (o : Option Bool). first_word o (word_at first roots n)) e)
+        ∙ wr.adds.kept (word_at first roots n) (live n (omega (arith, lt, roots_len))) v
+
+    pub solved_none : Before 0 first now
+    solved_none = record {
+      bits = λ v setting a met at n o done. elim (some_or_none (known_at known n)) [
+        | inl k ↦
+            known_bit c phase observed flat seen (root_at first roots v) (fixed v) setting at.given a at.solves n k.0 o ((are.table n k.0).0 k.1)
+            ∙ ap (λ (b : Bool). Some b) (sym (opened_known n k.0 v (seen.nets n o) k.1))
+        | inr none ↦ elim done [
+          | inl g ↦
+              given_bit c phase observed flat seen (root_at first roots v) (fixed v) setting at.given a at.solves n o g
+              ∙ ap (λ (b : Bool). Some b) (sym (opened_root n v (seen.nets n o) none))
+          | inr other ↦ elim other [
+            | inl k ↦ absurd (none-some k.0 (sym none ∙ (are.table n k.0).1 k.1))
+            | inr e ↦ absurd (none_earlier n e)
+          ]
+        ]
+      ];
+      clear = λ v setting a met at kind n e f. none_earlier n e;
+    }
+
+  -- ---- one part more
+
+  module _ (k : ℕ) (part : Part) (here : At parts k part) (first now : Diagrams) (before : Before k first now)
+      (fixed : (v : Valuation) → HasFixedBits c phase (root_at first roots v)) (care_live : IsLive first care) (live : IsFilled now gates)
+      (kept_care : (v : Valuation) → function_of now care v ≡ function_of first care v)
+      (kept_roots : (n : ℕ) (v : Valuation) → n < length c.nets → shows now roots n v ≡ shows first roots n v) where
+    whole : IsWholePart bare c phase part
+    whole = are.each part (k, here)
+
+    abbrev alone : Valuation → Network
+    alone v = network_at now c part gates roots v
+
+    setting_now : (v : Valuation) (setting : Setting) → IsSettingAt c (root_at first roots v) setting → IsSettingAt c (root_at now roots v) setting
+    setting_now v setting s = record {
+      inputs = λ n net e is. s.inputs n net e is ∙ sym (kept_roots n v (in_range n net e));
+      held = λ at hold e plain. s.held at hold e plain ∙ sym (kept_roots hold.net.0 v (all_among (IsHold c) c.holds hold flat.holds (at, e)).net);
+    }
+      where
+        in_range : (n : ℕ) (net : FlatNet) → At c.nets n net → n < length c.nets
+        in_range n net e = slice_get_within c.nets n net e
+
+    fixed_now : (v : Valuation) → HasFixedBits c phase (root_at now roots v)
+    fixed_now v n b f = kept_roots n v (slice_get_within c.nets n f.0 f.1) ∙ fixed v n b f
+
+    module _ (v : Valuation) (setting : Setting) (a : ℕ → Option Bool) (met : function_of first care v ≡ true) (at : IsSolvedAt c phase observed (root_at first roots v) setting a) where
+      -- the gates of the part are given, known, or in a part before it
+      gate_done : (d : Device) → Among (part_devices c part) d → Done k d.gate.0
+      gate_done d m =
+          elim (given_or_plain c d.gate.0 (seen.nets d.gate.0 (seen.gates d (whole.devices d m).0))) [
+            | inl g ↦ inl g
+            | inr p ↦ elim (some_or_none (known_at known d.gate.0)) [
+              | inl b ↦ inr (inl (b.0, (are.table d.gate.0 b.0).0 b.1))
+              | inr none ↦ inr (inr (are.gates k part d here m p (λ b is. none-some b (sym none ∙ (are.table d.gate.0 b).1 is))))
+            ]
+          ]
+
+      gates_are : (d : Device) → Among (part_devices c part) d → a d.gate.0 ≡ Some (shows now gates d.gate.0 v)
+      gates_are d m = before.bits v setting a met at d.gate.0 (seen.gates d (whole.devices d m).0) (gate_done d m)
+
+      pub to_alone : (kind : FaultKind) (n : ℕ) → IsInside part n → HasFault c phase observed setting a kind n → ShowsFault observed (alone v) kind n
+      to_alone kind n i f =
+          fault_alone c phase observed flat seen (root_at now roots v) (fixed_now v) setting (setting_now v setting at.given) a at.solves part whole (λ m. shows now gates m v) gates_are kind n i f
+
+      pub from_alone : (kind : FaultKind) (n : ℕ) → IsInside part n → ShowsFault observed (alone v) kind n → HasFault c phase observed setting a kind n
+      from_alone kind n i f =
+          fault_there c phase observed flat seen (root_at now roots v) (fixed_now v) setting (setting_now v setting at.given) a at.solves part whole (λ m. shows now gates m v) gates_are kind n i f
+
+      pub bit_of_net : (n : ℕ) (b : Bool) → IsInside part n → observed n ≡ true → IsResponse (alone v) n (Shows b) → a n ≡ Some b
+      bit_of_net n b i o shown =
+          bit_there c phase observed flat seen (root_at now roots v) (fixed_now v) setting (setting_now v setting at.given) a at.solves part whole (λ m. shows now gates m v) gates_are n b i o shown
+
+    earlier_or_here : (n : ℕ) → IsInEarlier parts (k + 1) n → IsInEarlier parts k n ⊎ IsInside part n
+    earlier_or_here n e =
+        elim (cases_eq e.0 k) [
+          | inl same ↦ inr (let p : e.1 ≡ part = same_Some e.1 part (sym e.3 ∙ ap (slice_get parts) same ∙ here) in subst (λ (q : Part). IsInside q n) p e.4)
+          | inr ne ↦ inl (e.0, e.1, (let lt = e.2 in omega (arith, lt, ne)), e.3, e.4)
+        ]
+
+    pub solved_more : (new : Diagrams) → IsPartClear c part observed care roots gates now new
+        → ((h : ℕ) (v : Valuation) → h < length now.nodes → meaning new.nodes h v ≡ meaning now.nodes h v) → Before (k + 1) first new
+    solved_more new p kept = record {
+      bits = λ v setting a met at n o done. elim (inside_or_not part n) [
+        | inl i ↦ bit_of_net v setting a met at n (shows new gates n v) i o (shown v met n i o)
+        | inr out ↦ before.bits v setting a met at n o (not_here n out done) ∙ ap (λ (b : Bool). Some b) (sym (stays v n o out))
+      ];
+      clear = λ v setting a met at kind n e f. elim (earlier_or_here n e) [
+        | inl low ↦ before.clear v setting a met at kind n low f
+        | inr i ↦ p.clear n kind v i (kept_care v ∙ met) (to_alone v setting a met at kind n i f)
+      ];
+    }
+      where
+        shown : (v : Valuation) → function_of first care v ≡ true → (n : ℕ) → IsInside part n → observed n ≡ true → IsResponse (alone v) n (Shows (shows new gates n v))
+        shown v met n i o =
+            shows_bit (alone v) n (shows new gates n v) (p.bits n v i)
+            (reaches_or_not (alone v) (length c.nets) 8 (is_finite c part whole.is flat gates roots gates now v) n false)
+            (λ f. p.clear n Fight v i (kept_care v ∙ met) f)
+            (λ f. p.clear n Float v i (kept_care v ∙ met) (o, f))
+
+        not_here : (n : ℕ) → (¬ IsInside part n) → Done (k + 1) n → Done k n
+        not_here n out (inl g) = inl g
+        not_here n out (inr (inl b)) = inr (inl b)
+        not_here n out (inr (inr e)) = elim (earlier_or_here n e) [ inl low ↦ inr (inr low) | inr i ↦ absurd (out i) ]
+
+        stays : (v : Valuation) (n : ℕ) → observed n ≡ true → (¬ IsInside part n) → shows new gates n v ≡ shows now gates n v
+        stays v n o out =
+            let lt : n < gates.len = (let within = seen.nets n o in omega (arith, within, gates_len)) in
+            ap (λ (h : ℕ). meaning new.nodes h v) (p.others n lt out) ∙ kept (word_at now gates n) v (live n lt)
+
+    pub fault_found : (new : Diagrams) (fault : CircuitFault) → IsPartFault c part observed care roots gates fault now new → IsFirstPlace c phase observed parts care roots fault first new
+    fault_found new fault f = record {
+      place = record { part = k; net = f.place; kind = fault.kind };
+      stands = (part, here, f.stands);
+      kind = refl;
+      kinds = f.kinds;
+      live = f.live;
+      some = f.some;
+      exact = λ v setting a at. (
+        λ e.
+            let h = (f.exact v).0 e in
+            let met : function_of first care v ≡ true = sym (kept_care v) ∙ h.0 in
+            (met, from_alone v setting a met at fault.kind fault.net.0 (f.place, f.stands) h.1),
+        λ h. (f.exact v).1 (kept_care v ∙ h.0, to_alone v setting a h.0 at fault.kind fault.net.0 (f.place, f.stands) h.1),
+      );
+      before = λ v setting a met at p n there order shown. earlier v setting a met at p n there order shown;
+    }
+      where
+        -- a place in the same part
+        same_part : (p : Place) (n : ℕ) → IsNetAt parts p n → p.part ≡ k → IsPlace part p.net n
+        same_part p n there e =
+            let q : there.0 ≡ part = same_Some there.0 part (sym there.1 ∙ ap (slice_get parts) e ∙ here) in
+            subst (λ (x : Part). IsPlace x p.net n) q there.2
+
+        earlier : (v : Valuation) (setting : Setting) (a : ℕ → Option Bool) → function_of first care v ≡ true → IsSolvedAt c phase observed (root_at first roots v) setting a
+            → (p : Place) (n : ℕ) → IsNetAt parts p n → IsBefore p (record { part = k; net = f.place; kind = fault.kind }) → ¬ HasFault c phase observed setting a p.kind n
+        earlier v setting a met at p n there (inl lt) shown = before.clear v setting a met at p.kind n (p.part, there.0, lt, there.1, (p.net, there.2)) shown
+        earlier v setting a met at p n there (inr (inl q)) shown =
+            let i = same_part p n there q.0 in
+            f.before p.net n p.kind v i (inl q.1) (kept_care v ∙ met) (to_alone v setting a met at p.kind n (p.net, i) shown)
+        earlier v setting a met at p n there (inr (inr q)) shown =
+            let i = same_part p n there q.0 in
+            f.before p.net n p.kind v i (inr (q.1, q.2, q.3)) (kept_care v ∙ met) (to_alone v setting a met at p.kind n (p.net, i) shown)
+
+  -- ---- all parts
+
+  pub solved_all : (first now : Diagrams) → ((v : Valuation) → HasFixedBits c phase (root_at first roots v)) → Before (length parts) first now
+      → IsClearCircuit c phase observed care roots gates first now
+  solved_all first now fixed s = record {
+    bits = λ v setting a met at n o. s.bits v setting a met at n o (done n o);
+    clear = λ v setting a met at kind n f. no_fault v setting a met at kind n f;
+  }
+    where
+      done : (n : ℕ) → observed n ≡ true → Done (length parts) n
+      done n o = elim (given_or_plain c n (seen.nets n o)) [ inl g ↦ inl g | inr p ↦ inr (inr (are.all n p)) ]
+
+      no_fault : (v : Valuation) (setting : Setting) (a : ℕ → Option Bool) → function_of first care v ≡ true → IsSolvedAt c phase observed (root_at first roots v) setting a
+          → (kind : FaultKind) (n : ℕ) → ¬ HasFault c phase observed setting a kind n
+      no_fault v setting a met at Fight n f = s.clear v setting a met at Fight n (are.all n f.0) f
+      no_fault v setting a met at Float n f =
+          elim (given_or_plain c n (seen.nets n f.0)) [
+            | inl g ↦ given_no_float c phase observed flat seen (root_at first roots v) (fixed v) setting at.given a at.solves n g f.1
+            | inr p ↦ s.clear v setting a met at Float n (are.all n p) f
+          ]
+      no_fault v setting a met at FightKept n f = f
+      no_fault v setting a met at Unsettled n f = f
+      no_fault v setting a met at Constraint n f = f
+      no_fault v setting a met at Differs n f = f
+      no_fault v setting a met at Next n f = f
+      no_fault v setting a met at Apart n f = f
+      no_fault v setting a met at Enter n f = f
+
+-- ---- the spans, as steps over the parts leave them
+
+-- the words of a part among those of the greatest
+abbrev pub words_in : Span → Part → Span
+words_in out part = record { start = out.start; len = 10 * length part.nets }
+
+apart_inner : (a out : Span) (len : ℕ) → len ≤ out.len → IsApart a out → IsApart a (record { start = out.start; len = len })
+apart_inner a out len le (inl low) = inl low
+apart_inner a out len le (inr high) = inr (omega (arith, high, le))
+
+module _ (c : Circuit) (parts : List Part) (roots gates out : Span) (first : Diagrams) (spans : HasCircuitSpans c parts roots gates out first) (part : Part) (member : Among parts part) where
+  pub words_within : (words : Span) → words ≡ words_in out part → IsWithinSpan words out
+  words_within words is =
+      subst (λ (s : Span). IsWithinSpan s out) (sym is) (record { start = omega arith; fits = (let room = spans.room part member in omega (arith, room)) })
+
+  pub root_spans : (now : Diagrams) (words : Span) → words ≡ words_in out part → WritesTwo gates out first now → IsFilled now gates → HasRootSpans c part gates roots words now
+  root_spans now words is wr live =
+      subst (λ (s : Span). HasRootSpans c part gates roots s now) (sym is) (record {
+        spans = record {
+          gates_span = two_span gates out gates first now wr spans.gates_span;
+          gates_len = spans.gates_len;
+          gates_live = live;
+          out_span = (let span = two_span gates out out first now wr spans.out_span in (span.0, (let end = span.1 in omega (arith, end, room))));
+          out_len = refl;
+          apart = apart_inner gates out (10 * length part.nets) room spans.gates_out;
+        };
+        roots_span = two_span gates out roots first now wr spans.roots_span;
+        roots_len = spans.roots_len;
+        roots_live = two_filled gates out roots first now wr spans.roots_gates spans.roots_out spans.roots_live;
+        roots_apart = apart_inner roots out (10 * length part.nets) room spans.roots_out;
+      })
+    where
+      room : 10 * length part.nets ≤ out.len
+      room = spans.room part member
+
+module _ (c : Circuit) (phase : Phase) (observed : ℕ → Bool) (known : List (Option Bool)) (parts : List Part) (care : H) (roots gates out : Span)
+    (flat : IsFlat c) (seen : AreObserved c observed) (are : AreOrderedParts c phase known parts) (first : Diagrams) (spans : HasCircuitSpans c parts roots gates out first)
+    (care_live : IsLive first care) (fixed : (v : Valuation) → HasFixedBits c phase (root_at first roots v))
+    (k : ℕ) (part : Part) (here : At parts k part) (now new : Diagrams) (before : WritesTwo gates out first now) (live : IsFilled now gates)
+    (solved : IsSolvedBefore c phase observed parts care roots gates k first now) where
+  care_kept : (v : Valuation) → function_of now care v ≡ function_of first care v
+  care_kept v = before.adds.kept care.0 care_live v
+
+  roots_kept : (n : ℕ) (v : Valuation) → n < length c.nets → shows now roots n v ≡ shows first roots n v
+  roots_kept n v lt =
+      let within : n < roots.len = omega (arith, lt, spans.roots_len) in
+      ap (λ (h : ℕ). meaning now.nodes h v) (two_word gates out roots first now before spans.roots_gates spans.roots_out n within) ∙ before.adds.kept (word_at first roots n) (spans.roots_live n within) v
+
+  pub step_clear : IsPartClear c part observed care roots gates now new → ((h : ℕ) (v : Valuation) → h < length now.nodes → meaning new.nodes h v ≡ meaning now.nodes h v)
+      → IsSolvedBefore c phase observed parts care roots gates (k + 1) first new
+  step_clear p kept =
+      solved_more c phase observed known parts care roots gates flat seen are spans.roots_len spans.gates_len k part here first now solved fixed care_live live care_kept roots_kept new p kept
+
+  pub step_fault : (fault : CircuitFault) → IsPartFault c part observed care roots gates fault now new → IsFirstPlace c phase observed parts care roots fault first new
+  step_fault fault f =
+      fault_found c phase observed known parts care roots gates flat seen are spans.roots_len spans.gates_len k part here first now solved fixed care_live live care_kept roots_kept new fault f

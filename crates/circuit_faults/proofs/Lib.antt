@@ -1,0 +1,10 @@
+pub mod CircuitLaws
+pub mod CountLaws
+pub mod NetLaws
+pub mod OrderLaws
+pub mod Ordered
+pub mod PartLaws
+pub mod PartNetworks
+pub mod ScanLaws
+pub mod Solutions
+pub mod WholeParts

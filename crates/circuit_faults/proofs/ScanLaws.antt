@@ -1,0 +1,88 @@
+-- The nets of a part, one after the other.
+use Rattle.std.proofs.Common.{◌≡◌, ◌≢◌, ℕ, ◌+◌, ◌*◌, ◌<◌, ◌≤◌, Bool, true, false, length, arith, refl, sym, subst, ◌∙◌, inl, inr}
+use Rattle.std.proofs.lemmas.Bool.{cases_eq}
+use Rattle.node_pool.specs.declared.region.Span.{Span}
+use Rattle.bdd_core.specs.Diagram.{IsSame}
+use Rattle.bdd_core.specs.Store.{Diagrams, IsLive, function_of}
+use Rattle.bdd_core.specs.Words.{IsApart, IsFilled, Writes, word_at}
+use Rattle.bdd_core.specs.declared.handle.H.{H}
+use Rattle.circuit_faults.proofs.NetLaws.{clear_same, faulty_same}
+use Rattle.circuit_faults.specs.Scans.{IsClearNet, IsClearPlace, IsFaultyNet, IsFoundIn, IsScannedTo, reached}
+use Rattle.circuit_faults.specs.declared.net.CircuitFault.{CircuitFault}
+use Rattle.channel_parts.specs.declared.part.Part.{Part}
+use Rattle.bdd_core.proofs.Frames.{shows_beside, word_beside}
+use Rattle.path_fixpoint.proofs.Places.{place_in, place_once}
+use Rattle.path_fixpoint.specs.Parts.{IsPlace}
+use Rattle.path_fixpoint.specs.Reaching.{slot_of}
+use Rattle.path_fixpoint.specs.Strengths.{word_of}
+use Rattle.vrt_model.specs.declared.ids.Net.{Net}
+
+pub slot_word : (value : Bool) (i len : ℕ) → 10 * i + 10 ≤ len → word_of (slot_of value) i < len
+slot_word true i len fits = omega (arith, fits)
+slot_word false i len fits = omega (arith, fits)
+
+module _ (part : Part) (observed : ℕ → Bool) (care : H) (gates out : Span) (once : (i j n : ℕ) → IsPlace part i n → IsPlace part j n → i ≡ j)
+    (len : out.len ≡ 10 * length part.nets) (apart : IsApart out gates) where
+  pub scanned_none : (d : Diagrams) → IsScannedTo part observed care gates out 0 d d
+  scanned_none d = record {
+    clear = λ i n lt p. absurd (omega (arith, lt));
+    bits = λ i n lt p. absurd (omega (arith, lt));
+    others = λ k none. refl;
+  }
+
+  module _ (first old : Diagrams) (wr : Writes gates first old) (care_live : IsLive first care) (filled : IsFilled first out) where
+    place_fits : (i n : ℕ) → IsPlace part i n → 10 * i + 10 ≤ out.len
+    place_fits i n p = omega (arith, place_in part i n p, len)
+
+    care_same : IsSame (function_of old care) (function_of first care)
+    care_same v = wr.adds.kept care.0 care_live v
+
+    reached_same : (value : Bool) (i n : ℕ) → IsPlace part i n → IsSame (reached old out value i) (reached first out value i)
+    reached_same value i n p v = shows_beside gates out first old (word_of (slot_of value) i) v wr apart filled (slot_word value i out.len (place_fits i n p))
+
+    -- a net that is clear in the store of its turn is so in the first
+    pub clear_first : (i n : ℕ) (seen : Bool) → IsPlace part i n → IsClearNet (function_of old care) (reached old out false i) (reached old out true i) seen
+        → IsClearNet (function_of first care) (reached first out false i) (reached first out true i) seen
+    clear_first i n seen p c =
+        clear_same (function_of old care) (reached old out false i) (reached old out true i) (function_of first care) (reached first out false i) (reached first out true i)
+        care_same (reached_same false i n p) (reached_same true i n p) seen c
+
+    pub scanned_more : (new : Diagrams) (i : ℕ) (net : Net) → IsPlace part i net.0 → IsScannedTo part observed care gates out i first old
+        → IsClearNet (function_of old care) (reached old out false i) (reached old out true i) (observed net.0)
+        → word_at new gates net.0 ≡ word_at old out (word_of (slot_of true) i)
+        → ((k : ℕ) → k ≢ net.0 → word_at new gates k ≡ word_at old gates k)
+        → IsScannedTo part observed care gates out (i + 1) first new
+    scanned_more new i net p s c here away = record {
+      clear = λ j n lt q. elim (cases_eq j i) [
+        | inl e ↦
+            let same : net.0 ≡ n = place_once part i net.0 n p (subst (λ (x : ℕ). IsPlace part x n) e q) in
+            let at_i : IsClearPlace observed care out first i n = subst (λ (m : ℕ). IsClearPlace observed care out first i m) same (clear_first i net.0 (observed net.0) p c) in
+            subst (λ (x : ℕ). IsClearPlace observed care out first x n) (sym e) at_i
+        | inr ne ↦ s.clear j n (omega (arith, lt, ne)) q
+      ];
+      bits = λ j n lt q. elim (cases_eq j i) [
+        | inl e ↦
+            let same : net.0 ≡ n = place_once part i net.0 n p (subst (λ (x : ℕ). IsPlace part x n) e q) in
+            let at_i : word_at new gates n ≡ word_at first out (word_of (slot_of true) i) =
+            subst (λ (m : ℕ). word_at new gates m ≡ word_at first out (word_of (slot_of true) i)) same
+            (here ∙ word_beside gates out first old (word_of (slot_of true) i) wr apart (slot_word true i out.len (place_fits i net.0 p))) in
+            subst (λ (x : ℕ). word_at new gates n ≡ word_at first out (word_of (slot_of true) x)) (sym e) at_i
+        | inr ne ↦ away n (λ e. ne (once j i n q (subst (λ (m : ℕ). IsPlace part i m) (sym e) p))) ∙ s.bits j n (omega (arith, lt, ne)) q
+      ];
+      others = λ k none.
+          away k (λ e. none i (omega arith) (subst (λ (m : ℕ). IsPlace part i m) (sym e) p))
+          ∙ s.others k (λ j lt. none j (omega (arith, lt)));
+    }
+
+    pub found_at : (new : Diagrams) (i : ℕ) (net : Net) (fault : CircuitFault) → IsPlace part i net.0 → IsScannedTo part observed care gates out i first old
+        → fault.net ≡ net
+        → IsFaultyNet (function_of old care) (reached old out false i) (reached old out true i) (observed net.0) fault.kind fault.at new
+        → IsFoundIn part observed care out fault first new
+    found_at new i net fault p s is f = record {
+      place = i;
+      stands = subst (λ (m : Net). IsPlace part i m.0) (sym is) p;
+      before = λ j n lt q. s.clear j n lt q;
+      is = subst (λ (m : Net). IsFaultyNet (function_of first care) (reached first out false i) (reached first out true i) (observed m.0) fault.kind fault.at new) (sym is)
+          (faulty_same (function_of old care) (reached old out false i) (reached old out true i) (function_of first care) (reached first out false i) (reached first out true i)
+          care_same (reached_same false i net.0 p) (reached_same true i net.0 p) (observed net.0) fault.kind fault.at new f);
+    }

@@ -1,0 +1,116 @@
+use Rattle.std.proofs.Common.{◌≡◌, ℕ, ◌+◌, ◌*◌, ◌<◌, ◌≤◌, Bool, List, Option, Err, Ok, get_or, length, true, false, arith, ap, refl, subst}
+use Rattle.std.proofs.lemmas.Option.{slice_get-get_or}
+use Rattle.bdd_core.specs.Store.{function_of}
+use Rattle.bdd_ops.proofs.CountingLaws.{counted_more, counted_then, counts_ok}
+use Rattle.bdd_ops.proofs.WithinLaws.{within_same}
+use Rattle.circuit_faults.proofs.ScanLaws.{scanned_more}
+use Rattle.circuit_faults.specs.Scans.{IsClearNet, IsScannedTo, NetGives, reached}
+use Rattle.circuit_faults.specs.declared.net.CircuitFault.{CircuitFault}
+use Rattle.bdd_core.proofs.Frames.{filled_beside, writes_then, span_written}
+use Rattle.path_fixpoint.proofs.SpendingLaws.{span_beside, spends_behind, spends_more, spends_value}
+use Rattle.path_fixpoint.specs.Parts.{IsPlace}
+use Rattle.vrt_model.specs.Lists.{At, mark_at}
+use Rattle.vrt_model.specs.declared.ids.Net.{Net}
+use Rattle.circuit_faults.proofs.scan.scan.Goals as goal
+
+net_at : (xs ys : List Net) (i : ℕ) (d : Net) → ys ≡ xs → i < length ys → At xs i (get_or ys i d)
+net_at xs ys i d same lt = subst (λ (zs : List Net). At zs i (get_or ys i d)) same (slice_get-get_or ys i d lt)
+
+pub check_net-requires-clause-care : goal.check_net-requires-clause-care
+check_net-requires-clause-care c = omega (arith, c.requires.care, c.loop-i.invariant.writes.adds.longer)
+
+pub check_net-requires-clause-gates : goal.check_net-requires-clause-gates
+check_net-requires-clause-gates c = (
+  span_written c.args.gates c.args.gates c.args.store.now c.loop-i.store c.loop-i.invariant.writes c.requires.gates.0,
+  c.loop-i.invariant.writes.live,
+)
+
+pub check_net-requires-clause-out : goal.check_net-requires-clause-out
+check_net-requires-clause-out c = (
+  span_written c.args.gates c.args.out c.args.store.now c.loop-i.store c.loop-i.invariant.writes c.requires.out.0,
+  filled_beside c.args.gates c.args.out c.args.store.now c.loop-i.store c.loop-i.invariant.writes c.requires.apart c.requires.out.1,
+)
+
+pub loop-i-preserved : goal.loop-i-preserved
+loop-i-preserved c =
+    let part = c.args.part.now in
+    let care = c.args.care in
+    let gates = c.args.gates in
+    let out = c.args.out in
+    let first = c.args.store.now in
+    let old = c.loop-i.store in
+    let new = c.check_net.new.store in
+    let i = c.loop-i.i in
+    let net : Net = get_or c.as_slice-nets.result.now i (record { 0 = 0 }) in
+    let there : At part.nets i net = net_at part.nets c.as_slice-nets.result.now i (record { 0 = 0 }) c.as_slice-nets.ensures c.loop-i-test.true in
+    let place : IsPlace part i net.0 = (net, there, refl) in
+    let zero = reached old out false i in
+    let one = reached old out true i in
+    let gives : IsClearNet (function_of old care) zero one (c.is_seen-seen.result) =
+    subst (λ (o : Option CircuitFault). NetGives (function_of old care) zero one c.is_seen-seen.result net new o) c.in_default.is c.in-Ok.ensures.gives in
+    let clear : IsClearNet (function_of old care) zero one (mark_at c.args.observed.now net.0) = subst (λ (b : Bool). IsClearNet (function_of old care) zero one b) c.is_seen-seen.ensures gives in
+    record {
+      writes = writes_then gates first old new c.loop-i.invariant.writes c.check_net.ensures.writes;
+      scanned = scanned_more part (mark_at c.args.observed.now) care gates out c.requires.once c.requires.out.2 c.requires.apart first old c.loop-i.invariant.writes c.requires.care c.requires.out.1
+          new i net place c.loop-i.invariant.scanned clear (c.in-Ok.ensures.bit c.in_default.is) c.check_net.ensures.apart;
+      counted = λ u care_in gates_in out_in.
+          let before = c.loop-i.invariant.counted u care_in gates_in out_in in
+          let one = c.in-Ok.ensures.few u (within_same u (function_of first care) (function_of old care) (c.loop-i.invariant.writes.adds.kept care.0 c.requires.care) care_in) before.1
+          (span_beside u gates out first old c.loop-i.invariant.writes c.requires.apart c.requires.out.1 out_in) in
+          (counted_more u (4 * i + 4) (4 * (i + 1)) first new (omega arith) (counted_then u (4 * i) 4 first old new before.0 one.counts.added), one.within);
+    }
+
+pub returns-clause-gives : goal.returns-clause-gives
+returns-clause-gives c =
+    let part = c.args.part.now in
+    let shown : length c.as_slice-nets.result.now ≡ length part.nets = ap (λ (xs : List Net). length xs) c.as_slice-nets.ensures in
+    let high : length c.as_slice-nets.result.now ≤ c.loop-i.i = c.loop-i-test.false in
+    let low : c.loop-i.i ≤ length c.as_slice-nets.result.now = c.loop-i.auto.i-end in
+    let end : c.loop-i.i ≡ length part.nets = omega (arith, shown, high, low) in
+    subst (λ (k : ℕ). IsScannedTo part (mark_at c.args.observed.now) c.args.care c.args.gates c.args.out k c.args.store.now c.loop-i.store) end c.loop-i.invariant.scanned
+
+pub returns-in-Err-clause-few : goal.returns-in-Err-clause-few
+returns-in-Err-clause-few c u care_in gates_in out_in =
+    let part = c.args.part.now in
+    let gates = c.args.gates in
+    let out = c.args.out in
+    let care = c.args.care in
+    let first = c.args.store.now in
+    let old = c.loop-i.store in
+    let new = c.check_net.new.store in
+    let i = c.loop-i.i in
+    let shown : length c.as_slice-nets.result.now ≡ length part.nets = ap (λ (xs : List Net). length xs) c.as_slice-nets.ensures in
+    let before = c.loop-i.invariant.counted u care_in gates_in out_in in
+    let one = c.in-Err.ensures.few u (within_same u (function_of first care) (function_of old care) (c.loop-i.invariant.writes.adds.kept care.0 c.requires.care) care_in) before.1
+    (span_beside u gates out first old c.loop-i.invariant.writes c.requires.apart c.requires.out.1 out_in) in
+    spends_more u gates (4 * i + 4) (4 * length part.nets) first new (Err c.in-Err.spent) (omega (arith, shown, c.loop-i-test.true))
+    (spends_behind u gates (4 * i) 4 first old new (Err c.in-Err.spent) before.0 one)
+
+pub returns-in-Some-clause-few : goal.returns-in-Some-clause-few
+returns-in-Some-clause-few c u care_in gates_in out_in =
+    let part = c.args.part.now in
+    let gates = c.args.gates in
+    let out = c.args.out in
+    let care = c.args.care in
+    let first = c.args.store.now in
+    let old = c.loop-i.store in
+    let new = c.check_net.new.store in
+    let i = c.loop-i.i in
+    let shown : length c.as_slice-nets.result.now ≡ length part.nets = ap (λ (xs : List Net). length xs) c.as_slice-nets.ensures in
+    let before = c.loop-i.invariant.counted u care_in gates_in out_in in
+    let one = c.in-Ok.ensures.few u (within_same u (function_of first care) (function_of old care) (c.loop-i.invariant.writes.adds.kept care.0 c.requires.care) care_in) before.1
+    (span_beside u gates out first old c.loop-i.invariant.writes c.requires.apart c.requires.out.1 out_in) in
+    spends_value u gates (4 * length part.nets) first new c.in-Ok.found _
+    (spends_more u gates (4 * i + 4) (4 * length part.nets) first new (Ok c.in-Ok.found) (omega (arith, shown, c.loop-i-test.true))
+    (spends_behind u gates (4 * i) 4 first old new (Ok c.in-Ok.found) before.0 one))
+
+pub returns-clause-few : goal.returns-clause-few
+returns-clause-few c u care_in gates_in out_in =
+    let part = c.args.part.now in
+    let shown : length c.as_slice-nets.result.now ≡ length part.nets = ap (λ (xs : List Net). length xs) c.as_slice-nets.ensures in
+    let before = c.loop-i.invariant.counted u care_in gates_in out_in in
+    record {
+      counts = counts_ok u (4 * length part.nets) c.args.store.now c.loop-i.store _
+          (counted_more u (4 * c.loop-i.i) (4 * length part.nets) c.args.store.now c.loop-i.store (omega (arith, shown, c.loop-i.auto.i-end)) before.0);
+      within = before.1;
+    }

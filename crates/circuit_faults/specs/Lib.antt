@@ -1,0 +1,4 @@
+pub mod Faults
+pub mod Operations
+pub mod Results
+pub mod Scans
