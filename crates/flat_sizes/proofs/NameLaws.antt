@@ -1,5 +1,5 @@
 -- Whether a name is among those of the cards.
-use Rattle.std.proofs.Common.{◌≡◌, ◌++◌, ◌∷◌, ◌||◌, [], ℕ, List, Bool, true, false, refl, ap, ap₂, sym, ◌∙◌}
+use Rattle.std.proofs.Common.{◌≡◌, ◌∷◌, ◌||◌, [], ℕ, List, Bool, true, false, refl, ap, sym, ◌∙◌}
 use Rattle.std.specs.Prelude.{bytes_eq, flat_map}
 use Rattle.std.specs.List.{list_any}
 use Rattle.std.proofs.lemmas.List.Folds.{list_any-append}
@@ -38,8 +38,3 @@ by_tie devices instances name b r e f h =
     h ∙ sym (ap (λ (x : Bool). x || has_name (tied instances) name) (sym e ∙ f)) ∙ mentioned_is devices instances name
 
 -- ---- names behind
-
--- it comes again on its card or behind it
-pub behind_both : (later behind : List (List ℕ)) (name : List ℕ) (a b : Bool) → a ≡ has_name later name → b ≡ has_name behind name
-    → (a || b) ≡ has_name (later ++ behind) name
-behind_both later behind name a b e f = ap₂ (λ (x y : Bool). x || y) e f ∙ sym (list_any-append (bytes_eq name) later behind)

@@ -1,9 +1,8 @@
 -- The bit of a variable by its place.
-use Rattle.std.proofs.Common.{◌≡◌, ℕ, suc, ◌+◌, ◌<◌, ◌≤◌, Bool, true, false, cond, List, [], ◌∷◌, map, Option, Some, None, Result, Ok, Err, length, arith, ap, ap₂, refl, sym, ◌∙◌}
-use Rattle.std.specs.Prelude.{IfSome, position}
+use Rattle.std.proofs.Common.{◌≡◌, ℕ, suc, ◌+◌, ◌<◌, ◌≤◌, Bool, true, false, cond, List, [], ◌∷◌, map, Option, Some, None, Result, Ok, length, arith, ap, ap₂, refl, sym, ◌∙◌}
+use Rattle.std.specs.Prelude.{position}
 use Rattle.std.specs.List.{position_from}
 use Rattle.std.proofs.lemmas.Iterator.Adapters.{position_from-zero}
-use Rattle.std.proofs.lemmas.List.Quantifiers.{position-Some}
 use Rattle.bdd_core.proofs.Meaning.{meaning_one, meaning_zero}
 use Rattle.bdd_core.specs.Diagram.{Function, IsReduced, IsSame, IsWithin, Valuation, meaning}
 use Rattle.bdd_core.specs.Store.{Diagrams, Gives}
@@ -14,7 +13,6 @@ use Rattle.node_pool.specs.declared.region.Node.{Node}
 use Rattle.vrt_model.specs.Held.{bit_of, group_bit_at, is_element, is_group}
 use Rattle.vrt_model.specs.Variables.{places}
 use Rattle.vrt_model.specs.declared.groups.Source.{Source}
-use Rattle.vrt_model.specs.declared.groups.Source.TheVariants.{Element}
 use Rattle.hold_keep.specs.Rooted.{bit_by, bits_at}
 
 module _ (is : Source → Bool) (v : Valuation) where
@@ -30,12 +28,6 @@ module _ (is : Source → Bool) (v : Valuation) where
   -- the bit that a test picks is that of the first variable that passes
   pub picked : (sources : List Source) → bit_by (position is sources) v ≡ bit_of is sources (bits_at sources v)
   picked sources = ap (λ (o : Option ℕ). bit_by o v) (position_from-zero is sources) ∙ from_place 0 sources
-
--- a place of a variable is below their number
-pub place_low : (is : Source → Bool) (sources : List Source) (count : ℕ) (o : Option ℕ) → o ≡ position is sources → length sources ≤ count → IfSome o (λ at. at < count)
-place_low is sources count None e few = tt
-place_low is sources count (Some at) e few =
-    let none : Source = Element 0 in let low = (position-Some is sources at none (sym e)).0 in omega (arith, low, few)
 
 -- ---- functions that are the same
 

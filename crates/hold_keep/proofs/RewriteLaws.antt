@@ -19,14 +19,11 @@ use Rattle.bdd_ops.proofs.CountingLaws.{counted_same, counts_err, counts_more, c
 use Rattle.bdd_ops.proofs.WithinLaws.{within_same}
 use Rattle.bdd_ops.specs.Counting.{Counts}
 use Rattle.bdd_core.proofs.Frames.{word_apart, word_here, word_other}
-use Rattle.vrt_model.proofs.Members.{all_among}
-use Rattle.vrt_model.specs.Circuits.{IsCircuit, IsHold}
 use Rattle.vrt_model.specs.Held.{group_bit, group_bit_at, held_by, held_in, member_of}
 use Rattle.vrt_model.specs.Lists.{At, differ}
 use Rattle.vrt_model.specs.Variables.{entered_bit, places}
 use Rattle.vrt_model.specs.declared.circuit.Circuit.{Circuit}
 use Rattle.vrt_model.specs.declared.circuit.Hold.{Hold}
-use Rattle.vrt_model.specs.declared.ids.Net.{Net}
 use Rattle.vrt_model.specs.declared.groups.Group.{Group as HoldGroup}
 use Rattle.vrt_model.specs.declared.groups.Member.{Member}
 use Rattle.vrt_model.specs.declared.groups.Source.{Source}
@@ -325,13 +322,6 @@ pub groups_held : (c : Circuit) (phase : ℕ) (sources : List Source) (number : 
 groups_held c phase sources number [] place v = refl
 groups_held c phase sources number (group ∷ groups) place v =
     ap (λ (rest : Bool). held_by (member_of place group) (group_bit c phase sources (bits_at sources v) number group) rest) (groups_held c phase sources (suc number) groups place v)
-
--- each hold has a word of its own
-pub have_words : (c : Circuit) (roots : Span) → IsCircuit c → roots.len ≡ length c.nets → HaveWords c roots
-have_words c roots circuit len = record {
-  nets = λ p h e. (let low = (all_among (IsHold c) c.holds h circuit.holds (p, e)).net in omega (arith, low, len));
-  apart = λ i j g h p q same. circuit.one_hold i j g h p q (ap (λ (n : ℕ). let net : Net = record { 0 = n } in net) same);
-}
 
 below : (p at : ℕ) → p < at + 1 → (p ≡ at → ⊥) → p < at
 below p at lt ne = elim (cases_lt p at) [ inl low ↦ low | inr high ↦ absurd (ne (omega (arith, lt, high))) ]

@@ -38,14 +38,6 @@ at_among (x ∷ xs) zero name e =
     ap (λ (b : Bool). b || has_name xs name) ((bytes_eq-Decides name x).1 (sym (same_Some x name e)))
 at_among (x ∷ xs) (suc i) name e = or_right (bytes_eq name x) (has_name xs name) (at_among xs i name e)
 
--- and one that is among them stands at a place
-pub among_at : (xs : List (List ℕ)) (name : List ℕ) → has_name xs name ≡ true → (i : ℕ) × At xs i name
-among_at [] name e = cc
-among_at (x ∷ xs) name e = by_test (bytes_eq name x) refl (λ h. among_at xs name h) where
-  by_test : (b : Bool) → bytes_eq name x ≡ b → (has_name xs name ≡ true → (i : ℕ) × At xs i name) → (i : ℕ) × At (x ∷ xs) i name
-  by_test true h more = (0, ap Some (sym ((bytes_eq-Decides name x).0 h)))
-  by_test false h more = let m = more (ap (λ (b : Bool). b || has_name xs name) (sym h) ∙ e) in (suc m.0, m.1)
-
 first_place : (xs : List (List ℕ)) (k : ℕ) (name : List ℕ) → AllApart bytes_eq xs → At xs k name → position_or_len (bytes_eq name) xs ≡ k
 first_place [] k name apart e = cc
 first_place (x ∷ xs) zero name apart e =

@@ -1,22 +1,16 @@
 -- What a caller that has tested the limits knows of an unrolled cell.
-use Rattle.std.proofs.Common.{◌≡◌, ◌≤◌, ◌<◌, ◌+◌, ◌^◌, ◌∙◌, ℕ, Bool, true, false, cond, nat_lt, List, length, Option, Some, None, refl, ap, sym, subst, arith}
+use Rattle.std.proofs.Common.{◌≡◌, ◌≤◌, ℕ, Bool, true, false, cond, nat_lt, List, length, Option, Some, None, refl, ap, sym, subst, arith}
 use Rattle.std.specs.Prelude.{option_map}
 use Rattle.std.proofs.lemmas.Bool.Decides.{nat_tests}
 use Rattle.std.proofs.lemmas.Option.{none-some}
-use Rattle.net_places.proofs.CellLaws.{own_bound}
 use Rattle.net_places.specs.Instances.{AreSmall}
 use Rattle.net_places.specs.Links.{Bare, IsUnrolled, bare, shown}
-use Rattle.net_places.specs.declared.places.Place.{Place}
 use Rattle.net_places.specs.declared.whole.Unrolled.{Unrolled}
-use Rattle.net_tables.specs.Nets.{net_in}
-use Rattle.net_tables.specs.declared.types.CellNet.{CellNet}
-use Rattle.net_tables.specs.declared.types.CellNet.TheVariants.{Own}
 use Rattle.vrt_model.proofs.Lists.{at_map, map_at}
-use Rattle.vrt_model.specs.Comparison.{cell_at}
 use Rattle.vrt_model.specs.FlatCircuit.{flat_devices, flat_instances, flat_nets}
 use Rattle.vrt_model.specs.Inputs.{IsDesign}
 use Rattle.vrt_model.specs.Lists.{At}
-use Rattle.vrt_model.specs.Unrolled.{Place as FlatPlace, Top, all_places}
+use Rattle.vrt_model.specs.Unrolled.{Top, all_places}
 use Rattle.vrt_model.specs.Unsupported.{Limit, carried, circuit_limits, too_large}
 
 -- where no count passes its limit, the nets are few
@@ -46,18 +40,3 @@ are_small t unrolled design is p m =
     omega (arith, cell, there, few)
 
 -- ---- places
-
--- each place is one of the definition
-pub place_there : (t : Top) (unrolled : Unrolled) → IsUnrolled t unrolled → (n : ℕ) (place : Place) → At unrolled.places n place → (at : FlatPlace) × At (all_places t) n at × (shown place ≡ bare at)
-place_there t unrolled is n place here =
-    let found = at_map bare (all_places t) n (shown place) (subst (λ (bs : List Bare). At bs n (shown place)) is.places_are (map_at shown unrolled.places n place here)) in
-    (found.0, found.1, sym found.2)
-
--- the own nets of a place fit 32 bits
-pub net_room : (t : Top) (unrolled : Unrolled) → IsUnrolled t unrolled → length (flat_nets t) ≤ 20000 → (n : ℕ) (place : Place) (at : FlatPlace) → At (all_places t) n at → shown place ≡ bare at
-    → (name : List ℕ) (net : CellNet) → net ≡ net_in t.design t.rules (cell_at t.design at.cell) name → (i : ℕ) → net ≡ Own i → place.base + i < 2 ^ 32
-net_room t unrolled is few n place at there same name net e i own =
-    let base : place.base ≡ at.base = ap (λ (b : Bare). b.base) same in
-    let room = is.room at (n, there) in
-    let le = own_bound t.design t.rules (cell_at t.design at.cell) name i (sym e ∙ own) in
-    omega (arith, base, room, le, few)

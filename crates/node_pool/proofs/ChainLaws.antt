@@ -1,7 +1,6 @@
 -- A walk along a chain, and the chains after a push, an unlinking and a cut.
 use Rattle.std.proofs.Common.{◌≡◌, ℕ, ◌+◌, ◌<◌, ◌≤◌, ◌≢◌, Bool, false, ◌&&◌, eqb, List, [], ◌∷◌, ◌++◌, length, get_or, take, set, refl, sym, ap, ◌∙◌, inl, inr, arith, add-one, length-take-le, get_or-set_same, get_or-set_other}
-use Rattle.std.specs.List.{Contains}
-use Rattle.std.proofs.lemmas.List.{get_or_append_left, get_or-take, get_or_push, get_or_default, length_push}
+use Rattle.std.proofs.lemmas.List.{get_or_append_left, get_or-take, get_or_push, length_push}
 use Rattle.std.proofs.lemmas.Bool.{cases_lt, cases_eq}
 use Rattle.node_pool.specs.declared.region.Node.{Node}
 use Rattle.node_pool.specs.Region.{newest, chain_of, no_node}
@@ -37,9 +36,6 @@ walk_goes_on mask nodes node at w other = rw (walk_on_chain mask nodes node at w
     ]
   ];
 })
-
-pub walk_ends : (mask : ℕ) (nodes : List Node) (node : Node) → Walked mask nodes node 0 → Contains nodes node → ⊥
-walk_ends mask nodes node w there = w.passed there.0 (omega arith) there.1 (get_or_default nodes there.0 no_node node there.1 ∙ there.2)
 
 -- one node more
 pub heads_push : (mask : ℕ) (nodes : List Node) (heads : List ℕ) (node : Node) → HeadsBelow mask nodes heads (length nodes) → length heads ≡ mask + 1 → chain_of mask node ≤ mask → HeadsBelow mask (nodes ++ node ∷ []) (set heads (chain_of mask node) (length nodes + 1)) (length (nodes ++ node ∷ []))

@@ -1,9 +1,9 @@
 -- The places of rules, while they are added by the cells of the rules.
-use Rattle.std.proofs.Common.{◌≡◌, ◌<◌, ◌≤◌, ◌+◌, ◌++◌, ◌∷◌, [], ℕ, List, Bool, true, false, cond, map, filter, length, get_or, set, drop, Option, Some, None, refl, ap, ap₂, sym, ◌∙◌, append-nil, append_assoc, length-append, arith}
+use Rattle.std.proofs.Common.{◌≡◌, ◌<◌, ◌+◌, ◌++◌, ◌∷◌, [], ℕ, List, Bool, true, false, cond, map, filter, length, get_or, set, drop, Option, Some, None, refl, ap, ap₂, sym, ◌∙◌, append-nil, append_assoc, length-append, arith}
 use Rattle.std.specs.Prelude.{bytes_eq, slice_get, option_and_then, unwrap_or}
 use Rattle.std.specs.List.{position}
 use Rattle.std.specs.Option.{option_or}
-use Rattle.std.proofs.lemmas.List.{drop_all, drop_more, get_or-set_other, get_or-set_same, map-append}
+use Rattle.std.proofs.lemmas.List.{drop_more, get_or-set_other, get_or-set_same, map-append}
 use Rattle.std.proofs.lemmas.List.Quantifiers.{position-Some}
 use Rattle.std.proofs.lemmas.Option.{slice_get-get_or, unwrap_or-slice_get}
 use Rattle.std.proofs.lemmas.Slice.Eq.{bytes_eq-Decides}
@@ -23,12 +23,6 @@ under_at names groups name at e =
 pub under_none : (names groups : List (List ℕ)) (name : List ℕ) → position (bytes_eq name) names ≡ None → under names groups name ≡ []
 under_none names groups name e =
     ap (λ (o : Option (List ℕ)). unwrap_or o []) (sym (first_is names groups name) ∙ ap (option_and_then (slice_get groups)) e)
-
--- what stands at the place of a name
-pub under_place : (names groups : List (List ℕ)) (name : List ℕ) (at : ℕ) (o : Option (List ℕ)) → Some at ≡ position (bytes_eq name) names → o ≡ slice_get groups at
-    → unwrap_or o [] ≡ under names groups name
-under_place names groups name at o e there =
-    ap (λ (p : Option (List ℕ)). unwrap_or p []) there ∙ unwrap_or-slice_get groups at [] ∙ sym (under_at names groups name at (sym e))
 
 -- ---- one place more
 
@@ -113,17 +107,3 @@ placed_on {R} cell_of rules i r old new name lt here named e so_far n =
       by_test : (b : Bool) → map (slice_get rules) (cond b (i ∷ []) []) ++ rest ≡ map Some (cond b (r ∷ behind) behind)
       by_test true = ap (λ (o : Option R). o ∷ rest) (slice_get-get_or rules i r lt ∙ ap Some (sym here))
       by_test false = refl
-
--- no rule is left
-pub placed_all : {R : Type 0} (cell_of : R → List ℕ) (rules : List R) (i : ℕ) (now : List ℕ → List ℕ) → length rules ≤ i
-    → ((n : List ℕ) → map (slice_get rules) (now n) ++ map Some (filter (λ q. bytes_eq (cell_of q) n) (drop i rules)) ≡ map Some (filter (λ q. bytes_eq (cell_of q) n) rules))
-    → (n : List ℕ) → map (slice_get rules) (now n) ≡ map Some (filter (λ q. bytes_eq (cell_of q) n) rules)
-placed_all {R} cell_of rules i now past so_far n =
-    sym (append-nil (map (slice_get rules) (now n)))
-    ∙ sym (ap (λ (rs : List R). map (slice_get rules) (now n) ++ map Some (filter (λ q. bytes_eq (cell_of q) n) rs)) (drop_all i rules past)) ∙ so_far n
-
--- to begin with all are left
-pub none_placed : {R : Type 0} (cell_of : R → List ℕ) (rules : List R) (names groups : List (List ℕ)) (n : List ℕ) → names ≡ []
-    → map (slice_get rules) (under names groups n) ++ map Some (filter (λ q. bytes_eq (cell_of q) n) rules) ≡ map Some (filter (λ q. bytes_eq (cell_of q) n) rules)
-none_placed {R} cell_of rules names groups n none =
-    ap (λ (ns : List (List ℕ)). map (slice_get rules) (under ns groups n) ++ map Some (filter (λ q. bytes_eq (cell_of q) n) rules)) none

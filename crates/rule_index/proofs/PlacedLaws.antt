@@ -38,17 +38,15 @@ found_at test f [] [] e = refl
 found_at test f [] (r ∷ own) e = cc
 found_at test f (p ∷ places) [] e = cc
 found_at {R} test f (p ∷ places) (r ∷ own) e =
-    ap (λ (b : Bool). option_and_then f (cond b (Some p) (find tested places))) (ap (λ (o : Option R). unwrap_or (option_map test o) false) first) ∙ by_test (test r)
+    let first = first_same (f p) (Some r) (map f places) (map Some own) e in
+    let rest = found_at test f places own (rest_same (f p) (Some r) (map f places) (map Some own) e) in
+    ap (λ (b : Bool). option_and_then f (cond b (Some p) (find (λ q. unwrap_or (option_map test (f q)) false) places))) (ap (λ (o : Option R). unwrap_or (option_map test o) false) first)
+    ∙ by_test (test r) first rest
   where
-    tested : ℕ → Bool
-    tested q = unwrap_or (option_map test (f q)) false
-
-    first : f p ≡ Some r
-    first = first_same (f p) (Some r) (map f places) (map Some own) e
-
-    by_test : (b : Bool) → option_and_then f (cond b (Some p) (find tested places)) ≡ cond b (Some r) (find test own)
-    by_test true = first
-    by_test false = found_at test f places own (rest_same (f p) (Some r) (map f places) (map Some own) e)
+    by_test : (b : Bool) → f p ≡ Some r → option_and_then f (find (λ q. unwrap_or (option_map test (f q)) false) places) ≡ find test own
+        → option_and_then f (cond b (Some p) (find (λ q. unwrap_or (option_map test (f q)) false) places)) ≡ cond b (Some r) (find test own)
+    by_test true first rest = first
+    by_test false first rest = rest
 
 -- ---- the items that pass a test
 
@@ -68,10 +66,11 @@ any_of {R} test more (r ∷ rules) = by_test (test r) ∙ ap (λ (b : Bool). (te
 
 found_of : {R : Type 0} (test more : R → Bool) (rules : List R) → find more (filter test rules) ≡ find (λ r. test r && more r) rules
 found_of test more [] = refl
-found_of {R} test more (r ∷ rules) = by_test (test r) where
-  by_test : (b : Bool) → find more (cond b (r ∷ filter test rules) (filter test rules)) ≡ cond (b && more r) (Some r) (find (λ (x : R). test x && more x) rules)
-  by_test true = ap (λ (o : Option R). cond (more r) (Some r) o) (found_of test more rules)
-  by_test false = found_of test more rules
+found_of {R} test more (r ∷ rules) = by_test (test r) (found_of test more rules) where
+  by_test : (b : Bool) → find more (filter test rules) ≡ find (λ (x : R). test x && more x) rules
+      → find more (cond b (r ∷ filter test rules) (filter test rules)) ≡ cond (b && more r) (Some r) (find (λ (x : R). test x && more x) rules)
+  by_test true e = ap (λ (o : Option R). cond (more r) (Some r) o) e
+  by_test false e = e
 
 -- ---- the rules of a cell
 

@@ -4,7 +4,6 @@ use Rattle.std.specs.Prelude.{All, find, flat_map, slice_get, unwrap_or}
 use Rattle.std.specs.List.{reduce}
 use Rattle.std.proofs.lemmas.List.Elements.{All-cons, All-head, All-nil, All-tail}
 use Rattle.vrt_model.specs.Lists.{is_empty}
-use Rattle.cell_compare.specs.Compared.{IsBuilt}
 use Rattle.verity_run.specs.Unbuilt.{AreBuilt, has_latch, instance_line, latch_line, lesser, rule_line}
 use Rattle.vrt_model.specs.declared.blif.Blif.{Blif}
 use Rattle.vrt_model.specs.declared.blif.BlifModel.{BlifModel}
@@ -123,18 +122,6 @@ leaf_at : (cells : List Cell) (n : ℕ) → All (λ (c : Cell). c.instances ≡ 
 leaf_at [] n all = refl
 leaf_at (cell ∷ cells) zero all = All-head (λ (c : Cell). c.instances ≡ []) cell cells all
 leaf_at (cell ∷ cells) (suc n) all = leaf_at cells n (All-tail (λ (c : Cell). c.instances ≡ []) cell cells all)
-
--- each cell is built for its comparison
-pub is_built : (design : Design) (blif : Blif) (rules : Rules) (cell : ℕ) → AreBuilt design blif rules → IsBuilt design blif rules cell
-is_built design blif rules cell built = record {
-  leaf = leaf_at design.cells cell built.leaves;
-  latches = built.latches;
-  holds = built.lines.holds;
-  keepers = built.lines.keepers;
-  matches = built.lines.matches;
-  instance_matches = built.lines.instance_matches;
-  assumes = built.lines.assumes;
-}
 
 -- ---- the first instance card of some cells
 
