@@ -44,7 +44,7 @@ fn add(enters: &mut Seq<Enter>, enter: Option<Enter>) -> Result<(), NoMemory>
 }
 
 /// The constants that the `enter` lines at places give a hold, in the order of the lines.
-#[tactic(auto, using(crate::proofs::ListLaws::pushed))]
+#[tactic(auto, using(vrt_model::proofs::Lists::pushed))]
 fn enters_at(
     alloc: Global,
     lines: &[EnterRule],
