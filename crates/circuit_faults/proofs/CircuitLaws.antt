@@ -9,12 +9,12 @@ use Rattle.bdd_core.specs.Store.{Diagrams, IsLive, function_of}
 use Rattle.bdd_core.specs.Words.{IsApart, IsFilled, Writes, shows, word_at, WritesTwo}
 use Rattle.bdd_core.specs.declared.handle.H.{H}
 use Rattle.bdd_core.proofs.Frames.{IsWithinSpan, two_filled, two_span, two_word}
-use Rattle.circuit_faults.proofs.Ordered.{AreOrderedParts, IsBefore, IsFirstPlace, IsInEarlier, IsNetAt, IsWholePart, Place}
+use Rattle.circuit_faults.proofs.Ordered.{AreOrderedParts, IsBefore, IsFirstPlace, IsNetAt, IsWholePart, Place}
 use Rattle.circuit_faults.proofs.PartNetworks.{bit_there, fault_alone, fault_there}
 use Rattle.circuit_faults.proofs.Solutions.{given_bit, given_no_float, known_bit}
 use Rattle.circuit_faults.specs.Faults.{HasFault, HasFixedBits, IsSettingAt, IsSolvedAt, ShowsFault}
 use Rattle.circuit_faults.specs.Results.{HasCircuitSpans, IsClearCircuit, first_word, root_at}
-use Rattle.circuit_faults.specs.Scans.{IsInside, IsPartClear, IsPartFault}
+use Rattle.circuit_faults.specs.Scans.{IsInEarlier, IsInside, IsPartClear, IsPartFault}
 use Rattle.circuit_faults.specs.declared.net.CircuitFault.{CircuitFault}
 use Rattle.channel_parts.specs.OneSolution.{AreObserved}
 use Rattle.channel_parts.specs.declared.part.Part.{Part}
@@ -57,7 +57,7 @@ net_in (x ∷ xs) n =
     by_place none ne zero net e is = ne (ap (λ (m : Net). m.0) (same_Some x net e) ∙ is)
     by_place none ne (suc i) net e is = none i net e is
 
-inside_or_not : (part : Part) (n : ℕ) → IsInside part n ⊎ (¬ IsInside part n)
+pub inside_or_not : (part : Part) (n : ℕ) → IsInside part n ⊎ (¬ IsInside part n)
 inside_or_not part n =
     elim (net_in part.nets n) [ inl h ↦ inl (h.0, (h.1, h.2, h.3)) | inr none ↦ inr (λ inside. none inside.0 inside.1.0 inside.1.1 inside.1.2) ]
 
@@ -288,7 +288,7 @@ module _ (c : Circuit) (phase : Phase) (observed : ℕ → Bool) (known : List (
 abbrev pub words_in : Span → Part → Span
 words_in out part = record { start = out.start; len = 10 * length part.nets }
 
-apart_inner : (a out : Span) (len : ℕ) → len ≤ out.len → IsApart a out → IsApart a (record { start = out.start; len = len })
+pub apart_inner : (a out : Span) (len : ℕ) → len ≤ out.len → IsApart a out → IsApart a (record { start = out.start; len = len })
 apart_inner a out len le (inl low) = inl low
 apart_inner a out len le (inr high) = inr (omega (arith, high, le))
 

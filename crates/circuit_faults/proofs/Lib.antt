@@ -1,5 +1,12 @@
 pub mod CircuitLaws
 pub mod CountLaws
+pub mod KeptBits
+pub mod KeptCases
+pub mod KeptMeaning
+pub mod KeptNets
+pub mod KeptReach
+pub mod KeptSpots
+pub mod KeptWords
 pub mod NetLaws
 pub mod OrderLaws
 pub mod Ordered
@@ -7,4 +14,5 @@ pub mod PartLaws
 pub mod PartNetworks
 pub mod ScanLaws
 pub mod Solutions
+pub mod StrongReached
 pub mod WholeParts

@@ -1,9 +1,9 @@
 -- The parts of a circuit, as they are listed, are in their order; and the places before a place in the list are those that
 -- come before it by rank, least net, net and kind.
-use Rattle.std.proofs.Common.{◌≡◌, ℕ, ◌<◌, ◌≤◌, ◌⊎◌, ◌&&◌, Bool, true, List, [], ◌∷◌, Option, Some, length, arith, ap, refl, sym, subst, ◌∙◌, inl, inr}
-use Rattle.std.specs.Prelude.{nat_eq, nat_lt, option_map, slice_get, slice_index_or}
+use Rattle.std.proofs.Common.{◌≡◌, ℕ, ◌<◌, ◌≤◌, ◌⊎◌, ◌&&◌, Bool, true, List, [], ◌∷◌, Option, arith, ap, refl, sym, subst, ◌∙◌, inl, inr}
+use Rattle.std.specs.Prelude.{nat_eq, nat_lt, slice_get}
 use Rattle.std.proofs.lemmas.Bool.{and_parts, cases_eq, cases_lt, eqb-true, false≢true, ltb-true, or_cases}
-use Rattle.std.proofs.lemmas.Option.{same_Some, slice_get-get_or, slice_get-map, slice_get_within}
+use Rattle.std.proofs.lemmas.Option.{same_Some, slice_get_within}
 use Rattle.bdd_core.specs.Diagram.{Valuation}
 use Rattle.bdd_core.specs.Store.{Diagrams}
 use Rattle.bdd_core.specs.declared.handle.H.{H}
@@ -15,28 +15,21 @@ use Rattle.circuit_faults.specs.Results.{HasLeastNets, IsFirstFault, root_at}
 use Rattle.circuit_faults.specs.Scans.{IsInside}
 use Rattle.circuit_faults.specs.declared.net.CircuitFault.{CircuitFault}
 use Rattle.channel_parts.specs.OneSolution.{AreObserved}
-use Rattle.channel_parts.specs.PartLists.{AreParts, IsPartOf, IsRising, device_numbers, least_of, net_numbers}
+use Rattle.channel_parts.specs.PartLists.{AreParts, IsPartOf, IsRising, least_of, net_numbers}
 use Rattle.channel_parts.specs.declared.part.Part.{Part}
 use Rattle.channel_parts.specs.declared.part.Parts.{Parts}
 use Rattle.known_nets.proofs.NetKinds.{given_or_plain}
 use Rattle.node_pool.specs.declared.region.Span.{Span}
-use Rattle.path_fixpoint.specs.Parts.{IsGiven, IsPart, IsPlace, part_devices}
-use Rattle.vrt_model.proofs.Filtered.{device_among}
 use Rattle.vrt_model.proofs.Laws.{turned}
-use Rattle.vrt_model.proofs.Lists.{among_filter_map, filter_map_among}
-use Rattle.vrt_model.proofs.Members.{all_among, among_map}
-use Rattle.vrt_model.proofs.Ranked.{together_plain}
-use Rattle.vrt_model.specs.Circuits.{IsDevice, IsFlat}
+use Rattle.vrt_model.specs.Circuits.{IsFlat}
 use Rattle.vrt_model.specs.Comparison.{Comparison}
-use Rattle.vrt_model.specs.Known.{HasGateArc, IsChannel, IsInPart, IsLeastOfPart, IsPlain, IsRanking, IsTogether, itself, onward}
-use Rattle.vrt_model.specs.Lists.{At, Among}
+use Rattle.vrt_model.specs.Known.{HasGateArc, IsChannel, IsLeastOfPart, IsPlain, IsRanking, IsTogether, itself, onward}
+use Rattle.vrt_model.specs.Lists.{At}
 use Rattle.vrt_model.specs.Path.{Joins}
 use Rattle.vrt_model.specs.Places.{comes_before, standing}
 use Rattle.vrt_model.specs.State.{Setting}
 use Rattle.vrt_model.specs.declared.circuit.Circuit.{Circuit}
 use Rattle.vrt_model.specs.declared.circuit.Device.{Device}
-use Rattle.vrt_model.specs.declared.ids.Dev.{Dev}
-use Rattle.vrt_model.specs.declared.ids.Net.{Net}
 use Rattle.vrt_model.specs.declared.rules.Phase.{Phase}
 use Rattle.vrt_model.specs.declared.verdict.FaultKind.{FaultKind}
 use Rattle.vrt_model.specs.declared.verdict.FaultKind.TheVariants.{Fight, FightKept, Float, Unsettled, Constraint, Differs, Next, Apart, Enter}

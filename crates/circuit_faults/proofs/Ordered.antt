@@ -7,7 +7,7 @@ use Rattle.bdd_core.specs.Store.{Diagrams, IsLive, function_of}
 use Rattle.bdd_core.specs.declared.handle.H.{H}
 use Rattle.circuit_faults.specs.Faults.{HasFault, IsSolvedAt}
 use Rattle.circuit_faults.specs.Results.{root_at}
-use Rattle.circuit_faults.specs.Scans.{IsInside}
+use Rattle.circuit_faults.specs.Scans.{IsInEarlier, IsInside}
 use Rattle.circuit_faults.specs.declared.net.CircuitFault.{CircuitFault}
 use Rattle.channel_parts.specs.declared.part.Part.{Part}
 use Rattle.known_nets.specs.KnownTables.{IsKnownTable, known_at}
@@ -32,10 +32,6 @@ pub record IsWholePart (which : Bool) (c : Circuit) (phase : Phase) (part : Part
   pub closed : (d : Device) (m n : ℕ) → IsChannel c phase which d → Joins d m n → IsInside part n → IsPlain c m → IsInside part m
   pub channels : (d : Device) (m n : ℕ) → IsChannel c phase which d → Joins d m n → IsInside part n → Among (part_devices c part) d
   pub devices : (d : Device) → Among (part_devices c part) d → IsChannel c phase which d
-
--- the net is in a part before a place in the list
-abbrev pub IsInEarlier : List Part → ℕ → ℕ → Type 0
-IsInEarlier parts k n = (j : ℕ) × (part : Part) × (j < k) × At parts j part × IsInside part n
 
 -- The known nets, and the parts of the plain nets, so ordered that the gates of a part that are plain and not known are in
 -- parts before it.

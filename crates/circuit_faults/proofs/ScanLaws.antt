@@ -1,6 +1,7 @@
 -- The nets of a part, one after the other.
-use Rattle.std.proofs.Common.{◌≡◌, ◌≢◌, ℕ, ◌+◌, ◌*◌, ◌<◌, ◌≤◌, Bool, true, false, length, arith, refl, sym, subst, ◌∙◌, inl, inr}
+use Rattle.std.proofs.Common.{◌≡◌, ◌≢◌, ℕ, ◌+◌, ◌*◌, ◌<◌, ◌≤◌, Bool, true, false, List, get_or, length, arith, refl, sym, subst, ◌∙◌, inl, inr}
 use Rattle.std.proofs.lemmas.Bool.{cases_eq}
+use Rattle.std.proofs.lemmas.Option.{slice_get-get_or}
 use Rattle.node_pool.specs.declared.region.Span.{Span}
 use Rattle.bdd_core.specs.Diagram.{IsSame}
 use Rattle.bdd_core.specs.Store.{Diagrams, IsLive, function_of}
@@ -15,7 +16,12 @@ use Rattle.path_fixpoint.proofs.Places.{place_in, place_once}
 use Rattle.path_fixpoint.specs.Parts.{IsPlace}
 use Rattle.path_fixpoint.specs.Reaching.{slot_of}
 use Rattle.path_fixpoint.specs.Strengths.{word_of}
+use Rattle.vrt_model.specs.Lists.{At}
 use Rattle.vrt_model.specs.declared.ids.Net.{Net}
+
+-- the net of a turn stands at its place
+pub net_at : (xs ys : List Net) (i : ℕ) (d : Net) → ys ≡ xs → i < length ys → At xs i (get_or ys i d)
+net_at xs ys i d same lt = subst (λ (zs : List Net). At zs i (get_or ys i d)) same (slice_get-get_or ys i d lt)
 
 pub slot_word : (value : Bool) (i len : ℕ) → 10 * i + 10 ≤ len → word_of (slot_of value) i < len
 slot_word true i len fits = omega (arith, fits)

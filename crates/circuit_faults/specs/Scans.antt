@@ -1,5 +1,5 @@
 -- What is found at the nets of one part, from the words that say which values reach them.
-use Rattle.std.specs.Prelude.{◌≡◌, ◌≢◌, ℕ, ◌<◌, ◌⊎◌, ◌↔◌, ◌&&◌, ◌||◌, Bool, true, false, cond, length, Option, Some, None}
+use Rattle.std.specs.Prelude.{◌≡◌, ◌≢◌, ℕ, ◌<◌, ◌⊎◌, ◌↔◌, ◌&&◌, ◌||◌, Bool, true, false, cond, List, length, Option, Some, None}
 use Rattle.node_pool.specs.declared.region.Span.{Span}
 use Rattle.bdd_core.specs.Diagram.{Function, Valuation}
 use Rattle.bdd_core.specs.Store.{Diagrams, IsLive, Means, function_of}
@@ -12,6 +12,7 @@ use Rattle.path_fixpoint.specs.Solved.{network_at}
 use Rattle.path_fixpoint.specs.Strengths.{strong, word_of}
 use Rattle.circuit_faults.specs.Faults.{ShowsFault}
 use Rattle.circuit_faults.specs.declared.net.CircuitFault.{CircuitFault}
+use Rattle.vrt_model.specs.Lists.{At}
 use Rattle.vrt_model.specs.Response.{Reaches}
 use Rattle.vrt_model.specs.declared.circuit.Circuit.{Circuit}
 use Rattle.vrt_model.specs.declared.ids.Net.{Net}
@@ -21,6 +22,10 @@ use Rattle.vrt_model.specs.declared.verdict.FaultKind.TheVariants.{Fight, FightK
 -- the net is one of the part
 abbrev pub IsInside : Part → ℕ → Type 0
 IsInside part n = (i : ℕ) × IsPlace part i n
+
+-- the net is in a part before a place in the list
+abbrev pub IsInEarlier : List Part → ℕ → ℕ → Type 0
+IsInEarlier parts k n = (j : ℕ) × (part : Part) × (j < k) × At parts j part × IsInside part n
 
 -- ---- one net
 

@@ -53,7 +53,7 @@ fn write_first_handles(store: &mut Store, known: &[Option<bool>], roots: Span, g
 }
 
 /// The words for a part among those for the greatest.
-fn words_of(part: &Part, out: Span) -> Span
+pub(crate) fn words_of(part: &Part, out: Span) -> Span
     requires { 10 * length part.now.nets ≤ out.len }
     ensures { result ≡ record { start = out.start; len = 10 * length part.now.nets } }
 {

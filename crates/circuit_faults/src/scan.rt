@@ -19,7 +19,7 @@ use node_pool::Span;
 use vrt_model::Net;
 
 /// Where a value reaches the net at a place of a part: the ninth of its words for 0, the tenth for 1.
-fn reach(store: &Store, out: Span, place: usize, value: bool) -> H
+pub(crate) fn reach(store: &Store, out: Span, place: usize, value: bool) -> H
     requires out { IsSpan store.now out × IsFilled store.now out }
     requires place { (10 * place + 10 ≤ out.len) × (out.len < 2 ^ 32) }
     ensures live { IsLive store.now result }
@@ -35,7 +35,7 @@ fn reach(store: &Store, out: Span, place: usize, value: bool) -> H
 }
 
 /// Whether a net is observed.
-fn is_seen(observed: &[bool], net: Net) -> bool
+pub(crate) fn is_seen(observed: &[bool], net: Net) -> bool
     requires { net.0 < length observed.now }
     ensures { result ≡ mark_at observed.now net.0 }
 {

@@ -13,7 +13,7 @@ use Rattle.vrt_model.specs.Lists.{At, Among}
 use Rattle.vrt_model.specs.Places.{IsOrder}
 
 -- the numbers below a count
-number_at : (count i n : ℕ) → At (range_with_len 0 count) i n → n ≡ i
+pub number_at : (count i n : ℕ) → At (range_with_len 0 count) i n → n ≡ i
 number_at count i n at =
     let within : i < length (range_with_len 0 count) = slice_get_within (range_with_len 0 count) i n at in
     let size = length-range_with_len 0 count in
@@ -25,7 +25,7 @@ numbers_rise : (count : ℕ) → IsRising (range_with_len 0 count)
 numbers_rise count i j a b at there lt =
     let one = number_at count i a at in let two = number_at count j b there in omega (arith, one, two, lt)
 
-number_among : (count n : ℕ) → n < count → Among (range_with_len 0 count) n
+pub number_among : (count n : ℕ) → n < count → Among (range_with_len 0 count) n
 number_among count n lt =
     let size = length-range_with_len 0 count in
     let there = at_there (range_with_len 0 count) n (omega (arith, size, lt)) in

@@ -1,4 +1,4 @@
-mod CountedSites
+pub mod CountedSites
 mod Floats
 mod PartRanks
 mod PhaseOrder

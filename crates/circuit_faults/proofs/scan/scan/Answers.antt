@@ -1,9 +1,8 @@
-use Rattle.std.proofs.Common.{◌≡◌, ℕ, ◌+◌, ◌*◌, ◌<◌, ◌≤◌, Bool, List, Option, Err, Ok, get_or, length, true, false, arith, ap, refl, subst}
-use Rattle.std.proofs.lemmas.Option.{slice_get-get_or}
+use Rattle.std.proofs.Common.{◌≡◌, ℕ, ◌+◌, ◌*◌, ◌≤◌, Bool, List, Option, Err, Ok, get_or, length, true, false, arith, ap, refl, subst}
 use Rattle.bdd_core.specs.Store.{function_of}
 use Rattle.bdd_ops.proofs.CountingLaws.{counted_more, counted_then, counts_ok}
 use Rattle.bdd_ops.proofs.WithinLaws.{within_same}
-use Rattle.circuit_faults.proofs.ScanLaws.{scanned_more}
+use Rattle.circuit_faults.proofs.ScanLaws.{net_at, scanned_more}
 use Rattle.circuit_faults.specs.Scans.{IsClearNet, IsScannedTo, NetGives, reached}
 use Rattle.circuit_faults.specs.declared.net.CircuitFault.{CircuitFault}
 use Rattle.bdd_core.proofs.Frames.{filled_beside, writes_then, span_written}
@@ -12,9 +11,6 @@ use Rattle.path_fixpoint.specs.Parts.{IsPlace}
 use Rattle.vrt_model.specs.Lists.{At, mark_at}
 use Rattle.vrt_model.specs.declared.ids.Net.{Net}
 use Rattle.circuit_faults.proofs.scan.scan.Goals as goal
-
-net_at : (xs ys : List Net) (i : ℕ) (d : Net) → ys ≡ xs → i < length ys → At xs i (get_or ys i d)
-net_at xs ys i d same lt = subst (λ (zs : List Net). At zs i (get_or ys i d)) same (slice_get-get_or ys i d lt)
 
 pub check_net-requires-clause-care : goal.check_net-requires-clause-care
 check_net-requires-clause-care c = omega (arith, c.requires.care, c.loop-i.invariant.writes.adds.longer)

@@ -1,0 +1,104 @@
+//! The parts of the kept circuit, solved at every valuation at once; what they say of the nets is copied to the nets.
+
+ghost use Rattle.std.specs.Prelude.{◌≡◌, ◌≢◌, ℕ, ◌+◌, ◌*◌, ◌^◌, ◌<◌, ◌≤◌, [], ◌∷◌, All, length, IfOk, false, true, slice_set, sum_by};
+ghost use Rattle.bdd_core.specs.Store.{IsSpan};
+ghost use Rattle.bdd_core.specs.Words.{IsApart, IsFilled, word_at};
+ghost use Rattle.bdd_ops.specs.Counting.{IsSpanWithin};
+ghost use Rattle.channel_parts.specs.declared.part.Part.{Part};
+ghost use Rattle.circuit_faults.specs.KeptResults.{HasKeptSpans, WritesKept};
+ghost use Rattle.circuit_faults.specs.KeptScans.{IsCopiedTo, IsPartReached, IsReachedIn, SpendsReach};
+ghost use Rattle.circuit_faults.specs.Operations.{kept_part_operations};
+ghost use Rattle.circuit_faults.specs.Scans.{IsInEarlier, IsInside};
+ghost use Rattle.path_fixpoint.specs.Parts.{IsPart, IsPlace};
+ghost use Rattle.path_fixpoint.specs.Reaching.{slot_of};
+ghost use Rattle.path_fixpoint.specs.Spending.{HasOneHold};
+ghost use Rattle.path_fixpoint.specs.Strengths.{word_of};
+ghost use Rattle.vrt_model.specs.Circuits.{IsFlat};
+ghost use Rattle.vrt_model.specs.Lists.{Among};
+
+use crate::circuit::words_of;
+use crate::scan::reach;
+use crate::spans::KeptSpans;
+use bdd_core::{Spent, Store};
+use channel_parts::Part;
+use node_pool::Span;
+use path_fixpoint::solve_part;
+use vrt_model::{Circuit, Net};
+
+/// Copies the handle that says where a value reaches the net at a place of a part to the word of the net.
+fn copy_word(store: &mut Store, net: Net, place: usize, value: bool, out: Span, to: Span)
+    requires out { IsSpan store.old out × IsFilled store.old out }
+    requires place { (10 * place + 10 ≤ out.len) × (out.len < 2 ^ 32) }
+    requires to { IsSpan store.old to × (net.0 < to.len) }
+    ensures { store.new ≡ record store.old { words = slice_set store.old.words (to.start + net.0) (word_at store.old out (word_of (slot_of value) place)) } }
+{
+    let handle = reach(store, out, place, value);
+    store.write(to, net.0, handle.0);
+}
+
+/// Copies for each net of a part the handle that says where a value reaches it.
+fn copy_reach(store: &mut Store, part: &Part, value: bool, out: Span, to: Span)
+    requires nets { All (λ (n : Net). n.0 < to.len) part.now.nets }
+    requires once { (i j n : ℕ) → IsPlace part.now i n → IsPlace part.now j n → i ≡ j }
+    requires out { IsSpan store.old out × IsFilled store.old out × (out.len ≡ 10 * length part.now.nets) × (out.len < 2 ^ 32) }
+    requires to { IsSpan store.old to }
+    requires apart { IsApart to out }
+    ensures { IsCopiedTo part.now value out to (length part.now.nets) store.old store.new }
+{
+    store.sound();
+    let nets = part.nets.as_slice();
+    for i in 0..nets.len() {
+        let net = nets[i];
+        copy_word(store, net, i, value, out, to);
+    }
+}
+
+/// Solves a part of the kept circuit, where its devices have the bits of the gates, and writes to the words of its nets
+/// where 0 and where 1 reach them.
+fn solve_kept(
+    store: &mut Store,
+    circuit: &Circuit,
+    part: &Part,
+    spans: KeptSpans,
+) -> Result<(), Spent>
+    requires circuit { IsFlat circuit.now }
+    requires part { IsPart circuit.now part.now }
+    requires spans { HasKeptSpans circuit.now (part.now ∷ []) spans store.old }
+    ensures writes { WritesKept spans store.old store.new }
+    ensures gives { IfOk result (λ _. IsPartReached circuit.now part.now spans store.old store.new) }
+    ensures few { HasOneHold circuit.now → (u : ℕ) → IsSpanWithin u store.old spans.gates → IsSpanWithin u store.old spans.roots → SpendsReach u (kept_part_operations part.now) spans (IsInside part.now) store.old store.new result }
+{
+    store.sound();
+    let out = words_of(part, spans.out);
+    match solve_part(store, circuit, part, spans.gates, spans.roots, out) {
+        Ok(()) => {}
+        Err(spent) => return Err(spent),
+    }
+    copy_reach(store, part, false, out, spans.zeros);
+    copy_reach(store, part, true, out, spans.ones);
+    Ok(())
+}
+
+/// Solves all parts of the kept circuit, and writes to the words of their nets where 0 and where 1 reach them.
+pub(crate) fn solve_parts(
+    store: &mut Store,
+    circuit: &Circuit,
+    parts: &[Part],
+    spans: KeptSpans,
+) -> Result<(), Spent>
+    requires circuit { IsFlat circuit.now }
+    requires parts { (part : Part) → Among parts.now part → IsPart circuit.now part }
+    requires spans { HasKeptSpans circuit.now parts.now spans store.old }
+    ensures writes { WritesKept spans store.old store.new }
+    ensures gives { IfOk result (λ _. (n : ℕ) → IsInEarlier parts.now (length parts.now) n → IsReachedIn circuit.now parts.now spans (length parts.now) store.old store.new n) }
+    ensures few { HasOneHold circuit.now → (u : ℕ) → IsSpanWithin u store.old spans.gates → IsSpanWithin u store.old spans.roots → SpendsReach u (sum_by kept_part_operations parts.now) spans (IsInEarlier parts.now (length parts.now)) store.old store.new result }
+{
+    store.sound();
+    for part in parts {
+        match solve_kept(store, circuit, part, spans) {
+            Ok(()) => {}
+            Err(spent) => return Err(spent),
+        }
+    }
+    Ok(())
+}
