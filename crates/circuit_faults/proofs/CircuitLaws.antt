@@ -61,6 +61,14 @@ pub inside_or_not : (part : Part) (n : ℕ) → IsInside part n ⊎ (¬ IsInside
 inside_or_not part n =
     elim (net_in part.nets n) [ inl h ↦ inl (h.0, (h.1, h.2, h.3)) | inr none ↦ inr (λ inside. none inside.0 inside.1.0 inside.1.1 inside.1.2) ]
 
+-- a net of a part before the next place is in one before this place, or in the one here
+pub earlier_or_last : (parts : List Part) (k : ℕ) (part : Part) → At parts k part → (n : ℕ) → IsInEarlier parts (k + 1) n → IsInEarlier parts k n ⊎ IsInside part n
+earlier_or_last parts k part here n e =
+    elim (cases_eq e.0 k) [
+      | inl same ↦ inr (let p : e.1 ≡ part = same_Some e.1 part (sym e.3 ∙ ap (slice_get parts) same ∙ here) in subst (λ (q : Part). IsInside q n) p e.4)
+      | inr ne ↦ inl (e.0, e.1, (let lt = e.2 in omega (arith, lt, ne)), e.3, e.4)
+    ]
+
 -- a constant shows its bit
 pub constant_shows : (d : Diagrams) (b : Bool) (v : Valuation) → meaning d.nodes (cond b 1 0) v ≡ b
 constant_shows d true v = meaning_one d.nodes v
@@ -183,13 +191,6 @@ module _ (c : Circuit) (phase : Phase) (observed : ℕ → Bool) (known : List (
       bit_of_net n b i o shown =
           bit_there c phase observed flat seen (root_at now roots v) (fixed_now v) setting (setting_now v setting at.given) a at.solves part whole (λ m. shows now gates m v) gates_are n b i o shown
 
-    earlier_or_here : (n : ℕ) → IsInEarlier parts (k + 1) n → IsInEarlier parts k n ⊎ IsInside part n
-    earlier_or_here n e =
-        elim (cases_eq e.0 k) [
-          | inl same ↦ inr (let p : e.1 ≡ part = same_Some e.1 part (sym e.3 ∙ ap (slice_get parts) same ∙ here) in subst (λ (q : Part). IsInside q n) p e.4)
-          | inr ne ↦ inl (e.0, e.1, (let lt = e.2 in omega (arith, lt, ne)), e.3, e.4)
-        ]
-
     pub solved_more : (new : Diagrams) → IsPartClear c part observed care roots gates now new
         → ((h : ℕ) (v : Valuation) → h < length now.nodes → meaning new.nodes h v ≡ meaning now.nodes h v) → Before (k + 1) first new
     solved_more new p kept = record {
@@ -197,7 +198,7 @@ module _ (c : Circuit) (phase : Phase) (observed : ℕ → Bool) (known : List (
         | inl i ↦ bit_of_net v setting a met at n (shows new gates n v) i o (shown v met n i o)
         | inr out ↦ before.bits v setting a met at n o (not_here n out done) ∙ ap (λ (b : Bool). Some b) (sym (stays v n o out))
       ];
-      clear = λ v setting a met at kind n e f. elim (earlier_or_here n e) [
+      clear = λ v setting a met at kind n e f. elim (earlier_or_last parts k part here n e) [
         | inl low ↦ before.clear v setting a met at kind n low f
         | inr i ↦ p.clear n kind v i (kept_care v ∙ met) (to_alone v setting a met at kind n i f)
       ];
@@ -213,7 +214,7 @@ module _ (c : Circuit) (phase : Phase) (observed : ℕ → Bool) (known : List (
         not_here : (n : ℕ) → (¬ IsInside part n) → Done (k + 1) n → Done k n
         not_here n out (inl g) = inl g
         not_here n out (inr (inl b)) = inr (inl b)
-        not_here n out (inr (inr e)) = elim (earlier_or_here n e) [ inl low ↦ inr (inr low) | inr i ↦ absurd (out i) ]
+        not_here n out (inr (inr e)) = elim (earlier_or_last parts k part here n e) [ inl low ↦ inr (inr low) | inr i ↦ absurd (out i) ]
 
         stays : (v : Valuation) (n : ℕ) → observed n ≡ true → (¬ IsInside part n) → shows new gates n v ≡ shows now gates n v
         stays v n o out =

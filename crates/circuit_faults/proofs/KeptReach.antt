@@ -8,7 +8,7 @@ use Rattle.bdd_core.specs.Store.{Diagrams}
 use Rattle.bdd_core.specs.Words.{shows, word_at}
 use Rattle.bdd_ops.proofs.WithinLaws.{within_same}
 use Rattle.channel_parts.specs.declared.part.Part.{Part}
-use Rattle.circuit_faults.proofs.CircuitLaws.{inside_or_not}
+use Rattle.circuit_faults.proofs.CircuitLaws.{earlier_or_last, inside_or_not}
 use Rattle.circuit_faults.proofs.KeptWords.{gates_shown, inside_range, roots_shown}
 use Rattle.circuit_faults.specs.KeptResults.{HasKeptSpans, WritesKept}
 use Rattle.circuit_faults.specs.KeptScans.{IsPartReached, IsReached, IsReachedIn, ReadWithin, reach_span}
@@ -69,13 +69,6 @@ one_part parts part m other (suc i, e) = absurd (at_none i other e)
 -- the nets of parts are nets of the circuit
 pub earlier_range : (c : Circuit) (parts : List Part) → ((part : Part) → Among parts part → IsPart c part) → (k n : ℕ) → IsInEarlier parts k n → n < length c.nets
 earlier_range c parts are k n e = inside_range c e.1 (are e.1 (e.0, e.3)) n e.4
-
-pub earlier_or_last : (parts : List Part) (k : ℕ) (part : Part) → At parts k part → (n : ℕ) → IsInEarlier parts (k + 1) n → IsInEarlier parts k n ⊎ IsInside part n
-earlier_or_last parts k part here n e =
-    elim (cases_eq e.0 k) [
-      | inl same ↦ inr (let p : e.1 ≡ part = same_Some e.1 part (sym e.3 ∙ ap (slice_get parts) same ∙ here) in subst (λ (q : Part). IsInside q n) p e.4)
-      | inr ne ↦ inl (e.0, e.1, (let lt = e.2 in omega (arith, lt, ne)), e.3, e.4)
-    ]
 
 module _ (c : Circuit) (parts : List Part) (spans : KeptSpans) (flat : IsFlat c) (first now new : Diagrams) (has : HasKeptSpans c parts spans first)
     (before : WritesKept spans first now) (step : WritesKept spans now new) (k : ℕ) (part : Part) (here : At parts k part)

@@ -214,7 +214,7 @@ module _ (c : Circuit) (parts : List Part) (spans : KeptSpans) (old : Diagrams) 
 
   -- for one part
   module _ (part : Part) (member : Among parts part) where
-    abbrev room : 10 * length part.nets ≤ spans.out.len
+    room : 10 * length part.nets ≤ spans.out.len
     room = has.room part member
 
     pub kept_root_spans : (words : Span) → words ≡ words_in spans.out part → HasRootSpans c part spans.gates spans.roots words old
