@@ -29,10 +29,14 @@ fn rule_among<'a>(
 ) -> Option<&'a ObserveRule>
     ensures { option_copied result ≡ option_and_then (slice_get rules.entry.now) (find (is_rule_of rules.entry.now port.now) places.now) }
 {
-    match places.iter().find(|place| is_rule_of(rules, **place, port)) {
-        Some(place) => rules.get(*place),
-        None => None,
+    let mut rest = places;
+    'places: while let Some((place, behind)) = rest.split_first() {
+        if is_rule_of(rules, *place, port) {
+            return rules.get(*place);
+        }
+        rest = behind;
     }
+    None
 }
 
 /// The first `observe` rule of a port of a cell: only the rules of this cell are looked at.

@@ -1,12 +1,16 @@
 use Rattle.std.proofs.Common.{ℕ, List, ap, ◌∙◌}
-use Rattle.std.specs.Prelude.{bytes_eq, find, option_and_then, slice_get}
+use Rattle.std.specs.Prelude.{bytes_eq, find, map, option_and_then, slice_get}
 use Rattle.cell_compare.specs.PortLists.{is_rule_of}
 use Rattle.rule_index.proofs.PlacedLaws.{found_placed}
+use Rattle.rule_index.specs.Lines.{places_in}
 use Rattle.vrt_model.specs.declared.rules.ObserveRule.{ObserveRule}
 use Rattle.cell_compare.proofs.observed.rule_of.Goals as goal
 
 pub returns : goal.returns
 returns c =
+    let rules = c.args.rules.now.observes in
+    let places = c.places-places.result.now in
     c.rule_among.ensures
-    ∙ found_placed (λ (r : ObserveRule). r.cell) (λ (r : ObserveRule). bytes_eq r.port c.args.port.now) c.args.rules.now.observes c.places-places.result.now c.args.cell.now
-    (c.requires.tables.lines_are.ports.observes c.args.cell.now)
+    ∙ ap (λ (rs : List ObserveRule). option_and_then (slice_get rs) (find (is_rule_of rs c.args.port.now) places)) c.as_slice.ensures
+    ∙ found_placed (λ (r : ObserveRule). r.cell) (λ (r : ObserveRule). bytes_eq r.port c.args.port.now) rules places c.args.cell.now
+    (ap (map (slice_get rules)) (c.places-places.ensures ∙ ap (places_in c.args.index.now.lines.ports.observes) c.as_bytes.ensures) ∙ c.requires.tables.lines_are.ports.observes c.args.cell.now)
