@@ -1,16 +1,18 @@
 -- Parts whose nets rise by number, and whose devices were tested one by one.
-use Rattle.std.proofs.Common.{◌≡◌, ℕ, zero, suc, ◌+◌, ◌<◌, ◌≤◌, List, length, get_or, All, arith, ap, refl, sym, subst, ◌∙◌, inl, inr}
+use Rattle.std.proofs.Common.{◌≡◌, ℕ, zero, suc, ◌+◌, ◌-◌, ◌<◌, ◌≤◌, List, length, get_or, All, arith, ap, refl, sym, subst, ◌∙◌, inl, inr}
 use Rattle.std.specs.Prelude.{slice_get}
 use Rattle.std.proofs.lemmas.Bool.{cases_lt}
 use Rattle.std.proofs.lemmas.Option.{get_or_from_slice_get, slice_get-get_or}
-use Rattle.vrt_model.proofs.Lists.{among_filter_map}
-use Rattle.vrt_model.proofs.Members.{all_among}
+use Rattle.vrt_model.proofs.Lists.{among_filter_map, filter_map_among}
+use Rattle.vrt_model.proofs.Members.{all_among, all_by}
 use Rattle.vrt_model.specs.Circuits.{IsNet}
+use Rattle.vrt_model.specs.Lists.{At, Among}
 use Rattle.vrt_model.specs.declared.circuit.Circuit.{Circuit}
+use Rattle.vrt_model.specs.declared.circuit.Device.{Device}
 use Rattle.vrt_model.specs.declared.ids.Dev.{Dev}
 use Rattle.vrt_model.specs.declared.ids.Net.{Net}
 use Rattle.channel_parts.specs.declared.part.Part.{Part}
-use Rattle.path_fixpoint.specs.Parts.{IsPart, IsPartDevice, IsPlace, Rises}
+use Rattle.path_fixpoint.specs.Parts.{IsPart, IsPartDevice, IsPlace, Rises, part_devices}
 use Rattle.path_fixpoint.proofs.Places.{place_in}
 
 -- the number at a place
@@ -52,6 +54,16 @@ part_from c part rises nets devices = record {
   right = λ d m. let r = among_filter_map (λ (x : Dev). slice_get c.devices x.0) part.devices d m in (all_among (IsPartDevice c part) part.devices r.0 devices r.1).right d r.2;
 }
 
+-- and the devices of a part of the circuit pass this test
+pub part_passes : (c : Circuit) (part : Part) → IsPart c part → All (IsPartDevice c part) part.devices
+part_passes c part is = all_by (IsPartDevice c part) part.devices (λ dev m.
+    let among : (d : Device) → At c.devices dev.0 d → Among (part_devices c part) d = λ d here. filter_map_among (λ (x : Dev). slice_get c.devices x.0) part.devices m.0 dev d m.1 here in
+    record {
+      inside = all_among (λ (x : Dev). x.0 < length c.devices) part.devices dev is.devices m;
+      left = λ d here. is.left d (among d here);
+      right = λ d here. is.right d (among d here);
+    })
+
 net_same : (a b : Net) → a.0 ≡ b.0 → a ≡ b
 net_same a b e = let build : ℕ → Net = λ n. record { 0 = n } in ap build e
 
@@ -60,6 +72,10 @@ here part i lt = (get_or part.nets i (record { 0 = 0 }), slice_get-get_or part.n
 
 pub rises_at : (part : Part) → Rises part → (i j : ℕ) → i < j → j < length part.nets → net_at part.nets i < net_at part.nets j
 rises_at part rises i j lt inside = rises i j (net_at part.nets i) (net_at part.nets j) (here part i (omega (arith, lt, inside))) (here part j inside) lt
+
+-- where a number is not below the next, the numbers do not rise
+pub never_rises : (part : Part) (at : ℕ) → 1 ≤ at → at < length part.nets → net_at part.nets at ≤ net_at part.nets (at - 1) → Rises part → ⊥
+never_rises part at some inside falls rises = omega (arith, rises_at part rises (at - 1) at (omega (arith, some)) inside, falls)
 
 -- a number above the one at a place is above all before it
 pub below_from : (part : Part) → Rises part → (n middle : ℕ) → middle < length part.nets → net_at part.nets middle < n → (i : ℕ) → i < middle + 1 → net_at part.nets i < n

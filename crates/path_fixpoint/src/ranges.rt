@@ -17,7 +17,7 @@ use vrt_model::{Circuit, Dev, Net};
 
 /// Whether the nets of a part rise by number.
 pub(crate) fn rises(part: &Part) -> bool
-    ensures { IsTrue result → Rises part.now }
+    ensures { IsTrue result ↔ Rises part.now }
 {
     let nets = part.nets.as_slice();
     for at in 1..nets.len() {
@@ -30,7 +30,7 @@ pub(crate) fn rises(part: &Part) -> bool
 
 /// Whether the nets of a part are nets of the circuit.
 fn has_nets(circuit: &Circuit, part: &Part) -> bool
-    ensures { IsTrue result → All (IsNet circuit.now) part.now.nets }
+    ensures { IsTrue result ↔ All (IsNet circuit.now) part.now.nets }
 {
     let mut nets = part.nets.as_slice().iter();
     nets.all(|net| (net.0 as usize) < circuit.nets.len())
@@ -39,7 +39,7 @@ fn has_nets(circuit: &Circuit, part: &Part) -> bool
 /// Whether a channel net is in the part or has a given value.
 fn is_end(circuit: &Circuit, part: &Part, net: Net) -> bool
     requires { Rises part.now }
-    ensures { IsTrue result → Among part.now.nets net ⊎ IsGiven circuit.now net.0 }
+    ensures { IsTrue result ↔ (Among part.now.nets net ⊎ IsGiven circuit.now net.0) }
 {
     place(part, true, net).is_some() || is_given(circuit, net)
 }
@@ -47,7 +47,7 @@ fn is_end(circuit: &Circuit, part: &Part, net: Net) -> bool
 /// Whether a number is that of a device whose channel nets are in the part or have given values.
 fn is_device(circuit: &Circuit, part: &Part, dev: Dev) -> bool
     requires { Rises part.now }
-    ensures { IsTrue result → IsPartDevice circuit.now part.now dev }
+    ensures { IsTrue result ↔ IsPartDevice circuit.now part.now dev }
 {
     match circuit.devices.get(dev.0 as usize) {
         Some(device) => {
@@ -60,15 +60,15 @@ fn is_device(circuit: &Circuit, part: &Part, dev: Dev) -> bool
 /// Whether the devices of a part are devices of the circuit whose channel nets are in it or have given values.
 fn has_devices(circuit: &Circuit, part: &Part) -> bool
     requires { Rises part.now }
-    ensures { IsTrue result → All (IsPartDevice circuit.now part.now) part.now.devices }
+    ensures { IsTrue result ↔ All (IsPartDevice circuit.now part.now) part.now.devices }
 {
     let mut devices = part.devices.as_slice().iter();
     devices.all(|dev| is_device(circuit, part, *dev))
 }
 
-/// Whether a part is one of the circuit, as `solve_part` asks, with its nets rising by number.
+/// Whether a part is one of the circuit, as `solve_part` asks, and its nets rise by number.
 pub fn is_part(circuit: &Circuit, part: &Part) -> bool
-    ensures { IsTrue result → IsPart circuit.now part.now }
+    ensures { IsTrue result ↔ (IsPart circuit.now part.now × Rises part.now) }
 {
     if !rises(part) {
         return false;
@@ -90,7 +90,7 @@ fn is_span(store: &Store, span: Span) -> bool
 /// Whether each word of a span is a live handle.
 fn is_filled(store: &Store, span: Span) -> bool
     requires { IsSpan store.now span }
-    ensures { IsTrue result → IsFilled store.now span }
+    ensures { IsTrue result ↔ IsFilled store.now span }
 {
     let count = store.node_count();
     for at in 0..span.len {
@@ -111,7 +111,7 @@ fn are_apart(a: Span, b: Span) -> bool
 
 /// Whether a span has a live handle for each net of the circuit, apart from `out`.
 fn has_handles(store: &Store, circuit: &Circuit, span: Span, out: Span) -> bool
-    ensures { IsTrue result → (IsSpan store.now span × (span.len ≡ length circuit.now.nets)) × (IsFilled store.now span × IsApart span out) }
+    ensures { IsTrue result ↔ ((IsSpan store.now span × (span.len ≡ length circuit.now.nets)) × (IsFilled store.now span × IsApart span out)) }
 {
     if !is_span(store, span) {
         return false;
@@ -121,7 +121,7 @@ fn has_handles(store: &Store, circuit: &Circuit, span: Span, out: Span) -> bool
 
 /// Whether a span has ten words for each net of the part.
 fn has_words(store: &Store, part: &Part, out: Span) -> bool
-    ensures { IsTrue result → IsSpan store.now out × (out.len ≡ 10 * length part.now.nets) }
+    ensures { IsTrue result ↔ (IsSpan store.now out × (out.len ≡ 10 * length part.now.nets)) }
 {
     is_span(store, out) && out.len % 10 == 0 && out.len as usize / 10 == part.nets.len()
 }
@@ -135,7 +135,7 @@ pub fn are_spans(
     roots: Span,
     out: Span,
 ) -> bool
-    ensures { IsTrue result → HasRootSpans circuit.now part.now gates roots out store.now }
+    ensures { IsTrue result ↔ HasRootSpans circuit.now part.now gates roots out store.now }
 {
     has_words(store, part, out)
         && has_handles(store, circuit, gates, out)
