@@ -5,7 +5,6 @@ pub mod NextShown
 pub mod PutLaws
 pub mod RefusalLaws
 pub mod ReportLaws
-pub mod Spaces
 pub mod UnsettledShown
 pub mod WorkedFaults
 pub mod Written

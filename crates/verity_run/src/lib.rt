@@ -10,7 +10,6 @@ mod report;
 mod status;
 mod top;
 mod unbuilt;
-mod verdict_text;
 
 pub use status::Status;
 pub use top::run;

@@ -1,7 +1,6 @@
 //! The lines that a run writes beside the verdicts.
 
 ghost use Rattle.std.specs.Prelude.{◌≡◌, ◌∷◌, [], codes, map, IfOk};
-ghost use Rattle.std.specs.Fmt.{decimal};
 ghost use Rattle.hierarchy.specs.Names.{missing_of};
 ghost use Rattle.verity_run.specs.Messages.{joined, missing_line, read_failed_line, too_long_line, unbuilt_line, refusal_line, usage_line, words_unbuilt_line};
 
@@ -12,12 +11,12 @@ mod spice;
 
 pub use blif::blif_refusal;
 use hierarchy::MissingName;
-use itoa::Buffer;
 pub use models::models_refusal;
 pub use rules::rules_refusal;
 pub use spice::spice_refusal;
 use std::alloc::Global;
 use vrt_model::{NoMemory, Text};
+use witness::decimal_text;
 
 /// The line for words that are not understood.
 pub fn usage() -> &'static [u8]
@@ -35,14 +34,6 @@ pub fn join(alloc: Global, pieces: &[&[u8]]) -> Result<Text, NoMemory>
         text.extend(piece)?;
     }
     Ok(text)
-}
-
-/// A number in decimal.
-pub fn digits(alloc: Global, number: u64) -> Result<Text, NoMemory>
-    ensures { IfOk result (λ text. text ≡ decimal number) }
-{
-    let mut buffer = Buffer::new();
-    Text::from_bytes(alloc, buffer.format(number).as_bytes())
 }
 
 /// The line for a file that was not read.
@@ -88,7 +79,7 @@ pub fn refusal(
 ) -> Result<Text, NoMemory>
     ensures { IfOk result (λ text. text ≡ refusal_line file.now line cause.now name.now) }
 {
-    let number = digits(alloc, u64::from(line))?;
+    let number = decimal_text(alloc, u64::from(line))?;
     refusal_with(alloc, file, number.as_bytes(), cause, name)
 }
 

@@ -1,23 +1,26 @@
 //! The report of all cells: each is compared with its model, and its line is put at once.
 
-ghost use Rattle.std.specs.Prelude.{◌≡◌, ◌<◌, ◌≤◌, IfOk, IfErr, length};
+ghost use Rattle.std.specs.Prelude.{◌≡◌, ◌<◌, ◌≤◌, ◌++◌, ◌∷◌, [], IfOk, IfErr, length};
+ghost use Rattle.std.specs.Option.{option_copied};
 ghost use Rattle.prepared_tables.specs.Prepared.{ArePrepared};
 ghost use Rattle.verity_run.specs.Given.{AreFit};
 ghost use Rattle.verity_run.specs.Reports.{BeginsReport, IsReportOf, PutsCell, StopsAtCell, cell_line, with_undecided, with_verdict};
 ghost use Rattle.verity_run.specs.Runs.{Ends, IsBudget};
 ghost use Rattle.verity_run.specs.Unbuilt.{AreBuilt};
+ghost use Rattle.verity_run.specs.VerdictLines.{circuit_in, model_in};
 ghost use Rattle.vrt_model.specs.Comparison.{cell_at};
+ghost use Rattle.vrt_model.specs.VerdictText.{verdict_line};
 ghost use Rattle.vrt_model.specs.Verdicts.{IsVerdict};
 
 use crate::puts::put_line;
 use crate::refusals::Inputs;
 use crate::status::Status;
-use crate::verdict_text::verdict_line;
-use cell_compare::{Compared, compare_prepared};
+use cell_compare::{Compared, Flattened, compare_prepared};
 use prepared_tables::{Prepared, prepare};
 use std::alloc::Global;
 use vrt_io::Sink;
-use vrt_model::{Cell, NoMemory, Seq, Text, Verdict};
+use vrt_model::{Cell, Circuit, FlatModel, NoMemory, Seq, Text, Verdict};
+use witness::verdict_text;
 
 /// What is found of a cell, and its line.
 struct CellAnswer {
@@ -58,6 +61,37 @@ fn with_verdict(status: Status, verdict: &Verdict) -> Status
     }
 }
 
+/// The flat circuit of what was compared, where one was made.
+fn circuit_in(flattened: &Option<Flattened>) -> Option<&Circuit>
+    ensures { option_copied result ≡ circuit_in flattened.entry.now }
+{
+    match flattened {
+        Some(found) => Some(&found.circuit),
+        None => None,
+    }
+}
+
+/// The flat model of what was compared, where one was made.
+fn model_in(flattened: &Option<Flattened>) -> Option<&FlatModel>
+    ensures { option_copied result ≡ model_in flattened.entry.now }
+{
+    match flattened {
+        Some(found) => Some(&found.model),
+        None => None,
+    }
+}
+
+/// The line of a verdict on a cell, with its line feed. A cycle is named by the flat circuit and the flat model.
+fn line_of(alloc: Global, cell: &Cell, rules: &Rules, compared: &Compared) -> Result<Text, NoMemory>
+    ensures { IfOk result (λ text. text ≡ verdict_line cell.now.name compared.now.verdict rules.now (circuit_in compared.now.flattened) (model_in compared.now.flattened) ++ 10 ∷ []) }
+{
+    let circuit = circuit_in(&compared.flattened);
+    let flat = model_in(&compared.flattened);
+    let mut line = verdict_text(alloc, &cell.name, &compared.verdict, rules, circuit, flat)?;
+    line.extend(b"\n")?;
+    Ok(line)
+}
+
 /// What is found of the cell of a number, and its line.
 fn answer_on(
     alloc: Global,
@@ -88,13 +122,7 @@ fn answer_on(
         number,
         &facts,
     )?;
-    let line = verdict_line(
-        alloc,
-        cell,
-        &inputs.rules,
-        &compared.flattened,
-        &compared.verdict,
-    )?;
+    let line = line_of(alloc, cell, &inputs.rules, &compared)?;
     Ok(CellAnswer { compared, line })
 }
 

@@ -6,3 +6,4 @@ pub mod PartNets
 pub mod SettleLaws
 pub mod StartLaws
 pub mod ViewLaws
+pub mod Spaces

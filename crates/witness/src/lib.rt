@@ -1,4 +1,4 @@
-//! What the nets of a circuit show at one valuation.
+//! What a verdict says in a line, and what the nets of a circuit show at one valuation.
 #![tactic(auto)]
 
 mod looking;
@@ -7,10 +7,12 @@ mod rounds;
 mod seen;
 mod starting;
 mod values;
+mod verdict_lines;
 mod viewing;
 
 pub use looking::look;
 pub use replaying::replay;
 pub use seen::Seen;
 pub use values::{ReplayFault, Values};
+pub use verdict_lines::{decimal_text, verdict_text};
 pub use viewing::view_all;

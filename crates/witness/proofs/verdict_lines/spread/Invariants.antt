@@ -1,6 +1,6 @@
 use Rattle.std.proofs.Common.{◌≡◌, ◌++◌, drop}
-use Rattle.verity_run.proofs.Spaces.{spaced_behind}
-use Rattle.verity_run.proofs.verdict_text.spread.Given as goal
+use Rattle.witness.proofs.Spaces.{spaced_behind}
+use Rattle.witness.proofs.verdict_lines.spread.Given as goal
 
 -- the words so far, and those that are left
 abbrev pub invariant-loop-word : goal.invariant-loop-word

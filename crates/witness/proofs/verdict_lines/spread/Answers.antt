@@ -1,7 +1,7 @@
 use Rattle.std.proofs.Common.{◌++◌, ap, sym, ◌∙◌, arith}
 use Rattle.vrt_model.specs.VerdictText.{spaced}
-use Rattle.verity_run.proofs.Spaces.{spaced_behind, spaced_to_end}
-use Rattle.verity_run.proofs.verdict_text.spread.Goals as goal
+use Rattle.witness.proofs.Spaces.{spaced_behind, spaced_to_end}
+use Rattle.witness.proofs.verdict_lines.spread.Goals as goal
 
 pub returns : goal.returns
 returns c =

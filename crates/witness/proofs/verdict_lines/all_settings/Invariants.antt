@@ -1,6 +1,6 @@
 use Rattle.std.proofs.Common.{◌≡◌, ◌++◌, length}
 use Rattle.vrt_model.specs.VerdictText.{settings}
-use Rattle.verity_run.proofs.verdict_text.all_settings.Given as goal
+use Rattle.witness.proofs.verdict_lines.all_settings.Given as goal
 
 -- the variables so far, and those that are left
 abbrev pub invariant-variables : goal.invariant-variables

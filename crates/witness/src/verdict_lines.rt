@@ -2,17 +2,24 @@
 
 ghost use Rattle.std.specs.Prelude.{◌≡◌, ◌∷◌, ◌++◌, [], codes, IfOk, OnOk};
 ghost use Rattle.std.specs.Fmt.{decimal};
-ghost use Rattle.verity_run.specs.VerdictLines.{circuit_in, model_in};
+ghost use Rattle.std.specs.Option.{option_copied};
 ghost use Rattle.vrt_model.specs.Comparison.{net_name};
 ghost use Rattle.vrt_model.specs.Elements.{signal_name};
 ghost use Rattle.vrt_model.specs.VerdictText.{bit_text, spaced, settings, or_dash, valuation_text, phase_text, kind_text, wanted_text, values_words, fault_words, first_net, first_signal, why_words, verdict_words, verdict_line};
 
-use crate::messages::digits;
-use cell_compare::Flattened;
+use itoa::Buffer;
 use std::alloc::Global;
 use vrt_model::{
-    Cell, Circuit, FaultAt, FaultKind, FlatModel, Net, NoMemory, Rules, Seq, Text, Verdict, Why,
+    Circuit, FaultAt, FaultKind, FlatModel, Net, NoMemory, Rules, Seq, Text, Verdict, Why,
 };
+
+/// A number in decimal.
+pub fn decimal_text(alloc: Global, number: u64) -> Result<Text, NoMemory>
+    ensures { IfOk result (λ text. text ≡ decimal number) }
+{
+    let mut buffer = Buffer::new();
+    Text::from_bytes(alloc, buffer.format(number).as_bytes())
+}
 
 /// A bit as text.
 fn bit_word(bit: bool) -> &'static [u8]
@@ -181,7 +188,7 @@ fn add_counted(
 ) -> Result<(), NoMemory>
     ensures { OnOk result (words.new ≡ words.old ++ word.now ∷ decimal count ∷ []) }
 {
-    let number = digits(alloc, count)?;
+    let number = decimal_text(alloc, count)?;
     add_named(alloc, words, word, number.as_bytes())
 }
 
@@ -218,21 +225,21 @@ fn signal_name(flat: &FlatModel, signal: u32) -> &[u8]
 }
 
 /// The name of the first of some nets.
-fn first_net<'a>(flattened: &'a Option<Flattened>, nets: &[Net]) -> &'a [u8]
-    ensures { result.now ≡ first_net (circuit_in flattened.entry.now) nets.now }
+fn first_net<'a>(circuit: Option<&'a Circuit>, nets: &[Net]) -> &'a [u8]
+    ensures { result.now ≡ first_net (option_copied circuit.entry) nets.now }
 {
-    match (flattened, nets) {
-        (Some(found), [net, ..]) => net_name(&found.circuit, *net),
+    match (circuit, nets) {
+        (Some(circuit), [net, ..]) => net_name(circuit, *net),
         _ => &[],
     }
 }
 
 /// The name of the first of some signals.
-fn first_signal<'a>(flattened: &'a Option<Flattened>, signals: &[u32]) -> &'a [u8]
-    ensures { result.now ≡ first_signal (model_in flattened.entry.now) signals.now }
+fn first_signal<'a>(flat: Option<&'a FlatModel>, signals: &[u32]) -> &'a [u8]
+    ensures { result.now ≡ first_signal (option_copied flat.entry) signals.now }
 {
-    match (flattened, signals) {
-        (Some(found), [signal, ..]) => signal_name(&found.model, *signal),
+    match (flat, signals) {
+        (Some(flat), [signal, ..]) => signal_name(flat, *signal),
         _ => &[],
     }
 }
@@ -257,19 +264,20 @@ fn add_why(
     alloc: Global,
     words: &mut Seq<Text>,
     rules: &Rules,
-    flattened: &Option<Flattened>,
+    circuit: Option<&Circuit>,
+    flat: Option<&FlatModel>,
     why: &Why,
 ) -> Result<(), NoMemory>
-    ensures { OnOk result (words.new ≡ words.old ++ why_words rules.now (circuit_in flattened.now) (model_in flattened.now) why.now) }
+    ensures { OnOk result (words.new ≡ words.old ++ why_words rules.now (option_copied circuit.entry) (option_copied flat.entry) why.now) }
 {
     match why {
         Why::Ports { name } => add_named(alloc, words, b"ports", name.as_bytes()),
         Why::Cycle { phase, nets } => {
-            let name = first_net(flattened, nets.as_slice());
+            let name = first_net(circuit, nets.as_slice());
             add_cycle(alloc, words, rules, b"cycle", name, *phase)
         }
         Why::ModelCycle { phase, signals } => {
-            let name = first_signal(flattened, signals.as_slice());
+            let name = first_signal(flat, signals.as_slice());
             add_cycle(alloc, words, rules, b"modelcycle", name, *phase)
         }
         Why::Unmatched { name } => add_named(alloc, words, b"unmatched", name.as_bytes()),
@@ -317,13 +325,14 @@ fn add_unsupported(
     alloc: Global,
     words: &mut Seq<Text>,
     rules: &Rules,
-    flattened: &Option<Flattened>,
+    circuit: Option<&Circuit>,
+    flat: Option<&FlatModel>,
     why: &Why,
 ) -> Result<(), NoMemory>
-    ensures { OnOk result (words.new ≡ words.old ++ codes "unsupported" ∷ why_words rules.now (circuit_in flattened.now) (model_in flattened.now) why.now) }
+    ensures { OnOk result (words.new ≡ words.old ++ codes "unsupported" ∷ why_words rules.now (option_copied circuit.entry) (option_copied flat.entry) why.now) }
 {
     add(alloc, words, b"unsupported")?;
-    add_why(alloc, words, rules, flattened, why)
+    add_why(alloc, words, rules, circuit, flat, why)
 }
 
 /// Adds the words of a verdict.
@@ -331,10 +340,11 @@ fn add_verdict(
     alloc: Global,
     words: &mut Seq<Text>,
     rules: &Rules,
-    flattened: &Option<Flattened>,
+    circuit: Option<&Circuit>,
+    flat: Option<&FlatModel>,
     verdict: &Verdict,
 ) -> Result<(), NoMemory>
-    ensures { OnOk result (words.new ≡ words.old ++ verdict_words rules.now (circuit_in flattened.now) (model_in flattened.now) verdict.now) }
+    ensures { OnOk result (words.new ≡ words.old ++ verdict_words rules.now (option_copied circuit.entry) (option_copied flat.entry) verdict.now) }
 {
     match verdict {
         Verdict::Equal => add(alloc, words, b"equal"),
@@ -342,25 +352,25 @@ fn add_verdict(
         Verdict::Fault(fault) => add_fault(alloc, words, rules, fault),
         Verdict::Vacuous { phase } => add_vacuous(alloc, words, rules, *phase),
         Verdict::Budget { nodes, phase } => add_budget(alloc, words, rules, *nodes, *phase),
-        Verdict::Unsupported(why) => add_unsupported(alloc, words, rules, flattened, why),
+        Verdict::Unsupported(why) => add_unsupported(alloc, words, rules, circuit, flat, why),
     }
 }
 
-/// The line of a verdict on a cell, with its line feed. A cycle is named by the flat circuit and the flat model.
-pub fn verdict_line(
+/// The line of a verdict on a cell, without its line feed. A cycle comes with its flat circuit, and a cycle of the model with
+/// its flat model: the first net or signal on it is named, and nothing where there is none.
+pub fn verdict_text(
     alloc: Global,
-    cell: &Cell,
-    rules: &Rules,
-    flattened: &Option<Flattened>,
+    cell: &Text,
     verdict: &Verdict,
+    rules: &Rules,
+    circuit: Option<&Circuit>,
+    flat: Option<&FlatModel>,
 ) -> Result<Text, NoMemory>
-    ensures { IfOk result (λ text. text ≡ verdict_line cell.now.name verdict.now rules.now (circuit_in flattened.now) (model_in flattened.now) ++ 10 ∷ []) }
+    ensures { IfOk result (λ text. text ≡ verdict_line cell.now verdict.now rules.now (option_copied circuit.entry) (option_copied flat.entry)) }
 {
     let mut words = Seq::new(alloc);
     add(alloc, &mut words, b"cell")?;
-    add(alloc, &mut words, cell.name.as_bytes())?;
-    add_verdict(alloc, &mut words, rules, flattened, verdict)?;
-    let mut line = spread(alloc, words.as_slice())?;
-    line.extend(b"\n")?;
-    Ok(line)
+    add(alloc, &mut words, cell.as_bytes())?;
+    add_verdict(alloc, &mut words, rules, circuit, flat, verdict)?;
+    spread(alloc, words.as_slice())
 }
