@@ -68,7 +68,7 @@ filled_same : (span : Span) (old new : Diagrams) (words : List ℕ) → Adds old
 filled_same span old new words a same live k lt = omega (arith, same k lt, live k lt, a.longer)
 
 -- a word of a span is beside a span apart from it
-beside_of : (span other : Span) (k : ℕ) → IsApart span other → k < span.len → IsBeside other (span.start + k)
+pub beside_of : (span other : Span) (k : ℕ) → IsApart span other → k < span.len → IsBeside other (span.start + k)
 beside_of span other k apart lt = elim apart [ inl low ↦ inl (omega (arith, low, lt)) | inr high ↦ inr (omega (arith, high)) ]
 
 -- ---- nodes alone

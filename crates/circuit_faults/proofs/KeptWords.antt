@@ -4,7 +4,7 @@ use Rattle.std.specs.Prelude.{slice_set}
 use Rattle.std.proofs.lemmas.Bool.{cases_eq}
 use Rattle.node_pool.specs.declared.region.Node.{Node}
 use Rattle.node_pool.specs.declared.region.Span.{Span}
-use Rattle.bdd_core.proofs.Frames.{adds_rewritten, adds_then, adds_words, rest_then, span_stays, word_apart, word_beside, word_here, word_other}
+use Rattle.bdd_core.proofs.Frames.{adds_rewritten, adds_then, adds_words, beside_of, rest_then, span_stays, word_apart, word_beside, word_here, word_other}
 use Rattle.bdd_core.specs.Diagram.{IsReduced, IsWithin, Valuation, meaning}
 use Rattle.bdd_core.specs.Store.{Adds, AddsNodes, Diagrams, IsSpan}
 use Rattle.bdd_core.specs.Words.{IsApart, IsBeside, IsFilled, Writes, shows, word_at}
@@ -27,11 +27,6 @@ use Rattle.vrt_model.proofs.Members.{all_among}
 use Rattle.vrt_model.specs.Circuits.{IsNet}
 use Rattle.vrt_model.specs.Lists.{Among}
 use Rattle.vrt_model.specs.declared.circuit.Circuit.{Circuit}
-
--- a word of a span is beside a span apart from it
-beside_apart : (span other : Span) (k : ℕ) → IsApart span other → k < span.len → IsBeside other (span.start + k)
-beside_apart span other k (inl low) lt = inl (omega (arith, low, lt))
-beside_apart span other k (inr high) lt = inr (omega (arith, high))
 
 apart_turned : (a b : Span) → IsApart a b → IsApart b a
 apart_turned a b (inl low) = inr low
@@ -58,7 +53,7 @@ module _ (part : Part) (value : Bool) (out to : Span) where
 
   pub copied_filled : (upto : ℕ) (old new : Diagrams) → IsApart to out → IsFilled old out → IsCopiedTo part value out to upto old new → IsFilled new out
   copied_filled upto old new apart live c k lt =
-      let same : word_at new out k ≡ word_at old out k = c.beside (out.start + k) (beside_apart out to k (apart_turned to out apart) lt) in
+      let same : word_at new out k ≡ word_at old out k = c.beside (out.start + k) (beside_of out to k (apart_turned to out apart) lt) in
       let nodes : length new.nodes ≡ length old.nodes = ap (λ (d : Diagrams). length d.nodes) c.rest in
       omega (arith, same, nodes, live k lt)
 
@@ -72,7 +67,7 @@ module _ (part : Part) (value : Bool) (out to : Span) where
     source : (j m : ℕ) → IsPlace part j m → word_at old out (word_of (slot_of value) j) ≡ word_at first out (word_of (slot_of value) j)
     source j m p =
         before.beside (out.start + word_of (slot_of value) j)
-        (beside_apart out to (word_of (slot_of value) j) (apart_turned to out apart) (slot_word value j out.len (omega (arith, len, place_in part j m p))))
+        (beside_of out to (word_of (slot_of value) j) (apart_turned to out apart) (slot_word value j out.len (omega (arith, len, place_in part j m p))))
 
     pub copied_more : IsCopiedTo part value out to (i + 1) first new
     copied_more = record {
@@ -154,7 +149,7 @@ module _ (c : Circuit) (parts : List Part) (spans : KeptSpans) (old : Diagrams) 
     -- a span apart from what is written
     word_kept : (span : Span) (k : ℕ) → IsApart span spans.zeros → IsApart span spans.ones → IsApart span spans.out → k < span.len → word_at new span k ≡ word_at old span k
     word_kept span k zeros ones out lt =
-        w.others (span.start + k) (beside_apart span spans.zeros k zeros lt) (beside_apart span spans.ones k ones lt) (beside_apart span spans.out k out lt)
+        w.others (span.start + k) (beside_of span spans.zeros k zeros lt) (beside_of span spans.ones k ones lt) (beside_of span spans.out k out lt)
 
     filled_kept : (span : Span) → IsApart span spans.zeros → IsApart span spans.ones → IsApart span spans.out → IsFilled old span → IsFilled new span
     filled_kept span zeros ones out live k lt = let same = word_kept span k zeros ones out lt in omega (arith, same, live k lt, w.adds.longer)
@@ -264,9 +259,9 @@ module _ (c : Circuit) (part : Part) (spans : KeptSpans) (words : Span) (old mid
   copied_word true i n p =
       let fits : 10 * i + 10 ≤ words.len = omega (arith, len, place_in part i n p) in
       ones.copied i n (place_in part i n p) p
-      ∙ zeros.beside (words.start + word_of (slot_of true) i) (beside_apart words spans.zeros (word_of (slot_of true) i) (apart_turned spans.zeros words zeros_apart) (slot_word true i words.len fits))
+      ∙ zeros.beside (words.start + word_of (slot_of true) i) (beside_of words spans.zeros (word_of (slot_of true) i) (apart_turned spans.zeros words zeros_apart) (slot_word true i words.len fits))
   copied_word false i n p =
-      ones.beside (spans.zeros.start + n) (beside_apart spans.zeros spans.ones n has.zeros_ones (let lt = in_range n (i, p) in omega (arith, lt, has.zeros_len)))
+      ones.beside (spans.zeros.start + n) (beside_of spans.zeros spans.ones n has.zeros_ones (let lt = in_range n (i, p) in omega (arith, lt, has.zeros_len)))
       ∙ zeros.copied i n (place_in part i n p) p
 
   -- it reads only the first variables
@@ -283,12 +278,12 @@ module _ (c : Circuit) (part : Part) (spans : KeptSpans) (words : Span) (old mid
 
   -- the words of other nets stay
   other_word : (value : Bool) (n : ℕ) → n < length c.nets → (¬ IsInside part n) → word_at next (reach_span spans value) n ≡ word_at mid (reach_span spans value) n
-  other_word true n lt away = zeros.beside (spans.ones.start + n) (beside_apart spans.ones spans.zeros n (apart_turned spans.zeros spans.ones has.zeros_ones) (omega (arith, lt, has.ones_len)))
+  other_word true n lt away = zeros.beside (spans.ones.start + n) (beside_of spans.ones spans.zeros n (apart_turned spans.zeros spans.ones has.zeros_ones) (omega (arith, lt, has.ones_len)))
   other_word false n lt away = zeros.others n (λ i below p. away (i, p))
 
   last_word : (value : Bool) (n : ℕ) → n < length c.nets → (¬ IsInside part n) → word_at new (reach_span spans value) n ≡ word_at next (reach_span spans value) n
   last_word true n lt away = ones.others n (λ i below p. away (i, p))
-  last_word false n lt away = ones.beside (spans.zeros.start + n) (beside_apart spans.zeros spans.ones n has.zeros_ones (omega (arith, lt, has.zeros_len)))
+  last_word false n lt away = ones.beside (spans.zeros.start + n) (beside_of spans.zeros spans.ones n has.zeros_ones (omega (arith, lt, has.zeros_len)))
 
   solved_word : (apart : (value : Bool) → IsApart (reach_span spans value) words) (size : (value : Bool) → (reach_span spans value).len ≡ length c.nets) (value : Bool) (n : ℕ) → n < length c.nets
       → word_at mid (reach_span spans value) n ≡ word_at old (reach_span spans value) n

@@ -1,8 +1,8 @@
 -- What is built where no form is found that is not.
-use Rattle.std.proofs.Common.{◌≡◌, ◌∷◌, ◌++◌, [], ℕ, zero, suc, ◌<◌, List, not, cond, map, min, length, Option, Some, None, option_map, refl, sym, ap, ap₂, ◌∙◌, arith, fold, drop, drop-cons, get_or, ◌+◌}
-use Rattle.std.specs.Prelude.{All, find, flat_map, slice_get, unwrap_or}
+use Rattle.std.proofs.Common.{◌≡◌, ◌∷◌, ◌++◌, [], ℕ, suc, ◌<◌, List, not, cond, map, min, length, Option, Some, None, option_map, refl, sym, ap, ap₂, ◌∙◌, arith, fold, drop, drop-cons, get_or, ◌+◌}
+use Rattle.std.specs.Prelude.{All, find, flat_map, slice_get}
 use Rattle.std.specs.List.{reduce}
-use Rattle.std.proofs.lemmas.List.Elements.{All-cons, All-head, All-nil, All-tail}
+use Rattle.std.proofs.lemmas.List.Elements.{All-cons, All-nil}
 use Rattle.vrt_model.specs.Lists.{is_empty}
 use Rattle.verity_run.specs.Unbuilt.{AreBuilt, has_latch, instance_line, latch_line, lesser, rule_line}
 use Rattle.vrt_model.specs.declared.blif.Blif.{Blif}
@@ -114,14 +114,6 @@ are_built design blif rules cards latches lines =
         assumes = no_rule (λ (r : AssumeRule). r.line) rules.assumes five.1;
       };
     }
-
-abbrev no_cell : Cell
-no_cell = record { line = 0; name = []; ports = []; devices = []; instances = [] }
-
-leaf_at : (cells : List Cell) (n : ℕ) → All (λ (c : Cell). c.instances ≡ []) cells → (unwrap_or (slice_get cells n) no_cell).instances ≡ []
-leaf_at [] n all = refl
-leaf_at (cell ∷ cells) zero all = All-head (λ (c : Cell). c.instances ≡ []) cell cells all
-leaf_at (cell ∷ cells) (suc n) all = leaf_at cells n (All-tail (λ (c : Cell). c.instances ≡ []) cell cells all)
 
 -- ---- the first instance card of some cells
 

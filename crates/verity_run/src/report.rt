@@ -19,7 +19,7 @@ use cell_compare::{Compared, Flattened, compare_prepared};
 use prepared_tables::{Prepared, prepare};
 use std::alloc::Global;
 use vrt_io::Sink;
-use vrt_model::{Cell, Circuit, FlatModel, NoMemory, Seq, Text, Verdict};
+use vrt_model::{Cell, Circuit, FlatModel, NoMemory, Rules, Seq, Text, Verdict};
 use witness::verdict_text;
 
 /// What is found of a cell, and its line.
