@@ -37,7 +37,7 @@ use Rattle.constraints.specs.Obliged.{AreNamed, HasPortBits, all_hold, assume_ho
 same_names : (a b : List ℕ) → bytes_eq a b ≡ true → a ≡ b
 same_names a b e = (bytes_eq-Decides a b).0 e
 
-names_same : (a b : List ℕ) → a ≡ b → bytes_eq a b ≡ true
+pub names_same : (a b : List ℕ) → a ≡ b → bytes_eq a b ≡ true
 names_same a b e = (bytes_eq-Decides a b).1 e
 
 -- a name that is there has a place
@@ -56,7 +56,7 @@ some_place names name there none = by_test (nat_lt (position_or_len (bytes_eq na
         true≢false (sym h.2 ∙ sym (ap (bytes_eq name) item) ∙ not_it)
 
 -- the name at its place
-at_place : (names : List (List ℕ)) (name : List ℕ) (at : ℕ) → place_of names name ≡ Some at → (at < length names) × At names at name
+pub at_place : (names : List (List ℕ)) (name : List ℕ) (at : ℕ) → place_of names name ≡ Some at → (at < length names) × At names at name
 at_place names name at e =
     let h = position-Some (bytes_eq name) names at [] e in
     (h.0, slice_get-get_or names at [] h.0 ∙ ap Some (sym (same_names name (get_or names at []) h.1)))

@@ -7,6 +7,7 @@ pub mod DiagramLaws
 pub mod EnterLaws
 pub mod EvaluateLaws
 pub mod HandleLaws
+pub mod NamedLaws
 pub mod ObligationLaws
 pub mod ObligedLaws
 pub mod OrderedLaws

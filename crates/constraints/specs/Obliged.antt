@@ -1,6 +1,6 @@
 -- Where the constraints of an instance's cell hold.
-use Rattle.std.specs.Prelude.{◌≡◌, ℕ, ◌+◌, ◌*◌, Bool, true, cond, not, ◌&&◌, List, Option, Some, Result, Ok, bytes_eq, sum_by}
-use Rattle.std.specs.List.{list_all}
+use Rattle.std.specs.Prelude.{◌≡◌, ℕ, ◌+◌, ◌*◌, Bool, true, cond, not, ◌&&◌, ◌||◌, List, Option, Some, Result, Ok, bytes_eq, is_some, sum_by}
+use Rattle.std.specs.List.{list_all, list_any}
 use Rattle.node_pool.specs.declared.region.Span.{Span}
 use Rattle.bdd_core.specs.Diagram.{Function, IsWithin, Valuation, meaning}
 use Rattle.bdd_core.specs.Store.{Diagrams, Gives}
@@ -9,16 +9,18 @@ use Rattle.bdd_core.specs.declared.handle.H.{H}
 use Rattle.bdd_core.specs.declared.handle.Spent.{Spent}
 use Rattle.bdd_ops.specs.Counting.{Counts, IsCounted}
 use Rattle.vrt_model.specs.Budget.{clockport_count}
-use Rattle.vrt_model.specs.CellRules.{assumed, is_for}
+use Rattle.vrt_model.specs.CellRules.{assumed, clock_of_port, is_for}
 use Rattle.vrt_model.specs.Comparison.{cell_at, phase_at}
 use Rattle.vrt_model.specs.Expressions.{names_in, operators_in}
 use Rattle.vrt_model.specs.Lists.{Among, differ, has_name}
+use Rattle.vrt_model.specs.Places.{named_nets_from}
 use Rattle.vrt_model.specs.declared.design.Cell.{Cell}
 use Rattle.vrt_model.specs.declared.design.Design.{Design}
 use Rattle.vrt_model.specs.declared.circuit.FlatInstance.{FlatInstance}
 use Rattle.vrt_model.specs.declared.ids.Net.{Net}
 use Rattle.vrt_model.specs.declared.rules.AssumeRule.{AssumeRule}
 use Rattle.vrt_model.specs.declared.rules.ClockportRule.{ClockportRule}
+use Rattle.vrt_model.specs.declared.rules.Expr.{Expr}
 use Rattle.vrt_model.specs.declared.rules.Rules.{Rules}
 use Rattle.constraints.specs.Evaluated.{AreWithin, expression_size, value_in}
 use Rattle.constraints.specs.Handles.{clock_in, handle_tied}
@@ -62,6 +64,18 @@ pub record AreNamed (rules : Rules) (cell : Cell) : Type 0 where
 -- the nets of the ports have the bits of their handles at a valuation
 abbrev pub HasPortBits : Diagrams → Span → List Net → Valuation → (ℕ → Option Bool) → Type 0
 HasPortBits d values ports v a = (net : Net) → Among ports net → a net.0 ≡ Some (shows d values net.0 v)
+
+-- ---- named ports
+
+-- an `assume` line for the cell of an instance and the phase names the port, or a `clockport` line
+abbrev pub is_named_port : Design → Rules → ℕ → FlatInstance → List ℕ → Bool
+is_named_port design rules phase i name =
+    list_any (λ (e : Expr). has_name (names_in e) name) (assumed rules (cell_at design i.cell).name phase)
+    || is_some (clock_of_port rules (cell_at design i.cell).name name)
+
+-- the nets of the named ports of an instance
+abbrev pub nets_named : Design → Rules → ℕ → FlatInstance → List ℕ
+nets_named design rules phase i = named_nets_from (is_named_port design rules phase i) (cell_at design i.cell).ports i.ports
 
 -- ---- operations
 

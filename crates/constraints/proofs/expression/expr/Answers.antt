@@ -1,4 +1,4 @@
-use Rattle.std.proofs.Common.{ℕ, ◌+◌, ◌*◌, List, length, arith, ap}
+use Rattle.std.proofs.Common.{ℕ, ◌*◌, List, length, arith, ap}
 use Rattle.bdd_ops.proofs.CountingLaws.{counts_more}
 use Rattle.vrt_model.specs.Expressions.{operators_in}
 use Rattle.constraints.proofs.HandleLaws.{listed_within}
