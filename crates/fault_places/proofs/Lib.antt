@@ -1,7 +1,8 @@
 pub mod CountedSites
 mod Floats
+pub mod ListedSpots
 mod PartRanks
-mod PhaseOrder
-mod SearchLaws
+pub mod PhaseOrder
+pub mod SearchLaws
 mod SortedLists
-mod StepOrder
+pub mod StepOrder

@@ -93,15 +93,18 @@ pub record Sites : Type 0 where
   pub ports : List ℕ
   pub held : List ℕ
 
--- the stages one behind the other
-abbrev pub spots_in : Sites → List Spot
-spots_in s =
-    flat_map spots_of s.steps
-    ++ (spots_each (FightKept ∷ Unsettled ∷ []) s.nets
+-- the stages behind that in which the nets are solved, one behind the other
+abbrev pub spots_behind : Sites → List Spot
+spots_behind s =
+    spots_each (FightKept ∷ Unsettled ∷ []) s.nets
     ++ (spots_each (Differs ∷ []) s.ports
     ++ (spots_each (Next ∷ []) s.held
     ++ (spots_each (Apart ∷ []) s.held
-    ++ spots_each (Enter ∷ []) s.held))))
+    ++ spots_each (Enter ∷ []) s.held)))
+
+-- all stages
+abbrev pub spots_in : Sites → List Spot
+spots_in s = flat_map spots_of s.steps ++ spots_behind s
 
 -- Each list rises, and no place at which a fault may stand is left out. That no net with a given value floats is asked,
 -- since it needs a state that agrees with the solution.
