@@ -1,6 +1,6 @@
--- The parts of a circuit, one after the other.
+-- The steps of a circuit, one after the other: what is known before each, and what one part more makes known.
 use Rattle.std.proofs.Common.{◌≡◌, ℕ, zero, suc, ◌+◌, ◌*◌, ◌<◌, ◌≤◌, ◌⊎◌, Bool, true, false, cond, List, [], ◌∷◌, Option, Some, None, length, arith, ap, refl, sym, subst, ◌∙◌, inl, inr}
-use Rattle.std.specs.Prelude.{◌↔◌, slice_get}
+use Rattle.std.specs.Prelude.{◌↔◌, flat_map, option_map, slice_get, unwrap_or}
 use Rattle.std.proofs.lemmas.Bool.{cases_eq, false≢true}
 use Rattle.std.proofs.lemmas.Option.{none-some, same_Some, slice_get_within}
 use Rattle.bdd_core.proofs.Meaning.{meaning_one, meaning_zero}
@@ -9,15 +9,24 @@ use Rattle.bdd_core.specs.Store.{Diagrams, IsLive, function_of}
 use Rattle.bdd_core.specs.Words.{IsApart, IsFilled, Writes, shows, word_at, WritesTwo}
 use Rattle.bdd_core.specs.declared.handle.H.{H}
 use Rattle.bdd_core.proofs.Frames.{IsWithinSpan, two_filled, two_span, two_word}
-use Rattle.circuit_faults.proofs.Ordered.{AreOrderedParts, IsBefore, IsFirstPlace, IsNetAt, IsWholePart, Place}
+use Rattle.circuit_faults.specs.Ordered.{IsWholePart}
 use Rattle.circuit_faults.proofs.PartNetworks.{bit_there, fault_alone, fault_there}
 use Rattle.circuit_faults.proofs.Solutions.{given_bit, given_no_float, known_bit}
+use Rattle.circuit_faults.proofs.WholeParts.{inside_number, number_inside, number_place, place_number}
+use Rattle.circuit_faults.specs.Cases.{CaseIn, HasStepFault, StandsAt}
 use Rattle.circuit_faults.specs.Faults.{HasFault, HasFixedBits, IsSettingAt, IsSolvedAt, ShowsFault}
-use Rattle.circuit_faults.specs.Results.{HasCircuitSpans, IsClearCircuit, first_word, root_at}
+use Rattle.circuit_faults.specs.Results.{AreClearSteps, HasCircuitSpans, IsClearCircuit, IsFirstFault, first_word, root_at}
 use Rattle.circuit_faults.specs.Scans.{IsInEarlier, IsInside, IsPartClear, IsPartFault}
+use Rattle.circuit_faults.specs.Steps.{AreOrderedSteps, InPhase, IsInStepBefore, IsPartAt, part_step, phase_of, step_of, steps_of}
+use Rattle.circuit_faults.specs.declared.steps.CircuitStep.{CircuitStep}
+use Rattle.circuit_faults.specs.declared.steps.CircuitStep.TheVariants.{Part as PartStep, Instance as InstanceStep}
 use Rattle.circuit_faults.specs.declared.net.CircuitFault.{CircuitFault}
 use Rattle.channel_parts.specs.OneSolution.{AreObserved}
+use Rattle.channel_parts.specs.PartLists.{least_of, net_numbers}
 use Rattle.channel_parts.specs.declared.part.Part.{Part}
+use Rattle.fault_places.proofs.ListedSpots.{clear_both, clear_listed, found_either, found_listed, net_spot, spot}
+use Rattle.fault_places.specs.PhaseSpots.{Step, OfPart, spots_at, spots_of}
+use Rattle.fault_places.specs.Searches.{IsClearOf, IsFoundIn, Spot}
 use Rattle.known_nets.proofs.NetKinds.{given_or_plain}
 use Rattle.known_nets.specs.KnownTables.{known_at}
 use Rattle.node_pool.specs.declared.region.Span.{Span}
@@ -26,6 +35,7 @@ use Rattle.path_fixpoint.specs.Parts.{IsPlace, part_devices}
 use Rattle.path_fixpoint.specs.Solved.{HasRootSpans, network_at}
 use Rattle.vrt_model.proofs.Decidable.{reaches_or_not}
 use Rattle.vrt_model.proofs.GatesGiven.{IsGiven}
+use Rattle.vrt_model.proofs.Lists.{at_map, map_at, map_among}
 use Rattle.vrt_model.proofs.Members.{all_among}
 use Rattle.vrt_model.proofs.Tests.{some_or_none}
 use Rattle.vrt_model.specs.Circuits.{IsHold, IsFlat}
@@ -80,30 +90,70 @@ shows_bit w n true tells zeros no_fight no_float = (tells.0 refl, λ r. no_fight
 shows_bit w n false tells (inl r) no_fight no_float = (r, λ one. false≢true (tells.1 one))
 shows_bit w n false tells (inr none) no_fight no_float = absurd (no_float (λ one. false≢true (tells.1 one), none))
 
--- ---- what is known before a part is looked at
+-- ---- what is known before a step
 
 -- the nets whose handles are their bits
-abbrev pub IsDone : Circuit → Phase → List Part → ℕ → ℕ → Type 0
-IsDone c phase parts k n = IsGiven c n ⊎ ((b : Bool) × IsKnown c phase n b) ⊎ IsInEarlier parts k n
+abbrev pub IsDone : InPhase → ℕ → ℕ → Type 0
+IsDone w k n = IsGiven w.circuit n ⊎ ((b : Bool) × IsKnown w.circuit (phase_of w) n b) ⊎ IsInStepBefore w k n
 
--- in the care set, at a solution, the nets of the parts before it have their bits and no faults
-pub record IsSolvedBefore (c : Circuit) (phase : Phase) (observed : ℕ → Bool) (parts : List Part) (care : H) (roots gates : Span) (k : ℕ) (first now : Diagrams) : Type 0 where
+-- in the care set no fault stands at the places of a step
+abbrev pub IsClearStep : InPhase → H → Span → Diagrams → Step → Type 0
+IsClearStep w care roots first x = IsClearOf (StandsAt w (root_at first roots)) (λ (v : CaseIn w (root_at first roots)). function_of first care v.valuation) (spots_of x)
+
+-- in the care set, at a solution, the nets of the parts before it have their bits, and the steps before it no faults
+pub record IsSolvedBefore (w : InPhase) (care : H) (roots gates : Span) (k : ℕ) (first now : Diagrams) : Type 0 where
   pub bits :
-      (v : Valuation) (setting : Setting) (a : ℕ → Option Bool) → function_of first care v ≡ true → IsSolvedAt c phase observed (root_at first roots v) setting a
-      → (n : ℕ) → observed n ≡ true → IsDone c phase parts k n → a n ≡ Some (shows now gates n v)
-  pub clear :
-      (v : Valuation) (setting : Setting) (a : ℕ → Option Bool) → function_of first care v ≡ true → IsSolvedAt c phase observed (root_at first roots v) setting a
-      → (kind : FaultKind) (n : ℕ) → IsInEarlier parts k n → ¬ HasFault c phase observed setting a kind n
+      (v : Valuation) (setting : Setting) (a : ℕ → Option Bool) → function_of first care v ≡ true
+      → IsSolvedAt w.circuit (phase_of w) w.observed (root_at first roots v) setting a
+      → (n : ℕ) → w.observed n ≡ true → IsDone w k n → a n ≡ Some (shows now gates n v)
+  pub clear : (j : ℕ) (step : CircuitStep) → j < k → At w.steps j step → IsClearStep w care roots first (step_of w.parts step)
 
-module _ (c : Circuit) (phase : Phase) (observed : ℕ → Bool) (known : List (Option Bool)) (parts : List Part) (care : H) (roots gates : Span)
-    (flat : IsFlat c) (seen : AreObserved c observed) (are : AreOrderedParts c phase known parts) (roots_len : roots.len ≡ length c.nets) (gates_len : gates.len ≡ length c.nets) where
+-- the number of a step
+abbrev number_of : CircuitStep → ℕ
+number_of (PartStep number) = number
+number_of (InstanceStep at) = at
+
+-- the parts at one place are one
+pub one_part : (w : InPhase) (j k : ℕ) (p q : Part) → j ≡ k → IsPartAt w j p → IsPartAt w k q → p ≡ q
+one_part w j k p q e one two =
+    let steps : PartStep one.0 ≡ PartStep two.0 = same_Some (PartStep one.0) (PartStep two.0) (sym one.1 ∙ ap (slice_get w.steps) e ∙ two.1) in
+    same_Some p q (sym one.2 ∙ ap (slice_get w.parts) (ap number_of steps) ∙ two.2)
+
+-- the step of a part
+pub step_is : (w : InPhase) (number : ℕ) (part : Part) → At w.parts number part → step_of w.parts (PartStep number) ≡ part_step part
+step_is w number part e = ap (λ (o : Option Part). unwrap_or (option_map part_step o) (OfPart 0 [])) e
+
+module _ (w : InPhase) (care : H) (roots gates : Span)
+    (flat : IsFlat w.circuit) (seen : AreObserved w.circuit w.observed) (are : AreOrderedSteps w) (roots_len : roots.len ≡ length w.circuit.nets) (gates_len : gates.len ≡ length w.circuit.nets) where
+  abbrev c : Circuit
+  c = w.circuit
+
+  abbrev phase : Phase
+  phase = phase_of w
+
+  abbrev observed : ℕ → Bool
+  observed n = w.observed n
+
+  abbrev known : List (Option Bool)
+  known = w.known
+
   abbrev Before : ℕ → Diagrams → Diagrams → Type 0
-  Before k first now = IsSolvedBefore c phase observed parts care roots gates k first now
+  Before k first now = IsSolvedBefore w care roots gates k first now
 
   abbrev Done : ℕ → ℕ → Type 0
-  Done k n = IsDone c phase parts k n
+  Done k n = IsDone w k n
 
-  none_earlier : (n : ℕ) → IsInEarlier parts 0 n → ⊥
+  -- cases, where the roots have the functions of a store; those of the care set; and the faults in them
+  abbrev Case : Diagrams → Type 0
+  Case first = CaseIn w (root_at first roots)
+
+  abbrev cared : (first : Diagrams) → Case first → Bool
+  cared first v = function_of first care v.valuation
+
+  abbrev Stands : (first : Diagrams) → Spot → Case first → Type 0
+  Stands first x v = StandsAt w (root_at first roots) x v
+
+  none_earlier : (n : ℕ) → IsInStepBefore w 0 n → ⊥
   none_earlier n e = (let lt = e.2 in omega (arith, lt))
 
   -- ---- as the handles are opened
@@ -137,17 +187,29 @@ module _ (c : Circuit) (phase : Phase) (observed : ℕ → Bool) (known : List (
           ]
         ]
       ];
-      clear = λ v setting a met at kind n e f. none_earlier n e;
+      clear = λ j step lt e. absurd (omega (arith, lt));
     }
+
+  -- ---- what is found at a step
+
+  pub found_step : (k : ℕ) (step : CircuitStep) → At w.steps k step → (first now : Diagrams) → Before k first now → (f : Case first → Bool) (x : Spot)
+      → IsFoundIn (Stands first) (cared first) f (spots_of (step_of w.parts step)) x → IsFoundIn (Stands first) (cared first) f (flat_map spots_of (steps_of w)) x
+  found_step k step here first now before f x found =
+      found_listed Step (Case first) (Stands first) (cared first) spots_of f x (steps_of w) k (step_of w.parts step) (map_at (step_of w.parts) w.steps k step here) clear_before found
+    where
+      clear_before : (j : ℕ) (y : Step) → j < k → At (steps_of w) j y → IsClearOf (Stands first) (cared first) (spots_of y)
+      clear_before j y lt e =
+          let from = at_map (step_of w.parts) w.steps j y e in
+          subst (λ (z : Step). IsClearOf (Stands first) (cared first) (spots_of z)) from.2 (before.clear j from.0 lt from.1)
 
   -- ---- one part more
 
-  module _ (k : ℕ) (part : Part) (here : At parts k part) (first now : Diagrams) (before : Before k first now)
+  module _ (k : ℕ) (part : Part) (here : IsPartAt w k part) (first now : Diagrams) (before : Before k first now)
       (fixed : (v : Valuation) → HasFixedBits c phase (root_at first roots v)) (care_live : IsLive first care) (live : IsFilled now gates)
       (kept_care : (v : Valuation) → function_of now care v ≡ function_of first care v)
       (kept_roots : (n : ℕ) (v : Valuation) → n < length c.nets → shows now roots n v ≡ shows first roots n v) where
     whole : IsWholePart bare c phase part
-    whole = are.each part (k, here)
+    whole = are.each part (here.0, here.2)
 
     abbrev alone : Valuation → Network
     alone v = network_at now c part gates roots v
@@ -191,6 +253,13 @@ module _ (c : Circuit) (phase : Phase) (observed : ℕ → Bool) (known : List (
       bit_of_net n b i o shown =
           bit_there c phase observed flat seen (root_at now roots v) (fixed_now v) setting (setting_now v setting at.given) a at.solves part whole (λ m. shows now gates m v) gates_are n b i o shown
 
+    earlier_or_here : (n : ℕ) → IsInStepBefore w (k + 1) n → IsInStepBefore w k n ⊎ IsInside part n
+    earlier_or_here n e =
+        elim (cases_eq e.0 k) [
+          | inl same ↦ inr (subst (λ (q : Part). IsInside q n) (one_part w e.0 k e.1 part same e.3 here) e.4)
+          | inr ne ↦ inl (e.0, e.1, (let lt = e.2 in omega (arith, lt, ne)), e.3, e.4)
+        ]
+
     pub solved_more : (new : Diagrams) → IsPartClear c part observed care roots gates now new
         → ((h : ℕ) (v : Valuation) → h < length now.nodes → meaning new.nodes h v ≡ meaning now.nodes h v) → Before (k + 1) first new
     solved_more new p kept = record {
@@ -198,9 +267,12 @@ module _ (c : Circuit) (phase : Phase) (observed : ℕ → Bool) (known : List (
         | inl i ↦ bit_of_net v setting a met at n (shows new gates n v) i o (shown v met n i o)
         | inr out ↦ before.bits v setting a met at n o (not_here n out done) ∙ ap (λ (b : Bool). Some b) (sym (stays v n o out))
       ];
-      clear = λ v setting a met at kind n e f. elim (earlier_or_last parts k part here n e) [
-        | inl low ↦ before.clear v setting a met at kind n low f
-        | inr i ↦ p.clear n kind v i (kept_care v ∙ met) (to_alone v setting a met at kind n i f)
+      clear = λ j step lt e. elim (cases_eq j k) [
+        | inl same ↦
+            let is : PartStep here.0 ≡ step = same_Some (PartStep here.0) step (sym here.1 ∙ ap (slice_get w.steps) (sym same) ∙ e) in
+            subst (λ (s : CircuitStep). IsClearStep w care roots first (step_of w.parts s)) is
+            (subst (IsClearStep w care roots first) (sym (step_is w here.0 part here.2)) part_clear)
+        | inr ne ↦ before.clear j step (omega (arith, lt, ne)) e
       ];
     }
       where
@@ -214,66 +286,112 @@ module _ (c : Circuit) (phase : Phase) (observed : ℕ → Bool) (known : List (
         not_here : (n : ℕ) → (¬ IsInside part n) → Done (k + 1) n → Done k n
         not_here n out (inl g) = inl g
         not_here n out (inr (inl b)) = inr (inl b)
-        not_here n out (inr (inr e)) = elim (earlier_or_last parts k part here n e) [ inl low ↦ inr (inr low) | inr i ↦ absurd (out i) ]
+        not_here n out (inr (inr e)) = elim (earlier_or_here n e) [ inl low ↦ inr (inr low) | inr i ↦ absurd (out i) ]
 
         stays : (v : Valuation) (n : ℕ) → observed n ≡ true → (¬ IsInside part n) → shows new gates n v ≡ shows now gates n v
         stays v n o out =
             let lt : n < gates.len = (let within = seen.nets n o in omega (arith, within, gates_len)) in
             ap (λ (h : ℕ). meaning new.nodes h v) (p.others n lt out) ∙ kept (word_at now gates n) v (live n lt)
 
-    pub fault_found : (new : Diagrams) (fault : CircuitFault) → IsPartFault c part observed care roots gates fault now new → IsFirstPlace c phase observed parts care roots fault first new
-    fault_found new fault f = record {
-      place = record { part = k; net = f.place; kind = fault.kind };
-      stands = (part, here, f.stands);
-      kind = refl;
-      kinds = f.kinds;
-      live = f.live;
-      some = f.some;
-      exact = λ v setting a at. (
+        none : (kind : FaultKind) (n : ℕ) → IsInside part n → (v : Case first) → cared first v ≡ true → ¬ HasFault c phase observed v.setting v.solution kind n
+        none kind n i v met f =
+            p.clear n kind v.valuation i (kept_care v.valuation ∙ met) (to_alone v.valuation v.setting v.solution met v.solved kind n i f)
+
+        part_clear : IsClearStep w care roots first (part_step part)
+        part_clear =
+            clear_listed ℕ (Case first) (Stands first) (cared first) (spots_at (Fight ∷ Float ∷ [])) (net_numbers part.nets)
+            (λ i n e.
+            let inside = number_inside part n (i, e) in
+            clear_both (Case first) (Stands first) (cared first) n Fight Float (none Fight n inside) (none Float n inside))
+
+    module _ (new : Diagrams) (fault : CircuitFault) (f : IsPartFault c part observed care roots gates fault now new) where
+      abbrev found_where : Case first → Bool
+      found_where v = function_of new fault.at v.valuation
+
+      -- a fault of its kind at a net is one of a step
+      of_net : (v : Case first) (n : ℕ) → HasFault c phase observed v.setting v.solution fault.kind n ↔ Stands first (spot fault.kind n) v
+      of_net v n =
+          elim f.kinds [
+            | inl e ↦ subst (λ (q : FaultKind). HasFault c phase observed v.setting v.solution q n ↔ HasStepFault w v.setting v.solution q n) (sym e) (λ x. x, λ x. x)
+            | inr e ↦ subst (λ (q : FaultKind). HasFault c phase observed v.setting v.solution q n ↔ HasStepFault w v.setting v.solution q n) (sym e) (λ x. x, λ x. x)
+          ]
+
+      exact_here : (v : Case first) → (found_where v ≡ true) ↔ ((cared first v ≡ true) × Stands first (spot fault.kind fault.place) v)
+      exact_here v = (
         λ e.
-            let h = (f.exact v).0 e in
-            let met : function_of first care v ≡ true = sym (kept_care v) ∙ h.0 in
-            (met, from_alone v setting a met at fault.kind fault.net.0 (f.place, f.stands) h.1),
-        λ h. (f.exact v).1 (kept_care v ∙ h.0, to_alone v setting a h.0 at fault.kind fault.net.0 (f.place, f.stands) h.1),
-      );
-      before = λ v setting a met at p n there order shown. earlier v setting a met at p n there order shown;
-    }
-      where
-        -- a place in the same part
-        same_part : (p : Place) (n : ℕ) → IsNetAt parts p n → p.part ≡ k → IsPlace part p.net n
-        same_part p n there e =
-            let q : there.0 ≡ part = same_Some there.0 part (sym there.1 ∙ ap (slice_get parts) e ∙ here) in
-            subst (λ (x : Part). IsPlace x p.net n) q there.2
+            let h = (f.exact v.valuation).0 e in
+            let met : cared first v ≡ true = sym (kept_care v.valuation) ∙ h.0 in
+            (met, (of_net v fault.place).0 (from_alone v.valuation v.setting v.solution met v.solved fault.kind fault.place (f.place, f.stands) h.1)),
+        λ h.
+            let there = (of_net v fault.place).1 h.1 in
+            (f.exact v.valuation).1 (kept_care v.valuation ∙ h.0, to_alone v.valuation v.setting v.solution h.0 v.solved fault.kind fault.place (f.place, f.stands) there),
+      )
 
-        earlier : (v : Valuation) (setting : Setting) (a : ℕ → Option Bool) → function_of first care v ≡ true → IsSolvedAt c phase observed (root_at first roots v) setting a
-            → (p : Place) (n : ℕ) → IsNetAt parts p n → IsBefore p (record { part = k; net = f.place; kind = fault.kind }) → ¬ HasFault c phase observed setting a p.kind n
-        earlier v setting a met at p n there (inl lt) shown = before.clear v setting a met at p.kind n (p.part, there.0, lt, there.1, (p.net, there.2)) shown
-        earlier v setting a met at p n there (inr (inl q)) shown =
-            let i = same_part p n there q.0 in
-            f.before p.net n p.kind v i (inl q.1) (kept_care v ∙ met) (to_alone v setting a met at p.kind n (p.net, i) shown)
-        earlier v setting a met at p n there (inr (inr q)) shown =
-            let i = same_part p n there q.0 in
-            f.before p.net n p.kind v i (inr (q.1, q.2, q.3)) (kept_care v ∙ met) (to_alone v setting a met at p.kind n (p.net, i) shown)
+      -- none stands at the nets of the part before it
+      none_before : (i n : ℕ) (kind : FaultKind) → IsPlace part i n → (i < f.place) ⊎ ((i ≡ f.place) × (kind ≡ Fight) × (fault.kind ≡ Float))
+          → (v : Case first) → cared first v ≡ true → ¬ HasFault c phase observed v.setting v.solution kind n
+      none_before i n kind p order v met shown =
+          f.before i n kind v.valuation p order (kept_care v.valuation ∙ met) (to_alone v.valuation v.setting v.solution met v.solved kind n (i, p) shown)
 
-  -- ---- all parts
+      found_in_part : IsFoundIn (Stands first) (cared first) found_where (spots_of (part_step part)) (spot fault.kind fault.place)
+      found_in_part =
+          found_listed ℕ (Case first) (Stands first) (cared first) (spots_at (Fight ∷ Float ∷ [])) found_where (spot fault.kind fault.place)
+          (net_numbers part.nets) f.place fault.place (place_number part f.place fault.place f.stands)
+          (λ i n lt e.
+          let p = number_place part i n e in
+          clear_both (Case first) (Stands first) (cared first) n Fight Float (none_before i n Fight p (inl lt)) (none_before i n Float p (inl lt)))
+          (found_either (Case first) (Stands first) (cared first) fault.place found_where Fight Float fault.kind f.kinds exact_here
+          (λ is. none_before f.place fault.place Fight f.stands (inr (refl, refl, is))))
 
-  pub solved_all : (first now : Diagrams) → ((v : Valuation) → HasFixedBits c phase (root_at first roots v)) → Before (length parts) first now
-      → IsClearCircuit c phase observed care roots gates first now
-  solved_all first now fixed s = record {
+      pub fault_found : IsFirstFault w care roots fault first new
+      fault_found = record {
+        kinds = elim f.kinds [ inl e ↦ inl e | inr e ↦ inr (inl e) ];
+        live = f.live;
+        some = f.some;
+        found =
+            found_step k (PartStep here.0) here.1 first now before found_where (spot fault.kind fault.place)
+            (subst (λ (x : Step). IsFoundIn (Stands first) (cared first) found_where (spots_of x) (spot fault.kind fault.place)) (sym (step_is w here.0 part here.2)) found_in_part);
+      }
+
+  -- ---- all steps
+
+  pub solved_all : (first now : Diagrams) → Before (length w.steps) first now → AreClearSteps w care roots gates first now
+  solved_all first now s = record {
     bits = λ v setting a met at n o. s.bits v setting a met at n o (done n o);
+    clear = clear_listed Step (Case first) (Stands first) (cared first) spots_of (steps_of w) clear_at;
+  }
+    where
+      done : (n : ℕ) → observed n ≡ true → Done (length w.steps) n
+      done n o = elim (given_or_plain c n (seen.nets n o)) [ inl g ↦ inl g | inr p ↦ inr (inr (are.all n p)) ]
+
+      clear_at : (j : ℕ) (x : Step) → At (steps_of w) j x → IsClearOf (Stands first) (cared first) (spots_of x)
+      clear_at j x e =
+          let from = at_map (step_of w.parts) w.steps j x e in
+          subst (λ (y : Step). IsClearOf (Stands first) (cared first) (spots_of y)) from.2 (s.clear j from.0 (slice_get_within w.steps j from.0 from.1) from.1)
+
+  -- and then no fault stands at any net
+  pub clear_circuit : (first now : Diagrams) → ((v : Valuation) → HasFixedBits c phase (root_at first roots v))
+      → AreClearSteps w care roots gates first now → IsClearCircuit c phase observed care roots gates first now
+  clear_circuit first now fixed s = record {
+    bits = s.bits;
     clear = λ v setting a met at kind n f. no_fault v setting a met at kind n f;
   }
     where
-      done : (n : ℕ) → observed n ≡ true → Done (length parts) n
-      done n o = elim (given_or_plain c n (seen.nets n o)) [ inl g ↦ inl g | inr p ↦ inr (inr (are.all n p)) ]
+      none : (v : Case first) → cared first v ≡ true → (kind : FaultKind) (n : ℕ) → Among (Fight ∷ Float ∷ []) kind → IsInStepBefore w (length w.steps) n
+          → ¬ Stands first (spot kind n) v
+      none v met kind n is e =
+          let there : Among (steps_of w) (part_step e.1) =
+          subst (Among (steps_of w)) (step_is w e.3.0 e.1 e.3.2) (map_among (step_of w.parts) w.steps (PartStep e.3.0) (e.0, e.3.1)) in
+          let m = net_spot (steps_of w) (least_of e.1) (net_numbers e.1.nets) kind n there (inside_number e.1 n e.4) is in
+          s.clear m.0 (spot kind n) v m.1 met
 
       no_fault : (v : Valuation) (setting : Setting) (a : ℕ → Option Bool) → function_of first care v ≡ true → IsSolvedAt c phase observed (root_at first roots v) setting a
           → (kind : FaultKind) (n : ℕ) → ¬ HasFault c phase observed setting a kind n
-      no_fault v setting a met at Fight n f = s.clear v setting a met at Fight n (are.all n f.0) f
+      no_fault v setting a met at Fight n f = none (record { valuation = v; setting = setting; solution = a; solved = at }) met Fight n (0, refl) (are.all n f.0) f
       no_fault v setting a met at Float n f =
           elim (given_or_plain c n (seen.nets n f.0)) [
             | inl g ↦ given_no_float c phase observed flat seen (root_at first roots v) (fixed v) setting at.given a at.solves n g f.1
-            | inr p ↦ s.clear v setting a met at Float n (are.all n p) f
+            | inr p ↦ none (record { valuation = v; setting = setting; solution = a; solved = at }) met Float n (1, refl) (are.all n p) f
           ]
       no_fault v setting a met at FightKept n f = f
       no_fault v setting a met at Unsettled n f = f
@@ -293,49 +411,65 @@ pub apart_inner : (a out : Span) (len : ℕ) → len ≤ out.len → IsApart a o
 apart_inner a out len le (inl low) = inl low
 apart_inner a out len le (inr high) = inr (omega (arith, high, le))
 
-module _ (c : Circuit) (parts : List Part) (roots gates out : Span) (first : Diagrams) (spans : HasCircuitSpans c parts roots gates out first) (part : Part) (member : Among parts part) where
+-- the spans stand after a step that writes two of them
+pub spans_kept : (c : Circuit) (parts : List Part) (roots gates out : Span) (first now : Diagrams) → WritesTwo gates out first now
+    → HasCircuitSpans c parts roots gates out first → HasCircuitSpans c parts roots gates out now
+spans_kept c parts roots gates out first now wr spans = record {
+  roots_span = two_span gates out roots first now wr spans.roots_span;
+  roots_len = spans.roots_len;
+  roots_live = two_filled gates out roots first now wr spans.roots_gates spans.roots_out spans.roots_live;
+  gates_span = two_span gates out gates first now wr spans.gates_span;
+  gates_len = spans.gates_len;
+  out_span = two_span gates out out first now wr spans.out_span;
+  room = spans.room;
+  roots_gates = spans.roots_gates;
+  roots_out = spans.roots_out;
+  gates_out = spans.gates_out;
+}
+
+module _ (c : Circuit) (parts : List Part) (roots gates out : Span) (now : Diagrams) (spans : HasCircuitSpans c parts roots gates out now) (part : Part) (member : Among parts part) where
   pub words_within : (words : Span) → words ≡ words_in out part → IsWithinSpan words out
   words_within words is =
       subst (λ (s : Span). IsWithinSpan s out) (sym is) (record { start = omega arith; fits = (let room = spans.room part member in omega (arith, room)) })
 
-  pub root_spans : (now : Diagrams) (words : Span) → words ≡ words_in out part → WritesTwo gates out first now → IsFilled now gates → HasRootSpans c part gates roots words now
-  root_spans now words is wr live =
+  pub root_spans : (words : Span) → words ≡ words_in out part → IsFilled now gates → HasRootSpans c part gates roots words now
+  root_spans words is live =
       subst (λ (s : Span). HasRootSpans c part gates roots s now) (sym is) (record {
         spans = record {
-          gates_span = two_span gates out gates first now wr spans.gates_span;
+          gates_span = spans.gates_span;
           gates_len = spans.gates_len;
           gates_live = live;
-          out_span = (let span = two_span gates out out first now wr spans.out_span in (span.0, (let end = span.1 in omega (arith, end, room))));
+          out_span = (spans.out_span.0, (let end = spans.out_span.1 in omega (arith, end, room)));
           out_len = refl;
           apart = apart_inner gates out (10 * length part.nets) room spans.gates_out;
         };
-        roots_span = two_span gates out roots first now wr spans.roots_span;
+        roots_span = spans.roots_span;
         roots_len = spans.roots_len;
-        roots_live = two_filled gates out roots first now wr spans.roots_gates spans.roots_out spans.roots_live;
+        roots_live = spans.roots_live;
         roots_apart = apart_inner roots out (10 * length part.nets) room spans.roots_out;
       })
     where
       room : 10 * length part.nets ≤ out.len
       room = spans.room part member
 
-module _ (c : Circuit) (phase : Phase) (observed : ℕ → Bool) (known : List (Option Bool)) (parts : List Part) (care : H) (roots gates out : Span)
-    (flat : IsFlat c) (seen : AreObserved c observed) (are : AreOrderedParts c phase known parts) (first : Diagrams) (spans : HasCircuitSpans c parts roots gates out first)
-    (care_live : IsLive first care) (fixed : (v : Valuation) → HasFixedBits c phase (root_at first roots v))
-    (k : ℕ) (part : Part) (here : At parts k part) (now new : Diagrams) (before : WritesTwo gates out first now) (live : IsFilled now gates)
-    (solved : IsSolvedBefore c phase observed parts care roots gates k first now) where
+module _ (w : InPhase) (care : H) (roots gates out : Span) (flat : IsFlat w.circuit) (seen : AreObserved w.circuit w.observed) (are : AreOrderedSteps w)
+    (first : Diagrams) (spans : HasCircuitSpans w.circuit w.parts roots gates out first)
+    (care_live : IsLive first care) (fixed : (v : Valuation) → HasFixedBits w.circuit (phase_of w) (root_at first roots v))
+    (k : ℕ) (part : Part) (here : IsPartAt w k part) (now new : Diagrams) (before : WritesTwo gates out first now) (live : IsFilled now gates)
+    (solved : IsSolvedBefore w care roots gates k first now) where
   care_kept : (v : Valuation) → function_of now care v ≡ function_of first care v
   care_kept v = before.adds.kept care.0 care_live v
 
-  roots_kept : (n : ℕ) (v : Valuation) → n < length c.nets → shows now roots n v ≡ shows first roots n v
+  roots_kept : (n : ℕ) (v : Valuation) → n < length w.circuit.nets → shows now roots n v ≡ shows first roots n v
   roots_kept n v lt =
       let within : n < roots.len = omega (arith, lt, spans.roots_len) in
       ap (λ (h : ℕ). meaning now.nodes h v) (two_word gates out roots first now before spans.roots_gates spans.roots_out n within) ∙ before.adds.kept (word_at first roots n) (spans.roots_live n within) v
 
-  pub step_clear : IsPartClear c part observed care roots gates now new → ((h : ℕ) (v : Valuation) → h < length now.nodes → meaning new.nodes h v ≡ meaning now.nodes h v)
-      → IsSolvedBefore c phase observed parts care roots gates (k + 1) first new
-  step_clear p kept =
-      solved_more c phase observed known parts care roots gates flat seen are spans.roots_len spans.gates_len k part here first now solved fixed care_live live care_kept roots_kept new p kept
+  pub part_clear_next : IsPartClear w.circuit part w.observed care roots gates now new → ((h : ℕ) (v : Valuation) → h < length now.nodes → meaning new.nodes h v ≡ meaning now.nodes h v)
+      → IsSolvedBefore w care roots gates (k + 1) first new
+  part_clear_next p kept =
+      solved_more w care roots gates flat seen are spans.roots_len spans.gates_len k part here first now solved fixed care_live live care_kept roots_kept new p kept
 
-  pub step_fault : (fault : CircuitFault) → IsPartFault c part observed care roots gates fault now new → IsFirstPlace c phase observed parts care roots fault first new
-  step_fault fault f =
-      fault_found c phase observed known parts care roots gates flat seen are spans.roots_len spans.gates_len k part here first now solved fixed care_live live care_kept roots_kept new fault f
+  pub part_fault_first : (fault : CircuitFault) → IsPartFault w.circuit part w.observed care roots gates fault now new → IsFirstFault w care roots fault first new
+  part_fault_first fault f =
+      fault_found w care roots gates flat seen are spans.roots_len spans.gates_len k part here first now solved fixed care_live live care_kept roots_kept new fault f

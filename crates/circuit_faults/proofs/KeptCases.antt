@@ -14,11 +14,12 @@ use Rattle.channel_parts.specs.declared.part.Parts.{Parts}
 use Rattle.circuit_faults.proofs.KeptMeaning.{faulty_stands, idle_clear, no_fight, response_is, settled_clear, shown_value, stands_faulty}
 use Rattle.circuit_faults.proofs.KeptSpots.{fight_spot, spot, spot_place, unsettled_spot}
 use Rattle.circuit_faults.proofs.KeptWords.{gates_shown}
-use Rattle.circuit_faults.proofs.Ordered.{IsWholePart}
+use Rattle.circuit_faults.specs.Ordered.{IsWholePart}
 use Rattle.circuit_faults.proofs.PartNetworks.{responds}
 use Rattle.circuit_faults.proofs.WholeParts.{number_inside, whole_part}
 use Rattle.circuit_faults.specs.Faults.{HasFixedBits}
-use Rattle.circuit_faults.specs.KeptFaults.{HasKeptFault, HasNoKeeper, SolvedCase, kept_spots}
+use Rattle.circuit_faults.specs.Faults.{SolvedCase}
+use Rattle.circuit_faults.specs.KeptFaults.{HasKeptFault, HasNoKeeper, kept_spots}
 use Rattle.circuit_faults.specs.KeptResults.{HasKeptSpans, IsFirstKept, KeptGives, WritesKept}
 use Rattle.circuit_faults.specs.KeptScans.{IsFaultyAt, IsKeptFaulty, IsReachedIn, IsSettledAt, KeptScanGives, reach_at, wanted_at}
 use Rattle.circuit_faults.specs.Results.{IsClearCircuit, root_at}

@@ -1,5 +1,7 @@
+pub mod BrokenLaws
 pub mod CircuitLaws
 pub mod CountLaws
+pub mod InstanceLaws
 pub mod KeptBits
 pub mod KeptCases
 pub mod KeptMeaning
@@ -9,10 +11,12 @@ pub mod KeptSpots
 pub mod KeptWords
 pub mod NetLaws
 pub mod OrderLaws
-pub mod Ordered
 pub mod PartLaws
 pub mod PartNetworks
+pub mod PartStepLaws
 pub mod ScanLaws
 pub mod Solutions
+pub mod StepLaws
+pub mod StepLists
 pub mod StrongReached
 pub mod WholeParts

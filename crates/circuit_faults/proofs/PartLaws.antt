@@ -140,7 +140,7 @@ module _ (c : Circuit) (part : Part) (observed : ℕ → Bool) (care : H) (roots
       let care' = function_of mid care in
       let zero = reached mid out false f.place in
       let one = reached mid out true f.place in
-      let n = fault.net.0 in
+      let n = fault.place in
       let live = faulty_live care' zero one (observed n) fault.kind fault.at new f.is in
       record {
         place = f.place;
@@ -162,7 +162,7 @@ module _ (c : Circuit) (part : Part) (observed : ℕ → Bool) (care : H) (roots
       before i m kind v p (inr last) met shown =
           let here : IsPlace part f.place m = subst (λ (x : ℕ). IsPlace part x m) last.0 p in
           no_fight_shows (function_of mid care) (reached mid out false f.place) (reached mid out true f.place) v (net_alone v) m
-          (tells v f.place m false here) (tells v f.place m true here) observed (observed fault.net.0) fault.kind fault.at new f.is last.2 (care_same v ∙ met)
+          (tells v f.place m false here) (tells v f.place m true here) observed (observed fault.place) fault.kind fault.at new f.is last.2 (care_same v ∙ met)
           (subst (λ (k : FaultKind). ShowsFault observed (net_alone v) k m) last.1 shown)
 
   pub part_gives : (found : Option CircuitFault) → ScanGives part observed care gates out mid new found → PartGives c part observed care roots gates old new found

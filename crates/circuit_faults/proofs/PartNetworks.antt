@@ -2,7 +2,7 @@
 use Rattle.std.proofs.Common.{◌≡◌, ℕ, ◌<◌, ◌⊎◌, Bool, true, false, [], Option, Some, length, arith, ap, refl, sym, subst, ◌∙◌, inl, inr}
 use Rattle.std.specs.Prelude.{◌↔◌, slice_get}
 use Rattle.circuit_faults.specs.Scans.{IsInside}
-use Rattle.circuit_faults.proofs.Ordered.{IsWholePart}
+use Rattle.circuit_faults.specs.Ordered.{IsWholePart}
 use Rattle.circuit_faults.specs.Faults.{HasFault, HasFixedBits, IsSettingAt, ShowsFault}
 use Rattle.circuit_faults.proofs.Solutions.{circuit_in, given_reading, known_bit, levels, no_output, some_state, some_state_agrees, some_state_is, source}
 use Rattle.vrt_model.specs.Networks.{Covers, HasLevels}

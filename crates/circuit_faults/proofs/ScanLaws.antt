@@ -81,14 +81,14 @@ module _ (part : Part) (observed : ℕ → Bool) (care : H) (gates out : Span) (
     }
 
     pub found_at : (new : Diagrams) (i : ℕ) (net : Net) (fault : CircuitFault) → IsPlace part i net.0 → IsScannedTo part observed care gates out i first old
-        → fault.net ≡ net
+        → fault.place ≡ net.0
         → IsFaultyNet (function_of old care) (reached old out false i) (reached old out true i) (observed net.0) fault.kind fault.at new
         → IsFoundIn part observed care out fault first new
     found_at new i net fault p s is f = record {
       place = i;
-      stands = subst (λ (m : Net). IsPlace part i m.0) (sym is) p;
+      stands = subst (λ (m : ℕ). IsPlace part i m) (sym is) p;
       before = λ j n lt q. s.clear j n lt q;
-      is = subst (λ (m : Net). IsFaultyNet (function_of first care) (reached first out false i) (reached first out true i) (observed m.0) fault.kind fault.at new) (sym is)
+      is = subst (λ (m : ℕ). IsFaultyNet (function_of first care) (reached first out false i) (reached first out true i) (observed m) fault.kind fault.at new) (sym is)
           (faulty_same (function_of old care) (reached old out false i) (reached old out true i) (function_of first care) (reached first out false i) (reached first out true i)
           care_same (reached_same false i net.0 p) (reached_same true i net.0 p) (observed net.0) fault.kind fault.at new f);
     }

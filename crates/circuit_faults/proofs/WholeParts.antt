@@ -5,13 +5,13 @@ use Rattle.std.proofs.lemmas.Bool.{cases_lt}
 use Rattle.std.proofs.lemmas.Option.{same_Some, slice_get-get_or, slice_get-map, slice_get_within}
 use Rattle.channel_parts.specs.PartLists.{IsPartOf, IsRising, device_numbers, least_of, net_numbers}
 use Rattle.channel_parts.specs.declared.part.Part.{Part}
-use Rattle.circuit_faults.proofs.Ordered.{IsWholePart}
+use Rattle.circuit_faults.specs.Ordered.{IsWholePart}
 use Rattle.circuit_faults.specs.Scans.{IsInside}
 use Rattle.known_nets.proofs.NetKinds.{given_or_plain}
 use Rattle.path_fixpoint.specs.Parts.{IsGiven, IsPart, IsPlace, part_devices}
 use Rattle.vrt_model.proofs.Filtered.{device_among}
 use Rattle.vrt_model.proofs.Laws.{turned}
-use Rattle.vrt_model.proofs.Lists.{among_filter_map, filter_map_among}
+use Rattle.vrt_model.proofs.Lists.{among_filter_map, at_map, filter_map_among}
 use Rattle.vrt_model.proofs.Members.{all_among, among_map}
 use Rattle.vrt_model.proofs.Ranked.{together_plain}
 use Rattle.vrt_model.specs.Circuits.{IsDevice, IsFlat}
@@ -28,6 +28,9 @@ use Rattle.vrt_model.specs.declared.rules.Phase.{Phase}
 
 pub place_number : (part : Part) (i n : ℕ) → IsPlace part i n → At (net_numbers part.nets) i n
 place_number part i n p = slice_get-map (λ (net : Net). net.0) part.nets i ∙ ap (option_map (λ (net : Net). net.0)) p.1 ∙ ap Some p.2
+
+pub number_place : (part : Part) (i n : ℕ) → At (net_numbers part.nets) i n → IsPlace part i n
+number_place part i n e = (let from = at_map (λ (net : Net). net.0) part.nets i n e in (from.0, from.1, from.2))
 
 pub inside_number : (part : Part) (n : ℕ) → IsInside part n → Among (net_numbers part.nets) n
 inside_number part n i = (i.0, place_number part i.0 n i.1)

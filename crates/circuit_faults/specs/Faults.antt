@@ -1,8 +1,10 @@
 -- The faults of the bare circuit: nets that both values reach, and observed nets that neither reaches.
 use Rattle.std.specs.Prelude.{◌≡◌, ℕ, Bool, true, Option}
+use Rattle.bdd_core.specs.Diagram.{Valuation}
 use Rattle.vrt_model.specs.Known.{IsFixed, IsPlain}
 use Rattle.vrt_model.specs.Lists.{At}
 use Rattle.vrt_model.specs.Path.{Network}
+use Rattle.vrt_model.specs.Reading.{Partial}
 use Rattle.vrt_model.specs.Response.{Fight as Fights, Float as Floats, IsResponse}
 use Rattle.vrt_model.specs.Solution.{AlwaysResponds, IsSolution}
 use Rattle.vrt_model.specs.State.{Setting}
@@ -51,3 +53,12 @@ ShowsFault observed w Differs n = ⊥
 ShowsFault observed w Next n = ⊥
 ShowsFault observed w Apart n = ⊥
 ShowsFault observed w Enter n = ⊥
+
+-- ---- cases
+
+-- a valuation, with a setting and a solution of the circuit there
+pub record SolvedCase (c : Circuit) (phase : Phase) (observed : ℕ → Bool) (root : Valuation → ℕ → Bool) : Type 0 where
+  pub valuation : Valuation
+  pub setting : Setting
+  pub solution : Partial
+  pub solved : IsSolvedAt c phase observed (root valuation) setting solution

@@ -3,7 +3,7 @@ use Rattle.std.specs.Prelude.{◌≡◌, ℕ, Bool, true, false, List, [], ◌�
 use Rattle.std.specs.List.{range_with_len}
 use Rattle.bdd_core.specs.Diagram.{Valuation}
 use Rattle.channel_parts.specs.OneSolution.{AreObserved}
-use Rattle.circuit_faults.specs.Faults.{IsSolvedAt}
+use Rattle.circuit_faults.specs.Faults.{SolvedCase}
 use Rattle.fault_places.specs.PhaseSpots.{spots_each}
 use Rattle.fault_places.specs.Searches.{Spot}
 use Rattle.vrt_model.specs.Known.{IsPlain}
@@ -43,13 +43,6 @@ HasKeptFault c phase observed setting a Differs n = ⊥
 HasKeptFault c phase observed setting a Next n = ⊥
 HasKeptFault c phase observed setting a Apart n = ⊥
 HasKeptFault c phase observed setting a Enter n = ⊥
-
--- a valuation, with a setting and a solution of the circuit there
-pub record SolvedCase (c : Circuit) (phase : Phase) (observed : ℕ → Bool) (root : Valuation → ℕ → Bool) : Type 0 where
-  pub valuation : Valuation
-  pub setting : Setting
-  pub solution : Partial
-  pub solved : IsSolvedAt c phase observed (root valuation) setting solution
 
 -- the fault stands at the place in such a case
 abbrev pub StandsKept : (c : Circuit) (phase : Phase) (observed : ℕ → Bool) (root : Valuation → ℕ → Bool) → Spot → SolvedCase c phase observed root → Type 0

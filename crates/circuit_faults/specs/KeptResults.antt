@@ -5,7 +5,8 @@ use Rattle.bdd_core.specs.Store.{Adds, Diagrams, IsLive, IsSpan, function_of}
 use Rattle.bdd_core.specs.Words.{IsApart, IsBeside, IsFilled}
 use Rattle.bdd_core.specs.declared.handle.H.{H}
 use Rattle.channel_parts.specs.declared.part.Part.{Part}
-use Rattle.circuit_faults.specs.KeptFaults.{SolvedCase, StandsKept, kept_spots}
+use Rattle.circuit_faults.specs.Faults.{SolvedCase}
+use Rattle.circuit_faults.specs.KeptFaults.{StandsKept, kept_spots}
 use Rattle.circuit_faults.specs.Results.{root_at}
 use Rattle.circuit_faults.specs.declared.spans.KeptSpans.{KeptSpans}
 use Rattle.circuit_faults.specs.declared.kept_net.KeptFault.{KeptFault}

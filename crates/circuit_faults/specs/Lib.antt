@@ -1,7 +1,10 @@
+pub mod Cases
 pub mod Faults
 pub mod KeptFaults
 pub mod KeptResults
 pub mod KeptScans
 pub mod Operations
+pub mod Ordered
 pub mod Results
 pub mod Scans
+pub mod Steps

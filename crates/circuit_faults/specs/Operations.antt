@@ -1,9 +1,14 @@
 -- How many operations are made, and what a refusal says.
-use Rattle.std.specs.Prelude.{◌≡◌, ℕ, ◌+◌, ◌*◌, List, length, sum_by}
+use Rattle.std.specs.Prelude.{◌≡◌, ℕ, ◌+◌, ◌*◌, List, length, option_map, slice_get, sum_by, unwrap_or}
 use Rattle.bdd_core.specs.Store.{Diagrams}
 use Rattle.bdd_core.specs.declared.handle.Spent.{Spent}
 use Rattle.channel_parts.specs.declared.part.Part.{Part}
 use Rattle.vrt_model.specs.declared.circuit.Circuit.{Circuit}
+use Rattle.circuit_faults.specs.Steps.{InPhase}
+use Rattle.circuit_faults.specs.declared.steps.CircuitStep.{CircuitStep}
+use Rattle.circuit_faults.specs.declared.steps.CircuitStep.TheVariants.{Part as PartStep, Instance as InstanceStep}
+use Rattle.constraints.specs.Obliged.{obligation_size}
+use Rattle.vrt_model.specs.declared.circuit.FlatInstance.{FlatInstance}
 
 -- the refusal tells the budget, and as many nodes are there
 abbrev pub IsUsedUp : Diagrams → Diagrams → Spent → Type 0
@@ -23,3 +28,15 @@ kept_part_operations part = 400 * (length part.nets + 1) * (length part.devices 
 -- all parts of the kept circuit, and twenty for each net
 abbrev pub kept_operations : Circuit → List Part → ℕ
 kept_operations c parts = sum_by kept_part_operations parts + 20 * length c.nets
+
+-- of an instance: its lines, and two
+abbrev pub instance_operations : InPhase → FlatInstance → ℕ
+instance_operations w i = 20 * obligation_size w.design w.rules i w.phase + 2
+
+-- of a step: those of its part or of its instance
+abbrev pub step_operations : InPhase → CircuitStep → ℕ
+step_operations w (PartStep number) = unwrap_or (option_map part_operations (slice_get w.parts number)) 0
+step_operations w (InstanceStep at) = unwrap_or (option_map (instance_operations w) (slice_get w.circuit.instances at)) 0
+
+abbrev pub steps_operations : InPhase → ℕ
+steps_operations w = sum_by (step_operations w) w.steps

@@ -1,22 +1,28 @@
 -- What is found in a whole circuit.
-use Rattle.std.specs.Prelude.{◌≡◌, ◌≢◌, ℕ, ◌*◌, ◌≤◌, ◌⊎◌, ◌↔◌, Bool, true, cond, List, length, Option, Some, None}
+use Rattle.std.specs.Prelude.{◌≡◌, ◌≢◌, ℕ, ◌*◌, ◌≤◌, ◌⊎◌, Bool, true, false, cond, List, flat_map, length, Option, Some, None}
 use Rattle.node_pool.specs.declared.region.Span.{Span}
-use Rattle.bdd_core.specs.Diagram.{Valuation}
-use Rattle.bdd_core.specs.Store.{Diagrams, IsLive, IsSpan, function_of}
+use Rattle.bdd_core.specs.Diagram.{Function, Valuation}
+use Rattle.bdd_core.specs.Store.{AddsNodes, Diagrams, IsLive, IsSpan, Means, function_of}
 use Rattle.bdd_core.specs.Words.{IsApart, IsFilled, shows}
 use Rattle.bdd_core.specs.declared.handle.H.{H}
 use Rattle.channel_parts.specs.declared.part.Part.{Part}
+use Rattle.circuit_faults.specs.Cases.{CaseIn, StandsAt}
 use Rattle.circuit_faults.specs.Faults.{HasFault, IsSolvedAt}
+use Rattle.circuit_faults.specs.Scans.{PartGives}
+use Rattle.circuit_faults.specs.Steps.{InPhase, phase_of, steps_of}
 use Rattle.circuit_faults.specs.declared.net.CircuitFault.{CircuitFault}
-use Rattle.vrt_model.specs.Comparison.{Comparison}
-use Rattle.vrt_model.specs.Known.{IsLeastOfPart, IsPlain}
-use Rattle.vrt_model.specs.Lists.{Among}
-use Rattle.vrt_model.specs.Places.{comes_before, standing}
+use Rattle.circuit_faults.specs.declared.steps.CircuitStep.{CircuitStep}
+use Rattle.circuit_faults.specs.declared.steps.CircuitStep.TheVariants.{Part as PartStep, Instance as InstanceStep}
+use Rattle.constraints.specs.Obliged.{obliged_at}
+use Rattle.fault_places.specs.PhaseSpots.{spots_of}
+use Rattle.fault_places.specs.Searches.{IsClearOf, IsFoundIn}
+use Rattle.vrt_model.specs.Lists.{At, Among}
 use Rattle.vrt_model.specs.State.{Setting}
 use Rattle.vrt_model.specs.declared.circuit.Circuit.{Circuit}
+use Rattle.vrt_model.specs.declared.circuit.FlatInstance.{FlatInstance}
 use Rattle.vrt_model.specs.declared.rules.Phase.{Phase}
 use Rattle.vrt_model.specs.declared.verdict.FaultKind.{FaultKind}
-use Rattle.vrt_model.specs.declared.verdict.FaultKind.TheVariants.{Fight, Float}
+use Rattle.vrt_model.specs.declared.verdict.FaultKind.TheVariants.{Fight, Float, Constraint}
 
 -- the bits of the roots at a valuation
 abbrev pub root_at : Diagrams → Span → Valuation → ℕ → Bool
@@ -50,26 +56,50 @@ pub record IsClearCircuit (c : Circuit) (phase : Phase) (observed : ℕ → Bool
       (v : Valuation) (setting : Setting) (a : ℕ → Option Bool) → function_of old care v ≡ true → IsSolvedAt c phase observed (root_at old roots v) setting a
       → (kind : FaultKind) (n : ℕ) → ¬ HasFault c phase observed setting a kind n
 
--- the least net of the part of each plain net
-abbrev pub HasLeastNets : Circuit → Phase → (ℕ → ℕ) → Type 0
-HasLeastNets c phase least = (n : ℕ) → IsPlain c n → IsLeastOfPart c phase n (least n)
+-- ---- the search over steps
 
--- The first fault that stands anywhere in the care set. The handle is live, not that of the constant 0, and says where:
--- exactly there, for each solution, there is care and the fault stands. None stands before it, in the order of places
--- that the ranks and the least nets of the parts give.
-pub record IsFirstFault (c : Circuit) (phase : Phase) (observed : ℕ → Bool) (rank : ℕ → ℕ) (care : H) (roots : Span) (fault : CircuitFault) (old new : Diagrams) : Type 0 where
-  pub kinds : (fault.kind ≡ Fight) ⊎ (fault.kind ≡ Float)
+-- in the care set, each solution gives the observed nets the bits of their handles, and no fault stands at a place of the
+-- steps
+pub record AreClearSteps (w : InPhase) (care : H) (roots gates : Span) (old new : Diagrams) : Type 0 where
+  pub bits :
+      (v : Valuation) (setting : Setting) (a : ℕ → Option Bool) → function_of old care v ≡ true
+      → IsSolvedAt w.circuit (phase_of w) w.observed (root_at old roots v) setting a
+      → (n : ℕ) → w.observed n ≡ true → a n ≡ Some (shows new gates n v)
+  pub clear : IsClearOf (StandsAt w (root_at old roots)) (λ (v : CaseIn w (root_at old roots)). function_of old care v.valuation) (flat_map spots_of (steps_of w))
+
+-- The first fault that stands anywhere in the care set, by the places of the steps. The handle is live, not that of the
+-- constant 0, and says where: exactly there, for each solution, there is care and the fault stands.
+pub record IsFirstFault (w : InPhase) (care : H) (roots : Span) (fault : CircuitFault) (old new : Diagrams) : Type 0 where
+  pub kinds : (fault.kind ≡ Fight) ⊎ ((fault.kind ≡ Float) ⊎ (fault.kind ≡ Constraint))
   pub live : IsLive new fault.at
   pub some : fault.at.0 ≢ 0
-  pub exact :
-      (v : Valuation) (setting : Setting) (a : ℕ → Option Bool) → IsSolvedAt c phase observed (root_at old roots v) setting a
-      → (function_of new fault.at v ≡ true) ↔ ((function_of old care v ≡ true) × HasFault c phase observed setting a fault.kind fault.net.0)
-  pub before :
-      (v : Valuation) (setting : Setting) (a : ℕ → Option Bool) → function_of old care v ≡ true → IsSolvedAt c phase observed (root_at old roots v) setting a
-      → (least : ℕ → ℕ) → HasLeastNets c phase least → (k : Comparison) (number : ℕ) (kind : FaultKind) (n : ℕ)
-      → comes_before (standing k number rank least kind n) (standing k number rank least fault.kind fault.net.0) ≡ true
-      → ¬ HasFault c phase observed setting a kind n
+  pub found :
+      IsFoundIn (StandsAt w (root_at old roots)) (λ (v : CaseIn w (root_at old roots)). function_of old care v.valuation)
+      (λ (v : CaseIn w (root_at old roots)). function_of new fault.at v.valuation)
+      (flat_map spots_of (steps_of w)) (record { kind = fault.kind; at = fault.place })
 
-abbrev pub CircuitGives : Circuit → Phase → (ℕ → Bool) → (ℕ → ℕ) → H → Span → Span → Diagrams → Diagrams → Option CircuitFault → Type 0
-CircuitGives c phase observed rank care roots gates old new None = IsClearCircuit c phase observed care roots gates old new
-CircuitGives c phase observed rank care roots gates old new (Some fault) = IsFirstFault c phase observed rank care roots fault old new
+abbrev pub CircuitGives : InPhase → H → Span → Span → Diagrams → Diagrams → Option CircuitFault → Type 0
+CircuitGives w care roots gates old new None = AreClearSteps w care roots gates old new
+CircuitGives w care roots gates old new (Some fault) = IsFirstFault w care roots fault old new
+
+-- ---- one step
+
+-- where there is care and the lines of an instance's cell do not all hold
+abbrev pub broken_of : Function → Function → Function
+broken_of care held = λ v. cond (held v) false (care v)
+
+-- a constraint is broken nowhere, or the handle says where
+abbrev pub BrokenGives : Function → ℕ → Diagrams → Option CircuitFault → Type 0
+BrokenGives broken at d None = (v : Valuation) → broken v ≡ false
+BrokenGives broken at d (Some fault) = (fault.kind ≡ Constraint) × (fault.place ≡ at) × Means d fault.at broken × (fault.at.0 ≢ 0)
+
+-- nodes were only added, and what is broken of an instance
+abbrev pub InstanceGives : InPhase → FlatInstance → ℕ → H → Span → Diagrams → Diagrams → Option CircuitFault → Type 0
+InstanceGives w i at care gates old new found =
+    AddsNodes old new × BrokenGives (broken_of (function_of old care) (obliged_at old w.design w.rules i w.phase gates)) at new found
+
+-- the first fault of a step
+abbrev pub StepGives : InPhase → H → Span → Span → Diagrams → Diagrams → CircuitStep → Option CircuitFault → Type 0
+StepGives w care roots gates old new (PartStep number) found =
+    (part : Part) → At w.parts number part → PartGives w.circuit part w.observed care roots gates old new found
+StepGives w care roots gates old new (InstanceStep at) found = (i : FlatInstance) → At w.circuit.instances at i → InstanceGives w i at care gates old new found

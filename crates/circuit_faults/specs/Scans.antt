@@ -57,7 +57,7 @@ IsFaultyNet care zero one seen Enter h d = ⊥
 -- the first fault of a net
 abbrev pub NetGives : Function → Function → Function → Bool → Net → Diagrams → Option CircuitFault → Type 0
 NetGives care zero one seen net d None = IsClearNet care zero one seen
-NetGives care zero one seen net d (Some fault) = (fault.net ≡ net) × IsFaultyNet care zero one seen fault.kind fault.at d
+NetGives care zero one seen net d (Some fault) = (fault.place ≡ net.0) × IsFaultyNet care zero one seen fault.kind fault.at d
 
 -- ---- the nets of a part
 
@@ -77,9 +77,9 @@ pub record IsScannedTo (part : Part) (observed : ℕ → Bool) (care : H) (gates
 -- the first fault of the part
 pub record IsFoundIn (part : Part) (observed : ℕ → Bool) (care : H) (out : Span) (fault : CircuitFault) (old new : Diagrams) : Type 0 where
   pub place : ℕ
-  pub stands : IsPlace part place fault.net.0
+  pub stands : IsPlace part place fault.place
   pub before : (i n : ℕ) → i < place → IsPlace part i n → IsClearPlace observed care out old i n
-  pub is : IsFaultyNet (function_of old care) (reached old out false place) (reached old out true place) (observed fault.net.0) fault.kind fault.at new
+  pub is : IsFaultyNet (function_of old care) (reached old out false place) (reached old out true place) (observed fault.place) fault.kind fault.at new
 
 abbrev pub ScanGives : Part → (ℕ → Bool) → H → Span → Span → Diagrams → Diagrams → Option CircuitFault → Type 0
 ScanGives part observed care gates out old new None = IsScannedTo part observed care gates out (length part.nets) old new
@@ -99,13 +99,13 @@ pub record IsPartClear (c : Circuit) (part : Part) (observed : ℕ → Bool) (ca
 -- stands; before it, none does.
 pub record IsPartFault (c : Circuit) (part : Part) (observed : ℕ → Bool) (care : H) (roots gates : Span) (fault : CircuitFault) (old new : Diagrams) : Type 0 where
   pub place : ℕ
-  pub stands : IsPlace part place fault.net.0
+  pub stands : IsPlace part place fault.place
   pub kinds : (fault.kind ≡ Fight) ⊎ (fault.kind ≡ Float)
   pub live : IsLive new fault.at
   pub some : fault.at.0 ≢ 0
   pub exact :
       (v : Valuation)
-      → (function_of new fault.at v ≡ true) ↔ ((function_of old care v ≡ true) × ShowsFault observed (network_at old c part gates roots v) fault.kind fault.net.0)
+      → (function_of new fault.at v ≡ true) ↔ ((function_of old care v ≡ true) × ShowsFault observed (network_at old c part gates roots v) fault.kind fault.place)
   pub before :
       (i n : ℕ) (kind : FaultKind) (v : Valuation) → IsPlace part i n → (i < place) ⊎ ((i ≡ place) × (kind ≡ Fight) × (fault.kind ≡ Float))
       → function_of old care v ≡ true → ¬ ShowsFault observed (network_at old c part gates roots v) kind n

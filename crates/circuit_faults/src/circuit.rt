@@ -1,28 +1,29 @@
-//! The whole circuit of a phase, part by part.
+//! The whole circuit of a phase, step by step.
 
-ghost use Rattle.std.specs.Prelude.{◌≡◌, ℕ, ◌*◌, ◌<◌, ◌≤◌, true, length, IfErr, IfOk};
+ghost use Rattle.std.specs.Prelude.{◌≡◌, ℕ, ◌*◌, ◌<◌, ◌≤◌, All, length, slice_get, IfErr, IfOk, Some};
 ghost use Rattle.bdd_core.specs.Diagram.{IsWithin, Valuation};
 ghost use Rattle.bdd_core.specs.Store.{IsLive, IsSpan, function_of};
 ghost use Rattle.bdd_core.specs.Words.{IsApart, IsFilled, Writes, word_at, WritesTwo};
 ghost use Rattle.bdd_ops.specs.Counting.{IsSpanWithin};
-ghost use Rattle.circuit_faults.specs.Faults.{HasFixedBits};
-ghost use Rattle.circuit_faults.specs.Operations.{IsUsedUp, circuit_operations};
-ghost use Rattle.circuit_faults.specs.Results.{CircuitGives, HasCircuitSpans, first_word, root_at};
 ghost use Rattle.channel_parts.specs.OneSolution.{AreObserved};
-ghost use Rattle.channel_parts.specs.PartLists.{AreParts, IsPartList};
+ghost use Rattle.circuit_faults.specs.Faults.{HasFixedBits};
+ghost use Rattle.circuit_faults.specs.Operations.{IsUsedUp, step_operations, steps_operations};
+ghost use Rattle.circuit_faults.specs.Results.{CircuitGives, HasCircuitSpans, StepGives, first_word, root_at};
+ghost use Rattle.circuit_faults.specs.Steps.{AreOrderedSteps, IsReadyInstance, IsThere, in_phase, phase_of};
+ghost use Rattle.circuit_faults.specs.declared.steps.CircuitStep.TheVariants.{Part as PartStep, Instance as InstanceStep};
 ghost use Rattle.known_nets.specs.KnownTables.{known_at};
 ghost use Rattle.path_fixpoint.specs.Spending.{HasOneHold, Spends};
 ghost use Rattle.vrt_model.specs.Circuits.{IsFlat};
 ghost use Rattle.vrt_model.specs.Lists.{mark_at};
-ghost use Rattle.vrt_model.specs.Known.{IsRanking};
-ghost use Rattle.vrt_model.specs.declared.rules.Phase.{Phase};
 
+use crate::instance::check_instance;
 use crate::net::CircuitFault;
+use crate::phased::{CircuitSpans, PhasedCircuit, instance_at, part_at};
 use crate::solve::check_part;
+use crate::steps::CircuitStep;
 use bdd_core::{H, Spent, Store};
-use channel_parts::{Part, Parts};
+use channel_parts::Part;
 use node_pool::Span;
-use vrt_model::Circuit;
 
 /// The handle with which a net begins: the constant of a known net, else that of its root.
 fn first_handle(known: Option<bool>, root: u32) -> u32
@@ -63,44 +64,138 @@ pub(crate) fn words_of(part: &Part, out: Span) -> Span
     }
 }
 
-/// The first fault of the bare circuit in the care set, for circuits without whole instances: part by part, net by net,
-/// a fight before a float. `parts` are the parts of a phase without keepers, and `roots` has the bits of the given nets
-/// and of the holds, as functions. Where no fault stands anywhere, the handles of the observed nets in `gates` are their
-/// bits in the solution, at each valuation of the care set.
+/// The first fault of the part of a number.
+fn check_part_step(
+    store: &mut Store,
+    phased: PhasedCircuit<'_>,
+    number: u32,
+    care: H,
+    spans: CircuitSpans,
+) -> Result<Option<CircuitFault>, Spent>
+    requires circuit { IsFlat phased.circuit.now }
+    requires steps { AreOrderedSteps (in_phase phased) }
+    requires there { number < length phased.parts.now.list }
+    requires observed { length phased.observed.now ≡ length phased.circuit.now.nets }
+    requires care { IsLive store.old care }
+    requires spans { HasCircuitSpans phased.circuit.now phased.parts.now.list spans.roots spans.gates spans.out store.old }
+    requires live { IsFilled store.old spans.gates }
+    ensures writes { WritesTwo spans.gates spans.out store.old store.new }
+    ensures live { IsFilled store.new spans.gates }
+    ensures gives { IfOk result (λ found. StepGives (in_phase phased.entry) care spans.roots spans.gates store.old store.new (PartStep number) found) }
+    ensures few { HasOneHold phased.entry.circuit.now → (u : ℕ) → IsWithin u (function_of store.old care) → IsSpanWithin u store.old spans.gates → IsSpanWithin u store.old spans.roots → Spends u (step_operations (in_phase phased.entry) (PartStep number)) spans.gates store.old store.new result }
+{
+    let part = part_at(phased.parts, number);
+    let words = words_of(part, spans.out);
+    check_part(
+        store,
+        phased.circuit,
+        part,
+        phased.observed,
+        care,
+        spans.roots,
+        spans.gates,
+        words,
+    )
+}
+
+/// The fault of the instance of a number.
+fn check_instance_step(
+    store: &mut Store,
+    phased: PhasedCircuit<'_>,
+    at: u32,
+    care: H,
+    spans: CircuitSpans,
+) -> Result<Option<CircuitFault>, Spent>
+    requires instances { All (IsReadyInstance (in_phase phased)) phased.circuit.now.instances }
+    requires there { at < length phased.circuit.now.instances }
+    requires care { IsLive store.old care }
+    requires spans { HasCircuitSpans phased.circuit.now phased.parts.now.list spans.roots spans.gates spans.out store.old }
+    requires live { IsFilled store.old spans.gates }
+    ensures writes { WritesTwo spans.gates spans.out store.old store.new }
+    ensures live { IsFilled store.new spans.gates }
+    ensures gives { IfOk result (λ found. StepGives (in_phase phased.entry) care spans.roots spans.gates store.old store.new (InstanceStep at) found) }
+    ensures few { HasOneHold phased.entry.circuit.now → (u : ℕ) → IsWithin u (function_of store.old care) → IsSpanWithin u store.old spans.gates → IsSpanWithin u store.old spans.roots → Spends u (step_operations (in_phase phased.entry) (InstanceStep at)) spans.gates store.old store.new result }
+{
+    let instance = instance_at(phased.circuit, at);
+    check_instance(store, phased, at, instance, care, spans.gates)
+}
+
+/// The first fault of a step.
+fn check_step(
+    store: &mut Store,
+    phased: PhasedCircuit<'_>,
+    step: CircuitStep,
+    care: H,
+    spans: CircuitSpans,
+) -> Result<Option<CircuitFault>, Spent>
+    requires circuit { IsFlat phased.circuit.now }
+    requires steps { AreOrderedSteps (in_phase phased) }
+    requires instances { All (IsReadyInstance (in_phase phased)) phased.circuit.now.instances }
+    requires there { IsThere (in_phase phased) step }
+    requires observed { length phased.observed.now ≡ length phased.circuit.now.nets }
+    requires care { IsLive store.old care }
+    requires spans { HasCircuitSpans phased.circuit.now phased.parts.now.list spans.roots spans.gates spans.out store.old }
+    requires live { IsFilled store.old spans.gates }
+    ensures writes { WritesTwo spans.gates spans.out store.old store.new }
+    ensures live { IsFilled store.new spans.gates }
+    ensures gives { IfOk result (λ found. StepGives (in_phase phased.entry) care spans.roots spans.gates store.old store.new step found) }
+    ensures few { HasOneHold phased.entry.circuit.now → (u : ℕ) → IsWithin u (function_of store.old care) → IsSpanWithin u store.old spans.gates → IsSpanWithin u store.old spans.roots → Spends u (step_operations (in_phase phased.entry) step) spans.gates store.old store.new result }
+{
+    match step {
+        CircuitStep::Part(number) => check_part_step(store, phased, number, care, spans),
+        CircuitStep::Instance(at) => check_instance_step(store, phased, at, care, spans),
+    }
+}
+
+/// The step at a place.
+fn step_at(steps: &[CircuitStep], place: usize) -> CircuitStep
+    requires { place < length steps.now }
+    ensures { slice_get steps.now place ≡ Some result }
+{
+    steps[place]
+}
+
+/// The first fault of the bare circuit in the care set, for circuits without whole instances: step by step, in a part net
+/// by net, a fight before a float, and at an instance that a constraint of its cell is broken. `spans.roots` has the bits
+/// of the given nets and of the holds, as functions. Where no fault stands anywhere, the handles of the observed nets in
+/// `spans.gates` are their bits in the solution, at each valuation of the care set.
 ///
-/// Handles from before keep their functions, and words outside `gates` and `out` stay as they are, also where the budget
-/// is used up. `out` has ten words for each net of the greatest part.
+/// Handles from before keep their functions, and words outside `spans.gates` and `spans.out` stay as they are, also where
+/// the budget is used up. `spans.out` has ten words for each net of the greatest part.
 ///
 /// Where the handles read only the first `u` variables and no net has two holds, a part of p nets and q devices takes at
-/// most 400 (p + 1) (q + 1) + 4 p operations of `2 ^ u` nodes, and the handles that are written read only these variables
-/// too. `Spent` comes only where the budget is less than all these with the nodes that were there, and has the budget.
+/// most 400 (p + 1) (q + 1) + 4 p operations of `2 ^ u` nodes, and an instance 20 for each operator and name of its lines
+/// and 2 more; the handles that are written read only these variables too. `Spent` comes only where the budget is less
+/// than all these with the nodes that were there, and has the budget.
 pub fn circuit_fault(
     store: &mut Store,
-    circuit: &Circuit,
-    parts: &Parts,
-    observed: &[bool],
+    phased: PhasedCircuit<'_>,
     care: H,
-    roots: Span,
-    gates: Span,
-    out: Span,
+    spans: CircuitSpans,
 ) -> Result<Option<CircuitFault>, Spent>
-    requires circuit { IsFlat circuit.now }
-    requires parts { (phase : Phase) × IsPartList circuit.now phase true parts.now }
-    requires marks { length observed.now ≡ length circuit.now.nets }
-    requires observed { AreObserved circuit.now (mark_at observed.now) }
+    requires circuit { IsFlat phased.circuit.now }
+    requires steps { AreOrderedSteps (in_phase phased) }
+    requires instances { All (IsReadyInstance (in_phase phased)) phased.circuit.now.instances }
+    requires marks { length phased.observed.now ≡ length phased.circuit.now.nets }
+    requires observed { AreObserved phased.circuit.now (mark_at phased.observed.now) }
     requires care { IsLive store.old care }
-    requires spans { HasCircuitSpans circuit.now parts.now.list roots gates out store.old }
-    ensures writes { WritesTwo gates out store.old store.new }
-    ensures live { IsFilled store.new gates }
-    ensures gives { IfOk result (λ found. (phase : Phase) (rank : ℕ → ℕ) → AreParts circuit.now phase true rank parts.now → IsRanking circuit.now phase rank → ((v : Valuation) → HasFixedBits circuit.now phase (root_at store.old roots v)) → CircuitGives circuit.now phase (mark_at observed.now) rank care roots gates store.old store.new found) }
-    ensures few { HasOneHold circuit.now → (u : ℕ) → IsWithin u (function_of store.old care) → IsSpanWithin u store.old roots → Spends u (circuit_operations parts.now.list) gates store.old store.new result }
-    ensures spent { HasOneHold circuit.now → IfErr result (IsUsedUp store.old store.new) }
+    requires spans { HasCircuitSpans phased.circuit.now phased.parts.now.list spans.roots spans.gates spans.out store.old }
+    ensures writes { WritesTwo spans.gates spans.out store.old store.new }
+    ensures live { IsFilled store.new spans.gates }
+    ensures gives { IfOk result (λ found. ((v : Valuation) → HasFixedBits phased.entry.circuit.now (phase_of (in_phase phased.entry)) (root_at store.old spans.roots v)) → CircuitGives (in_phase phased.entry) care spans.roots spans.gates store.old store.new found) }
+    ensures few { HasOneHold phased.entry.circuit.now → (u : ℕ) → IsWithin u (function_of store.old care) → IsSpanWithin u store.old spans.roots → Spends u (steps_operations (in_phase phased.entry)) spans.gates store.old store.new result }
+    ensures spent { HasOneHold phased.entry.circuit.now → IfErr result (IsUsedUp store.old store.new) }
 {
     store.sound();
-    write_first_handles(store, parts.known.as_slice(), roots, gates);
-    for part in parts.list.as_slice() {
-        let words = words_of(part, out);
-        let found = match check_part(store, circuit, part, observed, care, roots, gates, words) {
+    write_first_handles(
+        store,
+        phased.parts.known.as_slice(),
+        spans.roots,
+        spans.gates,
+    );
+    for place in 0..phased.steps.len() {
+        let step = step_at(phased.steps, place);
+        let found = match check_step(store, phased, step, care, spans) {
             Ok(found) => found,
             Err(spent) => return Err(spent),
         };

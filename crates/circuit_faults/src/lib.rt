@@ -1,18 +1,26 @@
-//! The first fault of a flat circuit, at every valuation at once: nets of the bare circuit that fight, and observed nets that
-//! float; then nets of the kept circuit that fight, and observed nets that do not keep their bits.
+//! The first fault of a flat circuit, at every valuation at once: nets of the bare circuit that fight, observed nets that float,
+//! and instances that break a constraint of their cell; then nets of the kept circuit that fight, and observed nets that do
+//! not keep their bits.
 #![tactic(auto)]
 
 mod circuit;
+mod instance;
 mod kept;
 mod kept_net;
 mod kept_parts;
 mod net;
+mod part_lists;
+mod phased;
 mod scan;
 mod solve;
 mod spans;
+mod steps;
 
 pub use circuit::circuit_fault;
 pub use kept::kept_fault;
 pub use kept_net::KeptFault;
 pub use net::CircuitFault;
+pub use part_lists::part_steps;
+pub use phased::{CircuitSpans, PhasedCircuit};
 pub use spans::KeptSpans;
+pub use steps::CircuitStep;

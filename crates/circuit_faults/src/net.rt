@@ -10,14 +10,15 @@ use bdd_core::{H, Spent, Store, ZERO};
 use bdd_ops::{and, or};
 use vrt_model::{FaultKind, Net};
 
-/// A fault of the bare circuit at a net: both values reach it (`Fight`), or it is observed and neither does (`Float`).
-/// `at` is the function that is 1 at the valuations of the care set at which the fault stands.
+/// A fault of the bare circuit: at a net that both values reach (`Fight`), or that is observed and neither reaches
+/// (`Float`); or at an instance that breaks a constraint of its cell (`Constraint`). `at` is the function that is 1 at the
+/// valuations of the care set at which the fault stands.
 #[derive(Clone, Copy)]
 pub struct CircuitFault {
-    /// `Fight` or `Float`.
+    /// `Fight`, `Float` or `Constraint`.
     pub kind: FaultKind,
-    /// The net at which the fault stands.
-    pub net: Net,
+    /// The net at which the fault stands, and of `Constraint` the instance, by number.
+    pub place: u32,
     /// At which valuations it stands: a function that is not constant 0.
     pub at: H,
 }
@@ -75,7 +76,7 @@ pub(crate) fn net_fault(
     if fight.0 != 0 {
         return Ok(Some(CircuitFault {
             kind: FaultKind::Fight,
-            net,
+            place: net.0,
             at: fight,
         }));
     }
@@ -89,7 +90,7 @@ pub(crate) fn net_fault(
     if float.0 != 0 {
         return Ok(Some(CircuitFault {
             kind: FaultKind::Float,
-            net,
+            place: net.0,
             at: float,
         }));
     }
