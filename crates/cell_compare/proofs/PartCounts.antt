@@ -1,11 +1,11 @@
 -- How many nets and devices all parts of a circuit have, and so how many operations on a circuit are made at most.
-use Rattle.std.proofs.Common.{◌≡◌, ℕ, zero, suc, ◌+◌, ◌-◌, ◌*◌, ◌<◌, ◌≤◌, true, List, [], take, length, arith, ap, sym, subst, ◌∙◌, inl, inr, cond, ltb}
+use Rattle.std.proofs.Common.{◌≡◌, ℕ, zero, suc, ◌+◌, ◌-◌, ◌*◌, ◌<◌, ◌≤◌, true, List, [], ◌∷◌, take, length, arith, ap, refl, sym, subst, ◌∙◌, inl, inr, cond, ltb}
 use Rattle.std.specs.Prelude.{slice_index, slice_index_or, sum_by}
 use Rattle.std.proofs.Math.Nat.{add-mul, mul_comm, mul-le-mul, mul-le-mul_left, mul-le-mul_right}
 use Rattle.std.proofs.Math.Seq.{take-length}
 use Rattle.std.proofs.lemmas.Bool.{cases_lt, le-ltb, lt-ltb}
 use Rattle.std.proofs.lemmas.List.{length-map}
-use Rattle.std.proofs.lemmas.List.Sums.{sum_by-take-le}
+use Rattle.std.proofs.lemmas.List.Sums.{sum_by-cons, sum_by-take-le}
 use Rattle.std.proofs.lemmas.Option.{same_Some, slice_get-get_or, slice_get_within}
 use Rattle.bdd_core.proofs.Pigeon.{pigeon}
 use Rattle.circuit_faults.proofs.CountLaws.{sum_next}
@@ -16,6 +16,7 @@ use Rattle.channel_parts.specs.PartLists.{AreParts, device_numbers, least_of, ne
 use Rattle.channel_parts.specs.declared.part.Part.{Part}
 use Rattle.channel_parts.specs.declared.part.Parts.{Parts}
 use Rattle.vrt_model.specs.Circuits.{IsFlat}
+use Rattle.vrt_model.proofs.Members.{among_later}
 use Rattle.vrt_model.proofs.Ranked.{together_plain}
 use Rattle.vrt_model.specs.Budget.{work}
 use Rattle.vrt_model.specs.Known.{IsInPart, IsPlain, onward}
@@ -218,6 +219,19 @@ module _ (c : Circuit) (phase : Phase) (rank : ℕ → ℕ) (parts : Parts) (fla
   some_net part m =
       let lt = slice_get_within (nets_of part) 0 (least_of part) (are.each part m).first in
       omega (arith, lt, length-map part.nets (λ (net : Net). net.0))
+
+  -- so there are at most as many parts as nets
+  pub parts_most : length parts.list ≤ length c.nets
+  parts_most = (let few = each_one parts.list some_net in omega (arith, few, nets_few))
+    where
+      each_one : (xs : List Part) → ((part : Part) → Among xs part → 1 ≤ length part.nets) → length xs ≤ sum_by net_count xs
+      each_one [] some = omega arith
+      each_one (part ∷ xs) some =
+          let own = some part (0, refl) in
+          let nets = length-map part.nets (λ (net : Net). net.0) in
+          let rest = each_one xs (λ q m. some q (among_later part xs q m)) in
+          let sum = sum_by-cons net_count part xs in
+          omega (arith, own, nets, rest, sum)
 
   pub part_room : (part : Part) → Among parts.list part → length part.nets ≤ length c.nets
   part_room part m =

@@ -96,18 +96,6 @@ module _ (k : Comparison) (phase : ℕ) (plain : IsPlainComparison k phase) wher
           let shown = (solves n v st.0).0 e agreeing agreeing_is agreeing_agrees in
           st.1 agreeing agreeing_is agreeing_agrees v e (kept_response k.circuit setting.held agreeing plain.keepers true false n (Shows v) shown)
 
-      -- a fault of the bare circuit stands where it has one
-      pub stands_there : (kind : FaultKind) (n : ℕ) → HasFaultHere kind n → Stands k phase setting a g kind n
-      stands_there Fight n f = f
-      stands_there Float n f = f
-      stands_there FightKept n f = absurd f
-      stands_there Unsettled n f = absurd f
-      stands_there Constraint n f = absurd f
-      stands_there Differs n f = absurd f
-      stands_there Next n f = absurd f
-      stands_there Apart n f = absurd f
-      stands_there Enter n f = absurd f
-
       -- no fault of an instance or of a hold stands
       pub no_constraint : (at : ℕ) → ¬ Stands k phase setting a g Constraint at
       no_constraint at st = no_instance k phase plain at st.0 st.1

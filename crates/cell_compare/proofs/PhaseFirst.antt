@@ -1,7 +1,7 @@
 -- The first fault of a plain comparison in a phase: that of its circuit, or where the circuit is clear, the first output that
 -- differs.
 use Rattle.std.proofs.Common.{◌≡◌, ℕ, ◌<◌, ◌⊎◌, ◌&&◌, Bool, true, false, List, Option, Some, None, length, arith, ap, refl, sym, subst, ◌∙◌, inl, inr}
-use Rattle.std.specs.Prelude.{◌≢◌, nat_eq, nat_lt}
+use Rattle.std.specs.Prelude.{◌≢◌, ◌↔◌, flat_map, nat_eq, nat_lt}
 use Rattle.std.proofs.Math.Path.{fun_ext}
 use Rattle.std.proofs.lemmas.Bool.{cases_eq, cases_lt, lt-ltb, or_left}
 use Rattle.std.proofs.lemmas.Option.{none-some, same_Some, slice_get_cases}
@@ -11,21 +11,32 @@ use Rattle.bdd_core.specs.Store.{Diagrams, function_of}
 use Rattle.bdd_core.specs.declared.handle.H.{H}
 use Rattle.bdd_ops.specs.Ops.{bits_of}
 use Rattle.circuit_faults.proofs.OrderLaws.{is_least}
+use Rattle.circuit_faults.proofs.PartStepLaws.{listed_steps}
+use Rattle.circuit_faults.proofs.StepLists.{part_steps}
 use Rattle.circuit_faults.proofs.WholeParts.{number_inside}
-use Rattle.cell_compare.proofs.PhaseEqual.{differs_there, meets_all, only_differs, output_bit, stands_there, wanted_bit}
+use Rattle.cell_compare.proofs.PhaseEqual.{differs_there, meets_all, only_differs, output_bit, wanted_bit}
 use Rattle.cell_compare.proofs.PhaseGiven.{is_setting, no_instance, observed_nets}
-use Rattle.circuit_faults.specs.Faults.{HasFault, IsSolvedAt}
+use Rattle.circuit_faults.specs.Cases.{CaseIn, HasStepFault, StandsAt}
 use Rattle.cell_compare.specs.Phases.{HasOneModel, HasRootBits, HasSignalBits, IsClearPhase, IsFirstUnequal, IsLeastAt, IsPlainComparison, IsSeenOutput}
 use Rattle.circuit_faults.specs.Results.{IsFirstFault, root_at}
+use Rattle.circuit_faults.specs.Steps.{InPhase, in_comparison, part_list, steps_of}
+use Rattle.circuit_faults.specs.declared.steps.CircuitStep.{CircuitStep}
 use Rattle.circuit_faults.specs.declared.net.CircuitFault.{CircuitFault}
 use Rattle.channel_parts.specs.Orders.{IsSolvedOnce}
 use Rattle.channel_parts.specs.PartLists.{AreParts, least_of}
 use Rattle.channel_parts.specs.declared.part.Parts.{Parts}
+use Rattle.fault_places.proofs.CountedSites.{counted_sites}
+use Rattle.fault_places.proofs.ListedSpots.{found_cases, spot, step_kinds}
+use Rattle.fault_places.proofs.PhaseOrder.{phase_spots}
+use Rattle.fault_places.proofs.SearchLaws.{case_found, earlier_stage, first_spot}
+use Rattle.fault_places.specs.PhaseSpots.{AreSteps, Sites, counted, spots_behind, spots_in, spots_of}
+use Rattle.fault_places.specs.Searches.{AreSpots, Case, HasCases, IsCare, IsFoundIn, Spot, StandsIn}
 use Rattle.vrt_model.specs.Circuits.{IsFlat}
-use Rattle.vrt_model.proofs.FirstFinding.{IsOpen, found, tri_places}
+use Rattle.vrt_model.specs.Lists.{Among}
+use Rattle.vrt_model.proofs.FirstFinding.{found}
 use Rattle.vrt_model.specs.Assignment.{Assignment}
 use Rattle.vrt_model.specs.Comparison.{CellPort, Comparison, is_observed, output_signal, phase_at}
-use Rattle.vrt_model.specs.Faults.{Assigns, IsPrintedWith, Solves}
+use Rattle.vrt_model.specs.Faults.{Assigns, IsPrintedWith, Solves, Stands}
 use Rattle.vrt_model.specs.Held.{IsValuation, setting_of, sources_of}
 use Rattle.vrt_model.specs.Known.{IsLeastOfPart, IsPlain, IsRanking}
 use Rattle.vrt_model.specs.Places.{IsFinding, IsFirstInPhase, IsNoLater, IsOrder, comes_before, standing}
@@ -45,53 +56,9 @@ use Rattle.vrt_model.specs.declared.verdict.FaultKind.TheVariants.{Fight, FightK
 abbrev pub IsOfCircuit : FaultKind → Type 0
 IsOfCircuit kind = (kind ≡ Fight) ⊎ (kind ≡ Float)
 
-of_circuit_open : (kind : FaultKind) → IsOfCircuit kind → IsOpen kind
-of_circuit_open kind h = elim h [ inl e ↦ subst IsOpen (sym e) tt | inr e ↦ subst IsOpen (sym e) tt ]
-
--- the kinds that come after all nets and instances
-abbrev IsLate : FaultKind → Type 0
-IsLate Fight = ⊥
-IsLate Float = ⊥
-IsLate Constraint = ⊥
-IsLate FightKept = Unit {0}
-IsLate Unsettled = Unit {0}
-IsLate Differs = Unit {0}
-IsLate Next = Unit {0}
-IsLate Apart = Unit {0}
-IsLate Enter = Unit {0}
-
 module _ (k : Comparison) (phase : ℕ) (rank least : ℕ → ℕ) where
   abbrev ComesBefore : FaultKind → ℕ → FaultKind → ℕ → Type 0
   ComesBefore kind at other there = comes_before (standing k phase rank least kind at) (standing k phase rank least other there) ≡ true
-
-  fight_early : (other : FaultKind) (at there : ℕ) → IsLate other → ComesBefore Fight at other there
-  fight_early FightKept at there late = refl
-  fight_early Unsettled at there late = refl
-  fight_early Differs at there late = refl
-  fight_early Next at there late = refl
-  fight_early Apart at there late = refl
-  fight_early Enter at there late = refl
-  fight_early Fight at there late = absurd late
-  fight_early Float at there late = absurd late
-  fight_early Constraint at there late = absurd late
-
-  float_early : (other : FaultKind) (at there : ℕ) → IsLate other → ComesBefore Float at other there
-  float_early FightKept at there late = refl
-  float_early Unsettled at there late = refl
-  float_early Differs at there late = refl
-  float_early Next at there late = refl
-  float_early Apart at there late = refl
-  float_early Enter at there late = refl
-  float_early Fight at there late = absurd late
-  float_early Float at there late = absurd late
-  float_early Constraint at there late = absurd late
-
-  circuit_early : (kind other : FaultKind) (at there : ℕ) → IsOfCircuit kind → IsLate other → ComesBefore kind at other there
-  circuit_early kind other at there h late =
-      elim h [
-        | inl e ↦ subst (λ (x : FaultKind). ComesBefore x at other there) (sym e) (fight_early other at there late)
-        | inr e ↦ subst (λ (x : FaultKind). ComesBefore x at other there) (sym e) (float_early other at there late)
-      ]
 
   -- ports come by their places
   port_before : (at there : ℕ) → at < there → ComesBefore Differs at Differs there
@@ -156,9 +123,6 @@ module _ (k : Comparison) (phase : ℕ) (plain : IsPlainComparison k phase) (ran
     given = λ n none. least_net_given k.circuit (phase_at k.rules phase) rank parts are n none;
   }
 
-  no_constraint_found : (at : ℕ) (bits : List Bool) → IsFinding k (found phase Constraint at bits) → ⊥
-  no_constraint_found at bits f = let st = f.stands.4 in no_instance k phase plain at st.0 st.1
-
   -- where no finding comes before it and none there has a lesser valuation, a finding is the first
   module _ (kind : FaultKind) (at : ℕ) (bits : List Bool)
       (later : (other : FaultKind) (there : ℕ) (more : List Bool) → IsFinding k (found phase other there more)
@@ -176,76 +140,93 @@ module _ (k : Comparison) (phase : ℕ) (plain : IsPlainComparison k phase) (ran
 
   -- ---- a fault of the circuit
 
-  module _ (once : IsSolvedOnce k.circuit (phase_at k.rules phase)) (model : HasOneModel k phase) (observed : ℕ → Bool)
-      (same : (n : ℕ) → observed n ≡ is_observed k phase n) (care : H) (roots : Span) (old new : Diagrams) (fault : CircuitFault)
+  module _ (once : IsSolvedOnce k.circuit (phase_at k.rules phase)) (model : HasOneModel k phase) (steps : List CircuitStep) (listed : steps ≡ part_list (length parts.list))
+      (observed : ℕ → Bool) (same : (n : ℕ) → observed n ≡ is_observed k phase n) (care : H) (roots : Span) (old new : Diagrams) (fault : CircuitFault)
       (has : HasRootBits k.circuit (phase_at k.rules phase) roots old) (all : (v : Valuation) → function_of old care v ≡ true)
-      (first : IsFirstFault k.circuit (phase_at k.rules phase) observed rank care roots fault old new) (bits : List Bool)
+      (first : IsFirstFault (in_comparison k phase parts steps observed) care roots fault old new) (bits : List Bool)
       (least_bits : IsLeastAt (length (sources_of k phase)) (function_of new fault.at) bits) where
-    seen_first : IsFirstFault k.circuit (phase_at k.rules phase) (is_observed k phase) rank care roots fault old new
-    seen_first = subst (λ (o : ℕ → Bool). IsFirstFault k.circuit (phase_at k.rules phase) o rank care roots fault old new) (fun_ext same) first
+    abbrev w : InPhase
+    w = in_comparison k phase parts steps (is_observed k phase)
 
-    solved_at : (more : List Bool) (a : ℕ → Option Bool) → Solves k phase (setting_of k phase more) a
-        → IsSolvedAt k.circuit (phase_at k.rules phase) (is_observed k phase) (root_at old roots (bits_of more)) (setting_of k phase more) a
-    solved_at more a solves = record { given = is_setting k phase plain roots old has more; solves = solves }
+    seen_first : IsFirstFault w care roots fault old new
+    seen_first = subst (λ (o : ℕ → Bool). IsFirstFault (in_comparison k phase parts steps o) care roots fault old new) (fun_ext same) first
 
-    -- it is found at its least valuation
-    fault_found : IsFinding k (found phase fault.kind fault.net.0 bits)
-    fault_found =
-        let solved = once (is_observed k phase) (setting_of k phase bits) (observed_nets k phase plain) in
-        let g = model.some bits least_bits.count_is in
-        let stands = (seen_first.exact (bits_of bits) (setting_of k phase bits) solved.bits (solved_at bits solved.bits solved.solves)).0 least_bits.holds in
-        record {
-          phase = plain.in_range;
-          meets = meets_all k phase plain bits least_bits.count_is;
-          stands = (
-            solved.bits,
-            g.0,
-            solved.solves,
-            g.1,
-            stands_there k phase plain (setting_of k phase bits) solved.bits solved.solves g.0 fault.kind fault.net.0 stands.1,
-          );
-        }
+    abbrev sites : Sites
+    sites = counted k (steps_of w)
 
-    -- a fault of the circuit that is found stands in the circuit
-    abbrev StandsAt : FaultKind → ℕ → List Bool → Type 0
-    StandsAt kind n more =
-        (a : ℕ → Option Bool) × Solves k phase (setting_of k phase more) a
-        × HasFault k.circuit (phase_at k.rules phase) (is_observed k phase) (setting_of k phase more) a kind n
+    spots : AreSpots k phase rank least (spots_in sites)
+    spots =
+        phase_spots k phase rank least sites
+        (counted_sites k phase rank least (steps_of w) plain.flat (observed_nets k phase plain).nets order
+        (subst (AreSteps k phase rank) (sym (listed_steps w listed)) (part_steps k phase rank parts plain.flat are (λ at i there. no_instance k phase plain at i there))))
 
-    -- it comes no later than one that stands in the circuit
-    open_later : (other : FaultKind) (n : ℕ) (more : List Bool) → IsOpen other → IsValuation k phase more → StandsAt other n more
-        → IsNoLater k phase rank least (found phase fault.kind fault.net.0 bits) (found phase other n more)
-    open_later other n more of_open width st =
-        elim (tri_places k phase rank least fault.kind other fault.net.0 n (of_circuit_open fault.kind seen_first.kinds) of_open) [
-          | inl before ↦ inl before
-          | inr rest ↦ elim rest [
-            | inl one ↦ inr (
-              one.kinds,
-              one.places,
-              least_bits.least more width ((seen_first.exact (bits_of more) (setting_of k phase more) st.0 (solved_at more st.0 st.1)).1 (
-                all (bits_of more),
-                subst (λ (m : ℕ). HasFault k.circuit (phase_at k.rules phase) (is_observed k phase) (setting_of k phase more) st.0 fault.kind m) (sym one.places)
-                    (subst (λ (x : FaultKind). HasFault k.circuit (phase_at k.rules phase) (is_observed k phase) (setting_of k phase more) st.0 x n) (sym one.kinds) st.2),
-              )),
-            )
-            | inr after ↦ absurd (seen_first.before (bits_of more) (setting_of k phase more) st.0 (all (bits_of more)) (solved_at more st.0 st.1) least order.plain k phase other n after st.2)
+    -- a case of the comparison is one of the circuit
+    abbrev Solved : Type 0
+    Solved = CaseIn w (root_at old roots)
+
+    abbrev case_of : Case k phase → Solved
+    case_of v = record {
+      valuation = bits_of v.bits;
+      setting = setting_of k phase v.bits;
+      solution = v.solution;
+      solved = record { given = is_setting k phase plain roots old has v.bits; solves = v.solves };
+    }
+
+    -- the faults at the places of steps are those of the comparison
+    same_kind : (v : Case k phase) (kind : FaultKind) (n : ℕ) → (kind ≡ Fight) ⊎ ((kind ≡ Float) ⊎ (kind ≡ Constraint))
+        → HasStepFault w (setting_of k phase v.bits) v.solution kind n ↔ Stands k phase (setting_of k phase v.bits) v.solution v.assignment kind n
+    same_kind v kind n h =
+        elim h [
+          | inl e ↦ subst (λ (q : FaultKind). HasStepFault w (setting_of k phase v.bits) v.solution q n ↔ Stands k phase (setting_of k phase v.bits) v.solution v.assignment q n) (sym e) (λ f. f, λ f. f)
+          | inr other ↦ elim other [
+            | inl e ↦ subst (λ (q : FaultKind). HasStepFault w (setting_of k phase v.bits) v.solution q n ↔ Stands k phase (setting_of k phase v.bits) v.solution v.assignment q n) (sym e) (λ f. f, λ f. f)
+            | inr e ↦ subst (λ (q : FaultKind). HasStepFault w (setting_of k phase v.bits) v.solution q n ↔ Stands k phase (setting_of k phase v.bits) v.solution v.assignment q n) (sym e) (λ f. f, λ f. f)
           ]
         ]
 
-    fault_later : (other : FaultKind) (n : ℕ) (more : List Bool) → IsFinding k (found phase other n more)
-        → IsNoLater k phase rank least (found phase fault.kind fault.net.0 bits) (found phase other n more)
-    fault_later Fight n more f = open_later Fight n more tt f.meets.valuation (f.stands.0, f.stands.2, f.stands.4)
-    fault_later Float n more f = open_later Float n more tt f.meets.valuation (f.stands.0, f.stands.2, f.stands.4)
-    fault_later Constraint n more f = absurd (no_constraint_found n more f)
-    fault_later FightKept n more f = inl (circuit_early k phase rank least fault.kind FightKept fault.net.0 n seen_first.kinds tt)
-    fault_later Unsettled n more f = inl (circuit_early k phase rank least fault.kind Unsettled fault.net.0 n seen_first.kinds tt)
-    fault_later Differs n more f = inl (circuit_early k phase rank least fault.kind Differs fault.net.0 n seen_first.kinds tt)
-    fault_later Next n more f = inl (circuit_early k phase rank least fault.kind Next fault.net.0 n seen_first.kinds tt)
-    fault_later Apart n more f = inl (circuit_early k phase rank least fault.kind Apart fault.net.0 n seen_first.kinds tt)
-    fault_later Enter n more f = inl (circuit_early k phase rank least fault.kind Enter fault.net.0 n seen_first.kinds tt)
+    same_fault : (y : Spot) (v : Case k phase) → Among (flat_map spots_of (steps_of w)) y → StandsAt w (root_at old roots) y (case_of v) ↔ StandsIn k phase y v
+    same_fault y v m = same_kind v y.kind y.at (step_kinds (steps_of w) y m)
 
-    pub first_fault_in_phase : IsFirstInPhase k (found phase fault.kind fault.net.0 bits)
-    first_fault_in_phase = is_first fault.kind fault.net.0 bits fault_later fault_found
+    -- the care set and the fault, by the bits of the sources
+    abbrev care_of : List Bool → Bool
+    care_of more = function_of old care (bits_of more)
+
+    abbrev fault_of : List Bool → Bool
+    fault_of more = function_of new fault.at (bits_of more)
+
+    solved_found : IsFoundIn (StandsIn k phase) (λ (v : Case k phase). care_of v.bits) (λ (v : Case k phase). fault_of v.bits) (flat_map spots_of (steps_of w)) (spot fault.kind fault.place)
+    solved_found =
+        found_cases Solved (Case k phase) (StandsAt w (root_at old roots)) (StandsIn k phase) (λ (v : Solved). function_of old care v.valuation) (flat_map spots_of (steps_of w)) case_of same_fault
+        (λ (v : Solved). function_of new fault.at v.valuation) (spot fault.kind fault.place) seen_first.found
+
+    all_found : IsFoundIn (StandsIn k phase) (λ (v : Case k phase). care_of v.bits) (λ (v : Case k phase). fault_of v.bits) (spots_in sites) (spot fault.kind fault.place)
+    all_found =
+        earlier_stage (Case k phase) (StandsIn k phase) (λ (v : Case k phase). care_of v.bits) (λ (v : Case k phase). fault_of v.bits)
+        (flat_map spots_of (steps_of w)) (spots_behind sites) (spot fault.kind fault.place) solved_found
+
+    is_care : IsCare k phase care_of
+    is_care more width = (λ e. meets_all k phase plain more width, λ m. all (bits_of more))
+
+    cases : HasCases k phase
+    cases more width =
+        let solved = once (is_observed k phase) (setting_of k phase more) (observed_nets k phase plain) in
+        let g = model.some more width in
+        (record { bits = more; solution = solved.bits; assignment = g.0; solves = solved.solves; assigns = g.1 }, refl)
+
+    pub first_fault_in_phase : IsFirstInPhase k (found phase fault.kind fault.place bits)
+    first_fault_in_phase =
+        first_spot k phase rank least (spots_in sites) (spot fault.kind fault.place) bits spots
+        (case_found k phase care_of fault_of (spots_in sites) (spot fault.kind fault.place) bits plain.in_range is_care cases all_found
+        (record { width = least_bits.count_is; holds = least_bits.holds; least = least_bits.least }))
+
+    -- without instances it is a fight or a float
+    no_constraint : fault.kind ≡ Constraint → ⊥
+    no_constraint e =
+        let f = subst (λ (q : FaultKind). IsFinding k (found phase q fault.place bits)) e first_fault_in_phase.found in
+        no_instance k phase plain fault.place f.stands.4.0 f.stands.4.1
+
+    pub fault_kinds : IsOfCircuit fault.kind
+    fault_kinds = elim seen_first.kinds [ inl e ↦ inl e | inr other ↦ elim other [ inl e ↦ inr e | inr e ↦ absurd (no_constraint e) ] ]
 
   -- ---- an output that differs
 

@@ -1,6 +1,6 @@
 -- What stands in the store of a phase, from step to step.
 use Rattle.std.proofs.Common.{◌≡◌, ℕ, zero, suc, ◌+◌, ◌<◌, Bool, true, List, [], Option, Some, None, length, replicate, arith, ap, sym, subst, ◌∙◌, inl, inr}
-use Rattle.std.specs.Prelude.{flat_map, slice_get, slice_index, slice_index_or, unwrap_or}
+use Rattle.std.specs.Prelude.{All, flat_map, slice_get, slice_index, slice_index_or, unwrap_or}
 use Rattle.std.proofs.lemmas.Option.{slice_get-get_or}
 use Rattle.node_pool.specs.declared.region.Span.{Span}
 use Rattle.bdd_core.specs.Diagram.{IsReduced, Valuation, meaning}
@@ -12,9 +12,14 @@ use Rattle.blif_eval.specs.Evaluated.{HasModelSpans, IsEvaluated, IsPlannedFor}
 use Rattle.blif_eval.specs.Plans.{IsPlan, entry_of}
 use Rattle.blif_eval.specs.declared.plan.ModelPlan.{ModelPlan}
 use Rattle.circuit_faults.proofs.CountLaws.{reads_variables}
+use Rattle.circuit_faults.proofs.PartStepLaws.{listed_steps, listed_there}
+use Rattle.circuit_faults.proofs.StepLists.{ordered_steps, part_steps}
+use Rattle.circuit_faults.specs.Steps.{AreOrderedSteps, IsReadyInstance, in_comparison, part_list}
+use Rattle.circuit_faults.specs.declared.steps.CircuitStep.{CircuitStep}
+use Rattle.fault_places.specs.PhaseSpots.{AreSteps}
 use Rattle.cell_compare.proofs.PartCounts.{part_room}
 use Rattle.cell_compare.proofs.PhaseCounts.{used_more, used_words}
-use Rattle.cell_compare.proofs.PhaseGiven.{no_hold, observed_nets, one_model, signal_bits}
+use Rattle.cell_compare.proofs.PhaseGiven.{no_hold, no_instance, observed_nets, one_model, signal_bits}
 use Rattle.cell_compare.specs.Compared.{nothing_known}
 use Rattle.cell_compare.specs.Phases.{AreSeenOutputs, HasInputBits, HasKnownClocks, HasRootBits, IsClearPhase, IsPlainComparison}
 use Rattle.cell_compare.specs.PhaseSteps.{HasPhaseWords, IsKnownModel, IsOpen, IsPhaseStore, IsSolved, evaluated_operations, gate_bits, opened_operations, solved_operations}
@@ -28,7 +33,9 @@ use Rattle.bdd_core.proofs.Frames.{shows_kept, adds_words, writes_added, two_fir
 use Rattle.path_fixpoint.specs.Spending.{HasOneHold}
 use Rattle.vrt_model.specs.Comparison.{Comparison, phase_at}
 use Rattle.vrt_model.specs.Elements.{element_names, names_by_kind, signal_name}
+use Rattle.vrt_model.proofs.Members.{all_by}
 use Rattle.vrt_model.specs.Held.{sources_of}
+use Rattle.vrt_model.specs.Known.{IsRanking}
 use Rattle.vrt_model.specs.Lists.{At}
 use Rattle.vrt_model.specs.declared.circuit.Circuit.{Circuit}
 use Rattle.vrt_model.specs.declared.flat_model.FlatLatch.{FlatLatch}
@@ -162,6 +169,17 @@ module _ (k : Comparison) (phase : ℕ) (plain : IsPlainComparison k phase) wher
 
   pub planned : (plan : ModelPlan) (inputs : Span) (d : Diagrams) → IsPlan k.model (nothing_known k.model) plan → IsPlannedFor k.model plan inputs d
   planned plan inputs d is = (nothing_known k.model, is, λ s b e. absurd (known_none s b e))
+
+  -- the steps of the parts alone
+  module _ (rank : ℕ → ℕ) (parts : Parts) (are : AreParts k.circuit (phase_at k.rules phase) true rank parts) (ranks : IsRanking k.circuit (phase_at k.rules phase) rank)
+      (steps : List CircuitStep) (listed : steps ≡ part_list (length parts.list)) (observed : ℕ → Bool) where
+    pub steps_ordered : AreOrderedSteps (in_comparison k phase parts steps observed)
+    steps_ordered =
+        ordered_steps k phase rank parts steps observed plain.flat are ranks (listed_there (in_comparison k phase parts steps observed) listed)
+        (subst (AreSteps k phase rank) (sym (listed_steps (in_comparison k phase parts steps observed) listed)) (part_steps k phase rank parts plain.flat are (λ at i there. no_instance k phase plain at i there)))
+
+    pub instances_ready : All (IsReadyInstance (in_comparison k phase parts steps observed)) k.circuit.instances
+    instances_ready = all_by (IsReadyInstance (in_comparison k phase parts steps observed)) k.circuit.instances (λ i m. absurd (no_instance k phase plain m.0 i m.1))
 
   module _ (w : PhaseWords) (d : Diagrams) (h : HasPhaseWords (length k.circuit.nets) (length k.model.signals) (length (sources_of k phase)) w d) where
     pub circuit_spans : (rank : ℕ → ℕ) (parts : Parts) → AreParts k.circuit (phase_at k.rules phase) true rank parts → IsFilled d w.roots

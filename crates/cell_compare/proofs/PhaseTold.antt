@@ -8,13 +8,15 @@ use Rattle.bdd_core.specs.Store.{Diagrams, function_of}
 use Rattle.bdd_core.specs.Words.{shows}
 use Rattle.bdd_core.specs.declared.handle.H.{H}
 use Rattle.bdd_ops.specs.Ops.{bits_of}
-use Rattle.cell_compare.proofs.PhaseFirst.{IsOfCircuit, difference_values, fault_values, first_difference, first_fault_in_phase}
+use Rattle.cell_compare.proofs.PhaseFirst.{IsOfCircuit, difference_values, fault_kinds, fault_values, first_difference, first_fault_in_phase}
 use Rattle.cell_compare.proofs.PhaseOutputs.{first_unequal}
 use Rattle.cell_compare.specs.Compared.{PhaseGives}
 use Rattle.cell_compare.specs.Outputs.{IsFirstDifference}
 use Rattle.cell_compare.specs.Phases.{AreSeenOutputs, HasOneModel, HasRootBits, HasSignalBits, IsClearPhase, IsFirstUnequal, IsPlainComparison}
 use Rattle.cell_compare.specs.PhaseSteps.{IsTold}
 use Rattle.circuit_faults.specs.Results.{IsFirstFault}
+use Rattle.circuit_faults.specs.Steps.{in_comparison, part_list}
+use Rattle.circuit_faults.specs.declared.steps.CircuitStep.{CircuitStep}
 use Rattle.cell_compare.specs.declared.flattened.PhaseFound.TheVariants.{Fault}
 use Rattle.circuit_faults.specs.declared.net.CircuitFault.{CircuitFault}
 use Rattle.cell_compare.specs.declared.outputs.Output.{Output}
@@ -57,19 +59,20 @@ module _ (k : Comparison) (phase budget : ℕ) (plain : IsPlainComparison k phas
   )
 
   -- a fault of the circuit
-  pub circuit_told : (observed : ℕ → Bool) → ((n : ℕ) → observed n ≡ is_observed k phase n) → (care : H) (roots : Span) (old new : Diagrams) (fault : CircuitFault)
-      → HasRootBits k.circuit (phase_at k.rules phase) roots old → ((v : Valuation) → function_of old care v ≡ true)
-      → IsFirstFault k.circuit (phase_at k.rules phase) observed rank care roots fault old new
-      → IsTold k phase fault.kind (net_name k.circuit fault.net.0) (length (sources_of k phase)) (function_of new fault.at) told
+  pub circuit_told : (steps : List CircuitStep) → steps ≡ part_list (length parts.list) → (observed : ℕ → Bool) → ((n : ℕ) → observed n ≡ is_observed k phase n)
+      → (care : H) (roots : Span) (old new : Diagrams) (fault : CircuitFault) → HasRootBits k.circuit (phase_at k.rules phase) roots old
+      → ((v : Valuation) → function_of old care v ≡ true) → IsFirstFault (in_comparison k phase parts steps observed) care roots fault old new
+      → IsTold k phase fault.kind (net_name k.circuit fault.place) (length (sources_of k phase)) (function_of new fault.at) told
       → told.circuit ≡ None → told.wanted ≡ None → PhaseGives k budget phase (Fault told)
-  circuit_told observed same care roots old new fault has all first t no_circuit no_wanted =
-      first_told fault.kind fault.net.0 (function_of new fault.at)
-      (subst (λ (place : List ℕ). IsTold k phase fault.kind place (length (sources_of k phase)) (function_of new fault.at) told) (net_place k fault.kind fault.net.0 first.kinds) t)
+  circuit_told steps listed observed same care roots old new fault has all first t no_circuit no_wanted =
+      let kinds = fault_kinds k phase plain rank parts are ranks once model steps listed observed same care roots old new fault has all first told.valuation.bits t.least in
+      first_told fault.kind fault.place (function_of new fault.at)
+      (subst (λ (place : List ℕ). IsTold k phase fault.kind place (length (sources_of k phase)) (function_of new fault.at) told) (net_place k fault.kind fault.place kinds) t)
       (λ a g solves assigns.
-      subst (λ (v : Option Bool). IsPrintedWith k phase (setting_of k phase told.valuation.bits) a g fault.kind fault.net.0 v told.wanted) (sym no_circuit)
-      (subst (λ (v : Option Bool). IsPrintedWith k phase (setting_of k phase told.valuation.bits) a g fault.kind fault.net.0 None v) (sym no_wanted)
-      (fault_values k phase (setting_of k phase told.valuation.bits) a g fault.kind fault.net.0 first.kinds)))
-      (first_fault_in_phase k phase plain rank parts are ranks once model observed same care roots old new fault has all first told.valuation.bits t.least)
+      subst (λ (v : Option Bool). IsPrintedWith k phase (setting_of k phase told.valuation.bits) a g fault.kind fault.place v told.wanted) (sym no_circuit)
+      (subst (λ (v : Option Bool). IsPrintedWith k phase (setting_of k phase told.valuation.bits) a g fault.kind fault.place None v) (sym no_wanted)
+      (fault_values k phase (setting_of k phase told.valuation.bits) a g fault.kind fault.place kinds)))
+      (first_fault_in_phase k phase plain rank parts are ranks once model steps listed observed same care roots old new fault has all first told.valuation.bits t.least)
 
   -- an output that differs
   pub difference_told : (outputs : List Output) → AreSeenOutputs k phase outputs → (care : H) (gates values : Span) (old new : Diagrams) (fault : OutputFault)

@@ -4,6 +4,7 @@ ghost use Rattle.std.specs.Prelude.{◌≡◌, ◌≤◌, ◌<◌, length, IfOk}
 ghost use Rattle.cell_compare.specs.Compared.{IsPhasePlan, PhaseGives, comparison_in};
 ghost use Rattle.cell_compare.specs.PhaseSteps.{IsFresh, IsKnownModel, IsOpen, IsSolved};
 ghost use Rattle.cell_compare.specs.Phases.{AreSeenOutputs, IsPlainComparison, input_count};
+ghost use Rattle.circuit_faults.specs.Steps.{part_list};
 ghost use Rattle.rule_index.specs.Tables.{AreRuleTables};
 ghost use Rattle.vrt_model.specs.Circuits.{IsCircuit};
 ghost use Rattle.vrt_model.specs.Comparison.{cell_at};
@@ -18,9 +19,9 @@ use crate::roots::open_roots;
 use crate::told_faults::{told_circuit_fault, told_difference};
 use bdd_core::{ONE, Store};
 use blif_eval::eval_model;
-use circuit_faults::circuit_fault;
+use circuit_faults::{CircuitSpans, CircuitStep, PhasedCircuit, circuit_fault, part_steps};
 use std::alloc::Global;
-use vrt_model::NoMemory;
+use vrt_model::{NoMemory, Seq};
 
 /// A cell compared in a phase, the order in which the phase is worked through, and the budget of its nodes.
 #[derive(Clone, Copy)]
@@ -91,6 +92,14 @@ fn check_model(
     }
 }
 
+/// The steps of the parts of a plan, which are at most so many.
+fn steps_in(alloc: Global, plan: &PhasePlan, most: u32) -> Result<Seq<CircuitStep>, NoMemory>
+    requires { length plan.now.parts.list ≤ most }
+    ensures { IfOk result (λ steps. steps ≡ part_list (length plan.now.parts.list)) }
+{
+    part_steps(alloc, plan.parts.list.len() as u32)
+}
+
 /// The circuit, and where it is clear the model and the outputs.
 fn check_circuit(
     store: &mut Store,
@@ -112,16 +121,24 @@ fn check_circuit(
     let outputs = seen_outputs(alloc, task.compared, task.phase)?;
     let outputs = outputs.as_slice();
     let observed = observed_nets(alloc, task.compared, task.phase, outputs)?;
-    match circuit_fault(
-        store,
-        &task.compared.flattened.circuit,
-        &task.plan.parts,
-        observed.as_slice(),
-        ONE,
-        words.roots,
-        words.gates,
-        words.out,
-    ) {
+    let steps = steps_in(alloc, task.plan, words.roots.len)?;
+    let list = steps.as_slice();
+    let marks = observed.as_slice();
+    let phased = PhasedCircuit {
+        design: task.compared.design,
+        rules: task.compared.rules,
+        circuit: &task.compared.flattened.circuit,
+        phase: task.phase,
+        parts: &task.plan.parts,
+        steps: list,
+        observed: marks,
+    };
+    let spans = CircuitSpans {
+        roots: words.roots,
+        gates: words.gates,
+        out: words.out,
+    };
+    match circuit_fault(store, phased, ONE, spans) {
         Err(_) => Ok(PhaseFound::Spent),
         Ok(None) => check_model(store, alloc, task, words, outputs),
         Ok(Some(fault)) => {

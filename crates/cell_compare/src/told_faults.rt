@@ -57,11 +57,11 @@ pub(crate) fn told_circuit_fault(
     requires live { IsLive store.old fault.at }
     requires some { fault.at.0 ≢ 0 }
     requires least { IsSpan store.old least × (least.len ≡ store.old.vars) }
-    ensures told { IfOk result (IsTold (comparison_in compared.entry) phase fault.kind (net_name compared.entry.flattened.now.circuit fault.net.0) store.old.vars (function_of store.old fault.at)) }
+    ensures told { IfOk result (IsTold (comparison_in compared.entry) phase fault.kind (net_name compared.entry.flattened.now.circuit fault.place) store.old.vars (function_of store.old fault.at)) }
     ensures values { IfOk result (λ told. (told.circuit ≡ None) × (told.wanted ≡ None)) }
 {
     let valuation = least_valuation(store, fault.at, least, alloc)?;
-    let place = name_of_net(alloc, &compared.flattened.circuit, fault.net)?;
+    let place = name_of_net(alloc, &compared.flattened.circuit, Net(fault.place))?;
     let names = input_names(alloc, compared, phase)?;
     Ok(FaultAt {
         kind: fault.kind,
