@@ -8,6 +8,7 @@ use Rattle.channel_parts.specs.declared.part.Part.{Part}
 use Rattle.circuit_faults.specs.Operations.{circuit_operations}
 use Rattle.cell_compare.specs.Phases.{HasInputBits, HasOneModel, HasRootBits, HasSignalBits, IsClearPhase, IsLeastAt}
 use Rattle.cell_compare.specs.declared.phase_words.PhaseWords.{PhaseWords}
+use Rattle.path_fixpoint.specs.Strengths.{net_words}
 use Rattle.vrt_model.specs.Budget.{model_size}
 use Rattle.vrt_model.specs.Comparison.{Comparison, phase_at}
 use Rattle.vrt_model.specs.Held.{sources_of, variable_names}
@@ -16,7 +17,7 @@ use Rattle.vrt_model.specs.declared.verdict.FaultKind.{FaultKind}
 
 -- ---- the words
 
--- The spans of a phase, one behind the other: a word for each net, again one, ten for each net, one for each signal and one
+-- The spans of a phase, one behind the other: a word for each net, again one, those of the nets of parts, one for each signal and one
 -- more, none for elements, one for each signal, and one for each variable.
 pub record HasPhaseWords (nets signals variables : ℕ) (w : PhaseWords) (d : Diagrams) : Type 0 where
   pub first : d.own ≤ w.roots.start
@@ -29,7 +30,7 @@ pub record HasPhaseWords (nets signals variables : ℕ) (w : PhaseWords) (d : Di
   pub last : w.least.start + w.least.len ≤ length d.words
   pub roots_len : w.roots.len ≡ nets
   pub gates_len : w.gates.len ≡ nets
-  pub out_len : w.out.len ≡ 10 * nets
+  pub out_len : w.out.len ≡ net_words * nets
   pub inputs_len : w.inputs.len ≡ signals + 1
   pub held_len : w.held.len ≡ 0
   pub values_len : w.values.len ≡ signals

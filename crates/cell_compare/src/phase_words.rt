@@ -4,10 +4,12 @@ ghost use Rattle.std.specs.Prelude.{◌≡◌, ◌+◌, ◌≤◌, ◌<◌, ◌*
 ghost use Rattle.bdd_core.specs.Words.{IsFilled};
 ghost use Rattle.cell_compare.specs.Phases.{input_count};
 ghost use Rattle.cell_compare.specs.PhaseSteps.{HasPhaseWords};
+ghost use Rattle.path_fixpoint.specs.Strengths.{net_words};
 
 use crate::roots::count_of;
 use bdd_core::Store;
 use node_pool::Span;
+use path_fixpoint::net_words;
 use vrt_model::{Circuit, NoMemory};
 
 /// The words of a phase: handles of the roots and of the gates by net, room for the parts of the circuit, the inputs of
@@ -18,7 +20,7 @@ pub struct PhaseWords {
     pub roots: Span,
     /// One word for each net, by its number: its bit as gates see it, which is known, given, or found in its part.
     pub gates: Span,
-    /// Ten words for each net, in which part after part is solved: which levels its nets have, and which values.
+    /// The words of each net, in which part after part is solved: which levels it has, and which values.
     pub out: Span,
     /// One word for each signal, the bits of inputs and clocks, and one for the bit of the default clock.
     pub inputs: Span,
@@ -46,9 +48,9 @@ pub(crate) fn input_nets(circuit: &Circuit) -> u32
 /// How many words a phase takes.
 pub(crate) fn word_count(nets: u32, signals: u32, variables: u32) -> u32
     requires { (nets ≤ 20000) × (signals ≤ 20000) × (variables ≤ 1000) }
-    ensures { result ≡ 12 * nets + 2 * signals + 1 + variables }
+    ensures { result ≡ (net_words + 2) * nets + 2 * signals + 1 + variables }
 {
-    12 * nets + 2 * signals + 1 + variables
+    (net_words() + 2) * nets + 2 * signals + 1 + variables
 }
 
 /// A span of so many words behind another.
@@ -85,7 +87,7 @@ pub(crate) fn take_words(
         len: nets,
     };
     let gates = behind(roots, nets);
-    let out = behind(gates, 10 * nets);
+    let out = behind(gates, net_words() * nets);
     let inputs = behind(out, signals + 1);
     let held = behind(inputs, 0);
     let values = behind(held, signals);

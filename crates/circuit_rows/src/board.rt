@@ -8,7 +8,7 @@ use crate::stop::Stop;
 use bdd_core::{H, ONE, Spent, Store, ZERO};
 use circuit_draft::HIGH;
 use node_pool::Span;
-use path_fixpoint::{Part, are_spans, is_part, solve_part};
+use path_fixpoint::{Part, are_spans, is_part, net_words, solve_part};
 use plain_paths::is_flat;
 use std::alloc::Global;
 use vrt_model::{Circuit, Dev, Net, NetKind, Seq, Var};
@@ -112,7 +112,7 @@ impl Board {
     pub(crate) fn open(alloc: Global, circuit: &Circuit, budget: u32) -> Result<Board, Stop> {
         let part = whole_part(alloc, circuit)?;
         let nets = circuit.nets.len().min(MOST) as u32;
-        let words = 10 * part.nets.len().min(MOST) as u32;
+        let words = net_words() * part.nets.len().min(MOST) as u32;
         let budget = budget.clamp(2, 64_000_000);
         let vars = variables(circuit).min(MOST as u32);
         let mut store = Store::with_budget(alloc, budget, 2 * nets + words, vars)?;
@@ -173,10 +173,14 @@ impl Board {
 
     /// The handle of a net at a place of the part: of a level from 1 to 8, of the value 0 as 9, and of 1 as 10.
     pub(crate) fn entry(&self, place: usize, level: u32) -> H {
-        if place > MOST || level < 1 || level > 10 {
+        if place > MOST || level < 1 || level > net_words() {
             return ZERO;
         }
-        word(&self.store, self.out, 10 * place as u32 + level - 1)
+        word(
+            &self.store,
+            self.out,
+            net_words() * place as u32 + level - 1,
+        )
     }
 
     /// The place of a net in the part.

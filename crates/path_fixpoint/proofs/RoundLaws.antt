@@ -60,7 +60,7 @@ module _ (c : Circuit) (part : Part) (gates out : Span) where
   }
 
   -- at least a level, by the strength
-  pub tells_from : (d : Diagrams) (v : Valuation) (w : Network) → ((level : ℕ) → 1 ≤ level → level ≤ 8 → HasLevel part out level d v w) → TellsStrengths part out d v w
+  pub tells_from : (d : Diagrams) (v : Valuation) (w : Network) → ((level : ℕ) → 1 ≤ level → level ≤ 8 → HasLevel part out level d v w) → TellsStrengths c part out d v w
   tells_from d v w levels i n level s p low high is =
       (λ e. at_least-strength w n s level is ((levels level low high i n p).0 e), λ le. (levels level low high i n p).1 (strength-at_least w n s level (omega (arith, low)) is le))
 

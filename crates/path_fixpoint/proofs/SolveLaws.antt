@@ -69,7 +69,7 @@ module _ (c : Circuit) (part : Part) (is_part : IsPart c part) (flat : IsFlat c)
   pub strength_here : (old : Diagrams) (v : Valuation) (n : ℕ) → (s : ℕ) × IsStrength (network_at old c part gates roots v) n s
   strength_here old v n = strength_exists (network_at old c part gates roots v) (length c.nets) 8 (is_finite old v) n
 
-  pub levels_from : (d : Diagrams) (v : Valuation) (w : Network) → ((n : ℕ) → (s : ℕ) × IsStrength w n s) → TellsStrengths part out d v w → (level : ℕ) → 1 ≤ level → level ≤ 8 → HasLevel part out level d v w
+  pub levels_from : (d : Diagrams) (v : Valuation) (w : Network) → ((n : ℕ) → (s : ℕ) × IsStrength w n s) → TellsStrengths c part out d v w → (level : ℕ) → 1 ≤ level → level ≤ 8 → HasLevel part out level d v w
   levels_from d v w has tells level low high i n p =
       let e = has n in
       let t = tells i n level e.0 p low high e.1 in
@@ -77,7 +77,7 @@ module _ (c : Circuit) (part : Part) (is_part : IsPart c part) (flat : IsFlat c)
 
   -- it is solved once the words of the levels are written
   pub solved_from : (old new : Diagrams) (v : Valuation) → HasRootSpans c part gates roots out old → Writes out old new
-      → TellsStrengths part out new v (network_at old c part gates roots v)
+      → TellsStrengths c part out new v (network_at old c part gates roots v)
       → SolvedAt c part gates roots out new v (network_at old c part gates roots v) (λ n. (strength_here old v n).0)
   solved_from old new v spans wr tells = record {
     stands = record {
@@ -99,7 +99,7 @@ module _ (c : Circuit) (part : Part) (is_part : IsPart c part) (flat : IsFlat c)
 
   -- the words of the levels stay, where those of a value alone change
   pub tells_stay : (value : Bool) (a b : Diagrams) (v : Valuation) (w : Network) → HasRootWords c part gates roots out a → Writes out a b → ChangesLevel out (slot_of value) a b
-      → TellsStrengths part out a v w → TellsStrengths part out b v w
+      → TellsStrengths c part out a v w → TellsStrengths c part out b v w
   tells_stay value a b v w words wr changes tells i n level s p low high is =
       let same : strong b out level i v ≡ strong a out level i v =
       shows_kept out out a b (word_of level i) v wr

@@ -1,5 +1,5 @@
 -- What a channel-connected part is in its circuit.
-use Rattle.std.specs.Prelude.{◌≡◌, ℕ, ◌<◌, ◌⊎◌, Bool, IsTrue, true, List, length, slice_get, filter_map, All}
+use Rattle.std.specs.Prelude.{◌≡◌, ℕ, ◌<◌, ◌⊎◌, Bool, IsTrue, true, List, [], length, slice_get, filter_map, All}
 use Rattle.vrt_model.specs.Circuits.{IsFlat, IsNet}
 use Rattle.vrt_model.specs.Lists.{At, Among}
 use Rattle.vrt_model.specs.Reading.{is_given}
@@ -8,11 +8,16 @@ use Rattle.vrt_model.specs.declared.circuit.Device.{Device}
 use Rattle.vrt_model.specs.declared.circuit.FlatNet.{FlatNet}
 use Rattle.vrt_model.specs.declared.ids.Dev.{Dev}
 use Rattle.vrt_model.specs.declared.ids.Net.{Net}
+use Rattle.vrt_model.specs.declared.whole.WholePin.{WholePin}
 use Rattle.channel_parts.specs.declared.part.Part.{Part}
 
 -- the devices of a part
 abbrev pub part_devices : Circuit → Part → List Device
 part_devices c part = filter_map (λ (d : Dev). slice_get c.devices d.0) part.devices
+
+-- the output pins of whole instances at the nets of a part: circuits without whole instances have none
+abbrev pub part_pins : Circuit → Part → List WholePin
+part_pins c part = []
 
 -- the net n stands at place i of a part
 abbrev pub IsPlace : Part → ℕ → ℕ → Type 0

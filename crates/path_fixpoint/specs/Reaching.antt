@@ -1,11 +1,12 @@
 -- What the words of a part say of the values that reach its nets.
-use Rattle.std.specs.Prelude.{◌≡◌, ℕ, ◌<◌, ◌≤◌, ◌⊎◌, ◌↔◌, Bool, true, false, not, cond, length, Option, Some, None}
+use Rattle.std.specs.Prelude.{◌≡◌, ℕ, ◌<◌, ◌≤◌, ◌⊎◌, ◌↔◌, ◌-◌, Bool, true, false, not, cond, length, Option, Some, None}
 use Rattle.node_pool.specs.declared.region.Span.{Span}
 use Rattle.bdd_core.specs.Diagram.{Function, Valuation, meaning}
 use Rattle.bdd_core.specs.Store.{Diagrams, IsSpan}
 use Rattle.vrt_model.proofs.Clear.{HopFits, RootFits}
 use Rattle.vrt_model.proofs.PathKinds.{Arrives}
 use Rattle.vrt_model.specs.Lists.{At, differ}
+use Rattle.vrt_model.specs.Levels.{source_level}
 use Rattle.vrt_model.specs.Path.{IsOn, IsRoot, Joins, Network, Root}
 use Rattle.vrt_model.specs.Reading.{conducts_at}
 use Rattle.vrt_model.specs.Response.{IsStrength, Reaches}
@@ -15,12 +16,12 @@ use Rattle.vrt_model.specs.declared.circuit.Hold.{Hold}
 use Rattle.vrt_model.specs.declared.design.Kind.{Kind}
 use Rattle.channel_parts.specs.declared.part.Part.{Part}
 use Rattle.path_fixpoint.specs.Parts.{IsGiven, IsPlace}
-use Rattle.path_fixpoint.specs.Strengths.{HasLevel, HasWords, StandsAt, StrongGrows, strong, strong_end, word_of}
+use Rattle.path_fixpoint.specs.Strengths.{HasLevel, HasWords, StandsAt, StrongGrows, net_words, strong, strong_end, word_of}
 use Rattle.bdd_core.specs.Words.{IsApart, IsFilled, shows}
 
--- behind the words of the eight levels stand those of the values 0 and 1
+-- behind the words of the levels stand those of the values 0 and 1
 abbrev pub slot_of : Bool → ℕ
-slot_of value = cond value 10 9
+slot_of value = cond value net_words (net_words - 1)
 
 -- whether a root's bit is the value
 abbrev pub bit_is : Bool → Function → Function
@@ -45,7 +46,7 @@ pub record SolvedAt (c : Circuit) (part : Part) (gates roots out : Span) (d : Di
   pub given : (n : ℕ) → n < length c.nets → shows d roots n v ≡ w.given n
   pub held : (at : ℕ) (hold : Hold) → At c.holds at hold → shows d roots hold.net.0 v ≡ w.held at
   pub strength : (n : ℕ) → IsStrength w n (s n)
-  pub solved : (level : ℕ) → 1 ≤ level → level ≤ 8 → HasLevel part out level d v w
+  pub solved : (level : ℕ) → 1 ≤ level → level ≤ source_level c → HasLevel part out level d v w
 
 -- at v the strength of the one end, no more than the device's level, is at least that of the net at place to
 abbrev pub FitsAt : Diagrams → Span → Option ℕ → ℕ → ℕ → Valuation → Type 0

@@ -1,14 +1,15 @@
 -- The network of a part at a valuation, and what its words say.
-use Rattle.std.specs.Prelude.{◌≡◌, ℕ, ◌↔◌, Bool, true, false, [], length, Option, Some, None, slice_get}
+use Rattle.std.specs.Prelude.{◌≡◌, ℕ, ◌↔◌, Bool, true, false, length, Option, Some, None, slice_get}
 use Rattle.node_pool.specs.declared.region.Span.{Span}
 use Rattle.bdd_core.specs.Diagram.{Valuation}
 use Rattle.bdd_core.specs.Store.{Diagrams, IsSpan}
+use Rattle.vrt_model.specs.Levels.{source_level}
 use Rattle.vrt_model.specs.Path.{Network}
 use Rattle.vrt_model.specs.Response.{Reaches}
 use Rattle.vrt_model.specs.declared.circuit.Circuit.{Circuit}
 use Rattle.vrt_model.specs.declared.circuit.Hold.{Hold}
 use Rattle.channel_parts.specs.declared.part.Part.{Part}
-use Rattle.path_fixpoint.specs.Parts.{IsPlace, part_devices}
+use Rattle.path_fixpoint.specs.Parts.{IsPlace, part_devices, part_pins}
 use Rattle.path_fixpoint.specs.Reaching.{slot_of}
 use Rattle.path_fixpoint.specs.Strengths.{HasSpans, strong}
 use Rattle.bdd_core.specs.Words.{IsApart, IsFilled, shows}
@@ -22,17 +23,17 @@ abbrev pub network_at : Diagrams → Circuit → Part → Span → Span → Valu
 network_at d c part gates roots v = record {
   nets = c.nets;
   holds = c.holds;
-  outputs = [];
+  outputs = part_pins c part;
   devices = part_devices c part;
-  source = 8;
+  source = source_level c;
   reading = λ n. shows d gates n v;
   given = λ n. shows d roots n v;
   held = λ at. shows d roots (net_of (slice_get c.holds at)) v;
   driven = λ at. false;
 }
 
--- spans of live handles of the gates and of the roots, one for each net of the circuit, and a span apart from them of ten
--- words for each net of the part
+-- spans of live handles of the gates and of the roots, one for each net of the circuit, and a span apart from them of the
+-- words of each net of the part
 pub record HasRootSpans (c : Circuit) (part : Part) (gates roots out : Span) (d : Diagrams) : Type 0 where
   pub spans : HasSpans c part gates out d
   pub roots_span : IsSpan d roots

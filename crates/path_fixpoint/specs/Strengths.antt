@@ -1,9 +1,10 @@
 -- What the words of a part say of the strengths of its nets.
-use Rattle.std.specs.Prelude.{◌≡◌, ◌≢◌, ℕ, ◌+◌, ◌-◌, ◌*◌, ◌^◌, ◌<◌, ◌≤◌, ◌⊎◌, ◌↔◌, Bool, true, false, [], length, Option, Some, None}
+use Rattle.std.specs.Prelude.{◌≡◌, ◌≢◌, ℕ, ◌+◌, ◌-◌, ◌*◌, ◌^◌, ◌<◌, ◌≤◌, ◌⊎◌, ◌↔◌, Bool, true, false, length, Option, Some, None}
 use Rattle.node_pool.specs.declared.region.Span.{Span}
 use Rattle.bdd_core.specs.Diagram.{Valuation, meaning}
 use Rattle.bdd_core.specs.Store.{Diagrams, IsSpan}
 use Rattle.vrt_model.proofs.Strength.{AtLeast}
+use Rattle.vrt_model.specs.Levels.{source_level}
 use Rattle.vrt_model.specs.Path.{IsOn, IsRoot, Joins, Network, Root}
 use Rattle.vrt_model.specs.Reading.{conducts_at}
 use Rattle.vrt_model.specs.Response.{IsStrength}
@@ -11,12 +12,15 @@ use Rattle.vrt_model.specs.declared.circuit.Circuit.{Circuit}
 use Rattle.vrt_model.specs.declared.circuit.Device.{Device}
 use Rattle.vrt_model.specs.declared.design.Kind.{Kind}
 use Rattle.channel_parts.specs.declared.part.Part.{Part}
-use Rattle.path_fixpoint.specs.Parts.{IsPlace, part_devices}
+use Rattle.path_fixpoint.specs.Parts.{IsPlace, part_devices, part_pins}
 use Rattle.bdd_core.specs.Words.{IsApart, IsFilled, shows, word_at}
 
--- ten words for each net of a part: whether its strength is at least 1 to 8, and whether 0 and 1 reach it
+-- the words of a net of a part: whether its strength is at least each level from 1 to the source level, and whether 0 and 1 reach it
+abbrev pub net_words : ℕ
+net_words = 10
+
 abbrev pub word_of : ℕ → ℕ → ℕ
-word_of level i = 10 * i + (level - 1)
+word_of level i = net_words * i + (level - 1)
 
 -- the strength of the net at place i is at least the level
 abbrev pub strong : Diagrams → Span → ℕ → ℕ → Valuation → Bool
@@ -27,17 +31,17 @@ abbrev pub strong_end : Diagrams → Span → ℕ → Option ℕ → Valuation �
 strong_end d out level (Some i) v = strong d out level i v
 strong_end d out level None v = true
 
--- a span of live handles, ten for each net of the part
+-- a span of live handles, so many for each net of the part
 abbrev pub HasMarks : Part → Span → Diagrams → Type 0
-HasMarks part out d = IsSpan d out × IsFilled d out × (out.len ≡ 10 * length part.nets) × (out.len < 2 ^ 32)
+HasMarks part out d = IsSpan d out × IsFilled d out × (out.len ≡ net_words * length part.nets) × (out.len < 2 ^ 32)
 
--- a span of live handles of the gates, one for each net of the circuit, and a span of ten words for each net of the part
+-- a span of live handles of the gates, one for each net of the circuit, and a span of the words of each net of the part
 pub record HasSpans (c : Circuit) (part : Part) (gates out : Span) (d : Diagrams) : Type 0 where
   pub gates_span : IsSpan d gates
   pub gates_len : gates.len ≡ length c.nets
   pub gates_live : IsFilled d gates
   pub out_span : IsSpan d out
-  pub out_len : out.len ≡ 10 * length part.nets
+  pub out_len : out.len ≡ net_words * length part.nets
   pub apart : IsApart gates out
 
 -- the same spans, where the words of the part are live handles too
@@ -46,7 +50,7 @@ pub record HasWords (c : Circuit) (part : Part) (gates out : Span) (d : Diagrams
   pub gates_len : gates.len ≡ length c.nets
   pub gates_live : IsFilled d gates
   pub out_span : IsSpan d out
-  pub out_len : out.len ≡ 10 * length part.nets
+  pub out_len : out.len ≡ net_words * length part.nets
   pub out_live : IsFilled d out
   pub apart : IsApart gates out
 
@@ -54,8 +58,8 @@ pub record HasWords (c : Circuit) (part : Part) (gates out : Span) (d : Diagrams
 pub record StandsAt (c : Circuit) (part : Part) (gates : Span) (d : Diagrams) (v : Valuation) (w : Network) : Type 0 where
   pub nets : w.nets ≡ c.nets
   pub holds : w.holds ≡ c.holds
-  pub outputs : w.outputs ≡ []
-  pub source : w.source ≡ 8
+  pub outputs : w.outputs ≡ part_pins c part
+  pub source : w.source ≡ source_level c
   pub devices : w.devices ≡ part_devices c part
   pub reading : (n : ℕ) → n < length c.nets → shows d gates n v ≡ w.reading n
 
@@ -103,6 +107,6 @@ pub record Spreads (c : Circuit) (part : Part) (gates out : Span) (level : ℕ) 
   pub paths : (v : Valuation) (w : Network) → StandsAt c part gates old v w → HasPaths part out level old v w → HasPaths part out level new v w
   pub same : changed ≡ false → new.words ≡ old.words
 
--- the words of the levels 1 to 8 say of each net of the part whether its strength is at least that level
-abbrev pub TellsStrengths : Part → Span → Diagrams → Valuation → Network → Type 0
-TellsStrengths part out d v w = (i n level s : ℕ) → IsPlace part i n → 1 ≤ level → level ≤ 8 → IsStrength w n s → (strong d out level i v ≡ true) ↔ (level ≤ s)
+-- the words of the levels from 1 to the source level say of each net of the part whether its strength is at least that level
+abbrev pub TellsStrengths : Circuit → Part → Span → Diagrams → Valuation → Network → Type 0
+TellsStrengths c part out d v w = (i n level s : ℕ) → IsPlace part i n → 1 ≤ level → level ≤ source_level c → IsStrength w n s → (strong d out level i v ≡ true) ↔ (level ≤ s)

@@ -4,6 +4,7 @@ ghost use Rattle.std.specs.Prelude.{◌≡◌, ℕ, ◌*◌, ◌^◌, ◌<◌, �
 ghost use Rattle.bdd_core.specs.Diagram.{Valuation};
 ghost use Rattle.bdd_core.specs.Store.{IsSpan};
 ghost use Rattle.vrt_model.specs.Circuits.{IsFlat};
+ghost use Rattle.vrt_model.specs.Levels.{source_level};
 ghost use Rattle.vrt_model.specs.Path.{Network};
 ghost use Rattle.path_fixpoint.specs.Parts.{IsPart, IsPartOf};
 ghost use Rattle.path_fixpoint.specs.Strengths.{HasLevel, HasSpans, HasWords, StandsAt, TellsStrengths};
@@ -31,7 +32,7 @@ fn clear(store: &mut Store, out: Span)
     }
 }
 
-/// Writes for each net of the part whether its strength is at least 8, at least 7 and so on down to 1.
+/// Writes for each net of the part whether its strength is at least each level, from the source level down to 1.
 fn levels(
     store: &mut Store,
     circuit: &Circuit,
@@ -43,8 +44,8 @@ fn levels(
     requires part { IsPartOf circuit.now part.now rising }
     requires words { HasWords circuit.now part.now gates out store.old }
     ensures writes { Writes out store.old store.new }
-    ensures levels { IfOk result (λ _. (v : Valuation) (w : Network) → StandsAt circuit.now part.now gates store.old v w → (level : ℕ) → 1 ≤ level → level ≤ 8 → HasLevel part.now out level store.new v w) }
-    ensures few { (u : ℕ) → IsSpanWithin u store.old gates → IsSpanWithin u store.old out → Spends u (8 * (length part.now.nets * (length part.now.devices * 4))) out store.old store.new result }
+    ensures levels { IfOk result (λ _. (v : Valuation) (w : Network) → StandsAt circuit.now part.now gates store.old v w → (level : ℕ) → 1 ≤ level → level ≤ source_level circuit.now → HasLevel part.now out level store.new v w) }
+    ensures few { (u : ℕ) → IsSpanWithin u store.old gates → IsSpanWithin u store.old out → Spends u (source_level circuit.now * (length part.now.nets * (length part.now.devices * 4))) out store.old store.new result }
 {
     store.sound();
     for done in 0..8u32 {
@@ -58,8 +59,8 @@ fn levels(
     Ok(())
 }
 
-/// Writes for each net of a part, as diagrams over all valuations, whether its strength is at least 1 to 8: the word of
-/// the net at place `i` for a level is number `10 * i + level - 1` of `out`. `gates` has the handle of each net of the
+/// Writes for each net of a part, as diagrams over all valuations, whether its strength is at least each level from 1 to
+/// the source level: the word of the net at place `i` for a level is number `net_words() * i + level - 1` of `out`. `gates` has the handle of each net of the
 /// circuit. At each valuation the network is that of the part's devices, with the gates' bits as their handles say.
 ///
 /// Handles from before keep their functions and words outside `out` stay as they are, also where the budget is used up.
@@ -74,8 +75,8 @@ pub fn strengths(
     requires part { IsPart circuit.now part.now }
     requires spans { HasSpans circuit.now part.now gates out store.old }
     ensures writes { Writes out store.old store.new }
-    ensures strengths { IfOk result (λ _. (v : Valuation) (w : Network) → StandsAt circuit.now part.now gates store.old v w → TellsStrengths part.now out store.new v w) }
-    ensures few { (u : ℕ) → IsSpanWithin u store.old gates → Spends u (8 * (length part.now.nets * (length part.now.devices * 4))) out store.old store.new result }
+    ensures strengths { IfOk result (λ _. (v : Valuation) (w : Network) → StandsAt circuit.now part.now gates store.old v w → TellsStrengths circuit.now part.now out store.new v w) }
+    ensures few { (u : ℕ) → IsSpanWithin u store.old gates → Spends u (source_level circuit.now * (length part.now.nets * (length part.now.devices * 4))) out store.old store.new result }
 {
     clear(store, out);
     let rising = rises(part);

@@ -12,8 +12,10 @@ mod signals;
 mod solve;
 mod sources;
 mod steps;
+mod words;
 
 pub use channel_parts::Part;
 pub use levels::strengths;
 pub use ranges::{are_spans, is_part};
 pub use solve::solve_part;
+pub use words::{net_words, reached};

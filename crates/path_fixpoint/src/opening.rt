@@ -9,7 +9,7 @@ ghost use Rattle.vrt_model.specs.Path.{Network};
 ghost use Rattle.vrt_model.specs.declared.circuit.Hold.{Hold as HoldValue};
 ghost use Rattle.path_fixpoint.specs.Openings.{IsGivenAt, IsHoldAt, OnlyBy, TakesAbove, mark_of};
 ghost use Rattle.path_fixpoint.specs.Parts.{IsGiven, IsPart, IsPlace, Rises};
-ghost use Rattle.path_fixpoint.specs.Strengths.{ChangesLevel, HasLevel, HasPaths, HasRoots, HasWords, StandsAt, word_of, HasMarks};
+ghost use Rattle.path_fixpoint.specs.Strengths.{ChangesLevel, HasLevel, HasPaths, HasRoots, HasWords, StandsAt, word_of, HasMarks, net_words};
 ghost use Rattle.bdd_core.specs.Words.{IsFilled, Writes, word_at};
 ghost use Rattle.bdd_ops.specs.Counting.{IsSpanWithin};
 ghost use Rattle.path_fixpoint.specs.Spending.{Rewrites};
@@ -38,7 +38,7 @@ pub(crate) fn set(store: &mut Store, out: Span, at: u32, handle: H)
 fn above(store: &Store, out: Span, place: usize, level: u32) -> H
     requires out { IsSpan store.now out × IsFilled store.now out }
     requires level { (1 ≤ level) × (level ≤ 8) }
-    requires place { (10 * place + 10 ≤ out.len) × (out.len < 2 ^ 32) }
+    requires place { (net_words * place + net_words ≤ out.len) × (out.len < 2 ^ 32) }
     ensures live { IsLive store.now result }
     ensures below { level < 8 → result.0 ≡ mark_of store.now out (level + 1) place }
     ensures highest { level ≡ 8 → result.0 ≡ 0 }

@@ -7,10 +7,12 @@ ghost use Rattle.vrt_model.specs.Circuits.{IsNet};
 ghost use Rattle.vrt_model.specs.Lists.{Among};
 ghost use Rattle.path_fixpoint.specs.Parts.{IsGiven, IsPart, IsPartDevice, Rises};
 ghost use Rattle.path_fixpoint.specs.Solved.{HasRootSpans};
+ghost use Rattle.path_fixpoint.specs.Strengths.{net_words};
 
 use crate::Part;
 use crate::opening::is_given;
 use crate::steps::place;
+use crate::words::net_words;
 use bdd_core::Store;
 use node_pool::Span;
 use vrt_model::{Circuit, Dev, Net};
@@ -119,11 +121,13 @@ fn has_handles(store: &Store, circuit: &Circuit, span: Span, out: Span) -> bool
     span.len as usize == circuit.nets.len() && is_filled(store, span) && are_apart(span, out)
 }
 
-/// Whether a span has ten words for each net of the part.
+/// Whether a span has the words of each net of the part.
 fn has_words(store: &Store, part: &Part, out: Span) -> bool
-    ensures { IsTrue result ↔ (IsSpan store.now out × (out.len ≡ 10 * length part.now.nets)) }
+    ensures { IsTrue result ↔ (IsSpan store.now out × (out.len ≡ net_words * length part.now.nets)) }
 {
-    is_span(store, out) && out.len % 10 == 0 && out.len as usize / 10 == part.nets.len()
+    is_span(store, out)
+        && out.len % net_words() == 0
+        && (out.len / net_words()) as usize == part.nets.len()
 }
 
 /// Whether the spans of the gates, of the roots and of the words of a part are as `solve_part` asks.

@@ -8,7 +8,7 @@ ghost use Rattle.vrt_model.specs.Path.{Network};
 ghost use Rattle.vrt_model.specs.declared.circuit.Device.{Device as DeviceValue};
 ghost use Rattle.path_fixpoint.specs.Parts.{part_devices, IsPartOf};
 ghost use Rattle.path_fixpoint.specs.Reaching.{HasReach, HasReachPaths, HasReachRoots, HasRootWords, PassesSignal, SolvedAt, SpreadsValue, slot_of};
-ghost use Rattle.path_fixpoint.specs.Strengths.{ChangesLevel, word_of};
+ghost use Rattle.path_fixpoint.specs.Strengths.{ChangesLevel, word_of, net_words};
 ghost use Rattle.bdd_core.specs.Words.{IsFilled, Writes};
 ghost use Rattle.bdd_ops.specs.Counting.{IsSpanWithin};
 ghost use Rattle.path_fixpoint.specs.Spending.{Spends};
@@ -34,8 +34,8 @@ fn pass(
     requires gate { IsLive store.old gate }
     requires signal { IsLive store.old signal }
     requires out { IsSpan store.old out × IsFilled store.old out × (out.len < 2 ^ 32) }
-    requires from { IfSome from (λ i. 10 * i + 10 ≤ out.len) }
-    requires to { IfSome to (λ i. 10 * i + 10 ≤ out.len) }
+    requires from { IfSome from (λ i. net_words * i + net_words ≤ out.len) }
+    requires to { IfSome to (λ i. net_words * i + net_words ≤ out.len) }
     ensures writes { Writes out store.old store.new }
     ensures apart { ChangesLevel out (slot_of value) store.old store.new }
     ensures passes { IfOk result (λ changed. PassesSignal out value device.now.kind gate.0 signal.0 from to device.now.level changed store.old store.new) }

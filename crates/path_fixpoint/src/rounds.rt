@@ -7,7 +7,7 @@ ghost use Rattle.vrt_model.specs.Lists.{Among};
 ghost use Rattle.vrt_model.specs.Path.{Network};
 ghost use Rattle.vrt_model.specs.declared.circuit.Device.{Device as DeviceValue};
 ghost use Rattle.path_fixpoint.specs.Parts.{part_devices, IsPartOf};
-ghost use Rattle.path_fixpoint.specs.Strengths.{ChangesLevel, HasLevel, HasPaths, HasRoots, HasWords, Passes, Spreads, StandsAt, word_of};
+ghost use Rattle.path_fixpoint.specs.Strengths.{ChangesLevel, HasLevel, HasPaths, HasRoots, HasWords, Passes, Spreads, StandsAt, word_of, net_words};
 ghost use Rattle.bdd_core.specs.Words.{IsFilled, Writes};
 ghost use Rattle.bdd_ops.specs.Counting.{IsSpanWithin};
 ghost use Rattle.path_fixpoint.specs.Spending.{Spends};
@@ -31,8 +31,8 @@ fn pass(
     requires gate { IsLive store.old gate }
     requires out { IsSpan store.old out × IsFilled store.old out × (out.len < 2 ^ 32) }
     requires level { (1 ≤ level) × (level ≤ 8) }
-    requires from { IfSome from (λ i. 10 * i + 10 ≤ out.len) }
-    requires to { IfSome to (λ i. 10 * i + 10 ≤ out.len) }
+    requires from { IfSome from (λ i. net_words * i + net_words ≤ out.len) }
+    requires to { IfSome to (λ i. net_words * i + net_words ≤ out.len) }
     ensures writes { Writes out store.old store.new }
     ensures apart { ChangesLevel out level store.old store.new }
     ensures passes { IfOk result (λ changed. Passes out level kind gate.0 from to changed store.old store.new) }

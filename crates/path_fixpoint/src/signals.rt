@@ -4,13 +4,14 @@ ghost use Rattle.std.specs.Prelude.{◌≡◌, ◌≢◌, ℕ, ◌+◌, ◌*◌,
 ghost use Rattle.bdd_core.specs.Diagram.{IsWithin, Valuation};
 ghost use Rattle.bdd_core.specs.Store.{IsLive, IsSpan, Makes, function_of};
 ghost use Rattle.path_fixpoint.specs.Reaching.{FitsAt, bit_is, reached_end, slot_of};
-ghost use Rattle.path_fixpoint.specs.Strengths.{strong, strong_end, word_of};
+ghost use Rattle.path_fixpoint.specs.Strengths.{strong, strong_end, word_of, net_words};
 ghost use Rattle.node_pool.specs.declared.region.Span.{Span as SpanValue};
 ghost use Rattle.bdd_core.specs.Words.{IsFilled, Writes, shows, word_at};
 ghost use Rattle.bdd_ops.specs.Counting.{IsSpanWithin};
 ghost use Rattle.path_fixpoint.specs.Spending.{Finds};
 
 use crate::steps::{strength, word};
+use crate::words::net_words;
 use bdd_core::{H, Spent, Store, ZERO};
 use bdd_ops::{and, implies, not};
 use node_pool::Span;
@@ -20,7 +21,7 @@ use vrt_model::Net;
 pub(crate) fn slot(value: bool) -> u32
     ensures { result ≡ slot_of value }
 {
-    if value { 10 } else { 9 }
+    if value { net_words() } else { net_words() - 1 }
 }
 
 /// Whether the root of a net has the value.
@@ -49,7 +50,7 @@ pub(crate) fn reached(
     requires roots { IsSpan store.old roots × IsFilled store.old roots }
     requires out { IsSpan store.old out × IsFilled store.old out }
     requires net { net.0 < roots.len }
-    requires place { IfSome place (λ i. 10 * i + 10 ≤ out.len) }
+    requires place { IfSome place (λ i. net_words * i + net_words ≤ out.len) }
     requires len { out.len < 2 ^ 32 }
     ensures { Makes store.old store.new (λ v. reached_end store.old roots out value place net.0 v) result }
 {
@@ -64,7 +65,7 @@ pub(crate) fn reached(
 fn prefix(store: &Store, out: Span, from: Option<usize>, device: u8, level: u32) -> H
     requires out { IsSpan store.now out × IsFilled store.now out }
     requires level { (1 ≤ level) × (level ≤ 8) }
-    requires from { IfSome from (λ i. 10 * i + 10 ≤ out.len) }
+    requires from { IfSome from (λ i. net_words * i + net_words ≤ out.len) }
     requires len { out.len < 2 ^ 32 }
     ensures live { IsLive store.now result }
     ensures is { (v : Valuation) → (function_of store.now result v ≡ true) ↔ ((level ≤ device) × (strong_end store.now out level from v ≡ true)) }
@@ -105,8 +106,8 @@ pub(crate) fn fitting(
     signal: H,
 ) -> Result<H, Spent>
     requires out { IsSpan store.old out × IsFilled store.old out × (out.len < 2 ^ 32) }
-    requires from { IfSome from (λ i. 10 * i + 10 ≤ out.len) }
-    requires to { 10 * to + 10 ≤ out.len }
+    requires from { IfSome from (λ i. net_words * i + net_words ≤ out.len) }
+    requires to { net_words * to + net_words ≤ out.len }
     requires signal { IsLive store.old signal }
     ensures writes { Writes out store.old store.new }
     ensures words { store.new.words ≡ store.old.words }

@@ -46,9 +46,9 @@ fn reaches(
     settle(store, circuit, part, rising, gates, roots, out, value)
 }
 
-/// Writes for each net of a part, as diagrams over all valuations, whether its strength is at least 1 to 8, whether a
-/// clear path from a root of value 0 ends at it, and whether one of value 1 does: the ten words of the net at place `i`
-/// are those from number `10 * i` of `out` on. `gates` and `roots` have a handle for each net of the circuit: the bit
+/// Writes for each net of a part, as diagrams over all valuations, whether its strength is at least each level from 1 to
+/// the source level, whether a clear path from a root of value 0 ends at it, and whether one of value 1 does: the words of
+/// the net at place `i` are those from number `net_words() * i` of `out` on. `gates` and `roots` have a handle for each net of the circuit: the bit
 /// of the net at gates, and the bit of the root that stands at it.
 ///
 /// Handles from before keep their functions and words outside `out` stay as they are, also where the budget is used up.
@@ -64,7 +64,7 @@ pub fn solve_part(
     requires part { IsPart circuit.now part.now }
     requires spans { HasRootSpans circuit.now part.now gates roots out store.old }
     ensures writes { Writes out store.old store.new }
-    ensures strengths { IfOk result (λ _. (v : Valuation) → TellsStrengths part.now out store.new v (network_at store.old circuit.now part.now gates roots v)) }
+    ensures strengths { IfOk result (λ _. (v : Valuation) → TellsStrengths circuit.now part.now out store.new v (network_at store.old circuit.now part.now gates roots v)) }
     ensures reaches { IfOk result (λ _. (v : Valuation) → TellsReach part.now out store.new v (network_at store.old circuit.now part.now gates roots v)) }
     ensures few { HasOneHold circuit.now → (u : ℕ) → IsSpanWithin u store.old gates → IsSpanWithin u store.old roots → Spends u (400 * (length part.now.nets + 1) * (length part.now.devices + 1)) out store.old store.new result }
 {

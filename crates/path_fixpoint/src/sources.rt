@@ -8,7 +8,7 @@ ghost use Rattle.path_fixpoint.specs.Openings.{IsGivenAt, IsHoldAt};
 ghost use Rattle.path_fixpoint.specs.Parts.{IsGiven, IsPlace, Rises, IsPartOf};
 ghost use Rattle.path_fixpoint.specs.Reaching.{HasReachPaths, HasReachRoots, HasRootWords, SolvedAt, slot_of};
 ghost use Rattle.path_fixpoint.specs.Sources.{AddsRoots, IsGivenSource, IsHoldSource};
-ghost use Rattle.path_fixpoint.specs.Strengths.{ChangesLevel, strong, word_of, HasMarks};
+ghost use Rattle.path_fixpoint.specs.Strengths.{ChangesLevel, strong, word_of, HasMarks, net_words};
 ghost use Rattle.bdd_core.specs.Words.{IsFilled, Writes, shows, word_at};
 ghost use Rattle.bdd_ops.specs.Counting.{IsSpanWithin};
 ghost use Rattle.path_fixpoint.specs.Spending.{Finds, HasOneHold, Rewrites, Spends};
@@ -38,7 +38,7 @@ fn clear(store: &mut Store, part: &Part, out: Span, value: bool)
 /// A root's bit where its net is no stronger than the root: where its strength is not one level more.
 fn unblocked(store: &mut Store, out: Span, place: usize, size: u32, bit: H) -> Result<H, Spent>
     requires out { IsSpan store.old out × IsFilled store.old out }
-    requires place { (10 * place + 10 ≤ out.len) × (out.len < 2 ^ 32) }
+    requires place { (net_words * place + net_words ≤ out.len) × (out.len < 2 ^ 32) }
     requires size { (1 ≤ size) × (size ≤ 8) }
     requires bit { IsLive store.old bit }
     ensures writes { Writes out store.old store.new }

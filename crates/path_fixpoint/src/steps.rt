@@ -4,13 +4,14 @@ ghost use Rattle.std.specs.Prelude.{IsTrue, ◌≡◌, ◌≢◌, ℕ, ◌+◌, 
 ghost use Rattle.bdd_core.specs.Diagram.{Valuation, IsReduced, IsWithin, meaning};
 ghost use Rattle.bdd_core.specs.Store.{IsLive, IsSpan, Makes, function_of};
 ghost use Rattle.path_fixpoint.specs.Parts.{IsPlace, Rises};
-ghost use Rattle.path_fixpoint.specs.Strengths.{strong_end, word_of};
+ghost use Rattle.path_fixpoint.specs.Strengths.{strong_end, word_of, net_words};
 ghost use Rattle.bdd_core.specs.Words.{IsFilled, Writes, shows, word_at};
 ghost use Rattle.path_fixpoint.specs.Passed.{blocking, gated, IsWider};
 ghost use Rattle.bdd_ops.specs.Counting.{IsSpanWithin};
 ghost use Rattle.path_fixpoint.specs.Spending.{Spends};
 
 use crate::Part;
+use crate::words::net_words;
 use bdd_core::{H, ONE, Spent, Store, ZERO};
 use bdd_ops::{and, or};
 use node_pool::Span;
@@ -58,17 +59,17 @@ pub(crate) fn place(part: &Part, rising: bool, net: Net) -> Option<usize>
 /// The word of a net for a level.
 pub(crate) fn word(place: usize, level: u32) -> u32
     requires level { 1 ≤ level }
-    requires fits { 10 * place + level < 2 ^ 32 }
+    requires fits { net_words * place + level < 2 ^ 32 }
     ensures { result ≡ word_of level place }
 {
-    10 * place as u32 + (level - 1)
+    net_words() * place as u32 + (level - 1)
 }
 
 /// Whether the strength at the end of a channel is at least a level. A net outside the part has a given value.
 pub(crate) fn strength(store: &Store, out: Span, place: Option<usize>, level: u32) -> H
     requires out { IsSpan store.now out × IsFilled store.now out }
-    requires level { (1 ≤ level) × (level ≤ 10) }
-    requires place { IfSome place (λ i. (10 * i + 10 ≤ out.len) × (out.len < 2 ^ 32)) }
+    requires level { (1 ≤ level) × (level ≤ net_words) }
+    requires place { IfSome place (λ i. (net_words * i + net_words ≤ out.len) × (out.len < 2 ^ 32)) }
     ensures live { IsLive store.now result }
     ensures is { (v : Valuation) → function_of store.now result v ≡ strong_end store.now out level place v }
     ensures few { (u : ℕ) → IsSpanWithin u store.now out → IsWithin u (function_of store.now result) }
