@@ -67,11 +67,23 @@ HasPortBits d values ports v a = (net : Net) → Among ports net → a net.0 ≡
 
 -- ---- named ports
 
--- an `assume` line for the cell of an instance and the phase names the port, or a `clockport` line
+-- an `assume` line is for a cell in a phase and names a port
+abbrev pub is_named_by : List ℕ → ℕ → List ℕ → AssumeRule → Bool
+is_named_by cell phase name r = is_asked cell phase r && has_name (names_in r.expression) name
+
+-- an `assume` line of a cell for the phase names the port, or a `clockport` line
+abbrev pub is_named_in : Rules → List ℕ → ℕ → List ℕ → Bool
+is_named_in rules cell phase name =
+    list_any (λ (e : Expr). has_name (names_in e) name) (assumed rules cell phase) || is_some (clock_of_port rules cell name)
+
+-- so of the cell of an instance
 abbrev pub is_named_port : Design → Rules → ℕ → FlatInstance → List ℕ → Bool
-is_named_port design rules phase i name =
-    list_any (λ (e : Expr). has_name (names_in e) name) (assumed rules (cell_at design i.cell).name phase)
-    || is_some (clock_of_port rules (cell_at design i.cell).name name)
+is_named_port design rules phase i name = is_named_in rules (cell_at design i.cell).name phase name
+
+-- the cell of an instance has an `assume` line for the phase or a `clockport` line
+abbrev pub has_lines : Design → Rules → ℕ → FlatInstance → Bool
+has_lines design rules phase i =
+    list_any (is_asked (cell_at design i.cell).name phase) rules.assumes || list_any (λ (r : ClockportRule). bytes_eq r.cell (cell_at design i.cell).name) rules.clockports
 
 -- the nets of the named ports of an instance
 abbrev pub nets_named : Design → Rules → ℕ → FlatInstance → List ℕ

@@ -12,7 +12,7 @@ use bdd_ops::and;
 use vrt_model::AssumeRule;
 
 /// Whether an `assume` line is for a cell in a phase.
-fn is_asked(rule: &AssumeRule, cell: &[u8], phase: u32) -> bool
+pub(crate) fn is_asked(rule: &AssumeRule, cell: &[u8], phase: u32) -> bool
     ensures { result ≡ is_asked cell.now phase rule.now }
 {
     let is_phase = match rule.phase {

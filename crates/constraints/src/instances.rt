@@ -21,7 +21,7 @@ use node_pool::Span;
 use vrt_model::{ClockportRule, Design, FlatInstance, Rules};
 
 /// Whether a `clockport` line is for a cell.
-fn is_of(rule: &ClockportRule, cell: &[u8]) -> bool
+pub(crate) fn is_of(rule: &ClockportRule, cell: &[u8]) -> bool
     ensures { result ≡ bytes_eq rule.now.cell cell.now }
 {
     rule.cell.as_bytes() == cell

@@ -9,8 +9,10 @@ mod cells;
 mod expression;
 mod given_ports;
 mod instances;
+mod named;
 mod ports;
 
 pub use care_set::care;
 pub use expression::expr;
 pub use instances::obligation;
+pub use named::{is_constrained, named_rank};
