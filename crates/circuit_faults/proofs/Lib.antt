@@ -1,5 +1,6 @@
 pub mod BrokenLaws
 pub mod CircuitLaws
+pub mod ClearHere
 pub mod CountLaws
 pub mod InstanceLaws
 pub mod KeptBits
@@ -9,6 +10,9 @@ pub mod KeptNets
 pub mod KeptReach
 pub mod KeptSpots
 pub mod KeptWords
+pub mod KeyLaws
+pub mod KeyWork
+pub mod ListedOrder
 pub mod NetLaws
 pub mod OrderLaws
 pub mod PartLaws

@@ -11,6 +11,7 @@ use Rattle.circuit_faults.specs.Results.{root_at}
 use Rattle.circuit_faults.specs.declared.spans.KeptSpans.{KeptSpans}
 use Rattle.circuit_faults.specs.declared.kept_net.KeptFault.{KeptFault}
 use Rattle.fault_places.specs.Searches.{IsClearOf, IsFoundIn}
+use Rattle.path_fixpoint.specs.Strengths.{net_words}
 use Rattle.vrt_model.specs.Lists.{Among}
 use Rattle.vrt_model.specs.Reading.{kept}
 use Rattle.vrt_model.specs.Response.{Shows}
@@ -20,7 +21,7 @@ use Rattle.vrt_model.specs.declared.rules.Phase.{Phase}
 use Rattle.vrt_model.specs.declared.verdict.FaultKind.TheVariants.{FightKept, Unsettled}
 
 -- Live handles of the roots and of the bits of the bare circuit, one for each net; two words for each net, of where 0 and
--- of where 1 reaches it; and ten words for each net of the greatest kept part. What is written is apart from all else.
+-- of where 1 reaches it; and the words of the nets of the greatest kept part. What is written is apart from all else.
 pub record HasKeptSpans (c : Circuit) (parts : List Part) (spans : KeptSpans) (d : Diagrams) : Type 0 where
   pub roots_span : IsSpan d spans.roots
   pub roots_len : spans.roots.len ≡ length c.nets
@@ -33,7 +34,7 @@ pub record HasKeptSpans (c : Circuit) (parts : List Part) (spans : KeptSpans) (d
   pub ones_span : IsSpan d spans.ones
   pub ones_len : spans.ones.len ≡ length c.nets
   pub out_span : IsSpan d spans.out
-  pub room : (part : Part) → Among parts part → 10 * length part.nets ≤ spans.out.len
+  pub room : (part : Part) → Among parts part → net_words * length part.nets ≤ spans.out.len
   pub roots_zeros : IsApart spans.roots spans.zeros
   pub roots_ones : IsApart spans.roots spans.ones
   pub roots_out : IsApart spans.roots spans.out

@@ -3,6 +3,7 @@ pub mod Faults
 pub mod KeptFaults
 pub mod KeptResults
 pub mod KeptScans
+pub mod Keys
 pub mod Operations
 pub mod Ordered
 pub mod Results

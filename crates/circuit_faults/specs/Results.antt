@@ -16,6 +16,7 @@ use Rattle.circuit_faults.specs.declared.steps.CircuitStep.TheVariants.{Part as 
 use Rattle.constraints.specs.Obliged.{obliged_at}
 use Rattle.fault_places.specs.PhaseSpots.{spots_of}
 use Rattle.fault_places.specs.Searches.{IsClearOf, IsFoundIn}
+use Rattle.path_fixpoint.specs.Strengths.{net_words}
 use Rattle.vrt_model.specs.Lists.{At, Among}
 use Rattle.vrt_model.specs.State.{Setting}
 use Rattle.vrt_model.specs.declared.circuit.Circuit.{Circuit}
@@ -33,7 +34,7 @@ abbrev pub first_word : Option Bool → ℕ → ℕ
 first_word None root = root
 first_word (Some known) root = cond known 1 0
 
--- live handles of the roots, one for each net; a word for each net; and ten words for each net of the greatest part; all
+-- live handles of the roots, one for each net; a word for each net; and the words of the nets of the greatest part; all
 -- apart
 pub record HasCircuitSpans (c : Circuit) (parts : List Part) (roots gates out : Span) (d : Diagrams) : Type 0 where
   pub roots_span : IsSpan d roots
@@ -42,7 +43,7 @@ pub record HasCircuitSpans (c : Circuit) (parts : List Part) (roots gates out : 
   pub gates_span : IsSpan d gates
   pub gates_len : gates.len ≡ length c.nets
   pub out_span : IsSpan d out
-  pub room : (part : Part) → Among parts part → 10 * length part.nets ≤ out.len
+  pub room : (part : Part) → Among parts part → net_words * length part.nets ≤ out.len
   pub roots_gates : IsApart roots gates
   pub roots_out : IsApart roots out
   pub gates_out : IsApart gates out
@@ -78,8 +79,10 @@ pub record IsFirstFault (w : InPhase) (care : H) (roots : Span) (fault : Circuit
       (λ (v : CaseIn w (root_at old roots)). function_of new fault.at v.valuation)
       (flat_map spots_of (steps_of w)) (record { kind = fault.kind; at = fault.place })
 
+-- no fault at a place of the steps, and then the circuit is clear in the store that is left; or the first fault
 abbrev pub CircuitGives : InPhase → H → Span → Span → Diagrams → Diagrams → Option CircuitFault → Type 0
-CircuitGives w care roots gates old new None = AreClearSteps w care roots gates old new
+CircuitGives w care roots gates old new None =
+    AreClearSteps w care roots gates old new × IsClearCircuit w.circuit (phase_of w) w.observed care roots gates new new
 CircuitGives w care roots gates old new (Some fault) = IsFirstFault w care roots fault old new
 
 -- ---- one step

@@ -89,9 +89,12 @@ part_list zero = []
 part_list (suc count) = part_list count ++ PartStep count ∷ []
 
 -- there is a part or an instance of this number
+abbrev pub IsStepThere : List Part → Circuit → CircuitStep → Type 0
+IsStepThere parts c (PartStep number) = number < length parts
+IsStepThere parts c (InstanceStep at) = at < length c.instances
+
 abbrev pub IsThere : InPhase → CircuitStep → Type 0
-IsThere w (PartStep number) = number < length w.parts
-IsThere w (InstanceStep at) = at < length w.circuit.instances
+IsThere w step = IsStepThere w.parts w.circuit step
 
 -- the part, and the instance, at a place of the steps
 abbrev pub IsPartAt : InPhase → ℕ → Part → Type 0

@@ -13,6 +13,7 @@ ghost use Rattle.circuit_faults.specs.Steps.{AreOrderedSteps, IsReadyInstance, I
 ghost use Rattle.circuit_faults.specs.declared.steps.CircuitStep.TheVariants.{Part as PartStep, Instance as InstanceStep};
 ghost use Rattle.known_nets.specs.KnownTables.{known_at};
 ghost use Rattle.path_fixpoint.specs.Spending.{HasOneHold, Spends};
+ghost use Rattle.path_fixpoint.specs.Strengths.{net_words};
 ghost use Rattle.vrt_model.specs.Circuits.{IsFlat};
 ghost use Rattle.vrt_model.specs.Lists.{mark_at};
 
@@ -24,6 +25,7 @@ use crate::steps::CircuitStep;
 use bdd_core::{H, Spent, Store};
 use channel_parts::Part;
 use node_pool::Span;
+use path_fixpoint::net_words;
 
 /// The handle with which a net begins: the constant of a known net, else that of its root.
 fn first_handle(known: Option<bool>, root: u32) -> u32
@@ -55,12 +57,12 @@ fn write_first_handles(store: &mut Store, known: &[Option<bool>], roots: Span, g
 
 /// The words for a part among those for the greatest.
 pub(crate) fn words_of(part: &Part, out: Span) -> Span
-    requires { 10 * length part.now.nets ≤ out.len }
-    ensures { result ≡ record { start = out.start; len = 10 * length part.now.nets } }
+    requires { net_words * length part.now.nets ≤ out.len }
+    ensures { result ≡ record { start = out.start; len = net_words * length part.now.nets } }
 {
     Span {
         start: out.start,
-        len: 10 * part.nets.len() as u32,
+        len: net_words() * part.nets.len() as u32,
     }
 }
 
@@ -161,7 +163,7 @@ fn step_at(steps: &[CircuitStep], place: usize) -> CircuitStep
 /// `spans.gates` are their bits in the solution, at each valuation of the care set.
 ///
 /// Handles from before keep their functions, and words outside `spans.gates` and `spans.out` stay as they are, also where
-/// the budget is used up. `spans.out` has ten words for each net of the greatest part.
+/// the budget is used up. `spans.out` has the words of the nets of the greatest part.
 ///
 /// Where the handles read only the first `u` variables and no net has two holds, a part of p nets and q devices takes at
 /// most 400 (p + 1) (q + 1) + 4 p operations of `2 ^ u` nodes, and an instance 20 for each operator and name of its lines

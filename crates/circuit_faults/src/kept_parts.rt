@@ -12,27 +12,26 @@ ghost use Rattle.circuit_faults.specs.Scans.{IsInEarlier, IsInside};
 ghost use Rattle.path_fixpoint.specs.Parts.{IsPart, IsPlace};
 ghost use Rattle.path_fixpoint.specs.Reaching.{slot_of};
 ghost use Rattle.path_fixpoint.specs.Spending.{HasOneHold};
-ghost use Rattle.path_fixpoint.specs.Strengths.{word_of};
+ghost use Rattle.path_fixpoint.specs.Strengths.{net_words, word_of};
 ghost use Rattle.vrt_model.specs.Circuits.{IsFlat};
 ghost use Rattle.vrt_model.specs.Lists.{Among};
 
 use crate::circuit::words_of;
-use crate::scan::reach;
 use crate::spans::KeptSpans;
 use bdd_core::{Spent, Store};
 use channel_parts::Part;
 use node_pool::Span;
-use path_fixpoint::solve_part;
+use path_fixpoint::{reached, solve_part};
 use vrt_model::{Circuit, Net};
 
 /// Copies the handle that says where a value reaches the net at a place of a part to the word of the net.
 fn copy_word(store: &mut Store, net: Net, place: usize, value: bool, out: Span, to: Span)
     requires out { IsSpan store.old out × IsFilled store.old out }
-    requires place { (10 * place + 10 ≤ out.len) × (out.len < 2 ^ 32) }
+    requires place { (net_words * place + net_words ≤ out.len) × (out.len < 2 ^ 32) }
     requires to { IsSpan store.old to × (net.0 < to.len) }
     ensures { store.new ≡ record store.old { words = slice_set store.old.words (to.start + net.0) (word_at store.old out (word_of (slot_of value) place)) } }
 {
-    let handle = reach(store, out, place, value);
+    let handle = reached(store, out, place, value);
     store.write(to, net.0, handle.0);
 }
 
@@ -40,7 +39,7 @@ fn copy_word(store: &mut Store, net: Net, place: usize, value: bool, out: Span, 
 fn copy_reach(store: &mut Store, part: &Part, value: bool, out: Span, to: Span)
     requires nets { All (λ (n : Net). n.0 < to.len) part.now.nets }
     requires once { (i j n : ℕ) → IsPlace part.now i n → IsPlace part.now j n → i ≡ j }
-    requires out { IsSpan store.old out × IsFilled store.old out × (out.len ≡ 10 * length part.now.nets) × (out.len < 2 ^ 32) }
+    requires out { IsSpan store.old out × IsFilled store.old out × (out.len ≡ net_words * length part.now.nets) × (out.len < 2 ^ 32) }
     requires to { IsSpan store.old to }
     requires apart { IsApart to out }
     ensures { IsCopiedTo part.now value out to (length part.now.nets) store.old store.new }

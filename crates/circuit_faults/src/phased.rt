@@ -33,7 +33,7 @@ pub struct CircuitSpans {
     pub roots: Span,
     /// Gets the bit of each observed net.
     pub gates: Span,
-    /// Ten words for each net of the greatest part.
+    /// The words of the nets of the greatest part.
     pub out: Span,
 }
 

@@ -9,30 +9,15 @@ ghost use Rattle.circuit_faults.specs.Scans.{NetGives, ScanGives, reached};
 ghost use Rattle.path_fixpoint.specs.Parts.{IsPlace};
 ghost use Rattle.path_fixpoint.specs.Reaching.{slot_of};
 ghost use Rattle.path_fixpoint.specs.Spending.{Spends};
-ghost use Rattle.path_fixpoint.specs.Strengths.{word_of};
+ghost use Rattle.path_fixpoint.specs.Strengths.{net_words, word_of};
 ghost use Rattle.vrt_model.specs.Lists.{mark_at};
 
 use crate::net::{CircuitFault, net_fault};
 use bdd_core::{H, Spent, Store};
 use channel_parts::Part;
 use node_pool::Span;
+use path_fixpoint::reached;
 use vrt_model::Net;
-
-/// Where a value reaches the net at a place of a part: the ninth of its words for 0, the tenth for 1.
-pub(crate) fn reach(store: &Store, out: Span, place: usize, value: bool) -> H
-    requires out { IsSpan store.now out × IsFilled store.now out }
-    requires place { (10 * place + 10 ≤ out.len) × (out.len < 2 ^ 32) }
-    ensures live { IsLive store.now result }
-    ensures is { result.0 ≡ word_at store.now out (word_of (slot_of value) place) }
-{
-    store.sound();
-    let first = 10 * place as u32;
-    if value {
-        H(store.read(out, first + 9))
-    } else {
-        H(store.read(out, first + 8))
-    }
-}
 
 /// Whether a net is observed.
 pub(crate) fn is_seen(observed: &[bool], net: Net) -> bool
@@ -56,7 +41,7 @@ fn check_net(
     requires care { IsLive store.old care }
     requires gates { IsSpan store.old gates × IsFilled store.old gates }
     requires out { IsSpan store.old out × IsFilled store.old out }
-    requires place { (net.0 < gates.len) × (10 * place + 10 ≤ out.len) × (out.len < 2 ^ 32) }
+    requires place { (net.0 < gates.len) × (net_words * place + net_words ≤ out.len) × (out.len < 2 ^ 32) }
     ensures writes { Writes gates store.old store.new }
     ensures apart { (k : ℕ) → k ≢ net.0 → word_at store.new gates k ≡ word_at store.old gates k }
     ensures gives { IfOk result (λ found. NetGives (function_of store.old care) (reached store.old out false place) (reached store.old out true place) seen net store.new found) }
@@ -64,8 +49,8 @@ fn check_net(
     ensures bit { IfOk result (λ found. found ≡ None → word_at store.new gates net.0 ≡ word_at store.old out (word_of (slot_of true) place)) }
 {
     store.sound();
-    let zero = reach(store, out, place, false);
-    let one = reach(store, out, place, true);
+    let zero = reached(store, out, place, false);
+    let one = reached(store, out, place, true);
     let found = match net_fault(store, net, care, zero, one, seen) {
         Ok(found) => found,
         Err(spent) => return Err(spent),
@@ -92,7 +77,7 @@ pub(crate) fn scan(
     requires gates { IsSpan store.old gates × IsFilled store.old gates }
     requires nets { All (λ (n : Net). (n.0 < gates.len) × (n.0 < length observed.now)) part.now.nets }
     requires once { (i j n : ℕ) → IsPlace part.now i n → IsPlace part.now j n → i ≡ j }
-    requires out { IsSpan store.old out × IsFilled store.old out × (out.len ≡ 10 * length part.now.nets) × (out.len < 2 ^ 32) }
+    requires out { IsSpan store.old out × IsFilled store.old out × (out.len ≡ net_words * length part.now.nets) × (out.len < 2 ^ 32) }
     requires apart { IsApart out gates }
     ensures writes { Writes gates store.old store.new }
     ensures gives { IfOk result (λ found. ScanGives part.now (mark_at observed.now) care gates out store.old store.new found) }

@@ -13,6 +13,6 @@ pub struct KeptSpans {
     pub zeros: Span,
     /// Gets where 1 reaches each plain net of the kept circuit.
     pub ones: Span,
-    /// Ten words for each net of the greatest part of the kept circuit.
+    /// The words of the nets of the greatest part of the kept circuit.
     pub out: Span,
 }

@@ -96,7 +96,7 @@ check_model-requires-clause-solved c =
     let seen : AreObserved k.circuit (mark_at marks) = subst (λ (o : ℕ → Bool). AreObserved k.circuit o) (sym (fun_ext same)) (observed_nets k c.args.task.phase c.requires.plain) in
     let fixed : (v : Valuation) → HasFixedBits k.circuit phase (root_at d words.roots v) = λ v. root_fixed k.circuit phase words.roots d before.roots v in
     let found : AreClearSteps w one words.roots words.gates d new =
-    subst (λ (o : Option CircuitFault). CircuitGives w one words.roots words.gates d new o) c.in-Ok-None.field-0-is (c.in-Ok-None.ensures.gives fixed) in
+    (subst (λ (o : Option CircuitFault). CircuitGives w one words.roots words.gates d new o) c.in-Ok-None.field-0-is (c.in-Ok-None.ensures.gives fixed)).0 in
     let clear : IsClearCircuit k.circuit phase (mark_at marks) one words.roots words.gates d new =
     clear_circuit w one words.roots words.gates c.requires.plain.flat seen
     (steps_ordered k c.args.task.phase c.requires.plain parts.0 c.args.task.plan.now.parts parts.1 parts.2 steps listed (mark_at marks))

@@ -5,13 +5,14 @@ use Rattle.bdd_core.specs.Store.{Diagrams, function_of}
 use Rattle.bdd_core.specs.Words.{word_at}
 use Rattle.bdd_ops.proofs.CountingLaws.{counted_more, counted_same, counted_then, counts_ok}
 use Rattle.bdd_ops.proofs.WithinLaws.{within_same}
-use Rattle.circuit_faults.proofs.CircuitLaws.{IsSolvedBefore, solved_all, solved_none, spans_kept}
+use Rattle.circuit_faults.proofs.CircuitLaws.{IsSolvedBefore, clear_circuit, solved_all, solved_none, spans_kept}
+use Rattle.circuit_faults.proofs.ClearHere.{clear_here}
 use Rattle.circuit_faults.proofs.CountLaws.{opened_within, reads_variables, roots_within, sum_next, used_counted}
 use Rattle.circuit_faults.proofs.StepLaws.{step_clear, step_fault}
 use Rattle.bdd_core.proofs.Frames.{two_first, two_then}
 use Rattle.circuit_faults.specs.Operations.{step_operations, steps_operations}
-use Rattle.circuit_faults.specs.Results.{StepGives, first_word}
-use Rattle.circuit_faults.specs.Steps.{InPhase, in_phase}
+use Rattle.circuit_faults.specs.Results.{AreClearSteps, StepGives, first_word}
+use Rattle.circuit_faults.specs.Steps.{InPhase, in_phase, phase_of}
 use Rattle.circuit_faults.specs.declared.net.CircuitFault.{CircuitFault}
 use Rattle.circuit_faults.specs.declared.steps.CircuitStep.{CircuitStep}
 use Rattle.known_nets.specs.KnownTables.{known_at}
@@ -109,9 +110,18 @@ returns-clause-gives c fixed =
     let w : InPhase = in_phase c.args.phased in
     let spans = c.args.spans in
     let end : c.loop-place.place ≡ length w.steps = omega (arith, c.loop-place-test.false, c.loop-place.auto.place-end) in
+    let first = c.args.store.now in
+    let new = c.loop-place.store in
+    let clear : AreClearSteps w c.args.care spans.roots spans.gates first new =
     solved_all w c.args.care spans.roots spans.gates c.requires.circuit c.requires.observed c.requires.steps c.requires.spans.roots_len c.requires.spans.gates_len
-    c.args.store.now c.loop-place.store
-    (subst (λ (k : ℕ). IsSolvedBefore w c.args.care spans.roots spans.gates k c.args.store.now c.loop-place.store) end (c.loop-place.invariant.solved fixed))
+    first new
+    (subst (λ (k : ℕ). IsSolvedBefore w c.args.care spans.roots spans.gates k first new) end (c.loop-place.invariant.solved fixed)) in (
+      clear,
+      clear_here w.circuit (phase_of w) w.observed c.requires.circuit w.parts c.args.care spans.roots spans.gates spans.out first new
+          c.loop-place.invariant.writes c.requires.spans c.requires.care
+          (clear_circuit w c.args.care spans.roots spans.gates c.requires.circuit c.requires.observed c.requires.steps c.requires.spans.roots_len c.requires.spans.gates_len
+          first new fixed clear),
+    )
 
 pub returns-in-Err-clause-few : goal.returns-in-Err-clause-few
 returns-in-Err-clause-few c one u care roots =
