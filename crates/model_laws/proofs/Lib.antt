@@ -1,7 +1,6 @@
 mod Assignments
 mod CounterValues
 mod DominoValues
-mod EqualGives
 mod FirstFinding
 mod FirstPlace
 mod FlatModelValues
@@ -19,7 +18,6 @@ mod PairedValues
 mod PathLaws
 mod PathValues
 mod RankValues
-mod RunsFromEqual
 mod UnrolledValues
 mod VerdictLaws
 mod WalkLaws

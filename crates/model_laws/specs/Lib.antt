@@ -7,6 +7,5 @@ pub mod NoWhole
 pub mod OneCell
 pub mod Ranks
 pub mod SmallCircuits
-pub mod Supported
 pub mod Walks
 pub mod ZeroCell

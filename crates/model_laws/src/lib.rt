@@ -13,4 +13,4 @@ pub use small_circuits::{
     blocked_load, bridge_of_five, charges, input_and_ring, keepers, missing_device_and_held_input,
     opposed_devices, whole_outputs,
 };
-pub use verdicts::{expressions, first_in_phase, first_place, runs, verdicts_apart};
+pub use verdicts::{expressions, first_in_phase, first_place, verdicts_apart};

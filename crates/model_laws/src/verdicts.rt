@@ -1,8 +1,7 @@
-//! Laws of verdicts and of runs.
+//! Laws of verdicts.
 
 ghost use Rattle.std.specs.Prelude.{◌≡◌, ℕ, ◌<◌, Bool, List, [], Some, codes, false, length, true};
 ghost use Rattle.model_laws.specs.FirstFinding.{IsCovered};
-ghost use Rattle.model_laws.specs.Supported.{IsSound};
 ghost use Rattle.model_laws.specs.ZeroCell.{blif, design, the_fault};
 ghost use Rattle.vrt_model.proofs.Cells.{base};
 ghost use Rattle.vrt_model.proofs.FirstFinding.{IsOpen, found};
@@ -10,19 +9,11 @@ ghost use Rattle.vrt_model.specs.Comparison.{Comparison};
 ghost use Rattle.vrt_model.specs.Equal.{IsEqual, IsVacuous};
 ghost use Rattle.vrt_model.specs.Expressions.{value_by, value_of};
 ghost use Rattle.vrt_model.specs.Places.{Finding, IsFinding, IsFirstInPhase, IsOrder, comes_before, standing};
-ghost use Rattle.vrt_model.specs.Runs.{RunsMatch};
 ghost use Rattle.vrt_model.specs.Variables.{is_less};
 ghost use Rattle.vrt_model.specs.Verdicts.{IsVerdict, answer_line};
 ghost use Rattle.vrt_model.specs.declared.rules.Expr.{Expr};
 ghost use Rattle.vrt_model.specs.declared.verdict.FaultKind.{FaultKind};
 ghost use Rattle.vrt_model.specs.declared.verdict.Verdict.TheVariants.{Fault};
-
-/// The law of runs: where a supported cell is equal, each run of its circuit from a memory that is related to one of its
-/// model stays related along the whole run, and at each step each observed output has the model's bit.
-#[tactic(auto, using(crate::proofs::RunsFromEqual::runs))]
-pub fn runs()
-    ensures { (k : Comparison) → IsSound k → IsEqual k → RunsMatch k }
-{}
 
 /// A cell that is equal has no fault and no vacuous phase, and a vacuous phase has no fault. Without a phase each
 /// comparison would be equal, which is why rules have one.

@@ -2,8 +2,8 @@
 use Rattle.std.proofs.Common.{◌≡◌, ℕ, Bool, true, false, List, [], ◌∷◌, Option, Some, None, refl, sym, ◌∙◌, ap}
 use Rattle.std.proofs.lemmas.Option.{same_Some, none-some}
 use Rattle.std.specs.Prelude.{option_map}
-use Rattle.model_laws.proofs.EqualGives.{enter_match, next_match, outputs_match, stable}
-use Rattle.model_laws.specs.Supported.{IsSound}
+use Rattle.run_laws.proofs.EqualGives.{enter_match, next_match, outputs_match, stable}
+use Rattle.run_laws.specs.Supported.{IsSound}
 use Rattle.vrt_model.specs.Assignment.{Assignment}
 use Rattle.vrt_model.specs.Comparison.{Comparison}
 use Rattle.vrt_model.specs.Constraints.{Meets}
