@@ -1,4 +1,4 @@
--- The operations of the steps of sorted keys are at most those of all parts and of all instances.
+-- The operations of the steps of sorted keys are those of all parts and of the instances that have a line.
 use Rattle.std.proofs.Common.{◌≡◌, ℕ, zero, suc, ◌+◌, ◌≤◌, Bool, true, false, cond, List, [], ◌∷◌, Option, length, map, take, arith, ap, refl, subst, sym, ◌∙◌}
 use Rattle.std.specs.Prelude.{slice_index, sum_by}
 use Rattle.std.proofs.Math.Seq.{take-length}
@@ -10,7 +10,7 @@ use Rattle.circuit_faults.proofs.CountLaws.{sum_next}
 use Rattle.circuit_faults.proofs.KeyLaws.{Key}
 use Rattle.circuit_faults.proofs.StepLaws.{instance_step_operations, part_step_operations}
 use Rattle.circuit_faults.specs.Keys.{AreSorted, all_keys, instance_key, instance_keys, key_of, part_keys, part_rank, step_of_key}
-use Rattle.circuit_faults.specs.Operations.{circuit_operations, instance_operations, part_operations, step_operations, steps_operations}
+use Rattle.circuit_faults.specs.Operations.{circuit_operations, constraint_operations, instance_operations, part_operations, step_operations, steps_operations}
 use Rattle.circuit_faults.specs.Steps.{InPhase, in_comparison}
 use Rattle.circuit_faults.specs.declared.steps.CircuitStep.{CircuitStep}
 use Rattle.constraints.specs.Obliged.{has_lines, nets_named}
@@ -51,47 +51,47 @@ module _ (w : InPhase) (ranks : List ℕ) where
   abbrev instance_rank : FlatInstance → ℕ
   instance_rank i = greatest_rank (slice_index ranks) (nets_named w.design w.rules w.phase i)
 
-  extra_cost : (n : ℕ) (i : FlatInstance) → At w.circuit.instances n i → sum_by cost (instance_key w.design w.rules w.circuit w.phase ranks n) ≤ instance_operations w i
+  extra_cost : (n : ℕ) (i : FlatInstance) → At w.circuit.instances n i → sum_by cost (instance_key w.design w.rules w.circuit w.phase ranks n) ≡ constraint_operations w i
   extra_cost n i e =
-      subst (λ (o : Option FlatInstance). sum_by cost (key_of w.design w.rules w.phase ranks n o) ≤ instance_operations w i) (sym e) (by_test (has_lines w.design w.rules w.phase i))
+      subst (λ (o : Option FlatInstance). sum_by cost (key_of w.design w.rules w.phase ranks n o) ≡ constraint_operations w i) (sym e) (by_test (has_lines w.design w.rules w.phase i))
     where
-      by_test : (b : Bool) → sum_by cost (cond b (((instance_rank i, 1), n) ∷ []) []) ≤ instance_operations w i
+      by_test : (b : Bool) → sum_by cost (cond b (((instance_rank i, 1), n) ∷ []) []) ≡ cond b (instance_operations w i) 0
       by_test true =
           let one = sum_by-cons cost ((instance_rank i, 1), n) [] in
           let own : cost ((instance_rank i, 1), n) ≡ instance_operations w i = instance_step_operations w n i e in
           omega (arith, one, own)
-      by_test false = omega arith
+      by_test false = refl
 
-  instances_cost : (n : ℕ) → n ≤ length w.circuit.instances → sum_by cost (instance_keys w.design w.rules w.circuit w.phase ranks n) ≤ sum_by (instance_operations w) (take n w.circuit.instances)
-  instances_cost zero le = omega arith
+  instances_cost : (n : ℕ) → n ≤ length w.circuit.instances → sum_by cost (instance_keys w.design w.rules w.circuit w.phase ranks n) ≡ sum_by (constraint_operations w) (take n w.circuit.instances)
+  instances_cost zero le = refl
   instances_cost (suc n) le =
       let i = at_there w.circuit.instances n (omega (arith, le)) in
       let before = instances_cost n (omega (arith, le)) in
       let own = extra_cost n i.0 i.1 in
       let keys = sum_by-append cost (instance_keys w.design w.rules w.circuit w.phase ranks n) (instance_key w.design w.rules w.circuit w.phase ranks n) in
       let next : n + 1 ≡ suc n = omega arith in
-      let all : sum_by (instance_operations w) (take (suc n) w.circuit.instances) ≡ sum_by (instance_operations w) (take n w.circuit.instances) + instance_operations w i.0 =
-      subst (λ (m : ℕ). sum_by (instance_operations w) (take m w.circuit.instances) ≡ sum_by (instance_operations w) (take n w.circuit.instances) + instance_operations w i.0) next
-      (sum_next (instance_operations w) w.circuit.instances n i.0 i.1) in
+      let all : sum_by (constraint_operations w) (take (suc n) w.circuit.instances) ≡ sum_by (constraint_operations w) (take n w.circuit.instances) + constraint_operations w i.0 =
+      subst (λ (m : ℕ). sum_by (constraint_operations w) (take m w.circuit.instances) ≡ sum_by (constraint_operations w) (take n w.circuit.instances) + constraint_operations w i.0) next
+      (sum_next (constraint_operations w) w.circuit.instances n i.0 i.1) in
       omega (arith, before, own, keys, all)
 
   pub keys_cost : (keys : List Key) → AreSorted w.design w.rules w.circuit w.phase w.parts ranks keys → (steps : List CircuitStep) → steps ≡ map step_of_key keys
-      → sum_by (step_operations w) steps ≤ circuit_operations w.parts + sum_by (instance_operations w) w.circuit.instances
+      → sum_by (step_operations w) steps ≡ circuit_operations w.parts + sum_by (constraint_operations w) w.circuit.instances
   keys_cost keys sorted steps are =
       let moved = sum_by-IsPermutation cost (all_keys w.design w.rules w.circuit w.phase w.parts ranks) keys sorted.permutation in
       let both = sum_by-append cost (part_keys w.parts (length w.parts)) (instance_keys w.design w.rules w.circuit w.phase ranks (length w.circuit.instances)) in
       let parts = parts_cost (length w.parts) (omega arith) in
       let instances = instances_cost (length w.circuit.instances) (omega arith) in
       let whole : sum_by part_operations (take (length w.parts) w.parts) ≡ circuit_operations w.parts = ap (λ (xs : List Part). sum_by part_operations xs) (take-length w.parts) in
-      let all : sum_by (instance_operations w) (take (length w.circuit.instances) w.circuit.instances) ≡ sum_by (instance_operations w) w.circuit.instances =
-      ap (λ (xs : List FlatInstance). sum_by (instance_operations w) xs) (take-length w.circuit.instances) in
+      let all : sum_by (constraint_operations w) (take (length w.circuit.instances) w.circuit.instances) ≡ sum_by (constraint_operations w) w.circuit.instances =
+      ap (λ (xs : List FlatInstance). sum_by (constraint_operations w) xs) (take-length w.circuit.instances) in
       let made : sum_by (step_operations w) steps ≡ sum_by cost keys = ap (λ (xs : List CircuitStep). sum_by (step_operations w) xs) are ∙ sum_of_map step_of_key (step_operations w) keys in
       omega (arith, moved, both, parts, instances, whole, all, made)
 
 -- so for each comparison with this design, these rules and this circuit
 pub steps_work : (k : Comparison) (phase : ℕ) (parts : Parts) (ranks : List ℕ) (keys : List Key) (design : Design) (rules : Rules) (c : Circuit) → k.design ≡ design → k.rules ≡ rules → k.circuit ≡ c
     → AreSorted design rules c phase parts.list ranks keys → (steps : List CircuitStep) → steps ≡ map step_of_key keys → (observed : ℕ → Bool)
-    → steps_operations (in_comparison k phase parts steps observed) ≤ circuit_operations parts.list + sum_by (instance_operations (in_comparison k phase parts steps observed)) k.circuit.instances
+    → steps_operations (in_comparison k phase parts steps observed) ≡ circuit_operations parts.list + sum_by (constraint_operations (in_comparison k phase parts steps observed)) k.circuit.instances
 steps_work k phase parts ranks keys design rules c d r x sorted steps are observed =
     keys_cost (in_comparison k phase parts steps observed) ranks keys
     (subst (λ (y : Design). AreSorted y k.rules k.circuit phase parts.list ranks keys) (sym d)

@@ -1,5 +1,5 @@
 -- How many operations are made, and what a refusal says.
-use Rattle.std.specs.Prelude.{◌≡◌, ℕ, ◌+◌, ◌*◌, List, length, option_map, slice_get, sum_by, unwrap_or}
+use Rattle.std.specs.Prelude.{◌≡◌, ℕ, ◌+◌, ◌*◌, List, cond, length, option_map, slice_get, sum_by, unwrap_or}
 use Rattle.bdd_core.specs.Store.{Diagrams}
 use Rattle.bdd_core.specs.declared.handle.Spent.{Spent}
 use Rattle.channel_parts.specs.declared.part.Part.{Part}
@@ -7,7 +7,7 @@ use Rattle.vrt_model.specs.declared.circuit.Circuit.{Circuit}
 use Rattle.circuit_faults.specs.Steps.{InPhase}
 use Rattle.circuit_faults.specs.declared.steps.CircuitStep.{CircuitStep}
 use Rattle.circuit_faults.specs.declared.steps.CircuitStep.TheVariants.{Part as PartStep, Instance as InstanceStep}
-use Rattle.constraints.specs.Obliged.{obligation_size}
+use Rattle.constraints.specs.Obliged.{has_lines, obligation_size}
 use Rattle.vrt_model.specs.declared.circuit.FlatInstance.{FlatInstance}
 
 -- the refusal tells the budget, and as many nodes are there
@@ -32,6 +32,10 @@ kept_operations c parts = sum_by kept_part_operations parts + 20 * length c.nets
 -- of an instance: its lines, and two
 abbrev pub instance_operations : InPhase → FlatInstance → ℕ
 instance_operations w i = 20 * obligation_size w.design w.rules i w.phase + 2
+
+-- the same where its cell has a line for the phase; else it is no step
+abbrev pub constraint_operations : InPhase → FlatInstance → ℕ
+constraint_operations w i = cond (has_lines w.design w.rules w.phase i) (instance_operations w i) 0
 
 -- of a step: those of its part or of its instance
 abbrev pub step_operations : InPhase → CircuitStep → ℕ

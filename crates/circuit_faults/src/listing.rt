@@ -1,9 +1,9 @@
 //! The steps of a circuit in a phase, in their order.
 
-ghost use Rattle.std.specs.Prelude.{◌≡◌, ℕ, ◌+◌, ◌≤◌, All, Bool, map, sum_by, true, IfOk};
+ghost use Rattle.std.specs.Prelude.{◌≡◌, ℕ, ◌+◌, All, Bool, map, sum_by, true, IfOk};
 ghost use Rattle.channel_parts.specs.PartLists.{AreParts, IsPartList};
 ghost use Rattle.circuit_faults.specs.Keys.{HasAllPorts, step_of_key};
-ghost use Rattle.circuit_faults.specs.Operations.{circuit_operations, instance_operations, steps_operations};
+ghost use Rattle.circuit_faults.specs.Operations.{circuit_operations, constraint_operations, steps_operations};
 ghost use Rattle.circuit_faults.specs.Steps.{IsStepThere, in_comparison, step_of};
 ghost use Rattle.circuit_faults.specs.declared.steps.CircuitStep.{CircuitStep as StepValue};
 ghost use Rattle.fault_places.specs.PhaseSpots.{AreSteps};
@@ -49,7 +49,7 @@ fn steps_of(alloc: Global, keys: &[((usize, usize), usize)]) -> Result<Seq<Circu
 /// it, by rank, in a rank the parts by least net and behind them the instances by number. An instance has the greatest
 /// rank of the nets that the lines of its cell name.
 ///
-/// All of them take at most the operations of all parts and of all instances. Want of memory is the only refusal.
+/// They take the operations of all parts and of these instances. Want of memory is the only refusal.
 pub fn circuit_steps(
     alloc: Global,
     design: &Design,
@@ -63,7 +63,7 @@ pub fn circuit_steps(
     requires ports { All (HasAllPorts design.now) circuit.now.instances }
     requires nets { All (λ (i : InstanceValue). All (IsNet circuit.now) i.ports) circuit.now.instances }
     ensures steps { IfOk result (λ steps. (k : Comparison) (rank : ℕ → ℕ) → k.design ≡ design.now → k.rules ≡ rules.now → k.circuit ≡ circuit.now → AreParts k.circuit (phase_at k.rules phase) true rank parts.now → IsRanking k.circuit (phase_at k.rules phase) rank → AreSteps k phase rank (map (step_of parts.now.list) steps)) }
-    ensures work { IfOk result (λ steps. (k : Comparison) → k.design ≡ design.now → k.rules ≡ rules.now → k.circuit ≡ circuit.now → (observed : ℕ → Bool) → steps_operations (in_comparison k phase parts.now steps observed) ≤ circuit_operations parts.now.list + sum_by (instance_operations (in_comparison k phase parts.now steps observed)) k.circuit.instances) }
+    ensures work { IfOk result (λ steps. (k : Comparison) → k.design ≡ design.now → k.rules ≡ rules.now → k.circuit ≡ circuit.now → (observed : ℕ → Bool) → steps_operations (in_comparison k phase parts.now steps observed) ≡ circuit_operations parts.now.list + sum_by (constraint_operations (in_comparison k phase parts.now steps observed)) k.circuit.instances) }
     ensures there { IfOk result (λ steps. (j : ℕ) (step : StepValue) → At steps j step → IsStepThere parts.now.list circuit.now step) }
 {
     let list = parts.list.as_slice();
