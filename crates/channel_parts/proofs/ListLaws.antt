@@ -78,10 +78,10 @@ pairs_more c ranks least net pairs plain are =
 
 -- ---- and after
 
-among_contains : {X : Type 0} (xs : List X) (x : X) → Among xs x → Contains xs x
+pub among_contains : {X : Type 0} (xs : List X) (x : X) → Among xs x → Contains xs x
 among_contains xs x m = (m.0, slice_get_within xs m.0 x m.1, get_or_from_slice_get xs m.0 x x m.1)
 
-contains_among : {X : Type 0} (xs : List X) (x : X) → Contains xs x → Among xs x
+pub contains_among : {X : Type 0} (xs : List X) (x : X) → Contains xs x → Among xs x
 contains_among xs x h = (h.0, slice_get-get_or xs h.0 x h.1 ∙ ap Some h.2)
 
 flips : (x y : Keyed) → same_net x y ≡ same_net y x

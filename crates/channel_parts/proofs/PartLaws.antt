@@ -68,7 +68,7 @@ distinct_at (z ∷ zs) d zero (suc j) x y p q lt =
     all_recursion (λ (t : (ℕ × ℕ) × ℕ). same_net x t ≡ false) zs y (subst (λ (s : (ℕ × ℕ) × ℕ). AllByRecursion (λ (t : (ℕ × ℕ) × ℕ). same_net s t ≡ false) zs) (same_Some z x p) d.0) (j, q)
 distinct_at (z ∷ zs) d (suc i) (suc j) x y p q lt = distinct_at zs d.1 i j x y p q (omega (arith, lt))
 
-sorted_at : (xs : List ((ℕ × ℕ) × ℕ)) → IsSorted order_cmp xs → (i j : ℕ) (x y : (ℕ × ℕ) × ℕ) → At xs i x → At xs j y → i ≤ j → is_lt (order_cmp y x) ≡ false
+pub sorted_at : (xs : List ((ℕ × ℕ) × ℕ)) → IsSorted order_cmp xs → (i j : ℕ) (x y : (ℕ × ℕ) × ℕ) → At xs i x → At xs j y → i ≤ j → is_lt (order_cmp y x) ≡ false
 sorted_at xs sorted i j x y p q le =
     let far = sorted_far (λ (a b : (ℕ × ℕ) × ℕ). is_lt (order_cmp a b))
     (ranks_by (then_total (then_total (on_total (λ (t : (ℕ × ℕ) × ℕ). t.0.0) nat_cmp_total) (on_total (λ (t : (ℕ × ℕ) × ℕ). t.0.1) nat_cmp_total)) (on_total (λ (t : (ℕ × ℕ) × ℕ). t.1) nat_cmp_total)) (λ (t : (ℕ × ℕ) × ℕ). t))
@@ -76,13 +76,13 @@ sorted_at xs sorted i j x y p q le =
     subst (λ (b : (ℕ × ℕ) × ℕ). is_lt (order_cmp b x) ≡ false) (get_or_from_slice_get xs j y ((0, 0), 0) q)
     (subst (λ (a : (ℕ × ℕ) × ℕ). is_lt (order_cmp (get_or xs j ((0, 0), 0)) a) ≡ false) (get_or_from_slice_get xs i x ((0, 0), 0) p) far)
 
-then_then : (a b c : Ordering) → ordering_then (ordering_then a b) c ≡ ordering_then a (ordering_then b c)
+pub then_then : (a b c : Ordering) → ordering_then (ordering_then a b) c ≡ ordering_then a (ordering_then b c)
 then_then Less b c = refl
 then_then Equal b c = refl
 then_then Greater b c = refl
 
 -- what does not come before by a number and a further order
-not_before : (a b : ℕ) (o : Ordering) → is_lt (ordering_then (nat_cmp a b) o) ≡ false → (b < a) ⊎ ((a ≡ b) × (is_lt o ≡ false))
+pub not_before : (a b : ℕ) (o : Ordering) → is_lt (ordering_then (nat_cmp a b) o) ≡ false → (b < a) ⊎ ((a ≡ b) × (is_lt o ≡ false))
 not_before a b o e =
     elim (cases_lt a b) [
       | inl lt ↦ absurd (false≢true (sym e ∙ sym (ap (λ (r : Ordering). is_lt (ordering_then r o)) (nat_cmp_is a b Less lt))))

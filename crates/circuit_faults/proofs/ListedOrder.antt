@@ -12,6 +12,8 @@ use Rattle.std.proofs.lemmas.List.MinMax.{ranks_by}
 use Rattle.std.proofs.lemmas.List.Sorted.{Contains-permutation, IsPermutation-sym, sorted_far}
 use Rattle.std.proofs.lemmas.Map.Keys.{IsDistinct-IsPermutation, apart_from_distinct}
 use Rattle.std.proofs.lemmas.Option.{get_or_from_slice_get, same_Some, slice_get-get_or, slice_get_within}
+use Rattle.channel_parts.proofs.ListLaws.{among_contains, contains_among}
+use Rattle.channel_parts.proofs.PartLaws.{not_before, sorted_at, then_then}
 use Rattle.channel_parts.specs.Listings.{order_cmp}
 use Rattle.channel_parts.specs.PartLists.{AreParts, least_of, net_numbers}
 use Rattle.channel_parts.specs.declared.part.Part.{Part}
@@ -46,12 +48,6 @@ use Rattle.vrt_model.specs.declared.rules.Rules.{Rules}
 
 -- ---- lists of keys
 
-among_contains : {X : Type 0} (xs : List X) (x : X) → Among xs x → Contains xs x
-among_contains xs x m = (m.0, slice_get_within xs m.0 x m.1, get_or_from_slice_get xs m.0 x x m.1)
-
-contains_among : {X : Type 0} (xs : List X) (x : X) → Contains xs x → Among xs x
-contains_among xs x h = (h.0, slice_get-get_or xs h.0 x h.1 ∙ ap Some h.2)
-
 moved : {X : Type 0} (xs ys : List X) (x : X) → IsPermutation xs ys → Among xs x → Among ys x
 moved xs ys x p m = contains_among ys x (Contains-permutation xs ys x p (among_contains xs x m))
 
@@ -65,37 +61,12 @@ flips x y = ap (λ (b : Bool). b && (x.1 == y.1)) (eqb_flips x.0.1 y.0.1) ∙ ap
 abbrev IsEarlier : Key → Key → Type 0
 IsEarlier x y = (x.0.0 < y.0.0) ⊎ ((x.0.0 ≡ y.0.0) × ((x.0.1 < y.0.1) ⊎ ((x.0.1 ≡ y.0.1) × (x.1 < y.1))))
 
-then_then : (a b c : Ordering) → ordering_then (ordering_then a b) c ≡ ordering_then a (ordering_then b c)
-then_then Less b c = refl
-then_then Equal b c = refl
-then_then Greater b c = refl
-
--- what does not come before by a number and a further order
-not_before : (a b : ℕ) (o : Ordering) → is_lt (ordering_then (nat_cmp a b) o) ≡ false → (b < a) ⊎ ((a ≡ b) × (is_lt o ≡ false))
-not_before a b o e =
-    elim (cases_lt a b) [
-      | inl lt ↦ absurd (false≢true (sym e ∙ sym (ap (λ (r : Ordering). is_lt (ordering_then r o)) (nat_cmp_is a b Less lt))))
-      | inr ge ↦
-          elim (cases_lt b a) [
-            | inl gt ↦ inl gt
-            | inr le ↦ (let same : a ≡ b = omega (arith, ge, le) in inr (same, ap (λ (r : Ordering). is_lt (ordering_then r o)) (nat_cmp_is a b Equal same) ∙ e))
-          ]
-    ]
-
 not_less : (a b : ℕ) → is_lt (nat_cmp a b) ≡ false → b ≤ a
 not_less a b e =
     elim (cases_lt a b) [
       | inl lt ↦ absurd (false≢true (sym e ∙ sym (ap is_lt (nat_cmp_is a b Less lt))))
       | inr ge ↦ ge
     ]
-
-sorted_at : (keys : List Key) → IsSorted order_cmp keys → (i j : ℕ) (x y : Key) → At keys i x → At keys j y → i ≤ j → is_lt (order_cmp y x) ≡ false
-sorted_at keys sorted i j x y p q le =
-    let far = sorted_far (λ (a b : Key). is_lt (order_cmp a b))
-    (ranks_by (then_total (then_total (on_total (λ (t : Key). t.0.0) nat_cmp_total) (on_total (λ (t : Key). t.0.1) nat_cmp_total)) (on_total (λ (t : Key). t.1) nat_cmp_total)) (λ (t : Key). t))
-    keys sorted i j ((0, 0), 0) le (slice_get_within keys j y q) in
-    subst (λ (b : Key). is_lt (order_cmp b x) ≡ false) (get_or_from_slice_get keys j y ((0, 0), 0) q)
-    (subst (λ (a : Key). is_lt (order_cmp (get_or keys j ((0, 0), 0)) a) ≡ false) (get_or_from_slice_get keys i x ((0, 0), 0) p) far)
 
 -- of two keys the first comes no later, and they are apart
 earlier_from : (x y : Key) → is_lt (order_cmp y x) ≡ false → same_key x y ≡ false → IsEarlier x y
