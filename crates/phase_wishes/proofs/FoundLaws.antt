@@ -1,0 +1,79 @@
+-- The first wish that is missed, by cases, and by the definition of the faults.
+use Rattle.std.proofs.Common.{◌≡◌, ℕ, Bool, List, All, ap, refl, sym, subst, ◌∙◌}
+use Rattle.std.specs.Prelude.{Option, Some, None, option_map}
+use Rattle.std.proofs.lemmas.Option.{same_Some}
+use Rattle.bdd_core.specs.Store.{Diagrams}
+use Rattle.bdd_core.specs.declared.handle.H.{H}
+use Rattle.phase_wishes.specs.Missed.{IsFirstMissed, IsInside, IsWithinBits, WishCase, WishesFind, WishesGive, net_at, nets_in, wanted_at}
+use Rattle.phase_wishes.specs.Wishes.{AreOnce, IsMissed, spot_of, wanted_bit}
+use Rattle.phase_wishes.specs.declared.missed.WishFault.{WishFault}
+use Rattle.phase_wishes.specs.declared.wishes.Wanted.{Wanted}
+use Rattle.phase_wishes.specs.declared.wishes.Wanted.TheVariants.{Signal, Element, Other, Constant}
+use Rattle.phase_wishes.specs.declared.wishes.Wish.{Wish}
+use Rattle.phase_wishes.specs.declared.wishes.WishBits.{WishBits}
+use Rattle.vrt_model.proofs.Lists.{at_map, map_at}
+use Rattle.vrt_model.proofs.Members.{all_among, among_later}
+use Rattle.vrt_model.specs.Lists.{Among, At, differ}
+
+module _ (wishes : List Wish) (care : H) (bits : WishBits) (old new : Diagrams) (inside : All (IsWithinBits bits) wishes) where
+  abbrev Case : Type 0
+  Case = WishCase wishes bits old
+
+  -- ---- one wish in one case
+
+  module _ (v : Case) (wish : Wish) (among : Among wishes wish) where
+    net_is : v.solution wish.net.0 ≡ Some (net_at old bits wish v.valuation)
+    net_is = v.nets wish wish.net.0 among (0, refl)
+
+    wanted_by : (wanted : Wanted) → IsInside bits wanted → ((n : ℕ) → Among (nets_in wanted) n → v.solution n ≡ Some (net_at old bits (record wish { net = record { 0 = n } }) v.valuation))
+        → wanted_bit wanted v.solution v.assignment ≡ Some (wanted_at old bits wanted v.valuation)
+    wanted_by (Signal signal) lt nets = ap (λ (b : Bool). Some b) (v.signals signal lt)
+    wanted_by (Element element inverted) lt nets = ap (λ (b : Bool). Some (differ inverted b)) (v.elements element lt)
+    wanted_by (Other net inverted) lt nets = ap (option_map (λ (b : Bool). differ inverted b)) (nets net.0 (0, refl))
+    wanted_by (Constant b) lt nets = refl
+
+    wanted_is : wanted_bit wish.wanted v.solution v.assignment ≡ Some (wanted_at old bits wish.wanted v.valuation)
+    wanted_is =
+        wanted_by wish.wanted (all_among (IsWithinBits bits) wishes wish inside among).1
+        (λ n m. v.nets wish n among (among_later wish.net.0 (nets_in wish.wanted) n m))
+
+    same_bits : v.solution wish.net.0 ≡ wanted_bit wish.wanted v.solution v.assignment → net_at old bits wish v.valuation ≡ wanted_at old bits wish.wanted v.valuation
+    same_bits e = same_Some (net_at old bits wish v.valuation) (wanted_at old bits wish.wanted v.valuation) (sym net_is ∙ e ∙ wanted_is)
+
+    bits_same : net_at old bits wish v.valuation ≡ wanted_at old bits wish.wanted v.valuation → v.solution wish.net.0 ≡ wanted_bit wish.wanted v.solution v.assignment
+    bits_same e = net_is ∙ ap (λ (b : Bool). Some b) e ∙ sym wanted_is
+
+  -- ---- over all cases
+
+  missed_one : AreOnce wishes → (fault : WishFault) → IsFirstMissed wishes care bits fault old new → (v : Case) → IsMissed wishes (spot_of fault.wish) v.solution v.assignment → net_at old bits fault.wish v.valuation ≡ wanted_at old bits fault.wish.wanted v.valuation → ⊥
+  missed_one once fault first v m same =
+      let one : first.index ≡ m.among.0 = once first.index m.among.0 fault.wish m.wish first.stands m.among.1 (sym m.here) in
+      let is : fault.wish ≡ m.wish = same_Some fault.wish m.wish (sym first.stands ∙ subst (λ (n : ℕ). At wishes n m.wish) (sym one) m.among.1) in
+      m.missed (subst (λ (w : Wish). v.solution w.net.0 ≡ wanted_bit w.wanted v.solution v.assignment) is (bits_same v fault.wish (first.index, first.stands) same))
+
+  found_first : (fault : WishFault) → IsFirstMissed wishes care bits fault old new → WishesFind wishes care bits old new (Some fault)
+  found_first fault first once = record {
+    place = first.index;
+    stands = map_at spot_of wishes first.index fault.wish first.stands;
+    exact = λ v. (
+      λ e.
+          let there = (first.exact v.valuation).0 e in (
+            there.0,
+            record {
+              wish = fault.wish;
+              among = (first.index, first.stands);
+              here = refl;
+              missed = λ same. there.1 (same_bits v fault.wish (first.index, first.stands) same);
+            },
+          ),
+      λ h. (first.exact v.valuation).1 (h.0, λ same. missed_one once fault first v h.1 same),
+    );
+    before = λ i y v lt e cared m.
+        let there = at_map spot_of wishes i y e in
+        let one : i ≡ m.among.0 = once i m.among.0 there.0 m.wish there.1 m.among.1 (there.2 ∙ sym m.here) in
+        m.missed (bits_same v m.wish m.among (first.before i m.wish lt (subst (λ (n : ℕ). At wishes n m.wish) (sym one) m.among.1) v.valuation cared));
+  }
+
+  pub found_wishes : (found : Option WishFault) → WishesGive wishes care bits old new found → WishesFind wishes care bits old new found
+  found_wishes None met = λ i x v at cared m. m.missed (bits_same v m.wish m.among (met m.among.0 m.wish m.among.1 v.valuation cared))
+  found_wishes (Some fault) first = found_first fault first

@@ -1,0 +1,67 @@
+-- What nets ought to be given in a phase.
+use Rattle.std.specs.Prelude.{◌≡◌, ℕ, ◌<◌, Bool, true, List, [], ◌∷◌, Option, Some, option_map}
+use Rattle.fault_places.specs.Searches.{Spot}
+use Rattle.phase_wishes.specs.declared.wishes.Wanted.{Wanted}
+use Rattle.phase_wishes.specs.declared.wishes.Wanted.TheVariants.{Signal, Element, Other, Constant}
+use Rattle.phase_wishes.specs.declared.wishes.Wish.{Wish}
+use Rattle.vrt_model.specs.Assignment.{Assignment}
+use Rattle.vrt_model.specs.Comparison.{Comparison}
+use Rattle.vrt_model.specs.Faults.{WantsValue}
+use Rattle.vrt_model.specs.Lists.{Among, At, differ}
+use Rattle.vrt_model.specs.Places.{comes_before, standing}
+use Rattle.vrt_model.specs.Reading.{Partial}
+use Rattle.vrt_model.specs.declared.verdict.FaultKind.{FaultKind}
+use Rattle.vrt_model.specs.declared.verdict.FaultKind.TheVariants.{Differs, Next, Apart, Enter}
+
+-- the bit that is wanted, where a solution and an assignment are given
+abbrev pub wanted_bit : Wanted → Partial → Assignment → Option Bool
+wanted_bit (Signal signal) a g = Some (g.signal signal)
+wanted_bit (Element element inverted) a g = Some (differ inverted (g.next element))
+wanted_bit (Other net inverted) a g = option_map (λ (v : Bool). differ inverted v) (a net.0)
+wanted_bit (Constant v) a g = Some v
+
+-- the place of a wish
+abbrev pub spot_of : Wish → Spot
+spot_of wish = record { kind = wish.kind; at = wish.place }
+
+-- under each solution and assignment the net ought to have the bit that is wanted
+abbrev pub IsWish : Comparison → ℕ → Wish → Type 0
+IsWish k phase wish =
+    (a : Partial) (g : Assignment) → WantsValue k phase a g wish.kind wish.place wish.net.0 (wanted_bit wish.wanted a g)
+
+-- the wish says that the net of this number ought to have this bit, for a fault of this kind at this place
+pub record Says (wish : Wish) (a : Partial) (g : Assignment) (kind : FaultKind) (at n : ℕ) (w : Option Bool) : Type 0 where
+  pub kind_is : wish.kind ≡ kind
+  pub place_is : wish.place ≡ at
+  pub net_is : wish.net.0 ≡ n
+  pub wanted_is : wanted_bit wish.wanted a g ≡ w
+
+-- all that nets ought to be given, for faults of these kinds, in the order of places
+pub record AreWishesOf (kinds : List FaultKind) (k : Comparison) (phase : ℕ) (wishes : List Wish) : Type 0 where
+  pub only : (wish : Wish) → Among wishes wish → Among kinds wish.kind
+  pub each : (wish : Wish) → Among wishes wish → IsWish k phase wish
+  pub all :
+      (kind : FaultKind) (at n : ℕ) (w : Option Bool) (a : Partial) (g : Assignment) → Among kinds kind → WantsValue k phase a g kind at n w
+      → (wish : Wish) × Among wishes wish × Says wish a g kind at n w
+  pub sorted :
+      (rank least : ℕ → ℕ) (i j : ℕ) (x y : Wish) → At wishes i x → At wishes j y → i < j
+      → comes_before (standing k phase rank least x.kind x.place) (standing k phase rank least y.kind y.place) ≡ true
+
+-- the kinds of faults at which nets do not have what they ought to, in their order
+abbrev pub wished_kinds : List FaultKind
+wished_kinds = Differs ∷ Next ∷ Apart ∷ Enter ∷ []
+
+-- all that nets ought to be given
+abbrev pub AreWishes : Comparison → ℕ → List Wish → Type 0
+AreWishes k phase wishes = AreWishesOf wished_kinds k phase wishes
+
+-- no two wishes have the same place
+abbrev pub AreOnce : List Wish → Type 0
+AreOnce wishes = (i j : ℕ) (x y : Wish) → At wishes i x → At wishes j y → spot_of x ≡ spot_of y → i ≡ j
+
+-- a wish of this place is missed
+pub record IsMissed (wishes : List Wish) (x : Spot) (a : Partial) (g : Assignment) : Type 0 where
+  pub wish : Wish
+  pub among : Among wishes wish
+  pub here : spot_of wish ≡ x
+  pub missed : (a wish.net.0 ≡ wanted_bit wish.wanted a g) → ⊥

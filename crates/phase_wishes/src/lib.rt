@@ -1,0 +1,12 @@
+//! What nets ought to be given in a phase by a solution of the circuit, and the first net that is not: output ports their signals,
+//! holds the new bits of their latch elements, the bits of the least nets of their groups, and the constants with which they enter
+//! the next phase.
+#![tactic(auto)]
+
+mod fault;
+mod missed;
+mod wishes;
+
+pub use fault::wish_fault;
+pub use missed::WishFault;
+pub use wishes::{Wanted, Wish, WishBits};
