@@ -1,2 +1,3 @@
 pub mod FoundLaws
 pub mod MissedLaws
+pub mod WishLaws

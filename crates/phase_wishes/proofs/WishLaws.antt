@@ -1,0 +1,125 @@
+-- Lists of wishes: by the definition of the faults, each place once, and one list behind another.
+use Rattle.std.proofs.Common.{◌≡◌, ℕ, ◌<◌, ◌&&◌, true, List, [], ◌∷◌, ◌++◌, length, arith, ap, ap₂, refl, sym, subst, ◌∙◌, inl, inr}
+use Rattle.std.specs.Prelude.{◌↔◌, nat_eq, nat_lt}
+use Rattle.std.proofs.lemmas.Bool.{and_parts, cases_eq, cases_lt, ltb-true, or_cases, false≢true}
+use Rattle.std.proofs.lemmas.Option.{slice_get_within}
+use Rattle.fault_places.specs.Searches.{Spot}
+use Rattle.phase_wishes.specs.Wishes.{AreOnce, AreWishes, AreWishesOf, IsMissed, spot_of, wanted_bit, wished_kinds}
+use Rattle.phase_wishes.specs.declared.wishes.Wish.{Wish}
+use Rattle.vrt_model.proofs.Lists.{at_either}
+use Rattle.vrt_model.proofs.Members.{among_either, among_left, among_right}
+use Rattle.vrt_model.specs.Assignment.{Assignment}
+use Rattle.vrt_model.specs.Comparison.{Comparison}
+use Rattle.vrt_model.specs.Faults.{Misses}
+use Rattle.vrt_model.specs.Lists.{Among, At}
+use Rattle.vrt_model.specs.Places.{comes_before, standing}
+use Rattle.vrt_model.specs.Reading.{Partial}
+use Rattle.vrt_model.specs.declared.verdict.FaultKind.{FaultKind}
+use Rattle.vrt_model.specs.declared.verdict.FaultKind.TheVariants.{Fight, FightKept, Float, Unsettled, Constraint, Differs, Next, Apart, Enter}
+
+module _ (kinds : List FaultKind) (k : Comparison) (phase : ℕ) (wishes : List Wish) (are : AreWishesOf kinds k phase wishes) where
+  -- ---- what is missed
+
+  misses : (x : Spot) (a : Partial) (g : Assignment) → IsMissed wishes x a g → Misses k phase a g x.kind x.at
+  misses x a g m =
+      subst (λ (y : Spot). Misses k phase a g y.kind y.at) m.here
+      (m.wish.net.0, wanted_bit m.wish.wanted a g, are.each m.wish m.among a g, m.missed)
+
+  missed : (x : Spot) (a : Partial) (g : Assignment) → Among kinds x.kind → Misses k phase a g x.kind x.at → IsMissed wishes x a g
+  missed x a g among m =
+      let there = are.all x.kind x.at m.0 m.1 a g among m.2 in
+      let says = there.2 in
+      record {
+        wish = there.0;
+        among = there.1;
+        here = ap₂ (λ (kind : FaultKind) (at : ℕ). let y : Spot = record { kind = kind; at = at } in y) says.kind_is says.place_is;
+        missed = λ same. m.3 (ap a (sym says.net_is) ∙ same ∙ says.wanted_is);
+      }
+
+  -- at a place of one of the kinds a wish is missed exactly where the solution does not give what it ought to
+  pub missed_of : (x : Spot) (a : Partial) (g : Assignment) → Among kinds x.kind → IsMissed wishes x a g ↔ Misses k phase a g x.kind x.at
+  missed_of x a g among = (misses x a g, missed x a g among)
+
+  -- ---- each place once
+
+  not_before : (xs : List ℕ) → comes_before xs xs ≡ true → ⊥
+  not_before [] e = false≢true e
+  not_before (x ∷ xs) e =
+      elim (or_cases (nat_lt x x) (nat_eq x x && comes_before xs xs) e) [
+        | inl lt ↦ (let less = ltb-true x x lt in omega (arith, less))
+        | inr both ↦ not_before xs (and_parts (nat_eq x x) (comes_before xs xs) both).1
+      ]
+
+  later : (i j : ℕ) (x y : Wish) → At wishes i x → At wishes j y → spot_of x ≡ spot_of y → i < j → ⊥
+  later i j x y here there same lt =
+      let keyed = λ (s : Spot). standing k phase (λ (n : ℕ). n) (λ (n : ℕ). n) s.kind s.at in
+      not_before (keyed (spot_of x))
+      (subst (λ (s : Spot). comes_before (keyed (spot_of x)) (keyed s) ≡ true) (sym same) (are.sorted (λ (n : ℕ). n) (λ (n : ℕ). n) i j x y here there lt))
+
+  pub wishes_once : AreOnce wishes
+  wishes_once i j x y here there same =
+      elim (cases_lt i j) [
+        | inl lt ↦ absurd (later i j x y here there same lt)
+        | inr ge ↦ elim (cases_eq i j) [ inl e ↦ e | inr ne ↦ absurd (later j i y x there here (sym same) (omega (arith, ge, ne))) ]
+      ]
+
+-- ---- all kinds
+
+module _ (k : Comparison) (phase : ℕ) (wishes : List Wish) (are : AreWishes k phase wishes) where
+  -- of the other kinds no place is missed
+  wished : (kind : FaultKind) (at : ℕ) (a : Partial) (g : Assignment) → Misses k phase a g kind at → Among wished_kinds kind
+  wished Differs at a g m = (0, refl)
+  wished Next at a g m = (1, refl)
+  wished Apart at a g m = (2, refl)
+  wished Enter at a g m = (3, refl)
+  wished Unsettled at a g m = absurd (m.3 (sym m.2.1))
+  wished Fight at a g m = absurd m.2
+  wished FightKept at a g m = absurd m.2
+  wished Float at a g m = absurd m.2
+  wished Constraint at a g m = absurd m.2
+
+  -- a wish of a place is missed exactly where the solution does not give what it ought to there
+  pub missed_is : (x : Spot) (a : Partial) (g : Assignment) → IsMissed wishes x a g ↔ Misses k phase a g x.kind x.at
+  missed_is x a g = (
+    λ m. misses wished_kinds k phase wishes are x a g m,
+    λ m. missed wished_kinds k phase wishes are x a g (wished x.kind x.at a g m) m,
+  )
+
+-- ---- one list behind another
+
+-- each place of the first kinds comes before each of the second
+abbrev pub AreBefore : Comparison → ℕ → List FaultKind → List FaultKind → Type 0
+AreBefore k phase first second =
+    (rank least : ℕ → ℕ) (kind other : FaultKind) (at there : ℕ) → Among first kind → Among second other
+    → comes_before (standing k phase rank least kind at) (standing k phase rank least other there) ≡ true
+
+module _ (first second : List FaultKind) (k : Comparison) (phase : ℕ) (xs ys : List Wish) (one : AreWishesOf first k phase xs) (two : AreWishesOf second k phase ys) (before : AreBefore k phase first second) where
+  sorted : (rank least : ℕ → ℕ) (i j : ℕ) (x y : Wish) → At (xs ++ ys) i x → At (xs ++ ys) j y → i < j
+      → comes_before (standing k phase rank least x.kind x.place) (standing k phase rank least y.kind y.place) ≡ true
+  sorted rank least i j x y here there lt =
+      elim (at_either xs ys i x here) [
+        | inl p ↦ elim (at_either xs ys j y there) [
+          | inl q ↦ one.sorted rank least i j x y p q lt
+          | inr q ↦ before rank least x.kind y.kind x.place y.place (one.only x (i, p)) (two.only y (q.0, q.2))
+        ]
+        | inr p ↦ elim (at_either xs ys j y there) [
+          | inl q ↦ absurd (let within : j < length xs = slice_get_within xs j y q in let is = p.1 in omega (arith, within, is, lt))
+          | inr q ↦ two.sorted rank least p.0 q.0 x y p.2 q.2 (let is = p.1 in let also = q.1 in omega (arith, is, also, lt))
+        ]
+      ]
+
+  pub wishes_joined : AreWishesOf (first ++ second) k phase (xs ++ ys)
+  wishes_joined = record {
+    only = λ wish m.
+        elim (among_either xs ys wish m) [
+          | inl p ↦ among_left first second wish.kind (one.only wish p)
+          | inr q ↦ among_right first second wish.kind (two.only wish q)
+        ];
+    each = λ wish m. elim (among_either xs ys wish m) [ inl p ↦ one.each wish p | inr q ↦ two.each wish q ];
+    all = λ kind at n w a g m wants.
+        elim (among_either first second kind m) [
+          | inl p ↦ (let there = one.all kind at n w a g p wants in (there.0, among_left xs ys there.0 there.1, there.2))
+          | inr q ↦ (let there = two.all kind at n w a g q wants in (there.0, among_right xs ys there.0 there.1, there.2))
+        ];
+    sorted = sorted;
+  }
