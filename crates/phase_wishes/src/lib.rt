@@ -3,10 +3,14 @@
 //! the next phase.
 #![tactic(auto)]
 
+mod bases;
 mod fault;
+mod holds;
 mod missed;
+mod tables;
 mod wishes;
 
 pub use fault::wish_fault;
+pub use holds::hold_wishes;
 pub use missed::WishFault;
 pub use wishes::{Wanted, Wish, WishBits};
