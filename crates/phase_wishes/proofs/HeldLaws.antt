@@ -1,11 +1,12 @@
--- What a table by net has, as wishes.
-use Rattle.std.proofs.Common.{◌≡◌, ℕ, zero, suc, ◌+◌, ◌<◌, ◌≤◌, Bool, true, false, List, [], ◌∷◌, ◌++◌, replicate, Option, Some, None, length, arith, append_assoc, ap, ap₂, refl, sym, subst, ◌∙◌, inl, inr}
+-- What is put into a table by net, as wishes.
+use Rattle.std.proofs.Common.{◌≡◌, All, ℕ, zero, suc, ◌<◌, Bool, true, false, List, [], ◌∷◌, ◌++◌, replicate, Option, Some, None, length, arith, append_assoc, ap, ap₂, refl, sym, subst, ◌∙◌, inl, inr}
 use Rattle.std.specs.Prelude.{◌&&◌, nat_eq, nat_lt, option_map, slice_get}
-use Rattle.std.proofs.lemmas.Bool.{and_from, cases_lt, eq-eqb, or_right}
-use Rattle.std.proofs.lemmas.List.{get_or-replicate, get_or_past, length-replicate}
+use Rattle.std.proofs.lemmas.Bool.{and_from, eq-eqb, or_right}
+use Rattle.std.proofs.lemmas.List.{length-replicate}
 use Rattle.std.proofs.lemmas.Option.{none-some, same_Some}
 use Rattle.hold_groups.specs.Grouped.{AreGroups, IsMemberAt}
-use Rattle.phase_wishes.specs.Held.{AddsHeld, AreHeldWishes, IsOfEnters, IsOfGroups, Puts, base_of, element_of, entry, held_kinds, kind_of, least_by, wishes_from, with_polarity}
+use Rattle.phase_wishes.specs.Held.{AddsHeld, AreHeldWishes, IsHoldNet, IsHoldWish, IsOfHold, IsOfEnters, IsOfGroups, Puts, base_of, element_of, held_kinds, kind_of, least_by, wishes_from, with_polarity}
+use Rattle.phase_wishes.proofs.EntryLaws.{among_from, entry_is, from_table, kind_in, rises, wish_at}
 use Rattle.phase_wishes.proofs.WishLaws.{AreBefore, wishes_joined}
 use Rattle.phase_wishes.specs.Wishes.{AreWishesOf, IsWish, Says, wanted_bit}
 use Rattle.phase_wishes.specs.declared.bases.Stored.{Stored}
@@ -15,7 +16,7 @@ use Rattle.phase_wishes.specs.declared.wishes.Wanted.TheVariants.{Element, Other
 use Rattle.phase_wishes.specs.declared.wishes.Wish.{Wish}
 use Rattle.vrt_model.proofs.FirstFinding.{less_head}
 use Rattle.vrt_model.proofs.Lists.{one_at}
-use Rattle.vrt_model.proofs.Members.{all_among, among_later, at_none}
+use Rattle.vrt_model.proofs.Members.{all_among, all_by, among_either, at_none}
 use Rattle.vrt_model.specs.Assignment.{Assignment}
 use Rattle.vrt_model.specs.Circuits.{IsCircuit, IsHold}
 use Rattle.vrt_model.specs.Comparison.{Comparison}
@@ -33,40 +34,6 @@ use Rattle.vrt_model.specs.declared.rules.Rules.{Rules}
 use Rattle.vrt_model.specs.declared.verdict.FaultKind.{FaultKind}
 use Rattle.vrt_model.specs.declared.verdict.FaultKind.TheVariants.{Next, Apart, Enter}
 
--- ---- the entries as a list
-
-module _ (kind : FaultKind) where
-  abbrev wish_at : ℕ → Wanted → Wish
-  wish_at n w = let net : Net = record { 0 = n } in let wish : Wish = record { kind = kind; place = n; net = net; wanted = w } in wish
-
-  from_among : (n : ℕ) (t : List (Option Wanted)) (wish : Wish) → Among (wishes_from kind n t) wish → (i : ℕ) × (w : Wanted) × (entry t i ≡ Some w) × (wish ≡ wish_at (n + i) w)
-  from_among n [] wish m = absurd (at_none m.0 wish m.1)
-  from_among n (None ∷ xs) wish m =
-      let r = from_among (n + 1) xs wish m in (suc r.0, r.1, r.2, r.3 ∙ ap (λ (j : ℕ). wish_at j r.1) (omega arith))
-  from_among n (Some w ∷ xs) wish (zero, e) = (0, w, refl, sym (same_Some (wish_at n w) wish e) ∙ ap (λ (j : ℕ). wish_at j w) (omega arith))
-  from_among n (Some w ∷ xs) wish (suc i, e) =
-      let r = from_among (n + 1) xs wish (i, e) in (suc r.0, r.1, r.2, r.3 ∙ ap (λ (j : ℕ). wish_at j r.1) (omega arith))
-
-  among_from : (n : ℕ) (t : List (Option Wanted)) (i : ℕ) (w : Wanted) → entry t i ≡ Some w → Among (wishes_from kind n t) (wish_at (n + i) w)
-  among_from n [] i w e = absurd (none-some w e)
-  among_from n (None ∷ xs) zero w e = absurd (none-some w e)
-  among_from n (None ∷ xs) (suc i) w e = subst (λ (j : ℕ). Among (wishes_from kind (n + 1) xs) (wish_at j w)) (omega arith) (among_from (n + 1) xs i w e)
-  among_from n (Some x ∷ xs) zero w e = (0, ap₂ (λ (j : ℕ) (y : Wanted). Some (wish_at j y)) (omega arith) (same_Some x w e))
-  among_from n (Some x ∷ xs) (suc i) w e =
-      subst (λ (j : ℕ). Among (wish_at n x ∷ wishes_from kind (n + 1) xs) (wish_at j w)) (omega arith)
-      (among_later (wish_at n x) (wishes_from kind (n + 1) xs) (wish_at (n + 1 + i) w) (among_from (n + 1) xs i w e))
-
-  from_low : (n : ℕ) (t : List (Option Wanted)) (wish : Wish) → Among (wishes_from kind n t) wish → n ≤ wish.place
-  from_low n t wish m = let r = from_among n t wish m in let is = ap (λ (x : Wish). x.place) r.3 in omega (arith, is)
-
-  rises : (n : ℕ) (t : List (Option Wanted)) (i j : ℕ) (x y : Wish) → At (wishes_from kind n t) i x → At (wishes_from kind n t) j y → i < j → x.place < y.place
-  rises n [] i j x y here there lt = absurd (at_none i x here)
-  rises n (None ∷ xs) i j x y here there lt = rises (n + 1) xs i j x y here there lt
-  rises n (Some w ∷ xs) i zero x y here there lt = absurd (omega (arith, lt))
-  rises n (Some w ∷ xs) zero (suc j) x y here there lt =
-      let is = ap (λ (z : Wish). z.place) (same_Some (wish_at n w) x here) in let low = from_low (n + 1) xs y (j, there) in omega (arith, is, low)
-  rises n (Some w ∷ xs) (suc i) (suc j) x y here there lt = rises (n + 1) xs i j x y here there (omega (arith, lt))
-
 -- behind the same number the rest decides
 same_stage : (s : ℕ) (xs ys : List ℕ) → comes_before xs ys ≡ true → comes_before (s ∷ xs) (s ∷ ys) ≡ true
 same_stage s xs ys e =
@@ -80,23 +47,6 @@ module _ (kind : FaultKind) (stage : ℕ) (k : Comparison) (phase : ℕ) (Is : �
     (wanted : (at n : ℕ) (w : Option Bool) (a : Partial) (g : Assignment) → WantsValue k phase a g kind at n w → (at ≡ n) × (n < length k.circuit.nets) × (x : Wanted) × Is n x × (wanted_bit x a g ≡ w))
     (one : (n : ℕ) (x y : Wanted) → Is n x → Is n y → x ≡ y)
     (table : List (Option Wanted)) (puts : Puts Is (replicate (length k.circuit.nets) None) table) where
-  no_entry : (n : ℕ) → entry (replicate (length k.circuit.nets) None) n ≡ None
-  no_entry n = elim (cases_lt n (length k.circuit.nets)) [
-    | inl lt ↦ get_or-replicate (length k.circuit.nets) n None None lt
-    | inr ge ↦ get_or_past (replicate (length k.circuit.nets) None) n None (let len = length-replicate {A = Option Wanted} (length k.circuit.nets) None in omega (arith, ge, len))
-  ]
-
-  entry_is : (n : ℕ) (x : Wanted) → entry table n ≡ Some x → Is n x
-  entry_is n x e = elim (puts.kept n x e) [ inl old ↦ absurd (none-some x (sym (no_entry n) ∙ old)) | inr is ↦ is ]
-
-  from_table : (wish : Wish) → Among (wishes_from kind 0 table) wish → (n : ℕ) × (x : Wanted) × Is n x × (wish ≡ wish_at kind n x)
-  from_table wish m =
-      let r = from_among kind 0 table wish m in
-      (r.0, r.1, entry_is r.0 r.1 r.2, r.3 ∙ ap (λ (j : ℕ). wish_at kind j r.1) (omega arith))
-
-  kind_in : (wish : Wish) → Among (wishes_from kind 0 table) wish → wish.kind ≡ kind
-  kind_in wish m = ap (λ (x : Wish). x.kind) (from_table wish m).3
-
   all_in : (at n : ℕ) (w : Option Bool) (a : Partial) (g : Assignment) → WantsValue k phase a g kind at n w → (wish : Wish) × Among (wishes_from kind 0 table) wish × Says wish a g kind at n w
   all_in at n w a g wants_it =
       let r = wanted at n w a g wants_it in
@@ -108,14 +58,14 @@ module _ (kind : FaultKind) (stage : ℕ) (k : Comparison) (phase : ℕ) (Is : �
           kind_is = refl;
           place_is = sym r.0;
           net_is = refl;
-          wanted_is = ap (λ (x : Wanted). wanted_bit x a g) (one n there.0 r.2 (entry_is n there.0 there.1) r.3) ∙ r.4;
+          wanted_is = ap (λ (x : Wanted). wanted_bit x a g) (one n there.0 r.2 (entry_is Is (length k.circuit.nets) table puts n there.0 there.1) r.3) ∙ r.4;
         },
       )
 
   pub table_wishes : AreWishesOf (kind ∷ []) k phase (wishes_from kind 0 table)
   table_wishes = record {
-    only = λ wish m. (0, ap Some (sym (kind_in wish m)));
-    each = λ wish m. let r = from_table wish m in subst (IsWish k phase) (sym r.3) (λ a g. wants r.0 r.1 r.2 a g);
+    only = λ wish m. (0, ap Some (sym (kind_in kind Is (length k.circuit.nets) table puts wish m)));
+    each = λ wish m. let r = from_table kind Is (length k.circuit.nets) table puts wish m in subst (IsWish k phase) (sym r.3) (λ a g. wants r.0 r.1 r.2 a g);
     all = all_of;
     sorted = λ rank least i j x y here there lt.
         ap₂ (λ (p q : List ℕ). comes_before p q) (key_of rank least x (i, here)) (key_of rank least y (j, there))
@@ -130,7 +80,7 @@ module _ (kind : FaultKind) (stage : ℕ) (k : Comparison) (phase : ℕ) (Is : �
       all_of other at n w a g (suc i, e) wants_it = absurd (at_none i other e)
 
       key_of : (rank least : ℕ → ℕ) (x : Wish) → Among (wishes_from kind 0 table) x → standing k phase rank least x.kind x.place ≡ stage ∷ x.place ∷ []
-      key_of rank least x m = ap (λ (q : FaultKind). standing k phase rank least q x.place) (kind_in x m) ∙ keyed rank least x.place
+      key_of rank least x m = ap (λ (q : FaultKind). standing k phase rank least q x.place) (kind_in kind Is (length k.circuit.nets) table puts x m) ∙ keyed rank least x.place
 
 -- ---- what is given of options
 
@@ -257,6 +207,31 @@ module _ (k : Comparison) (circuit : IsCircuit k.circuit) where
     enter_wishes table puts =
         table_wishes Enter 5 k phase (IsOfEnters k.circuit (next_phase k.rules phase)) (λ rank least at. refl) enter_wants enter_wanted enters_one table puts
 
+-- ---- where the wishes stand
+
+module _ (c : Circuit) (groups : List Group) where
+  table_known : (kind : FaultKind) (Is : ℕ → Wanted → Type 0) (table : List (Option Wanted)) → Puts Is (replicate (length c.nets) None) table
+      → ((n : ℕ) (x : Wanted) → Is n x → IsHoldNet c n × IsOfHold c groups x) → (wish : Wish) → Among (wishes_from kind 0 table) wish → IsHoldWish c groups wish
+  table_known kind Is table puts known wish m =
+      let r = from_table kind Is (length c.nets) table puts wish m in subst (IsHoldWish c groups) (sym r.3) (known r.0 r.1 r.2)
+
+  stored_known : (stored : Stored) (n : ℕ) (x : Wanted) → IsOfGroups c stored groups n x → IsHoldNet c n × IsOfHold c groups x
+  stored_known Latches n x p =
+      let of = p.2 in
+      let m = of.2 in
+      let e = mapped (λ (e : ℕ). Element e false) p.0.element of.0 of.1 in
+      ((m.2.0, (m.0.hold, m.2.1), m.2.2), subst (IsOfHold c groups) (ap (λ (b : Wanted). with_polarity b m.0.inverted) e.2 ∙ sym m.2.3) (p.0, p.1, e.1))
+  stored_known Others n x p =
+      let of = p.2 in
+      let m = of.2 in
+      let l = least_some c p.0.element (slice_get p.0.members 0) of.0 of.1 in
+      ((m.2.0, (m.0.hold, m.2.1), m.2.2), subst (IsOfHold c groups) (ap (λ (b : Wanted). with_polarity b m.0.inverted) l.5 ∙ sym m.2.3) (l.3, (l.1.hold, l.4), refl))
+
+  enter_known : (phase n : ℕ) (x : Wanted) → IsOfEnters c phase n x → IsHoldNet c n × IsOfHold c groups x
+  enter_known phase n x p =
+      let m = p.1.2 in
+      ((m.0, (p.0, m.1), m.2), subst (IsOfHold c groups) (sym m.3) tt)
+
 -- ---- in any comparison
 
 abbrev Given : Stored → List (Option Wanted) → Circuit → List Group → Type 0
@@ -271,25 +246,33 @@ module _ (c : Circuit) (circuit : IsCircuit c) (old new : List Wish) (bare table
 
   pub stored_added : (stored : Stored) (kind : FaultKind) (groups slice : List Group) → AreGroups c groups → slice ≡ groups → kind ≡ kind_of stored → Puts (IsOfGroups c stored slice) bare table
       → new ≡ old ++ wishes_from kind 0 shown → (rules : Rules) (phase : ℕ) → AddsHeld c rules groups phase (kind_of stored ∷ []) old new
-  stored_added stored kind groups slice are listed named puts added rules phase = (
-    wishes_from (kind_of stored) 0 table,
-    added ∙ ap₂ (λ (q : FaultKind) (t : List (Option Wanted)). old ++ wishes_from q 0 t) named is_shown,
-    λ k ec er eg.
-        let given : Given stored table c groups = (circuit, are, subst (λ (t : List (Option Wanted)). Puts (IsOfGroups c stored groups) t table) none_yet (subst (λ (gs : List Group). Puts (IsOfGroups c stored gs) bare table) listed puts)) in
-        let there : Given stored table k.circuit k.groups = subst (λ (d : Circuit). Given stored table d k.groups) (sym ec) (subst (λ (gs : List Group). Given stored table c gs) (sym eg) given) in
-        stored_wishes k there.0 phase stored table there.1 there.2,
-  )
+  stored_added stored kind groups slice are listed named puts added rules phase =
+      let all : Puts (IsOfGroups c stored groups) (replicate (length c.nets) None) table =
+      subst (λ (t : List (Option Wanted)). Puts (IsOfGroups c stored groups) t table) none_yet (subst (λ (gs : List Group). Puts (IsOfGroups c stored gs) bare table) listed puts) in
+      record {
+        more = wishes_from (kind_of stored) 0 table;
+        is = added ∙ ap₂ (λ (q : FaultKind) (t : List (Option Wanted)). old ++ wishes_from q 0 t) named is_shown;
+        wishes = λ k ec er eg.
+            let there : Given stored table k.circuit k.groups =
+            subst (λ (d : Circuit). Given stored table d k.groups) (sym ec) (subst (λ (gs : List Group). Given stored table c gs) (sym eg) (circuit, are, all)) in
+            stored_wishes k there.0 phase stored table there.1 there.2;
+        known = table_known c groups (kind_of stored) (IsOfGroups c stored groups) table all (stored_known c groups stored);
+      }
 
   pub entered_added : (rules : Rules) (phase after : ℕ) → after ≡ next_phase rules phase → Puts (IsOfEnters c after) bare table
       → new ≡ old ++ wishes_from Enter 0 shown → (groups : List Group) → AddsHeld c rules groups phase (Enter ∷ []) old new
-  entered_added rules phase after next puts added groups = (
-    wishes_from Enter 0 table,
-    added ∙ ap (λ (t : List (Option Wanted)). old ++ wishes_from Enter 0 t) is_shown,
-    λ k ec er eg.
-        let given : GivenEnters table c rules phase = (circuit, subst (λ (t : List (Option Wanted)). Puts (IsOfEnters c (next_phase rules phase)) t table) none_yet (subst (λ (p : ℕ). Puts (IsOfEnters c p) bare table) next puts)) in
-        let there : GivenEnters table k.circuit k.rules phase = subst (λ (d : Circuit). GivenEnters table d k.rules phase) (sym ec) (subst (λ (rs : Rules). GivenEnters table c rs phase) (sym er) given) in
-        enter_wishes k there.0 phase table there.1,
-  )
+  entered_added rules phase after next puts added groups =
+      let all : Puts (IsOfEnters c (next_phase rules phase)) (replicate (length c.nets) None) table =
+      subst (λ (t : List (Option Wanted)). Puts (IsOfEnters c (next_phase rules phase)) t table) none_yet (subst (λ (p : ℕ). Puts (IsOfEnters c p) bare table) next puts) in
+      record {
+        more = wishes_from Enter 0 table;
+        is = added ∙ ap (λ (t : List (Option Wanted)). old ++ wishes_from Enter 0 t) is_shown;
+        wishes = λ k ec er eg.
+            let there : GivenEnters table k.circuit k.rules phase =
+            subst (λ (d : Circuit). GivenEnters table d k.rules phase) (sym ec) (subst (λ (rs : Rules). GivenEnters table c rs phase) (sym er) (circuit, all)) in
+            enter_wishes k there.0 phase table there.1;
+        known = table_known c groups Enter (IsOfEnters c (next_phase rules phase)) table all (enter_known c groups (next_phase rules phase));
+      }
 
 -- ---- one list behind another
 
@@ -307,12 +290,25 @@ group_before k phase rank least kind other at there (zero, e) (zero, f) =
 group_before k phase rank least kind other at there (zero, e) (suc i, f) = absurd (at_none i other f)
 group_before k phase rank least kind other at there (suc i, e) f = absurd (at_none i kind e)
 
-pub all_added : (c : Circuit) (rules : Rules) (groups : List Group) (phase : ℕ) (old first second last : List Wish) → old ≡ []
-    → AddsHeld c rules groups phase (Next ∷ []) old first → AddsHeld c rules groups phase (Apart ∷ []) first second → AddsHeld c rules groups phase (Enter ∷ []) second last
-    → AreHeldWishes c rules groups phase held_kinds last
-all_added c rules groups phase old first second last empty one two three k ec er eg =
-    let is : last ≡ one.0 ++ (two.0 ++ three.0) =
-    three.1 ∙ ap (λ (ws : List Wish). ws ++ three.0) (two.1 ∙ ap (λ (ws : List Wish). ws ++ two.0) (one.1 ∙ ap (λ (ws : List Wish). ws ++ one.0) empty)) ∙ append_assoc one.0 two.0 three.0 in
-    subst (AreWishesOf held_kinds k phase) (sym is)
-    (wishes_joined (Next ∷ []) (Apart ∷ Enter ∷ []) k phase one.0 (two.0 ++ three.0) (one.2 k ec er eg)
-    (wishes_joined (Apart ∷ []) (Enter ∷ []) k phase two.0 three.0 (two.2 k ec er eg) (three.2 k ec er eg) (group_before k phase)) (latch_before k phase))
+module _ (c : Circuit) (rules : Rules) (groups : List Group) (phase : ℕ) (old first second last : List Wish) (empty : old ≡ [])
+    (one : AddsHeld c rules groups phase (Next ∷ []) old first) (two : AddsHeld c rules groups phase (Apart ∷ []) first second) (three : AddsHeld c rules groups phase (Enter ∷ []) second last) where
+  all_is : last ≡ one.more ++ (two.more ++ three.more)
+  all_is =
+      three.is ∙ ap (λ (ws : List Wish). ws ++ three.more) (two.is ∙ ap (λ (ws : List Wish). ws ++ two.more) (one.is ∙ ap (λ (ws : List Wish). ws ++ one.more) empty))
+      ∙ append_assoc one.more two.more three.more
+
+  pub all_added : AreHeldWishes c rules groups phase held_kinds last
+  all_added k ec er eg =
+      subst (AreWishesOf held_kinds k phase) (sym all_is)
+      (wishes_joined (Next ∷ []) (Apart ∷ Enter ∷ []) k phase one.more (two.more ++ three.more) (one.wishes k ec er eg)
+      (wishes_joined (Apart ∷ []) (Enter ∷ []) k phase two.more three.more (two.wishes k ec er eg) (three.wishes k ec er eg) (group_before k phase)) (latch_before k phase))
+
+  pub all_known : All (IsHoldWish c groups) last
+  all_known =
+      subst (All (IsHoldWish c groups)) (sym all_is)
+      (all_by (IsHoldWish c groups) (one.more ++ (two.more ++ three.more))
+      (λ wish m.
+      elim (among_either one.more (two.more ++ three.more) wish m) [
+        | inl p ↦ one.known wish p
+        | inr q ↦ elim (among_either two.more three.more wish q) [ inl p ↦ two.known wish p | inr r ↦ three.known wish r ]
+      ]))

@@ -1,5 +1,7 @@
+pub mod EntryLaws
 pub mod FoundLaws
 pub mod HeldLaws
 pub mod MissedLaws
+pub mod SpotLaws
 pub mod TableLaws
 pub mod WishLaws

@@ -1,13 +1,16 @@
 -- Lists of wishes: by the definition of the faults, each place once, and one list behind another.
-use Rattle.std.proofs.Common.{◌≡◌, ℕ, ◌<◌, ◌&&◌, true, List, [], ◌∷◌, ◌++◌, length, arith, ap, ap₂, refl, sym, subst, ◌∙◌, inl, inr}
-use Rattle.std.specs.Prelude.{◌↔◌, nat_eq, nat_lt}
-use Rattle.std.proofs.lemmas.Bool.{and_parts, cases_eq, cases_lt, ltb-true, or_cases, false≢true}
-use Rattle.std.proofs.lemmas.Option.{slice_get_within}
+use Rattle.std.proofs.Common.{◌≡◌, ℕ, zero, suc, map, ◌<◌, true, List, [], ◌∷◌, ◌++◌, length, arith, ap, ap₂, refl, sym, subst, ◌∙◌, inl, inr}
+use Rattle.std.specs.Prelude.{◌↔◌}
+use Rattle.std.proofs.lemmas.Bool.{cases_eq, cases_lt}
+use Rattle.std.proofs.lemmas.Option.{same_Some, slice_get_within}
+use Rattle.fault_places.specs.PhaseSpots.{IsSortedBy}
 use Rattle.fault_places.specs.Searches.{Spot}
+use Rattle.phase_wishes.proofs.SpotLaws.{not_both}
+use Rattle.phase_wishes.specs.Held.{held_kinds}
 use Rattle.phase_wishes.specs.Wishes.{AreOnce, AreWishes, AreWishesOf, IsMissed, spot_of, wanted_bit, wished_kinds}
 use Rattle.phase_wishes.specs.declared.wishes.Wish.{Wish}
-use Rattle.vrt_model.proofs.Lists.{at_either}
-use Rattle.vrt_model.proofs.Members.{among_either, among_left, among_right}
+use Rattle.vrt_model.proofs.Lists.{at_either, at_map}
+use Rattle.vrt_model.proofs.Members.{among_either, among_left, among_right, at_none}
 use Rattle.vrt_model.specs.Assignment.{Assignment}
 use Rattle.vrt_model.specs.Comparison.{Comparison}
 use Rattle.vrt_model.specs.Faults.{Misses}
@@ -42,19 +45,12 @@ module _ (kinds : List FaultKind) (k : Comparison) (phase : ℕ) (wishes : List 
 
   -- ---- each place once
 
-  not_before : (xs : List ℕ) → comes_before xs xs ≡ true → ⊥
-  not_before [] e = false≢true e
-  not_before (x ∷ xs) e =
-      elim (or_cases (nat_lt x x) (nat_eq x x && comes_before xs xs) e) [
-        | inl lt ↦ (let less = ltb-true x x lt in omega (arith, less))
-        | inr both ↦ not_before xs (and_parts (nat_eq x x) (comes_before xs xs) both).1
-      ]
-
   later : (i j : ℕ) (x y : Wish) → At wishes i x → At wishes j y → spot_of x ≡ spot_of y → i < j → ⊥
   later i j x y here there same lt =
       let keyed = λ (s : Spot). standing k phase (λ (n : ℕ). n) (λ (n : ℕ). n) s.kind s.at in
-      not_before (keyed (spot_of x))
-      (subst (λ (s : Spot). comes_before (keyed (spot_of x)) (keyed s) ≡ true) (sym same) (are.sorted (λ (n : ℕ). n) (λ (n : ℕ). n) i j x y here there lt))
+      let before : comes_before (keyed (spot_of x)) (keyed (spot_of x)) ≡ true =
+      subst (λ (s : Spot). comes_before (keyed (spot_of x)) (keyed s) ≡ true) (sym same) (are.sorted (λ (n : ℕ). n) (λ (n : ℕ). n) i j x y here there lt) in
+      not_both (keyed (spot_of x)) (keyed (spot_of x)) before before
 
   pub wishes_once : AreOnce wishes
   wishes_once i j x y here there same =
@@ -123,3 +119,29 @@ module _ (first second : List FaultKind) (k : Comparison) (phase : ℕ) (xs ys :
         ];
     sorted = sorted;
   }
+
+-- ---- outputs before holds
+
+outputs_before : (k : Comparison) (phase : ℕ) → AreBefore k phase (Differs ∷ []) held_kinds
+outputs_before k phase rank least kind other at there (zero, e) f =
+    ap (λ (q : FaultKind). comes_before (standing k phase rank least q at) (standing k phase rank least other there)) (sym (same_Some Differs kind e)) ∙ behind other f
+  where
+    behind : (other : FaultKind) → Among held_kinds other → comes_before (standing k phase rank least Differs at) (standing k phase rank least other there) ≡ true
+    behind other (zero, f) = ap (λ (q : FaultKind). comes_before (standing k phase rank least Differs at) (standing k phase rank least q there)) (sym (same_Some Next other f))
+    behind other (suc zero, f) = ap (λ (q : FaultKind). comes_before (standing k phase rank least Differs at) (standing k phase rank least q there)) (sym (same_Some Apart other f))
+    behind other (suc (suc zero), f) = ap (λ (q : FaultKind). comes_before (standing k phase rank least Differs at) (standing k phase rank least q there)) (sym (same_Some Enter other f))
+    behind other (suc (suc (suc i)), f) = absurd (at_none i other f)
+outputs_before k phase rank least kind other at there (suc i, e) f = absurd (at_none i kind e)
+
+-- what the outputs and what the holds ought to be given is all
+pub all_wishes : (k : Comparison) (phase : ℕ) (outputs holds : List Wish) → AreWishesOf (Differs ∷ []) k phase outputs → AreWishesOf held_kinds k phase holds → AreWishes k phase (outputs ++ holds)
+all_wishes k phase outputs holds one two = wishes_joined (Differs ∷ []) held_kinds k phase outputs holds one two (outputs_before k phase)
+
+-- the places of all wishes are sorted
+pub spots_sorted : (kinds : List FaultKind) (k : Comparison) (phase : ℕ) (wishes : List Wish) (rank least : ℕ → ℕ) → AreWishesOf kinds k phase wishes
+    → IsSortedBy (λ (x : Spot). standing k phase rank least x.kind x.at) (map spot_of wishes)
+spots_sorted kinds k phase wishes rank least are i j x y here there lt =
+    let one = at_map spot_of wishes i x here in
+    let two = at_map spot_of wishes j y there in
+    ap₂ (λ (a b : Spot). comes_before (standing k phase rank least a.kind a.at) (standing k phase rank least b.kind b.at)) (sym one.2) (sym two.2)
+    ∙ are.sorted rank least i j one.0 two.0 one.1 two.1 lt

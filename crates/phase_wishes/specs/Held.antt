@@ -30,9 +30,27 @@ abbrev pub AreHeldWishes : Circuit → Rules → List Group → ℕ → List Fau
 AreHeldWishes c rules groups phase kinds wishes =
     (k : Comparison) → k.circuit ≡ c → k.rules ≡ rules → k.groups ≡ groups → AreWishesOf kinds k phase wishes
 
--- a list has these behind what it had
-abbrev pub AddsHeld : Circuit → Rules → List Group → ℕ → List FaultKind → List Wish → List Wish → Type 0
-AddsHeld c rules groups phase kinds old new = (more : List Wish) × (new ≡ old ++ more) × AreHeldWishes c rules groups phase kinds more
+-- a net that has a hold
+abbrev pub IsHoldNet : Circuit → ℕ → Type 0
+IsHoldNet c n = (h : Hold) × Among c.holds h × (h.net.0 ≡ n)
+
+-- what holds are given: the new bit of an element that a group reaches, the bit of a net that has a hold, or a constant
+abbrev pub IsOfHold : Circuit → List Group → Wanted → Type 0
+IsOfHold c groups (Signal signal) = ⊥
+IsOfHold c groups (Element element inverted) = (group : Group) × Among groups group × (group.element ≡ Some element)
+IsOfHold c groups (Other net inverted) = IsHoldNet c net.0
+IsOfHold c groups (Constant v) = Unit {0}
+
+-- a wish at a net that has a hold
+abbrev pub IsHoldWish : Circuit → List Group → Wish → Type 0
+IsHoldWish c groups wish = IsHoldNet c wish.net.0 × IsOfHold c groups wish.wanted
+
+-- a list has more behind what it had: all that holds ought to be given for faults of these kinds
+pub record AddsHeld (c : Circuit) (rules : Rules) (groups : List Group) (phase : ℕ) (kinds : List FaultKind) (old new : List Wish) : Type 0 where
+  pub more : List Wish
+  pub is : new ≡ old ++ more
+  pub wishes : AreHeldWishes c rules groups phase kinds more
+  pub known : (wish : Wish) → Among more wish → IsHoldWish c groups wish
 
 -- ---- by groups
 

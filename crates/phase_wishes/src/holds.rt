@@ -1,6 +1,6 @@
 //! What holds ought to be given in a phase.
 
-ghost use Rattle.std.specs.Prelude.{◌≡◌, ℕ, ◌+◌, ◌++◌, ◌∷◌, List, [], IfOk, OnOk};
+ghost use Rattle.std.specs.Prelude.{◌≡◌, ℕ, ◌+◌, ◌++◌, ◌∷◌, All, List, [], IfOk, OnOk};
 ghost use Rattle.std.specs.List.{cons_option};
 ghost use Rattle.hold_groups.specs.Grouped.{AreGroups};
 ghost use Rattle.vrt_model.specs.Circuits.{IsCircuit};
@@ -8,7 +8,7 @@ ghost use Rattle.vrt_model.specs.Faults.{next_phase};
 ghost use Rattle.vrt_model.specs.declared.groups.Group.{Group as GroupValue};
 ghost use Rattle.vrt_model.specs.declared.rules.Rules.{Rules as RulesValue};
 ghost use Rattle.vrt_model.specs.declared.verdict.FaultKind.TheVariants.{Enter};
-ghost use Rattle.phase_wishes.specs.Held.{AddsHeld, AreHeldWishes, held_kinds, kind_of, wish_by, wishes_from};
+ghost use Rattle.phase_wishes.specs.Held.{AddsHeld, AreHeldWishes, IsHoldWish, held_kinds, kind_of, wish_by, wishes_from};
 
 use crate::bases::{Stored, kind_of};
 use crate::tables::{no_wishes, put_enters, put_groups};
@@ -129,7 +129,8 @@ fn add_all(
     requires circuit { IsCircuit circuit.now }
     requires groups { AreGroups circuit.now groups.now }
     requires empty { wishes.old ≡ [] }
-    ensures { OnOk result (AreHeldWishes circuit.now rules.now groups.now phase held_kinds wishes.new) }
+    ensures wishes { OnOk result (AreHeldWishes circuit.now rules.now groups.now phase held_kinds wishes.new) }
+    ensures known { OnOk result (All (IsHoldWish circuit.now groups.now) wishes.new) }
 {
     add_stored(wishes, alloc, circuit, Stored::Latches, groups)?;
     add_stored(wishes, alloc, circuit, Stored::Others, groups)?;
@@ -149,7 +150,8 @@ pub fn hold_wishes(
 ) -> Result<Seq<Wish>, NoMemory>
     requires circuit { IsCircuit circuit.now }
     requires groups { AreGroups circuit.now groups.now }
-    ensures { IfOk result (AreHeldWishes circuit.now rules.now groups.now phase held_kinds) }
+    ensures wishes { IfOk result (AreHeldWishes circuit.now rules.now groups.now phase held_kinds) }
+    ensures known { IfOk result (All (IsHoldWish circuit.now groups.now)) }
 {
     let mut wishes = Seq::new(alloc);
     add_all(&mut wishes, alloc, circuit, rules, groups, phase)?;

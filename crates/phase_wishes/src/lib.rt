@@ -6,11 +6,13 @@
 mod bases;
 mod fault;
 mod holds;
+mod laws;
 mod missed;
 mod tables;
 mod wishes;
 
 pub use fault::wish_fault;
 pub use holds::hold_wishes;
+pub use laws::{all_wishes, missed_wishes};
 pub use missed::WishFault;
 pub use wishes::{Wanted, Wish, WishBits};

@@ -1,0 +1,24 @@
+//! What lists of wishes say, by the definition of the faults.
+
+ghost use Rattle.std.specs.Prelude.{◌≡◌, ℕ, ◌↔◌, ◌∷◌, ◌++◌, List, []};
+ghost use Rattle.fault_places.specs.Searches.{Spot};
+ghost use Rattle.phase_wishes.specs.Held.{held_kinds};
+ghost use Rattle.phase_wishes.specs.Wishes.{AreOnce, AreWishes, AreWishesOf, IsMissed};
+ghost use Rattle.phase_wishes.specs.declared.wishes.Wish.{Wish as WishValue};
+ghost use Rattle.vrt_model.specs.Assignment.{Assignment};
+ghost use Rattle.vrt_model.specs.Comparison.{Comparison};
+ghost use Rattle.vrt_model.specs.Faults.{Misses};
+ghost use Rattle.vrt_model.specs.Reading.{Partial};
+ghost use Rattle.vrt_model.specs.declared.verdict.FaultKind.TheVariants.{Differs};
+
+/// Of all that nets ought to be given, a wish of a place is missed exactly where the solution does not give what it ought to
+/// there, and no two wishes have the same place.
+pub fn missed_wishes()
+    ensures missed { (k : Comparison) (phase : ℕ) (wishes : List WishValue) → AreWishes k phase wishes → (x : Spot) (a : Partial) (g : Assignment) → IsMissed wishes x a g ↔ Misses k phase a g x.kind x.at }
+    ensures once { (k : Comparison) (phase : ℕ) (wishes : List WishValue) → AreWishes k phase wishes → AreOnce wishes }
+{}
+
+/// What the outputs ought to be given, and behind it what the holds ought to be, is all.
+pub fn all_wishes()
+    ensures { (k : Comparison) (phase : ℕ) (outputs holds : List WishValue) → AreWishesOf (Differs ∷ []) k phase outputs → AreWishesOf held_kinds k phase holds → AreWishes k phase (outputs ++ holds) }
+{}
