@@ -1,10 +1,11 @@
 -- The first wish that is missed, by cases, and by the definition of the faults.
 use Rattle.std.proofs.Common.{◌≡◌, ℕ, Bool, List, All, ap, refl, sym, subst, ◌∙◌}
-use Rattle.std.specs.Prelude.{Option, Some, None, option_map}
+use Rattle.std.specs.Prelude.{Option, Some, None, map, option_map}
 use Rattle.std.proofs.lemmas.Option.{same_Some}
-use Rattle.bdd_core.specs.Store.{Diagrams}
+use Rattle.bdd_core.specs.Store.{Diagrams, function_of}
 use Rattle.bdd_core.specs.declared.handle.H.{H}
-use Rattle.phase_wishes.specs.Missed.{IsFirstMissed, IsInside, IsWithinBits, WishCase, WishesFind, WishesGive, net_at, nets_in, wanted_at}
+use Rattle.fault_places.specs.Searches.{IsFoundIn}
+use Rattle.phase_wishes.specs.Missed.{MissedIn, IsFirstMissed, IsInside, IsWithinBits, WishCase, WishesFind, WishesGive, net_at, nets_in, wanted_at}
 use Rattle.phase_wishes.specs.Wishes.{AreOnce, IsMissed, spot_of, wanted_bit}
 use Rattle.phase_wishes.specs.declared.missed.WishFault.{WishFault}
 use Rattle.phase_wishes.specs.declared.wishes.Wanted.{Wanted}
@@ -51,7 +52,8 @@ module _ (wishes : List Wish) (care : H) (bits : WishBits) (old new : Diagrams) 
       let is : fault.wish ≡ m.wish = same_Some fault.wish m.wish (sym first.stands ∙ subst (λ (n : ℕ). At wishes n m.wish) (sym one) m.among.1) in
       m.missed (subst (λ (w : Wish). v.solution w.net.0 ≡ wanted_bit w.wanted v.solution v.assignment) is (bits_same v fault.wish (first.index, first.stands) same))
 
-  found_first : (fault : WishFault) → IsFirstMissed wishes care bits fault old new → WishesFind wishes care bits old new (Some fault)
+  found_first : (fault : WishFault) → IsFirstMissed wishes care bits fault old new → AreOnce wishes
+      → IsFoundIn (MissedIn wishes bits old) (λ (v : Case). function_of old care v.valuation) (λ (v : Case). function_of new fault.at v.valuation) (map spot_of wishes) (spot_of fault.wish)
   found_first fault first once = record {
     place = first.index;
     stands = map_at spot_of wishes first.index fault.wish first.stands;
@@ -76,4 +78,9 @@ module _ (wishes : List Wish) (care : H) (bits : WishBits) (old new : Diagrams) 
 
   pub found_wishes : (found : Option WishFault) → WishesGive wishes care bits old new found → WishesFind wishes care bits old new found
   found_wishes None met = λ i x v at cared m. m.missed (bits_same v m.wish m.among (met m.among.0 m.wish m.among.1 v.valuation cared))
-  found_wishes (Some fault) first = found_first fault first
+  found_wishes (Some fault) first = record {
+    among = (first.index, first.stands);
+    found = found_first fault first;
+    has = λ v. net_is v fault.wish (first.index, first.stands) ∙ ap (λ (b : Bool). Some b) (sym (first.circuit.same v.valuation));
+    ought = λ v. wanted_is v fault.wish (first.index, first.stands) ∙ ap (λ (b : Bool). Some b) (sym (first.wanted.same v.valuation));
+  }

@@ -1,6 +1,6 @@
 -- Lists of wishes: by the definition of the faults, each place once, and one list behind another.
 use Rattle.std.proofs.Common.{◌≡◌, ℕ, zero, suc, map, ◌<◌, true, List, [], ◌∷◌, ◌++◌, length, arith, ap, ap₂, refl, sym, subst, ◌∙◌, inl, inr}
-use Rattle.std.specs.Prelude.{◌↔◌}
+use Rattle.std.specs.Prelude.{◌↔◌, Bool, Option}
 use Rattle.std.proofs.lemmas.Bool.{cases_eq, cases_lt}
 use Rattle.std.proofs.lemmas.Option.{same_Some, slice_get_within}
 use Rattle.fault_places.specs.PhaseSpots.{IsSortedBy}
@@ -13,10 +13,11 @@ use Rattle.vrt_model.proofs.Lists.{at_either, at_map}
 use Rattle.vrt_model.proofs.Members.{among_either, among_left, among_right, at_none}
 use Rattle.vrt_model.specs.Assignment.{Assignment}
 use Rattle.vrt_model.specs.Comparison.{Comparison}
-use Rattle.vrt_model.specs.Faults.{Misses}
+use Rattle.vrt_model.specs.Faults.{HasValue, IsPrintedWith, Misses, Stands, WantsValue}
 use Rattle.vrt_model.specs.Lists.{Among, At}
 use Rattle.vrt_model.specs.Places.{comes_before, standing}
 use Rattle.vrt_model.specs.Reading.{Partial}
+use Rattle.vrt_model.specs.State.{Setting}
 use Rattle.vrt_model.specs.declared.verdict.FaultKind.{FaultKind}
 use Rattle.vrt_model.specs.declared.verdict.FaultKind.TheVariants.{Fight, FightKept, Float, Unsettled, Constraint, Differs, Next, Apart, Enter}
 
@@ -79,6 +80,44 @@ module _ (k : Comparison) (phase : ℕ) (wishes : List Wish) (are : AreWishes k 
   missed_is x a g = (
     λ m. misses wished_kinds k phase wishes are x a g m,
     λ m. missed wished_kinds k phase wishes are x a g (wished x.kind x.at a g m) m,
+  )
+
+-- ---- the faults
+
+-- at these places a fault stands exactly where the solution does not give what it ought to
+misses_stands : (k : Comparison) (phase : ℕ) (setting : Setting) (a : Partial) (g : Assignment) (kind : FaultKind) (at : ℕ) → Among wished_kinds kind
+    → Misses k phase a g kind at ↔ Stands k phase setting a g kind at
+misses_stands k phase setting a g kind at (zero, e) = subst (λ (q : FaultKind). Misses k phase a g q at ↔ Stands k phase setting a g q at) (same_Some Differs kind e) (λ m. m, λ m. m)
+misses_stands k phase setting a g kind at (suc zero, e) = subst (λ (q : FaultKind). Misses k phase a g q at ↔ Stands k phase setting a g q at) (same_Some Next kind e) (λ m. m, λ m. m)
+misses_stands k phase setting a g kind at (suc (suc zero), e) = subst (λ (q : FaultKind). Misses k phase a g q at ↔ Stands k phase setting a g q at) (same_Some Apart kind e) (λ m. m, λ m. m)
+misses_stands k phase setting a g kind at (suc (suc (suc zero)), e) = subst (λ (q : FaultKind). Misses k phase a g q at ↔ Stands k phase setting a g q at) (same_Some Enter kind e) (λ m. m, λ m. m)
+misses_stands k phase setting a g kind at (suc (suc (suc (suc i))), e) = absurd (at_none i kind e)
+
+-- the value that is printed for the circuit is that of the solution
+value_of : (k : Comparison) (phase : ℕ) (setting : Setting) (a : Partial) (kind : FaultKind) (n : ℕ) (v : Option Bool) → Among wished_kinds kind → v ≡ a n → HasValue k phase setting a kind n v
+value_of k phase setting a kind n v (zero, e) is = subst (λ (q : FaultKind). HasValue k phase setting a q n v) (same_Some Differs kind e) is
+value_of k phase setting a kind n v (suc zero, e) is = subst (λ (q : FaultKind). HasValue k phase setting a q n v) (same_Some Next kind e) is
+value_of k phase setting a kind n v (suc (suc zero), e) is = subst (λ (q : FaultKind). HasValue k phase setting a q n v) (same_Some Apart kind e) is
+value_of k phase setting a kind n v (suc (suc (suc zero)), e) is = subst (λ (q : FaultKind). HasValue k phase setting a q n v) (same_Some Enter kind e) is
+value_of k phase setting a kind n v (suc (suc (suc (suc i))), e) is = absurd (at_none i kind e)
+
+module _ (k : Comparison) (phase : ℕ) (wishes : List Wish) (are : AreWishes k phase wishes) (setting : Setting) (a : Partial) (g : Assignment) where
+  -- a wish of one of the places is missed exactly where the fault of the place stands
+  pub missed_stands : (x : Spot) → Among (map spot_of wishes) x → IsMissed wishes x a g ↔ Stands k phase setting a g x.kind x.at
+  missed_stands x m =
+      let from = at_map spot_of wishes m.0 x m.1 in
+      let kind : Among wished_kinds x.kind = subst (λ (y : Spot). Among wished_kinds y.kind) from.2 (are.only from.0 (m.0, from.1)) in
+      let one = missed_is k phase wishes are x a g in
+      let two = misses_stands k phase setting a g x.kind x.at kind in
+      (λ h. two.0 (one.0 h), λ h. one.1 (two.1 h))
+
+  -- the two values that a wish is printed with
+  pub wish_printed : (wish : Wish) (circuit wanted : Option Bool) → Among wishes wish → a wish.net.0 ≡ circuit → wanted_bit wish.wanted a g ≡ wanted
+      → IsPrintedWith k phase setting a g wish.kind wish.place circuit wanted
+  wish_printed wish circuit wanted m has ought = inl (
+    wish.net.0,
+    subst (WantsValue k phase a g wish.kind wish.place wish.net.0) ought (are.each wish m a g),
+    value_of k phase setting a wish.kind wish.net.0 circuit (are.only wish m) (sym has),
   )
 
 -- ---- one list behind another

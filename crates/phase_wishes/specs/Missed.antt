@@ -6,7 +6,7 @@ use Rattle.bdd_core.specs.Words.{IsFilled, shows}
 use Rattle.bdd_core.specs.declared.handle.H.{H}
 use Rattle.bdd_ops.specs.Counting.{IsSpanWithin}
 use Rattle.fault_places.specs.Searches.{IsClearOf, IsFoundIn, Spot}
-use Rattle.phase_wishes.specs.Wishes.{AreOnce, IsMissed, spot_of}
+use Rattle.phase_wishes.specs.Wishes.{AreOnce, IsMissed, spot_of, wanted_bit}
 use Rattle.phase_wishes.specs.declared.missed.WishFault.{WishFault}
 use Rattle.phase_wishes.specs.declared.wishes.Wanted.{Wanted}
 use Rattle.phase_wishes.specs.declared.wishes.Wanted.TheVariants.{Signal, Element, Other, Constant}
@@ -131,11 +131,19 @@ pub record WishCase (wishes : List Wish) (bits : WishBits) (d : Diagrams) : Type
 abbrev pub MissedIn : (wishes : List Wish) (bits : WishBits) (d : Diagrams) → Spot → WishCase wishes bits d → Type 0
 MissedIn wishes bits d x v = IsMissed wishes x v.solution v.assignment
 
--- no wish is missed in the care set; or the first that is missed in the list, where no two wishes have the same place
+-- The first wish that is missed in the list, where no two wishes have the same place; in each case the two handles have the bit of
+-- its net and the bit that is wanted.
+pub record IsFoundWish (wishes : List Wish) (care : H) (bits : WishBits) (fault : WishFault) (old new : Diagrams) : Type 0 where
+  pub among : Among wishes fault.wish
+  pub found :
+      AreOnce wishes
+      → IsFoundIn (MissedIn wishes bits old) (λ (v : WishCase wishes bits old). function_of old care v.valuation)
+      (λ (v : WishCase wishes bits old). function_of new fault.at v.valuation) (map spot_of wishes) (spot_of fault.wish)
+  pub has : (v : WishCase wishes bits old) → v.solution fault.wish.net.0 ≡ Some (function_of new fault.circuit v.valuation)
+  pub ought : (v : WishCase wishes bits old) → wanted_bit fault.wish.wanted v.solution v.assignment ≡ Some (function_of new fault.wanted v.valuation)
+
+-- no wish is missed in the care set, or the first that is
 abbrev pub WishesFind : List Wish → H → WishBits → Diagrams → Diagrams → Option WishFault → Type 0
 WishesFind wishes care bits old new None =
     IsClearOf (MissedIn wishes bits old) (λ (v : WishCase wishes bits old). function_of old care v.valuation) (map spot_of wishes)
-WishesFind wishes care bits old new (Some fault) =
-    AreOnce wishes
-    → IsFoundIn (MissedIn wishes bits old) (λ (v : WishCase wishes bits old). function_of old care v.valuation)
-    (λ (v : WishCase wishes bits old). function_of new fault.at v.valuation) (map spot_of wishes) (spot_of fault.wish)
+WishesFind wishes care bits old new (Some fault) = IsFoundWish wishes care bits fault old new

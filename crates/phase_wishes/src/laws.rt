@@ -1,20 +1,25 @@
 //! What lists of wishes say, by the definition of the faults.
 
-ghost use Rattle.std.specs.Prelude.{◌≡◌, ℕ, ◌↔◌, ◌∷◌, ◌++◌, List, []};
+ghost use Rattle.std.specs.Prelude.{◌≡◌, ℕ, ◌↔◌, ◌∷◌, ◌++◌, Bool, List, [], Option, map};
 ghost use Rattle.fault_places.specs.Searches.{Spot};
 ghost use Rattle.phase_wishes.specs.Held.{held_kinds};
-ghost use Rattle.phase_wishes.specs.Wishes.{AreOnce, AreWishes, AreWishesOf, IsMissed};
+ghost use Rattle.phase_wishes.specs.Wishes.{AreOnce, AreWishes, AreWishesOf, IsMissed, spot_of, wanted_bit};
 ghost use Rattle.phase_wishes.specs.declared.wishes.Wish.{Wish as WishValue};
 ghost use Rattle.vrt_model.specs.Assignment.{Assignment};
 ghost use Rattle.vrt_model.specs.Comparison.{Comparison};
-ghost use Rattle.vrt_model.specs.Faults.{Misses};
+ghost use Rattle.vrt_model.specs.Faults.{IsPrintedWith, Misses, Stands};
+ghost use Rattle.vrt_model.specs.Lists.{Among};
 ghost use Rattle.vrt_model.specs.Reading.{Partial};
+ghost use Rattle.vrt_model.specs.State.{Setting};
 ghost use Rattle.vrt_model.specs.declared.verdict.FaultKind.TheVariants.{Differs};
 
 /// Of all that nets ought to be given, a wish of a place is missed exactly where the solution does not give what it ought to
-/// there, and no two wishes have the same place.
+/// there, which is the fault of this place. No two wishes have the same place. A fault is printed with the bit of the net and the
+/// bit that this ought to have.
 pub fn missed_wishes()
     ensures missed { (k : Comparison) (phase : ℕ) (wishes : List WishValue) → AreWishes k phase wishes → (x : Spot) (a : Partial) (g : Assignment) → IsMissed wishes x a g ↔ Misses k phase a g x.kind x.at }
+    ensures stands { (k : Comparison) (phase : ℕ) (wishes : List WishValue) → AreWishes k phase wishes → (setting : Setting) (a : Partial) (g : Assignment) (x : Spot) → Among (map spot_of wishes) x → IsMissed wishes x a g ↔ Stands k phase setting a g x.kind x.at }
+    ensures printed { (k : Comparison) (phase : ℕ) (wishes : List WishValue) → AreWishes k phase wishes → (setting : Setting) (a : Partial) (g : Assignment) (wish : WishValue) (circuit wanted : Option Bool) → Among wishes wish → a wish.net.0 ≡ circuit → wanted_bit wish.wanted a g ≡ wanted → IsPrintedWith k phase setting a g wish.kind wish.place circuit wanted }
     ensures once { (k : Comparison) (phase : ℕ) (wishes : List WishValue) → AreWishes k phase wishes → AreOnce wishes }
 {}
 
