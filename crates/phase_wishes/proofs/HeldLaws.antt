@@ -1,12 +1,12 @@
 -- What is put into a table by net, as wishes.
 use Rattle.std.proofs.Common.{◌≡◌, All, ℕ, zero, suc, ◌<◌, Bool, true, false, List, [], ◌∷◌, ◌++◌, replicate, Option, Some, None, length, arith, append_assoc, ap, ap₂, refl, sym, subst, ◌∙◌, inl, inr}
-use Rattle.std.specs.Prelude.{◌&&◌, nat_eq, nat_lt, option_map, slice_get}
-use Rattle.std.proofs.lemmas.Bool.{and_from, eq-eqb, or_right}
+use Rattle.std.specs.Prelude.{option_map, slice_get}
 use Rattle.std.proofs.lemmas.List.{length-replicate}
 use Rattle.std.proofs.lemmas.Option.{none-some, same_Some}
 use Rattle.hold_groups.specs.Grouped.{AreGroups, IsMemberAt}
 use Rattle.phase_wishes.specs.Held.{AddsHeld, AreHeldWishes, IsHoldNet, IsHoldWish, IsOfHold, IsOfEnters, IsOfGroups, Puts, base_of, element_of, held_kinds, kind_of, least_by, wishes_from, with_polarity}
 use Rattle.phase_wishes.proofs.EntryLaws.{among_from, entry_is, from_table, kind_in, rises, wish_at}
+use Rattle.phase_wishes.proofs.SpotLaws.{same_stage}
 use Rattle.phase_wishes.proofs.WishLaws.{AreBefore, wishes_joined}
 use Rattle.phase_wishes.specs.Wishes.{AreWishesOf, IsWish, Says, wanted_bit}
 use Rattle.phase_wishes.specs.declared.bases.Stored.{Stored}
@@ -33,11 +33,6 @@ use Rattle.vrt_model.specs.declared.ids.Net.{Net}
 use Rattle.vrt_model.specs.declared.rules.Rules.{Rules}
 use Rattle.vrt_model.specs.declared.verdict.FaultKind.{FaultKind}
 use Rattle.vrt_model.specs.declared.verdict.FaultKind.TheVariants.{Next, Apart, Enter}
-
--- behind the same number the rest decides
-same_stage : (s : ℕ) (xs ys : List ℕ) → comes_before xs ys ≡ true → comes_before (s ∷ xs) (s ∷ ys) ≡ true
-same_stage s xs ys e =
-    or_right (nat_lt s s) (nat_eq s s && comes_before xs ys) (and_from (nat_eq s s) (comes_before xs ys) (eq-eqb s s refl) e)
 
 -- ---- a table of all that ought to be given for one kind
 

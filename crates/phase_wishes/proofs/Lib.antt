@@ -3,6 +3,7 @@ pub mod FoundLaws
 pub mod HeldLaws
 pub mod KnownLaws
 pub mod MissedLaws
+pub mod OutputLaws
 pub mod SpotLaws
 pub mod TableLaws
 pub mod WishLaws

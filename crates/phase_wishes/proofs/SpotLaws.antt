@@ -1,7 +1,7 @@
 -- What is found in a list of places, and in a longer one in the same order.
-use Rattle.std.proofs.Common.{◌≡◌, ℕ, ◌&&◌, Bool, true, List, [], ◌∷◌, arith, subst, inl, inr}
+use Rattle.std.proofs.Common.{refl, ◌≡◌, ℕ, ◌&&◌, Bool, true, List, [], ◌∷◌, arith, subst, inl, inr}
 use Rattle.std.specs.Prelude.{nat_eq, nat_lt}
-use Rattle.std.proofs.lemmas.Bool.{and_parts, cases_eq, cases_lt, eqb-true, false≢true, ltb-true, or_cases}
+use Rattle.std.proofs.lemmas.Bool.{and_from, and_parts, eq-eqb, or_right, cases_eq, cases_lt, eqb-true, false≢true, ltb-true, or_cases}
 use Rattle.fault_places.specs.PhaseSpots.{IsSortedBy}
 use Rattle.fault_places.specs.Searches.{IsClearOf, IsFoundIn, Spot}
 use Rattle.vrt_model.proofs.Lists.{one_at}
@@ -23,6 +23,11 @@ not_both (x ∷ xs) (y ∷ ys) e f =
         | inr also ↦ not_both xs ys (and_parts (nat_eq x y) (comes_before xs ys) same).1 (and_parts (nat_eq y x) (comes_before ys xs) also).1
       ]
     ]
+
+-- behind the same number the rest decides
+pub same_stage : (s : ℕ) (xs ys : List ℕ) → comes_before xs ys ≡ true → comes_before (s ∷ xs) (s ∷ ys) ≡ true
+same_stage s xs ys e =
+    or_right (nat_lt s s) (nat_eq s s && comes_before xs ys) (and_from (nat_eq s s) (comes_before xs ys) (eq-eqb s s refl) e)
 
 module _ (W : Type 0) (Fault : Spot → W → Type 0) (care : W → Bool) (xs ys : List Spot) (covered : (y : Spot) (v : W) → Among ys y → care v ≡ true → Fault y v → Among xs y) where
   -- where nothing is found in a list, nothing is in another whose faults are all at places of the first

@@ -5,7 +5,8 @@ use Rattle.phase_wishes.specs.declared.wishes.Wanted.{Wanted}
 use Rattle.phase_wishes.specs.declared.wishes.Wanted.TheVariants.{Signal, Element, Other, Constant}
 use Rattle.phase_wishes.specs.declared.wishes.Wish.{Wish}
 use Rattle.vrt_model.specs.Assignment.{Assignment}
-use Rattle.vrt_model.specs.Comparison.{Comparison}
+use Rattle.vrt_model.specs.CellRules.{is_observed_port}
+use Rattle.vrt_model.specs.Comparison.{CellPort, Comparison, cell_at, output_signal, ports_of}
 use Rattle.vrt_model.specs.Faults.{WantsValue}
 use Rattle.vrt_model.specs.Lists.{Among, At, differ}
 use Rattle.vrt_model.specs.Places.{comes_before, standing}
@@ -28,6 +29,12 @@ spot_of wish = record { kind = wish.kind; at = wish.place }
 abbrev pub IsWish : Comparison → ℕ → Wish → Type 0
 IsWish k phase wish =
     (a : Partial) (g : Assignment) → WantsValue k phase a g wish.kind wish.place wish.net.0 (wanted_bit wish.wanted a g)
+
+-- an output port with its signal, in a phase in which it is observed
+pub record IsSeenOutput (k : Comparison) (phase at : ℕ) (port : CellPort) (signal : ℕ) : Type 0 where
+  pub there : At (ports_of k) at port
+  pub role : output_signal port.role ≡ Some signal
+  pub seen : is_observed_port k.rules (cell_at k.design k.cell).name port.name phase ≡ true
 
 -- the wish says that the net of this number ought to have this bit, for a fault of this kind at this place
 pub record Says (wish : Wish) (a : Partial) (g : Assignment) (kind : FaultKind) (at n : ℕ) (w : Option Bool) : Type 0 where
@@ -54,6 +61,15 @@ wished_kinds = Differs ∷ Next ∷ Apart ∷ Enter ∷ []
 -- all that nets ought to be given
 abbrev pub AreWishes : Comparison → ℕ → List Wish → Type 0
 AreWishes k phase wishes = AreWishesOf wished_kinds k phase wishes
+
+-- a wish for each output port that is observed in the phase, in the order of the ports: its net ought to have the bit of its signal
+pub record AreOutputWishes (k : Comparison) (phase : ℕ) (wishes : List Wish) : Type 0 where
+  pub kinds : (wish : Wish) → Among wishes wish → wish.kind ≡ Differs
+  pub each :
+      (wish : Wish) → Among wishes wish
+      → (port : CellPort) × (signal : ℕ) × IsSeenOutput k phase wish.place port signal × (wish.net.0 ≡ port.net) × (wish.wanted ≡ Signal signal)
+  pub all : (at : ℕ) (port : CellPort) (signal : ℕ) → IsSeenOutput k phase at port signal → (wish : Wish) × Among wishes wish × (wish.place ≡ at)
+  pub rising : (i j : ℕ) (x y : Wish) → At wishes i x → At wishes j y → i < j → x.place < y.place
 
 -- no two wishes have the same place
 abbrev pub AreOnce : List Wish → Type 0

@@ -3,7 +3,7 @@
 ghost use Rattle.std.specs.Prelude.{◌≡◌, ℕ, ◌↔◌, ◌∷◌, ◌++◌, Bool, List, [], Option, map};
 ghost use Rattle.fault_places.specs.Searches.{Spot};
 ghost use Rattle.phase_wishes.specs.Held.{held_kinds};
-ghost use Rattle.phase_wishes.specs.Wishes.{AreOnce, AreWishes, AreWishesOf, IsMissed, spot_of, wanted_bit};
+ghost use Rattle.phase_wishes.specs.Wishes.{AreOnce, AreOutputWishes, AreWishes, AreWishesOf, IsMissed, spot_of, wanted_bit};
 ghost use Rattle.phase_wishes.specs.declared.wishes.Wish.{Wish as WishValue};
 ghost use Rattle.vrt_model.specs.Assignment.{Assignment};
 ghost use Rattle.vrt_model.specs.Comparison.{Comparison};
@@ -23,7 +23,8 @@ pub fn missed_wishes()
     ensures once { (k : Comparison) (phase : ℕ) (wishes : List WishValue) → AreWishes k phase wishes → AreOnce wishes }
 {}
 
-/// What the outputs ought to be given, and behind it what the holds ought to be, is all.
+/// A wish for each observed output port is what the outputs ought to be given; with what the holds ought to be behind it, it is all.
 pub fn all_wishes()
-    ensures { (k : Comparison) (phase : ℕ) (outputs holds : List WishValue) → AreWishesOf (Differs ∷ []) k phase outputs → AreWishesOf held_kinds k phase holds → AreWishes k phase (outputs ++ holds) }
+    ensures outputs { (k : Comparison) (phase : ℕ) (outputs : List WishValue) → AreOutputWishes k phase outputs → AreWishesOf (Differs ∷ []) k phase outputs }
+    ensures all { (k : Comparison) (phase : ℕ) (outputs holds : List WishValue) → AreWishesOf (Differs ∷ []) k phase outputs → AreWishesOf held_kinds k phase holds → AreWishes k phase (outputs ++ holds) }
 {}
