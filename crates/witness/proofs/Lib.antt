@@ -1,8 +1,11 @@
 -- What nets show at one valuation.
+pub mod FirstFaultLaws
 pub mod LookLaws
+pub mod MeetingLaws
 pub mod NoteLaws
 pub mod PartResponses
 pub mod PartNets
+pub mod SettingLaws
 pub mod SettleLaws
 pub mod StartLaws
 pub mod ViewLaws

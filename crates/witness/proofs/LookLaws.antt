@@ -35,7 +35,7 @@ use Rattle.witness.specs.Replays.{HasGivenBits, HasKnownNets, HasSeen, IsBlocked
 
 -- ---- circuits without whole instances have no output pins
 
-no_pin : (c : Circuit) → IsFlat c → (at : ℕ) (out : OutputPin) → At (output_pins c) at out → ⊥
+pub no_pin : (c : Circuit) → IsFlat c → (at : ℕ) (out : OutputPin) → At (output_pins c) at out → ⊥
 no_pin c flat at out e = at_none at out (subst (λ (ws : List Whole). At (output_pins (record c { wholes = ws })) at out) flat.wholes e)
 
 -- ---- the gates of devices
@@ -107,7 +107,7 @@ module _ (c : Circuit) (phase : Phase) (flat : IsFlat c) (setting : Setting) (wh
     responds : (driven : ℕ → Bool) → is_stopped c bits part.devices ≡ false → (r : Response) → IsResponse (network_of c which setting.held (filled_state driven)) n r
         → Responds c phase setting (known_at bits) which n r
     responds driven f r h s state has =
-        same_response c phase flat setting which n (filled_state driven) s (filled_state_is driven) state (λ m v k. filled_is m v (known m v k)) (λ m v k. has m v (known m v k))
+        same_response c phase flat setting which n (filled_state driven) s (filled_state_is driven) state (λ d m v k. filled_is d.gate.0 v (known d.gate.0 v k)) (λ d m v k. has d.gate.0 v (known d.gate.0 v k))
         (λ d p. let bit = gate_there f d p in filled_is d.gate.0 bit.0 bit.1 ∙ sym (has d.gate.0 bit.0 bit.1))
         n r (alone (together_plain c phase which (least_of part) n linked)) h
 

@@ -10,10 +10,10 @@ use Rattle.vrt_model.proofs.Members.{all_among, at_none}
 use Rattle.vrt_model.proofs.Networks.{flat_outputs, flat_ranges, given_source, network_levels}
 use Rattle.vrt_model.specs.Circuits.{IsDevice, IsFlat}
 use Rattle.vrt_model.specs.Known.{IsChannel, IsInPart, IsKnown, IsTogether, onward}
-use Rattle.vrt_model.specs.Lists.{At}
+use Rattle.vrt_model.specs.Lists.{At, Among}
 use Rattle.vrt_model.specs.Networks.{Covers}
 use Rattle.vrt_model.specs.Path.{IsOn, Joins, Network}
-use Rattle.vrt_model.specs.Reading.{conducts_at}
+use Rattle.vrt_model.specs.Reading.{conducts_at, devices_of}
 use Rattle.vrt_model.specs.Response.{Fight, Float, IsResponse, Reaches, Response, Shows}
 use Rattle.vrt_model.specs.State.{IsState, Setting, State, network_of}
 use Rattle.vrt_model.specs.declared.circuit.Circuit.{Circuit}
@@ -21,9 +21,9 @@ use Rattle.vrt_model.specs.declared.circuit.Device.{Device}
 use Rattle.vrt_model.specs.declared.rules.Phase.{Phase}
 use Rattle.vrt_model.specs.declared.whole.WholePin.{WholePin}
 
--- a reading has the bits of the known nets
-abbrev pub HasKnown : Circuit → Phase → (ℕ → Bool) → Type 0
-HasKnown c phase reading = (n : ℕ) (v : Bool) → IsKnown c phase n v → reading n ≡ v
+-- a reading has the bits of the known gates of the bare or the kept circuit
+abbrev pub HasKnown : Circuit → Phase → Bool → (ℕ → Bool) → Type 0
+HasKnown c phase which reading = (d : Device) → Among (devices_of which c) d → (v : Bool) → IsKnown c phase d.gate.0 v → reading d.gate.0 ≡ v
 
 module _ (c : Circuit) (phase : Phase) (flat : IsFlat c) (setting : Setting) (which : Bool) (n : ℕ) where
   abbrev pub view : State → Network
@@ -33,8 +33,8 @@ module _ (c : Circuit) (phase : Phase) (flat : IsFlat c) (setting : Setting) (wh
   no_output s at pin e = at_none at pin (subst (λ ps. At ps at pin) (flat_outputs c which setting.held s flat.wholes) e)
 
   -- what conducts is a channel, where the known nets have their bits
-  channel : (s : State) → HasKnown c phase s.reading → (d : Device) → IsOn (view s) d → IsChannel c phase which d
-  channel s known d on = (on.0, λ v k. subst (λ (b : Bool). conducts_at d.kind b ≡ true) (known d.gate.0 v k) on.1)
+  channel : (s : State) → HasKnown c phase which s.reading → (d : Device) → IsOn (view s) d → IsChannel c phase which d
+  channel s known d on = (on.0, λ v k. subst (λ (b : Bool). conducts_at d.kind b ≡ true) (known d on.0 v k) on.1)
 
   same_given : (s t : State) → IsState c phase setting.inputs s → IsState c phase setting.inputs t → (m : ℕ) → IsGiven c m → s.reading m ≡ t.reading m
   same_given s t is it m g = given_once phase setting.inputs g.0.kind m (s.reading m) (t.reading m) g.2 (is.reading m g.0 g.1) (it.reading m g.0 g.1)
@@ -42,7 +42,7 @@ module _ (c : Circuit) (phase : Phase) (flat : IsFlat c) (setting : Setting) (wh
   end_in : (d : Device) (m l : ℕ) → IsDevice c d → Joins d m l → m < length c.nets
   end_in d m l is j = elim j [ inl e ↦ subst (λ (x : ℕ). x < length c.nets) e.0 is.left | inr e ↦ subst (λ (x : ℕ). x < length c.nets) e.1 is.right ]
 
-  covers : (s t : State) → IsState c phase setting.inputs s → IsState c phase setting.inputs t → HasKnown c phase s.reading
+  covers : (s t : State) → IsState c phase setting.inputs s → IsState c phase setting.inputs t → HasKnown c phase which s.reading
       → ((d : Device) → IsInPart c phase which n d → s.reading d.gate.0 ≡ t.reading d.gate.0)
       → Covers (view s) (view t) (IsTogether c phase which n) (IsGiven c)
   covers s t is it known same = record {
@@ -66,7 +66,7 @@ module _ (c : Circuit) (phase : Phase) (flat : IsFlat c) (setting : Setting) (wh
   }
 
   -- a net of the part responds in one state as in the other
-  pub same_response : (s t : State) → IsState c phase setting.inputs s → IsState c phase setting.inputs t → HasKnown c phase s.reading → HasKnown c phase t.reading
+  pub same_response : (s t : State) → IsState c phase setting.inputs s → IsState c phase setting.inputs t → HasKnown c phase which s.reading → HasKnown c phase which t.reading
       → ((d : Device) → IsInPart c phase which n d → s.reading d.gate.0 ≡ t.reading d.gate.0)
       → (m : ℕ) (r : Response) → IsTogether c phase which n m → IsResponse (view s) m r → IsResponse (view t) m r
   same_response s t is it ks kt same m r i h =

@@ -14,7 +14,7 @@ use Rattle.vrt_model.specs.State.{Setting, State, network_of}
 use Rattle.vrt_model.specs.declared.circuit.Circuit.{Circuit}
 use Rattle.vrt_model.specs.declared.rules.Phase.{Phase}
 use Rattle.witness.proofs.LookLaws.{filled_is, filled_state, filled_state_is}
-use Rattle.witness.specs.Replays.{AreValues, HasGivenBits, HasSeen, Responds, bit_shown, bits_shown}
+use Rattle.witness.specs.Replays.{AreValues, HasGivenBits, HasKnownNets, HasSeen, Responds, bit_shown, bits_shown}
 use Rattle.witness.specs.Settling.{HasNoted, IsSettled, Stands}
 use Rattle.witness.specs.declared.seen.Seen.{Seen}
 use Rattle.witness.specs.declared.seen.Seen.TheVariants.{Bit, Fight, Float, Blocked}
@@ -144,6 +144,7 @@ settled_values c phase setting bits bare kept settled count seen =
       bare_count = settled.count;
       kept_count = count;
       given = subst (HasGivenBits c phase setting.inputs) same settled.stands.given;
+      known = subst (HasKnownNets c phase) same settled.stands.known;
       bare_seen = subst (λ (b : ℕ → Option Bool). (n : ℕ) (seen : Seen) → At bare n seen → HasSeen c phase setting b true n seen) same settled.seen;
       kept_seen = subst (λ (b : ℕ → Option Bool). (n : ℕ) (seen : Seen) → At kept n seen → HasSeen c phase setting b false n seen) same seen;
     }

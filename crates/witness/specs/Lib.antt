@@ -1,3 +1,4 @@
+pub mod FirstFaults
 pub mod Looks
 pub mod ReplayAnswers
 pub mod Replays

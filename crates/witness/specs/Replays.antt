@@ -74,5 +74,6 @@ pub record AreValues (c : Circuit) (phase : Phase) (setting : Setting) (bare kep
   pub bare_count : length bare ≡ length c.nets
   pub kept_count : length kept ≡ length c.nets
   pub given : HasGivenBits c phase setting.inputs (bits_shown bare)
+  pub known : HasKnownNets c phase (bits_shown bare)
   pub bare_seen : (n : ℕ) (seen : Seen) → At bare n seen → HasSeen c phase setting (bits_shown bare) true n seen
   pub kept_seen : (n : ℕ) (seen : Seen) → At kept n seen → HasSeen c phase setting (bits_shown bare) false n seen

@@ -1,6 +1,7 @@
 //! What a verdict says in a line, and what the nets of a circuit show at one valuation.
 #![tactic(auto)]
 
+mod first_faults;
 mod looking;
 mod replaying;
 mod rounds;
@@ -10,6 +11,7 @@ mod values;
 mod verdict_lines;
 mod viewing;
 
+pub use first_faults::first_fault_shown;
 pub use looking::look;
 pub use replaying::replay;
 pub use seen::Seen;
