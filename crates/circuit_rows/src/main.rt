@@ -10,6 +10,7 @@ mod classes;
 mod desk;
 mod drawing;
 mod paths;
+mod replays;
 mod small;
 mod stop;
 mod values;

@@ -43,6 +43,9 @@ pub enum Ask {
     Signals,
     /// `classes BIT ..`: the classes of the parts, where the clock has these bits in the phases.
     Classes,
+    /// `replay CLOCK BIT ..`: what all plain nets show without and with keepers, or a cycle, where the clock, then the holds
+    /// and then the inputs have these bits.
+    Replay,
 }
 
 /// What is asked of the paths of a circuit, whose inputs and holds are variables in their order.
@@ -78,7 +81,7 @@ pub enum Word {
 }
 
 /// All words.
-const WORDS: [(&str, Word); 24] = [
+const WORDS: [(&str, Word); 25] = [
     ("circuit", Word::Circuit),
     ("plain", Word::Drawing(Drawing::Plain)),
     ("input", Word::Drawing(Drawing::Input)),
@@ -96,6 +99,7 @@ const WORDS: [(&str, Word); 24] = [
     ("order", Word::Ask(Ask::Order)),
     ("signals", Word::Ask(Ask::Signals)),
     ("classes", Word::Ask(Ask::Classes)),
+    ("replay", Word::Ask(Ask::Replay)),
     ("solve", Word::Path(Path::Solve)),
     ("product", Word::Path(Path::Product)),
     ("complement", Word::Path(Path::Complement)),
