@@ -86,14 +86,21 @@ impl Draft {
         }
     }
 
-    /// Adds an n-device that is a keeper.
-    pub fn keeper(&mut self, level: u8, gate: Net, left: Net, right: Net) -> Result<(), NoMemory>
-        ensures added { OnOk result (HasDevice Kind.N level true gate left right self.old.circuit self.new.circuit) }
+    /// Adds a device that is a keeper.
+    pub fn keeper(
+        &mut self,
+        kind: Kind,
+        level: u8,
+        gate: Net,
+        left: Net,
+        right: Net,
+    ) -> Result<(), NoMemory>
+        ensures added { OnOk result (HasDevice kind level true gate left right self.old.circuit self.new.circuit) }
         ensures kept { OnErr result (self.new.circuit ≡ self.old.circuit) }
     {
         let device = Device {
             name: Text::new(self.alloc),
-            kind: Kind::N,
+            kind,
             gate,
             left,
             right,

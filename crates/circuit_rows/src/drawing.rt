@@ -18,7 +18,8 @@ pub(crate) fn draw(draft: &mut Draft, what: Drawing, numbers: &[u32]) -> Result<
         Drawing::Clock => clock(draft, bit(numbers, 0)?),
         Drawing::NDevice => device(draft, Kind::N, numbers),
         Drawing::PDevice => device(draft, Kind::P, numbers),
-        Drawing::Keeper => keeper(draft, numbers),
+        Drawing::NKeeper => keeper(draft, Kind::N, numbers),
+        Drawing::PKeeper => keeper(draft, Kind::P, numbers),
         Drawing::Inverter => inverter(draft, net(numbers, 0)?, net(numbers, 1)?),
         Drawing::Hold => Ok(draft.hold(net(numbers, 0)?, 2)?),
         Drawing::Inverters => inverters(draft, numbers),
@@ -45,9 +46,9 @@ fn device(draft: &mut Draft, kind: Kind, numbers: &[u32]) -> Result<(), Stop> {
     Ok(())
 }
 
-fn keeper(draft: &mut Draft, numbers: &[u32]) -> Result<(), Stop> {
+fn keeper(draft: &mut Draft, kind: Kind, numbers: &[u32]) -> Result<(), Stop> {
     let (left, gate, right) = (net(numbers, 0)?, net(numbers, 1)?, net(numbers, 2)?);
-    draft.keeper(4, gate, left, right)?;
+    draft.keeper(kind, 4, gate, left, right)?;
     Ok(())
 }
 

@@ -16,8 +16,10 @@ pub enum Drawing {
     NDevice,
     /// `p LEFT GATE RIGHT LEVEL`.
     PDevice,
-    /// `keeper LEFT GATE RIGHT`: an n-device of level 4.
-    Keeper,
+    /// `n_keeper LEFT GATE RIGHT`: an n-device of level 4 that is a keeper.
+    NKeeper,
+    /// `p_keeper LEFT GATE RIGHT`: such a p-device.
+    PKeeper,
     /// `inverter FROM TO`.
     Inverter,
     /// `hold NET`: of size 2.
@@ -81,14 +83,15 @@ pub enum Word {
 }
 
 /// All words.
-const WORDS: [(&str, Word); 25] = [
+const WORDS: [(&str, Word); 26] = [
     ("circuit", Word::Circuit),
     ("plain", Word::Drawing(Drawing::Plain)),
     ("input", Word::Drawing(Drawing::Input)),
     ("clock", Word::Drawing(Drawing::Clock)),
     ("n", Word::Drawing(Drawing::NDevice)),
     ("p", Word::Drawing(Drawing::PDevice)),
-    ("keeper", Word::Drawing(Drawing::Keeper)),
+    ("n_keeper", Word::Drawing(Drawing::NKeeper)),
+    ("p_keeper", Word::Drawing(Drawing::PKeeper)),
     ("inverter", Word::Drawing(Drawing::Inverter)),
     ("hold", Word::Drawing(Drawing::Hold)),
     ("inverters", Word::Drawing(Drawing::Inverters)),
