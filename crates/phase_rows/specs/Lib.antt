@@ -1,2 +1,4 @@
 pub mod Apart
 pub mod Given
+pub mod Observing
+pub mod Spans

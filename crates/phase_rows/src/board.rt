@@ -3,9 +3,11 @@
 use crate::checks::is_live;
 use crate::stop::Stop;
 use bdd_core::{H, ONE, Store, ZERO};
+use known_nets::is_plain;
 use node_pool::Span;
+use plain_paths::bit;
 use std::alloc::Global;
-use vrt_model::{Circuit, NetKind, Var};
+use vrt_model::{Circuit, NetKind, Phase, Var};
 
 /// The most nodes of a store.
 const BUDGET: u32 = 10000;
@@ -77,10 +79,10 @@ impl Board {
         }
     }
 
-    /// Gives each word the variable of its place.
-    pub(crate) fn put_all(&mut self) -> Result<(), Stop> {
-        for at in 0..self.values.len {
-            put_bit(&mut self.store, self.values, at, at)?;
+    /// Gives each word of a span the variable of its place.
+    pub(crate) fn put_all(&mut self, span: Span) -> Result<(), Stop> {
+        for at in 0..span.len {
+            put_bit(&mut self.store, span, at, at)?;
         }
         Ok(())
     }
@@ -95,6 +97,34 @@ impl Board {
                 var = var.saturating_add(1);
             }
             at = at.saturating_add(1);
+        }
+        Ok(())
+    }
+
+    /// The same, and gives each net that carries a clock the constant of its bit in a phase.
+    pub(crate) fn put_given(&mut self, circuit: &Circuit, phase: &Phase) -> Result<(), Stop> {
+        self.put_inputs(circuit)?;
+        let mut at = 0u32;
+        for net in circuit.nets.as_slice() {
+            if let NetKind::Clock(clock) = net.kind {
+                let is_one = bit(phase.bits.as_slice(), clock.clock as usize) != clock.inverted;
+                let constant = if is_one { ONE } else { ZERO };
+                put(&mut self.store, self.values, at, constant);
+            }
+            at = at.saturating_add(1);
+        }
+        Ok(())
+    }
+
+    /// Gives each plain net with a hold the variable of the hold: they stand behind the inputs, in the order of the holds. A
+    /// hold elsewhere has one too, which nothing reads.
+    pub(crate) fn put_holds(&mut self, circuit: &Circuit) -> Result<(), Stop> {
+        let mut var = inputs(circuit).min(MOST) as u32;
+        for hold in circuit.holds.as_slice() {
+            if is_plain(circuit, hold.net.0 as usize) {
+                put_bit(&mut self.store, self.values, hold.net.0, var)?;
+            }
+            var = var.saturating_add(1);
         }
         Ok(())
     }

@@ -8,7 +8,7 @@ use crate::inputs::has_inputs;
 use crate::stop::Stop;
 use crate::texts::Given;
 use crate::values::add_bits;
-use bdd_core::{H, Store};
+use bdd_core::{H, ONE, Store};
 use constraints::care;
 use node_pool::Span;
 use row_script::Page;
@@ -54,5 +54,5 @@ pub(crate) fn tell(
     page.word("variables");
     page.behind_blank(board.store.vars());
     page.word(", care ");
-    add_bits(page, &board.store, f)
+    add_bits(page, &board.store, ONE, f)
 }

@@ -4,6 +4,8 @@
 //! |---|---|
 //! | `circuit` | a new circuit begins, of the supplies alone: the nets `0` and `1` |
 //! | `net NAME KIND COUNT` | a net, `input`, `plain`, or with the first `clock` or its inverse, `!clock`, or so many of one name |
+//! | `device KIND LEVEL GATE NET NET` | a device, `n` or `p`, of this level, whose channel joins two nets |
+//! | `keeper KIND LEVEL GATE NET NET` | the same as a keeper |
 //! | `hold NET END PHASE=BIT ..` | a hold, and the bits with which it enters phases |
 //! | `instance CELL NET ..` | an instance of the cell of this number, with the nets of its ports |
 //!
@@ -14,7 +16,8 @@ use crate::stop::Stop;
 use row_script::word_and_rest;
 use std::alloc::Global;
 use vrt_model::{
-    Circuit, ClockRef, Enter, FlatInstance, FlatNet, Hold, HoldEnd, Net, NetKind, Seq, Text,
+    Circuit, ClockRef, Device, Enter, FlatInstance, FlatNet, Hold, HoldEnd, Kind, Net, NetKind,
+    Seq, Text,
 };
 
 /// More nets than a circuit has.
@@ -39,18 +42,19 @@ pub(crate) fn number(word: &str) -> Result<u32, Stop> {
     }
 }
 
-/// The kind of a net with the first clock.
-fn clock(inverted: bool) -> NetKind {
-    NetKind::Clock(ClockRef { clock: 0, inverted })
-}
-
 /// The kind of nets that a word says.
 fn kind_of(word: &str) -> Result<NetKind, Stop> {
     match word {
         "low" => Ok(NetKind::Supply(false)),
         "high" => Ok(NetKind::Supply(true)),
-        "clock" => Ok(clock(false)),
-        "!clock" => Ok(clock(true)),
+        "clock" => Ok(NetKind::Clock(ClockRef {
+            clock: 0,
+            inverted: false,
+        })),
+        "!clock" => Ok(NetKind::Clock(ClockRef {
+            clock: 0,
+            inverted: true,
+        })),
         "input" => Ok(NetKind::Input),
         "plain" => Ok(NetKind::Plain),
         _ => Err(Stop::NotRead),
@@ -71,12 +75,41 @@ fn add_nets(alloc: Global, circuit: &mut Circuit, rest: &str) -> Result<(), Stop
 }
 
 /// The net of a name.
-fn net_of(circuit: &Circuit, name: &str) -> Result<Net, Stop> {
+pub(crate) fn net_of(circuit: &Circuit, name: &str) -> Result<Net, Stop> {
     let mut nets = circuit.nets.as_slice().iter();
     match nets.position(|net| net.name.as_bytes() == name.as_bytes()) {
         Some(at) => Ok(Net(at.min(MOST_NETS) as u32)),
         None => Err(Stop::NotRead),
     }
+}
+
+/// Adds a device.
+fn add_device(alloc: Global, circuit: &mut Circuit, keeper: bool, rest: &str) -> Result<(), Stop> {
+    let (word, rest) = word_and_rest(rest);
+    let (level, rest) = word_and_rest(rest);
+    let (gate, rest) = word_and_rest(rest);
+    let (left, right) = word_and_rest(rest);
+    let kind = match word {
+        "n" => Kind::N,
+        "p" => Kind::P,
+        _ => return Err(Stop::NotRead),
+    };
+    let level = number(level)?.min(9) as u8;
+    let (gate, left, right) = (
+        net_of(circuit, gate)?,
+        net_of(circuit, left)?,
+        net_of(circuit, right)?,
+    );
+    circuit.devices.append(Device {
+        name: Text::new(alloc),
+        kind,
+        gate,
+        left,
+        right,
+        level,
+        keeper,
+    })?;
+    Ok(())
 }
 
 /// The end of a hold at a net, by the word without its `!`.
@@ -166,6 +199,8 @@ pub(crate) fn draw(
     match word {
         "circuit" => begin(alloc, circuit)?,
         "net" => add_nets(alloc, circuit, rest)?,
+        "device" => add_device(alloc, circuit, false, rest)?,
+        "keeper" => add_device(alloc, circuit, true, rest)?,
         "hold" => add_hold(alloc, circuit, rest)?,
         "instance" => add_instance(alloc, circuit, rest)?,
         _ => return Ok(false),

@@ -4,7 +4,7 @@ use crate::board::Board;
 use crate::checks::{are_live, is_live};
 use crate::stop::Stop;
 use crate::values::add_bits;
-use bdd_core::{H, Store, ZERO};
+use bdd_core::{H, ONE, Store, ZERO};
 use constraints::expr;
 use hold_keep::{KeptFaults, kept_faults};
 use node_pool::Span;
@@ -13,7 +13,7 @@ use std::alloc::Global;
 use vrt_model::{Cell, Design, Rules};
 
 /// The first cell of a netlist.
-fn first_cell(design: &Design) -> Result<&Cell, Stop> {
+pub(crate) fn first_cell(design: &Design) -> Result<&Cell, Stop> {
     match design.cells.get(0) {
         Some(cell) => Ok(cell),
         None => Err(Stop::Unfit),
@@ -24,12 +24,13 @@ fn first_cell(design: &Design) -> Result<&Cell, Stop> {
 fn board_of(alloc: Global, cell: &Cell) -> Result<Board, Stop> {
     let ports = cell.ports.len();
     let mut board = Board::open(alloc, ports, ports)?;
-    board.put_all()?;
+    let all = board.values;
+    board.put_all(all)?;
     Ok(board)
 }
 
 /// The function of the `assume` line of a number over the ports of a cell.
-fn diagram(
+pub(crate) fn diagram(
     store: &mut Store,
     values: Span,
     cell: &Cell,
@@ -58,16 +59,7 @@ pub(crate) fn tell(
     let cell = first_cell(design)?;
     let mut board = board_of(page.alloc(), cell)?;
     let f = diagram(&mut board.store, board.values, cell, rules, number as usize)?;
-    add_bits(page, &board.store, f)
-}
-
-/// The functions of the first four `assume` lines.
-fn diagrams(board: &mut Board, cell: &Cell, rules: &Rules) -> Result<[H; 4], Stop> {
-    let mut all = [ZERO; 4];
-    for at in 0..4usize {
-        all[at] = diagram(&mut board.store, board.values, cell, rules, at)?;
-    }
-    Ok(all)
+    add_bits(page, &board.store, ONE, f)
 }
 
 /// Where the faults of a net stand, by where there is care, the wanted bit, and where 0 and 1 reach the net.
@@ -79,19 +71,17 @@ fn faults(store: &mut Store, [care, wanted, zero, one]: [H; 4]) -> Result<KeptFa
     Ok(kept_faults(store, care, wanted, zero, one)?)
 }
 
-/// Tells the bits of the two faults.
-fn tell_faults(page: &mut Page, store: &Store, faults: KeptFaults) -> Result<(), Stop> {
-    page.word("fight ");
-    add_bits(page, store, faults.fight)?;
-    page.word(", unsettled ");
-    add_bits(page, store, faults.unsettled)
-}
-
-/// Tells where the faults of a net stand.
+/// Tells where the faults of a net stand, by the functions of the first four `assume` lines.
 pub(crate) fn tell_kept(page: &mut Page, design: &Design, rules: &Rules) -> Result<(), Stop> {
     let cell = first_cell(design)?;
     let mut board = board_of(page.alloc(), cell)?;
-    let known = diagrams(&mut board, cell, rules)?;
+    let mut known = [ZERO; 4];
+    for at in 0..4usize {
+        known[at] = diagram(&mut board.store, board.values, cell, rules, at)?;
+    }
     let faults = faults(&mut board.store, known)?;
-    tell_faults(page, &board.store, faults)
+    page.word("fight ");
+    add_bits(page, &board.store, ONE, faults.fight)?;
+    page.word(", unsettled ");
+    add_bits(page, &board.store, ONE, faults.unsettled)
 }

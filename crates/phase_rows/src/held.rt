@@ -5,10 +5,9 @@ ghost use Rattle.vrt_model.specs.Circuits.{IsCircuit};
 
 use crate::board::{Board, word};
 use crate::checks::is_live;
-use crate::groups::net_name;
 use crate::stop::Stop;
-use crate::values::add_bits;
-use bdd_core::Store;
+use crate::values::add_net;
+use bdd_core::{ONE, Store};
 use hold_keep::held_roots;
 use node_pool::Span;
 use row_script::Page;
@@ -35,15 +34,6 @@ fn write(
     Ok(held_roots(store, circuit, groups, vars, phase, values)?)
 }
 
-/// Adds the held value of the hold at a net.
-fn add_held(page: &mut Page, circuit: &Circuit, board: &Board, net: u32) -> Result<(), Stop> {
-    page.word(", ");
-    page.word(net_name(circuit, net));
-    page.word(" ");
-    let held = word(&board.store, board.values, net);
-    add_bits(page, &board.store, held)
-}
-
 /// Tells the held value of each hold in a phase.
 pub(crate) fn tell(
     page: &mut Page,
@@ -60,7 +50,9 @@ pub(crate) fn tell(
     page.word("variables");
     page.behind_blank(board.store.vars());
     for hold in circuit.holds.as_slice() {
-        add_held(page, circuit, &board, hold.net.0)?;
+        page.word(", ");
+        let held = word(&board.store, board.values, hold.net.0);
+        add_net(page, &board.store, circuit, hold.net.0, ONE, held)?;
     }
     Ok(())
 }

@@ -1,4 +1,4 @@
-//! Holds, variables and constraints of small cells, worked out by hand, each with what is answered of it: one line a case,
+//! Holds, variables, constraints and faults of small cells, worked out by hand, each with what is answered of it: one line a case,
 //! with its name. Standard input gives netlists, models and rules (`row_script`), draws circuits (`drawing`), and says what is
 //! asked of them (`texts`).
 //!
@@ -10,10 +10,13 @@ mod care;
 mod checks;
 mod drawing;
 mod expressions;
+mod faults;
 mod groups;
 mod held;
 mod inputs;
 mod obligations;
+mod observed;
+mod spans;
 mod stop;
 mod texts;
 mod values;

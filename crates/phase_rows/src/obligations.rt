@@ -9,9 +9,8 @@ use crate::drawing::number;
 use crate::stop::Stop;
 use crate::texts::Given;
 use crate::values::add_bits;
-use bdd_core::{H, Store};
+use bdd_core::{H, ONE, Store};
 use constraints::obligation;
-use hierarchy::order;
 use node_pool::Span;
 use row_script::{Page, word_and_rest};
 use vrt_model::{Design, FlatInstance, Rules};
@@ -39,36 +38,21 @@ fn obliged(
     Ok(obligation(store, design, rules, instance, phase, values)?)
 }
 
-/// Tells the bits of that function.
-fn tell_bits(page: &mut Page, given: Given<'_>, phase: u32, number: u32) -> Result<(), Stop>
-    requires netlist { IsDesign given.design.now }
-    requires ruled { AreRules given.rules.now }
-    requires ordered { IsOrdered given.design.now given.rules.now }
-{
-    let Some(instance) = given.circuit.instances.get(number as usize) else {
-        return Err(Stop::NotRead);
-    };
-    let mut board = Board::open(
-        page.alloc(),
-        given.circuit.nets.len(),
-        inputs(given.circuit),
-    )?;
-    board.put_inputs(given.circuit)?;
-    let values = board.values;
-    let (design, rules) = (given.design, given.rules);
-    let f = obliged(&mut board.store, design, rules, instance, phase, values)?;
-    add_bits(page, &board.store, f)
-}
-
 /// Tells where the constraints of an instance hold in a phase, by the numbers of both.
 pub(crate) fn tell(page: &mut Page, given: Given<'_>, rest: &str) -> Result<(), Stop>
     requires netlist { IsDesign given.design.now }
     requires ruled { AreRules given.rules.now }
+    requires ordered { IsOrdered given.design.now given.rules.now }
 {
-    let (phase, instance) = word_and_rest(rest);
-    let (phase, instance) = (number(phase)?, number(instance)?);
-    match order(page.alloc(), given.design, given.rules) {
-        Ok(_) => tell_bits(page, given, phase, instance),
-        Err(_) => Err(Stop::Unfit),
-    }
+    let (word, at) = word_and_rest(rest);
+    let (phase, at) = (number(word)?, number(at)?);
+    let (design, rules, circuit) = (given.design, given.rules, given.circuit);
+    let Some(instance) = circuit.instances.get(at as usize) else {
+        return Err(Stop::NotRead);
+    };
+    let mut board = Board::open(page.alloc(), circuit.nets.len(), inputs(circuit))?;
+    board.put_inputs(circuit)?;
+    let values = board.values;
+    let f = obliged(&mut board.store, design, rules, instance, phase, values)?;
+    add_bits(page, &board.store, ONE, f)
 }

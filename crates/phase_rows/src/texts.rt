@@ -5,6 +5,7 @@
 //! | `expression N` | the function of the `assume` line of this number, over the ports of the first cell |
 //! | `kept` | the faults of a net: the first four `assume` lines are where there is care, the wanted bit, and where 0 and 1 reach it |
 //! | `obligation PHASE N` | where the constraints of the instance of this number hold, over the inputs |
+//! | `faults PHASE N NET ..` | the first fault of the circuit where the `assume` line of this number holds, with these nets observed |
 //! | `groups` | the groups of holds, or the first latch without one |
 //! | `variables PHASE` | the variables and what they stand for, or how many too many there are |
 //! | `care PHASE` | where the constraints of the first cell hold, over the variables |
@@ -14,9 +15,10 @@ ghost use Rattle.vrt_model.specs.Inputs.{AreRules, IsBlif, IsDesign};
 
 use crate::drawing::number;
 use crate::stop::Stop;
-use crate::{expressions, groups, obligations};
+use crate::{expressions, faults, groups, obligations};
 use blif_flat::{check_models, flat_model};
 use blif_reader::read_blif;
+use hierarchy::order;
 use row_script::{Page, Script, word_and_rest};
 use rules_reader::read_rules;
 use spice_reader::read_spice;
@@ -60,6 +62,18 @@ fn with_models(page: &mut Page, given: Given<'_>, text: &[u8], asked: &str) -> R
     }
 }
 
+/// Tells what is asked of the first cell and its instances, where the netlist and the rules are as they are to be.
+fn with_order(page: &mut Page, given: Given<'_>, word: &str, rest: &str) -> Result<(), Stop>
+    requires netlist { IsDesign given.design.now }
+    requires ruled { AreRules given.rules.now }
+{
+    match order(page.alloc(), given.design, given.rules) {
+        Ok(_) if word == "faults" => faults::tell(page, given, rest),
+        Ok(_) => obligations::tell(page, given, rest),
+        Err(_) => Err(Stop::Unfit),
+    }
+}
+
 /// Tells what is asked of a design, rules and a circuit.
 fn answered(page: &mut Page, given: Given<'_>, models: &[u8], asked: &str) -> Result<(), Stop>
     requires netlist { IsDesign given.design.now }
@@ -69,7 +83,7 @@ fn answered(page: &mut Page, given: Given<'_>, models: &[u8], asked: &str) -> Re
     match word {
         "expression" => expressions::tell(page, given.design, given.rules, number(rest)?),
         "kept" => expressions::tell_kept(page, given.design, given.rules),
-        "obligation" => obligations::tell(page, given, rest),
+        "faults" | "obligation" => with_order(page, given, word, rest),
         _ => with_models(page, given, models, asked),
     }
 }
