@@ -1,5 +1,5 @@
 -- What is known of a cell of a netlist and its rules.
-use Rattle.std.proofs.Common.{◌≡◌, ℕ, ◌<◌, Option, Some, None, length, arith, refl, sym, ◌∙◌}
+use Rattle.std.proofs.Common.{◌≡◌, ℕ, ◌<◌, Option, Some, None, length, refl, sym, ◌∙◌}
 use Rattle.std.specs.Prelude.{bytes_eq, slice_get, unwrap_or, []}
 use Rattle.std.proofs.lemmas.Option.{none-some, slice_get-get_or}
 use Rattle.constraints.proofs.OrderedLaws.{are_named}

@@ -1,5 +1,5 @@
 -- A circuit that passes all tests is well formed.
-use Rattle.std.proofs.Common.{◌≡◌, ◌≢◌, ℕ, zero, suc, ◌<◌, ◌≤◌, All, List, [], ◌∷◌, length, arith, ap, refl, sym, subst, ◌∙◌}
+use Rattle.std.proofs.Common.{◌≡◌, ◌≢◌, ℕ, zero, suc, ◌≤◌, All, List, [], ◌∷◌, length, arith, ap, refl, sym, subst, ◌∙◌}
 use Rattle.std.proofs.lemmas.Option.{none-some, same_Some}
 use Rattle.phase_rows.specs.Apart.{AreApart}
 use Rattle.vrt_model.proofs.Members.{all_among}

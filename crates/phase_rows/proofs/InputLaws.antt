@@ -1,22 +1,20 @@
 -- The words of inputs.
-use Rattle.std.proofs.Common.{◌≡◌, ℕ, ◌<◌, ◌≤◌, Bool, true, false, List, Option, Some, None, cond, length, arith, ap, ap₂, refl, subst, sym, ◌∙◌}
-use Rattle.std.specs.Prelude.{option_map, position, slice_get, unwrap_or}
+use Rattle.std.proofs.Common.{◌≡◌, ℕ, ◌<◌, Bool, true, false, List, Option, Some, None, cond, length, arith, ap, ap₂, refl, subst, sym, ◌∙◌}
+use Rattle.std.specs.Prelude.{option_map, unwrap_or}
 use Rattle.std.proofs.lemmas.Option.{slice_get_within}
 use Rattle.node_pool.specs.declared.region.Node.{Node}
 use Rattle.node_pool.specs.declared.region.Span.{Span}
 use Rattle.bdd_core.proofs.Meaning.{meaning_node, meaning_one, meaning_zero}
 use Rattle.bdd_core.specs.Diagram.{IsProper, Valuation, meaning, node_at}
 use Rattle.bdd_core.specs.Store.{Diagrams}
+use Rattle.known_nets.specs.Conduction.{is_input_kind}
 use Rattle.hold_keep.proofs.BitLaws.{picked}
-use Rattle.hold_keep.specs.Rooted.{bit_by, bits_at}
+use Rattle.hold_keep.specs.Rooted.{bit_by}
 use Rattle.constraints.specs.Cared.{HasInputs}
-use Rattle.phase_rows.specs.Given.{HasInput, is_input_at}
-use Rattle.vrt_model.specs.Held.{bit_of, is_input_of}
-use Rattle.vrt_model.specs.Lists.{At}
-use Rattle.vrt_model.specs.Variables.{is_input}
+use Rattle.phase_rows.specs.Given.{HasInput}
+use Rattle.vrt_model.specs.Held.{is_input_of}
 use Rattle.vrt_model.specs.declared.circuit.Circuit.{Circuit}
 use Rattle.vrt_model.specs.declared.circuit.FlatNet.{FlatNet}
-use Rattle.vrt_model.specs.declared.circuit.NetKind.TheVariants.{Input}
 use Rattle.vrt_model.specs.declared.groups.Source.{Source}
 
 either : (b : Bool) → cond b true false ≡ b
@@ -44,5 +42,5 @@ none_is nodes i place none zero v = ap (λ (h : ℕ). meaning nodes h v) zero �
 pub inputs_are : (c : Circuit) (sources : List Source) (d : Diagrams) (roots : Span) → ((n : ℕ) → n < length c.nets → HasInput c sources d roots n) → HasInputs c sources d roots
 inputs_are c sources d roots each n net there kind v =
     each n (slice_get_within c.nets n net there)
-    (ap (λ (o : Option FlatNet). unwrap_or (option_map (λ (x : FlatNet). is_input x.kind) o) false) there ∙ ap is_input kind) v
+    (ap (λ (o : Option FlatNet). unwrap_or (option_map (λ (x : FlatNet). is_input_kind x.kind) o) false) there ∙ ap is_input_kind kind) v
     ∙ picked (is_input_of n) v sources

@@ -1,5 +1,5 @@
 -- The steps and the instances of a search are as the calls ask.
-use Rattle.std.proofs.Common.{◌≡◌, ℕ, zero, suc, Bool, true, false, cond, All, List, [], ◌∷◌, map, length, arith, refl, subst, sym}
+use Rattle.std.proofs.Common.{◌≡◌, ℕ, zero, suc, Bool, true, false, cond, All, List, [], ◌∷◌, map, arith, refl, subst, sym}
 use Rattle.std.proofs.lemmas.List.Elements.{All-head, All-tail}
 use Rattle.std.proofs.lemmas.Option.{same_Some}
 use Rattle.channel_parts.specs.PartLists.{AreParts, IsPartList}
@@ -14,7 +14,7 @@ use Rattle.phase_rows.proofs.CellLaws.{lines_named, ports_apart}
 use Rattle.phase_rows.proofs.ObservedLaws.{marked_within}
 use Rattle.phase_rows.specs.Observing.{IsSearched, IsSeen}
 use Rattle.vrt_model.proofs.Members.{all_among, all_by, at_none}
-use Rattle.vrt_model.specs.Circuits.{IsFlat, IsNet}
+use Rattle.vrt_model.specs.Circuits.{IsNet}
 use Rattle.vrt_model.specs.Comparison.{Comparison, cell_at, phase_at}
 use Rattle.vrt_model.specs.Known.{IsRanking}
 use Rattle.vrt_model.specs.Lists.{At, Among, mark_at}

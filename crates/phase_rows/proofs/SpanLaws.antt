@@ -6,7 +6,6 @@ use Rattle.bdd_core.specs.Store.{Diagrams, IsSpan}
 use Rattle.bdd_core.specs.Words.{IsFilled}
 use Rattle.channel_parts.specs.declared.part.Part.{Part}
 use Rattle.circuit_faults.specs.KeptResults.{HasKeptSpans}
-use Rattle.circuit_faults.specs.Results.{HasCircuitSpans}
 use Rattle.circuit_faults.specs.declared.spans.KeptSpans.{KeptSpans}
 use Rattle.path_fixpoint.specs.Strengths.{net_words}
 use Rattle.phase_rows.specs.Spans.{HasSpans, spans_of}

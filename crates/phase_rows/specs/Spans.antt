@@ -1,6 +1,5 @@
 -- The spans of a circuit, all in one span.
 use Rattle.std.specs.Prelude.{ℕ, ◌*◌, ◌+◌, List}
-use Rattle.node_pool.specs.declared.region.Span.{Span}
 use Rattle.bdd_core.specs.Store.{Diagrams}
 use Rattle.channel_parts.specs.declared.part.Part.{Part}
 use Rattle.circuit_faults.specs.KeptResults.{HasKeptSpans}

@@ -47,17 +47,28 @@ struct Search<'a> {
     words: Span,
 }
 
-/// A store for the nets of a circuit, with a word and a variable for each of so many ports, which are behind those of the nets.
-fn board_of(alloc: Global, circuit: &Circuit, ports: usize) -> Result<(Board, Span), Stop> {
+/// A store with the bits of the given nets of a circuit and of its holds in a phase; and a span in it, behind the words of the
+/// nets, with the variable of each of so many ports.
+fn board_of(
+    alloc: Global,
+    circuit: &Circuit,
+    phase: &Phase,
+    ports: usize,
+) -> Result<(Board, Span), Stop> {
     let nets = circuit.nets.len();
     if nets > MOST_NETS || ports > MOST_PORTS {
         return Err(Stop::Unfit);
     }
     let words = word_count(nets as u32);
-    let board = Board::open(alloc, words as usize + ports, ports)?;
-    let start = board.values.start.saturating_add(words);
-    let len = ports as u32;
-    Ok((board, Span { start, len }))
+    let mut board = Board::open(alloc, words as usize + ports, ports)?;
+    let variables = Span {
+        start: board.values.start.saturating_add(words),
+        len: ports as u32,
+    };
+    board.put_given(circuit, phase)?;
+    board.put_holds(circuit)?;
+    board.put_all(variables)?;
+    Ok((board, variables))
 }
 
 /// Tells a fault of the bare circuit: its kind, its net or the number of its instance, and where it stands.
@@ -182,14 +193,14 @@ fn look(page: &mut Page, store: &mut Store, search: Search<'_>) -> Result<(), St
     }
 }
 
-/// Looks for the first fault where the `assume` line of a number holds and the nets of these names are observed.
+/// Looks for the first fault where the `assume` line of a number holds and these nets are observed.
 fn search_with(
     page: &mut Page,
     given: Given<'_>,
     phase: &Phase,
     number: u32,
     line: u32,
-    names: &str,
+    observed: &[bool],
 ) -> Result<(), Stop>
     requires netlist { IsDesign given.design.now }
     requires ruled { AreRules given.rules.now }
@@ -197,22 +208,12 @@ fn search_with(
     requires phase { phase.now ≡ phase_at given.rules.now number }
 {
     let (circuit, cell) = (given.circuit, first_cell(given.design)?);
-    let observed = observed_nets(page.alloc(), circuit, names)?;
-    let observed = observed.as_slice();
     if !is_flat(circuit) || !is_observing(given.design, circuit, observed) {
         return Err(Stop::Unfit);
     }
-    let (mut board, variables) = board_of(page.alloc(), circuit, cell.ports.len())?;
-    board.put_given(circuit, phase)?;
-    board.put_holds(circuit)?;
-    board.put_all(variables)?;
-    let care = diagram(
-        &mut board.store,
-        variables,
-        cell,
-        given.rules,
-        line as usize,
-    )?;
+    let (mut board, variables) = board_of(page.alloc(), circuit, phase, cell.ports.len())?;
+    let store = &mut board.store;
+    let care = diagram(store, variables, cell, given.rules, line as usize)?;
     let search = Search {
         given,
         phase,
@@ -232,9 +233,10 @@ pub(crate) fn tell(page: &mut Page, given: Given<'_>, rest: &str) -> Result<(), 
 {
     let (word, rest) = word_and_rest(rest);
     let (line, names) = word_and_rest(rest);
-    let at = number(word)?;
+    let (at, line) = (number(word)?, number(line)?);
     let Some(phase) = given.rules.phases.get(at as usize) else {
         return Err(Stop::NotRead);
     };
-    search_with(page, given, phase, at, number(line)?, names)
+    let observed = observed_nets(page.alloc(), given.circuit, names)?;
+    search_with(page, given, phase, at, line, observed.as_slice())
 }

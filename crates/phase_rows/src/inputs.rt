@@ -5,14 +5,14 @@ ghost use Rattle.bdd_core.specs.Diagram.{Valuation};
 ghost use Rattle.bdd_core.specs.Store.{IsLive, IsSpan, function_of};
 ghost use Rattle.bdd_core.specs.Words.{IsFilled};
 ghost use Rattle.constraints.specs.Cared.{HasInputs};
-ghost use Rattle.phase_rows.specs.Given.{HasInput, is_input_at};
+ghost use Rattle.phase_rows.specs.Given.{HasInput};
 ghost use Rattle.hold_keep.specs.Rooted.{bit_by};
 ghost use Rattle.vrt_model.specs.Held.{is_input_of};
-ghost use Rattle.vrt_model.specs.Variables.{is_input};
 
 use bdd_core::{H, Store};
+use known_nets::is_input;
 use node_pool::Span;
-use vrt_model::{Circuit, NetKind, Source};
+use vrt_model::{Circuit, Source};
 
 /// Whether a variable is that of an input net.
 fn is_input_of(source: Source, net: u32) -> bool
@@ -57,28 +57,6 @@ fn is_bit(store: &Store, handle: H, place: Option<usize>) -> bool
     true
 }
 
-/// Whether a kind of nets is that of inputs.
-fn is_input(kind: NetKind) -> bool
-    ensures { result ≡ is_input kind }
-{
-    match kind {
-        NetKind::Supply(_) => false,
-        NetKind::Clock(_) => false,
-        NetKind::Input => true,
-        NetKind::Plain => false,
-    }
-}
-
-/// Whether a net of a circuit is an input.
-fn is_input_at(circuit: &Circuit, net: u32) -> bool
-    ensures { result ≡ is_input_at circuit.now net }
-{
-    match circuit.nets.get(net as usize) {
-        Some(net) => is_input(net.kind),
-        None => false,
-    }
-}
-
 /// Whether a word of a net, if it is an input, has the handle of its variable.
 fn has_input(store: &Store, circuit: &Circuit, sources: &[Source], roots: Span, net: u32) -> bool
     requires span { IsSpan store.now roots }
@@ -86,7 +64,7 @@ fn has_input(store: &Store, circuit: &Circuit, sources: &[Source], roots: Span, 
     requires within { net < roots.len }
     ensures { IsTrue result → HasInput circuit.now sources.now store.now roots net }
 {
-    if !is_input_at(circuit, net) {
+    if !is_input(circuit, net as usize) {
         return true;
     }
     let handle = H(store.read(roots, net));

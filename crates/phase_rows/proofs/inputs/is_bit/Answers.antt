@@ -1,7 +1,5 @@
-use Rattle.std.proofs.Common.{rules, ◌≡◌, ℕ, ◌<◌, IsTrue, length, position, Bool, true, false, nat_eq, nat_lt, arith}
+use Rattle.std.proofs.Common.{◌≡◌, arith}
 use Rattle.std.proofs.lemmas.Bool.Decides.{nat_tests}
-use Rattle.bdd_core.specs.Store.{function_of}
-use Rattle.hold_keep.specs.Rooted.{bit_by}
 use Rattle.phase_rows.proofs.InputLaws.{bit_is}
 use Rattle.phase_rows.proofs.inputs.is_bit.Goals as goal
 

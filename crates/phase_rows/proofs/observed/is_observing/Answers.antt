@@ -1,4 +1,4 @@
-use Rattle.std.proofs.Common.{rules, ◌≡◌, length, arith, refl}
+use Rattle.std.proofs.Common.{◌≡◌, length, arith, refl}
 use Rattle.std.proofs.lemmas.Bool.Decides.{nat_tests}
 use Rattle.phase_rows.proofs.ObservedLaws.{observing}
 use Rattle.phase_rows.proofs.observed.is_observing.Goals as goal

@@ -1,4 +1,4 @@
-use Rattle.std.proofs.Common.{rules, ◌≡◌, ◌*◌, ◌+◌, ◌≤◌, length, arith, refl}
+use Rattle.std.proofs.Common.{◌*◌, ◌+◌, ◌≤◌, length, arith, refl}
 use Rattle.std.proofs.lemmas.Bool.Decides.{nat_tests}
 use Rattle.path_fixpoint.specs.Strengths.{net_words}
 use Rattle.phase_rows.proofs.SpanLaws.{spans_are}
