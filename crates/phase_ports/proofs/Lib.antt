@@ -1,0 +1,5 @@
+pub mod ConstrainedLaws
+pub mod ObservedLaws
+pub mod PortLaws
+pub mod RangeLaws
+pub mod WishLaws

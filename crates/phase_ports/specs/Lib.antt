@@ -1,0 +1,4 @@
+pub mod Comparisons
+pub mod Observed
+pub mod Ports
+pub mod Seen
