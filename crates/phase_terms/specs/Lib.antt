@@ -1,0 +1,5 @@
+pub mod Found
+pub mod Opened
+pub mod Plans
+pub mod Ready
+pub mod Stores

@@ -1,0 +1,25 @@
+//! What is compared.
+
+use rule_index::RuleIndex;
+use vrt_model::{Circuit, Design, FlatModel, Group, Pairing, Rules, Seq};
+
+/// A circuit of a cell and a model of it, which are compared.
+#[derive(Clone, Copy)]
+pub struct Comparison<'a> {
+    /// The netlist.
+    pub design: &'a Design,
+    /// The rules.
+    pub rules: &'a Rules,
+    /// What the rules say, by the names of cells.
+    pub index: &'a RuleIndex,
+    /// The number of the cell.
+    pub cell: u32,
+    /// Which signals of the model the ports of the cell pair with.
+    pub pairing: &'a Pairing,
+    /// The circuit of the cell with all instances unrolled.
+    pub circuit: &'a Circuit,
+    /// The model with all sub-models unrolled.
+    pub model: &'a FlatModel,
+    /// The groups of the circuit's holds.
+    pub groups: &'a Seq<Group>,
+}
