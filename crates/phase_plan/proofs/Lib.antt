@@ -1,0 +1,5 @@
+pub mod ArcLaws
+pub mod CarriedLaws
+pub mod FewLaws
+pub mod HeldLaws
+pub mod PlanLaws

@@ -1,0 +1,16 @@
+use Rattle.std.proofs.Common.{refl}
+use Rattle.phase_plan.proofs.PlanLaws.{planned}
+use Rattle.phase_terms.specs.Ready.{comparison_in}
+use Rattle.phase_terms.specs.declared.plan.PhasePlan.{PhasePlan}
+use Rattle.phase_plan.proofs.plan.plan_with.Goals as goal
+
+pub returns : goal.returns
+returns c =
+    let k = comparison_in c.args.compared in
+    let steps = c.in_ok-steps.ensures in
+    let plan : PhasePlan =
+    record { parts = c.args.parts; kept = c.in_ok-kept.kept; steps = c.in_ok-steps.steps; model = c.args.model; observed = c.in_ok-observed.observed; wishes = c.in_ok-wishes.wishes } in
+    planned k c.args.phase plan c.requires.parts c.in_ok-kept.ensures
+    (record { order = λ rank. steps.steps k rank refl refl refl; there = steps.there; work = steps.work k refl refl refl })
+    c.requires.model c.in_ok-observed.ensures.len
+    (c.in_ok-observed.ensures.is k (record { design_is = refl; rules_are = refl; cell_is = refl; pairing_is = refl }) refl) c.in_ok-wishes.ensures
