@@ -1,0 +1,10 @@
+pub mod Cases
+pub mod Ends
+pub mod InstanceSeen
+pub mod KeptStage
+pub mod ModelStage
+pub mod Somewhere
+pub mod Spans
+pub mod Stays
+pub mod StepStage
+pub mod WishStage
