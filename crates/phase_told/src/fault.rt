@@ -1,0 +1,53 @@
+//! The fault of a phase told.
+
+ghost use Rattle.std.specs.Prelude.{◌≡◌, ◌<◌, ◌≤◌, length, IfOk};
+ghost use Rattle.phase_terms.specs.Found.{IsPhaseFault};
+ghost use Rattle.phase_terms.specs.Ready.{IsReady, comparison_in};
+ghost use Rattle.vrt_model.specs.Held.{sources_of, variable_names};
+ghost use Rattle.vrt_model.specs.Places.{Finding, IsFirstInPhase};
+ghost use Rattle.vrt_model.specs.Verdicts.{Describes};
+
+use crate::bits::{read_bits, told_values};
+use crate::places::{copies_of, name_of_place};
+use bdd_core::Store;
+use bdd_ops::least;
+use phase_terms::{Comparison, PhaseFault};
+use std::alloc::Global;
+use vrt_model::{FaultAt, NoMemory, Vars};
+
+/// The first fault of a phase, at the least valuation at which its function is 1, with the bits that the circuit has there and ought to
+/// have. Of the words of the store those of the fault alone change, and no node is added, also where memory is wanting.
+pub fn told_fault(
+    store: &mut Store,
+    alloc: Global,
+    compared: Comparison<'_>,
+    phase: u32,
+    vars: &Vars,
+    fault: PhaseFault,
+) -> Result<FaultAt, NoMemory>
+    requires ready { IsReady (comparison_in compared) }
+    requires phase { phase < length compared.rules.now.phases }
+    requires sources { vars.now.sources ≡ sources_of (comparison_in compared) phase }
+    requires names { vars.now.names ≡ variable_names (comparison_in compared) phase }
+    requires few { length (sources_of (comparison_in compared) phase) ≤ store.old.vars }
+    requires fault { IsPhaseFault (comparison_in compared) phase fault store.old }
+    ensures told { IfOk result (λ told. (told.phase ≡ phase) × ((f : Finding) × Describes (comparison_in compared.entry) told f × IsFirstInPhase (comparison_in compared.entry) f)) }
+    ensures rest { store.new ≡ record store.old { words = store.new.words } }
+    ensures len { length store.new.words ≡ length store.old.words }
+{
+    let all = store.vars();
+    let _found = least(store, fault.at, fault.least);
+    let (circuit, wanted) = told_values(store, fault, all, alloc)?;
+    let valuation = read_bits(store, fault.least, vars.sources.len() as u32, alloc)?;
+    let place = name_of_place(alloc, compared, fault.kind, fault.place)?;
+    let names = copies_of(alloc, vars.names.as_slice())?;
+    Ok(FaultAt {
+        kind: fault.kind,
+        phase,
+        place,
+        circuit,
+        wanted,
+        names,
+        valuation,
+    })
+}
