@@ -1,0 +1,3 @@
+pub mod ComparisonLaws
+pub mod MeetLaws
+pub mod ReplayLaws
