@@ -1,20 +1,20 @@
 -- The ports of a cell that pairs with a model, their nets, and the inputs of the model that are paired with them.
-use Rattle.std.proofs.Common.{◌≡◌, ℕ, suc, ◌+◌, ◌<◌, ◌⊎◌, Bool, true, false, cond, List, ◌++◌, map, length, Option, Some, None, arith, ap, subst, sym, refl, ◌∙◌, inl, inr}
+use Rattle.std.proofs.Common.{◌≡◌, ℕ, suc, ◌+◌, ◌<◌, ◌⊎◌, List, ◌++◌, map, length, Option, Some, None, arith, ap, subst, sym, refl, ◌∙◌, inl, inr}
 use Rattle.std.specs.Prelude.{filter_map, flat_map, option_map, slice_get}
-use Rattle.std.proofs.lemmas.Option.{none-some, same_Some, slice_get_within}
+use Rattle.std.proofs.lemmas.Option.{none-some, same_Some}
 use Rattle.vrt_model.proofs.Lists.{among_filter_map, at_front}
 use Rattle.cell_compare.proofs.CarriedClocks.{Carries, carried_apart, carried_input, carried_once, carries, input_given}
 use Rattle.cell_compare.proofs.FreePorts.{AreFree, IsInputPort, all_roles, are_free, input_port, one_port, output_port}
 use Rattle.cell_compare.proofs.GivenLists.{given_among, given_at}
-use Rattle.cell_compare.proofs.PortLists.{number_there, port_flat, port_made, port_parts, port_placed, supply_placed}
+use Rattle.cell_compare.proofs.PortLists.{number_there, port_flat, port_made, port_parts, port_placed}
 use Rattle.cell_compare.specs.Compared.{comparison}
-use Rattle.cell_compare.specs.Phases.{HasPairedInputs, IsClocked, IsTiedTo}
 use Rattle.cell_compare.specs.declared.flattened.Flattened.{Flattened}
+use Rattle.phase_terms.specs.Ready.{HasPairedInputs, IsClocked, IsTiedTo}
 use Rattle.vrt_model.proofs.Members.{all_among, among_either}
 use Rattle.vrt_model.specs.Assignment.{Tied}
 use Rattle.vrt_model.specs.CellRules.{supply_of}
 use Rattle.vrt_model.specs.Comparison.{CellPort, Comparison, cell_at, input_signal, output_signal, port_nets, ports_of, tied_inputs}
-use Rattle.vrt_model.specs.FlatCircuit.{flat_circuit, flat_circuit_of, flat_nets, kind_by, own_flat_nets, plain_net, port_nets_of, supply_flat}
+use Rattle.vrt_model.specs.FlatCircuit.{flat_circuit, flat_circuit_of, flat_nets, kind_by, own_flat_nets, plain_net, port_nets_of}
 use Rattle.vrt_model.specs.FlatModels.{IsFlatModel}
 use Rattle.vrt_model.specs.Lists.{Among, At}
 use Rattle.vrt_model.specs.PairedPorts.{clocked_signals, output_is_input, pairing_of, ports_fault, role_of}
@@ -55,7 +55,7 @@ unfolding pairing_of
 pairing_clocks design cell m f rules e = ap (λ (p : Pairing). p.clocked) e
 
 -- the nets of the flat circuit
-circuit_nets : (design : Design) (cell : ℕ) (f : Flattened) (rules : Rules) → f.circuit ≡ flat_circuit design rules cell f.pairing
+pub circuit_nets : (design : Design) (cell : ℕ) (f : Flattened) (rules : Rules) → f.circuit ≡ flat_circuit design rules cell f.pairing
     → f.circuit.nets ≡ flat_nets (record { design = design; rules = rules; cell = cell; roles = f.pairing.ports })
 unfolding flat_circuit_of
 circuit_nets design cell f rules e = ap (λ (c : Circuit). c.nets) e
@@ -136,24 +136,6 @@ module _ (design : Design) (rules : Rules) (cell m : ℕ) (f : Flattened) (ports
         subst (λ (n : ℕ). At f.circuit.nets n (port_flat port.name (slice_get f.pairing.ports at))) same (in_nets placed.place (port_flat port.name (slice_get f.pairing.ports at)) placed.there),
         ap kind_by is.role,
       )
-
-  -- the circuit has the two supplies
-  two_nets : 1 < length f.circuit.nets
-  two_nets =
-      subst (λ (nets : List FlatNet). 1 < length nets) (sym (circuit_nets design cell f rules circuit_is))
-      (slice_get_within (flat_nets top) 1 (supply_flat rules true) refl)
-
-  -- each port's net is one of the circuit
-  pub net_below : (at : ℕ) (port : CellPort) → IsPortOf at port → port.net < length f.circuit.nets
-  net_below at port is = by_supply (supply_of rules port.name) refl
-    where
-      by_value : (value : Bool) → port.net ≡ cond value 1 0 → port.net < length f.circuit.nets
-      by_value true e = let two = two_nets in omega (arith, e, two)
-      by_value false e = let two = two_nets in omega (arith, e, two)
-
-      by_supply : (o : Option Bool) → supply_of rules port.name ≡ o → port.net < length f.circuit.nets
-      by_supply None e = let n = port_net at port is e in slice_get_within f.circuit.nets port.net n.0 n.1
-      by_supply (Some value) e = by_value value (supply_placed rules names 2 at port.net port.name value e is.name is.net)
 
   -- ---- outputs
 

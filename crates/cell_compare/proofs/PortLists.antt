@@ -1,5 +1,5 @@
 -- The numbers of the nets of ports, the flat nets at these numbers, and the parts of a port of a comparison.
-use Rattle.std.proofs.Common.{◌≡◌, ℕ, zero, suc, ◌+◌, Bool, cond, List, [], ◌∷◌, Option, Some, None, drop, arith, ap, subst, sym, refl, ◌∙◌}
+use Rattle.std.proofs.Common.{◌≡◌, ℕ, zero, suc, ◌+◌, Bool, cond, List, [], ◌∷◌, Option, Some, None, drop, length, arith, ap, subst, sym, refl, ◌∙◌}
 use Rattle.std.specs.Prelude.{slice_get}
 use Rattle.std.proofs.lemmas.Option.{none-some, same_Some}
 use Rattle.vrt_model.specs.CellRules.{supply_of}
@@ -71,22 +71,6 @@ module _ (rules : Rules) where
       by_test (Some value) h zero a b more = absurd (none-some value (sym none ∙ (ap (supply_of rules) (sym (same_Some x name a)) ∙ h)))
       by_test (Some value) h (suc j) a b more = later next j (port_nets_of rules xs (drop 1 roles)) (more next j a b)
 
-  -- a port that is a supply has the net of its value
-  pub supply_placed : (names : List (List ℕ)) (next i net : ℕ) (name : List ℕ) (value : Bool) → supply_of rules name ≡ Some value → At names i name
-      → At (port_nets_from rules next names) i net → net ≡ cond value 1 0
-  supply_placed [] next i net name value some a b = absurd (none-some name a)
-  supply_placed (x ∷ xs) next i net name value some a b =
-      by_test (supply_of rules x) refl i a b (λ n j h g. supply_placed xs n j net name value some h g)
-    where
-      by_test : (o : Option Bool) → supply_of rules x ≡ o → (j : ℕ) → At (x ∷ xs) j name → At (numbers_by o next xs) j net
-          → ((n l : ℕ) → At xs l name → At (port_nets_from rules n xs) l net → net ≡ cond value 1 0) → net ≡ cond value 1 0
-      by_test None h zero a b more = absurd (none-some value (sym h ∙ (ap (supply_of rules) (same_Some x name a) ∙ some)))
-      by_test None h (suc j) a b more = more (suc next) j a b
-      by_test (Some v) h zero a b more =
-          let same : v ≡ value = same_Some v value (sym h ∙ (ap (supply_of rules) (same_Some x name a) ∙ some)) in
-          sym (same_Some (cond v 1 0) net b) ∙ ap {B = ℕ} (λ (w : Bool). cond w 1 0) same
-      by_test (Some v) h (suc j) a b more = more next j a b
-
   -- each name has a number
   pub number_there : (names : List (List ℕ)) (next i : ℕ) (name : List ℕ) → At names i name → (net : ℕ) × At (port_nets_from rules next names) i net
   number_there [] next i name a = absurd (none-some name a)
@@ -98,6 +82,15 @@ module _ (rules : Rules) where
       by_test None (suc j) a more = more (suc next) j a
       by_test (Some value) zero a more = (cond value 1 0, refl)
       by_test (Some value) (suc j) a more = more next j a
+
+-- each port has a net
+pub net_for_each : (rules : Rules) (next : ℕ) (names : List (List ℕ)) → length (port_nets_from rules next names) ≡ length names
+net_for_each rules next [] = refl
+net_for_each rules next (name ∷ names) =
+    elim (supply_of rules name) as (λ (o : Option Bool). length {A = ℕ} (elim o [ None ↦ next ∷ port_nets_from rules (suc next) names | Some value ↦ cond value 1 0 ∷ port_nets_from rules next names ]) ≡ suc (length names)) [
+      | None ↦ ap suc (net_for_each rules (suc next) names)
+      | Some value ↦ ap suc (net_for_each rules next names)
+    ]
 
 -- ---- the ports of a comparison
 

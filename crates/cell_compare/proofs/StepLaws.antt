@@ -1,23 +1,35 @@
 -- What each test before the phases finds is the cause of the cell.
-use Rattle.std.proofs.Common.{◌≡◌, ℕ, Option, Some, None, subst, refl}
+use Rattle.std.proofs.Common.{◌≡◌, ℕ, Option, Some, None, ap, subst, sym, refl, ◌∙◌}
 use Rattle.std.specs.Option.{option_or}
-use Rattle.std.specs.Prelude.{Ok}
+use Rattle.std.specs.Prelude.{Err, Ok, Result}
 use Rattle.std.proofs.lemmas.Option.{none-some, same_Some}
-use Rattle.cell_compare.proofs.Causes.{circuit_count, device_model, model_count, output_in_way, port_in_way, tied_supply}
-use Rattle.cell_compare.specs.Steps.{CircuitTells, IsEarlyWhy, IsFoundBy, Stops, circuit_why, device_why, model_why, pairing_why}
+use Rattle.cell_compare.proofs.Causes.{circuit_count, clock_in_way, device_model, group_in_way, model_count, output_in_way, port_in_way, tied_supply}
+use Rattle.cell_compare.specs.Steps.{CircuitGrouped, CircuitTells, FlattenedTells, GroupsTell, IsEarlyWhy, IsFoundBy, Stops, circuit_why, clock_why, device_why, group_why, model_why, pairing_why}
+use Rattle.cell_compare.specs.Compared.{IsFlattened, IsGrouped}
+use Rattle.cell_compare.specs.declared.flattened.Flattened.{Flattened}
 use Rattle.cell_compare.specs.declared.hindrance.Hindrance.{Hindrance}
 use Rattle.cell_compare.specs.declared.hindrance.Hindrance.TheVariants.{Because, NoMemory}
+use Rattle.flatten.specs.Circuits.{IsFlatCircuit}
 use Rattle.flatten.specs.Structures.{IsStructured}
+use Rattle.hold_groups.specs.Grouped.{AreGroups}
+use Rattle.latch_match.specs.Paired.{IsPairing}
+use Rattle.vrt_model.specs.Comparison.{cell_at}
 use Rattle.vrt_model.specs.FlatBlif.{flat_model_of}
-use Rattle.vrt_model.specs.PairedPorts.{Model, output_is_input, paired_model, ports_fault}
+use Rattle.vrt_model.specs.FlatCircuit.{flat_circuit}
+use Rattle.vrt_model.specs.FlatModels.{IsFlatModel}
+use Rattle.vrt_model.specs.Groups.{groups_of}
+use Rattle.vrt_model.specs.Inputs.{AreRules}
+use Rattle.vrt_model.specs.PairedPorts.{HasRoles, Model, output_is_input, paired_model, pairing_of, ports_fault}
 use Rattle.vrt_model.specs.Unrolled.{Top}
-use Rattle.vrt_model.specs.Unsupported.{circuit_limits, device_without_kind, model_limits, supply_tie, too_large, top_before, why_early, why_of}
+use Rattle.vrt_model.specs.Unsupported.{circuit_limits, device_without_kind, latch_without_clock, model_limits, supply_tie, too_large, top_before, unmatched, why_early, why_of}
 use Rattle.vrt_model.specs.declared.blif.Blif.{Blif}
+use Rattle.vrt_model.specs.declared.circuit.Circuit.{Circuit}
 use Rattle.vrt_model.specs.declared.design.Design.{Design}
 use Rattle.vrt_model.specs.declared.flat_model.FlatModel.{FlatModel}
+use Rattle.vrt_model.specs.declared.pairing.Pairing.{Pairing}
 use Rattle.vrt_model.specs.declared.rules.Rules.{Rules}
 use Rattle.vrt_model.specs.declared.verdict.Why.{Why}
-use Rattle.vrt_model.specs.declared.verdict.Why.TheVariants.{DeviceModel, OutputIsInput, Ports, SupplyTie, TooLarge}
+use Rattle.vrt_model.specs.declared.verdict.Why.TheVariants.{DeviceModel, NoClock, OutputIsInput, Ports, SupplyTie, TooLarge, Unmatched}
 
 -- what a test finds is made of what it looked for
 found_by : {X : Type 0} (g : X → Why) (o : Option X) (P : Why → Type 0) (why : Why) → why_of g o ≡ Some why → ((x : X) → o ≡ Some x → P (g x)) → P why
@@ -71,6 +83,37 @@ module _ (design : Design) (blif : Blif) (rules : Rules) (cell m : ℕ) (paired 
         here.1,
       )
 
+  -- a latch without clock
+  pub by_clock : IsStructured (top_before design rules cell) → too_large (model_limits blif m) ≡ None → (flat : FlatModel) → flat ≡ flat_model_of blif m
+      → ports_fault design cell flat rules ≡ None → output_is_input flat ≡ None → (why : Why) → IsFoundBy (clock_why flat rules) why → IsEarlyWhy design blif rules cell why
+  by_clock structured model flat is ports outputs why found =
+      let here : IsFoundBy (clock_why (flat_model_of blif m) rules) why = subst (λ (x : FlatModel). IsFoundBy (clock_why x rules) why) is found in (
+        found_by (λ latch. NoClock latch) (latch_without_clock (flat_model_of blif m) rules) IsCause why here.0
+            (λ latch e.
+            clock_in_way design blif rules cell m paired latch structured model (subst (λ (x : FlatModel). ports_fault design cell x rules ≡ None) is ports)
+            (subst (λ (x : FlatModel). output_is_input x ≡ None) is outputs) e),
+        here.1,
+      )
+
+  -- an element without a hold
+  pub by_groups : IsStructured (top_before design rules cell) → too_large (model_limits blif m) ≡ None → (flat : FlatModel) → flat ≡ flat_model_of blif m
+      → ports_fault design cell flat rules ≡ None → output_is_input flat ≡ None → latch_without_clock flat rules ≡ None
+      → (pairing : Pairing) → pairing ≡ pairing_of design cell m flat rules
+      → (why : Why) → IsFoundBy (group_why design rules cell (flat_circuit design rules cell pairing) flat) why → IsEarlyWhy design blif rules cell why
+  by_groups structured model flat is ports outputs clock pairing pairs why found =
+      let there : IsFoundBy (group_why design rules cell (flat_circuit design rules cell (pairing_of design cell m flat rules)) flat) why =
+      subst (λ (p : Pairing). IsFoundBy (group_why design rules cell (flat_circuit design rules cell p) flat) why) pairs found in
+      let here : IsFoundBy (group_why design rules cell (flat_circuit design rules cell (pairing_of design cell m (flat_model_of blif m) rules)) (flat_model_of blif m)) why =
+      subst (λ (x : FlatModel). IsFoundBy (group_why design rules cell (flat_circuit design rules cell (pairing_of design cell m x rules)) x) why) is there in (
+        found_by (λ name. Unmatched name)
+            (unmatched rules (cell_at design cell).name (flat_model_of blif m) (groups_of (flat_circuit design rules cell (pairing_of design cell m (flat_model_of blif m) rules)) (flat_model_of blif m)))
+            IsCause why here.0
+            (λ name e.
+            group_in_way design blif rules cell m paired name structured model (subst (λ (x : FlatModel). ports_fault design cell x rules ≡ None) is ports)
+            (subst (λ (x : FlatModel). output_is_input x ≡ None) is outputs) (subst (λ (x : FlatModel). latch_without_clock x rules ≡ None) is clock) e),
+        here.1,
+      )
+
 -- where a circuit is told, its counts are within their limits
 pub counted_of : (t : Top) (cause : Option Why) → CircuitTells t (Ok cause) → too_large (circuit_limits t) ≡ None
 counted_of t None tells = tells.small
@@ -80,3 +123,44 @@ counted_of t (Some why) tells = tells.0
 pub structured_of : (t : Top) (cause : Option Why) → CircuitTells t (Ok cause) → ((why : Why) → cause ≡ Some why → ⊥) → IsStructured t
 structured_of t None tells none = tells
 structured_of t (Some why) tells none = absurd (none why refl)
+
+-- all that is known of the cell
+pub flattened_by : (design : Design) (blif : Blif) (rules : Rules) (cell m : ℕ) (flat : FlatModel) (pairing : Pairing) (f : Flattened) → paired_model design blif rules cell ≡ Model m → AreRules rules
+    → too_large (model_limits blif m) ≡ None → flat ≡ flat_model_of blif m → IsFlatModel flat → IsPairing design cell m flat rules pairing → latch_without_clock flat rules ≡ None
+    → IsFlatCircuit design rules cell pairing f.circuit → IsGrouped design rules cell pairing (flat_circuit design rules cell pairing) flat f → IsFlattened design blif rules cell m f
+flattened_by design blif rules cell m flat pairing f paired ruled small model_is model pairs clock circuit grouped = record {
+  paired = paired;
+  structured = circuit.structured;
+  small = small;
+  ports = subst (λ (x : FlatModel). ports_fault design cell x rules ≡ None) (sym grouped.model_is) pairs.ports;
+  outputs = subst (λ (x : FlatModel). output_is_input x ≡ None) (sym grouped.model_is) pairs.outputs;
+  clock = subst (λ (x : FlatModel). latch_without_clock x rules ≡ None) (sym grouped.model_is) clock;
+  matched = subst (λ (x : FlatModel). unmatched rules (cell_at design cell).name x f.groups ≡ None) (sym grouped.model_is) grouped.matched;
+  model_is = grouped.model_is ∙ model_is;
+  pairing_is = grouped.pairing_is ∙ (pairs.is ∙ ap (λ (x : FlatModel). pairing_of design cell m x rules) (sym grouped.model_is));
+  circuit_is = grouped.circuit_is ∙ ap (flat_circuit design rules cell) (sym grouped.pairing_is);
+  groups_are = grouped.groups_are ∙ (ap (λ (c : Circuit). groups_of c flat) (sym grouped.circuit_is) ∙ ap (groups_of f.circuit) (sym grouped.model_is));
+  roles = subst (HasRoles rules (cell_at design cell)) (sym grouped.pairing_is) (pairs.roles ruled);
+  model = subst IsFlatModel (sym grouped.model_is) model;
+  circuit = circuit.formed;
+  flat = circuit.flat;
+  groups = subst (λ (c : Circuit). AreGroups c f.groups) (sym grouped.circuit_is) grouped.groups;
+}
+
+-- the circuit of a call is the flat one
+pub circuit_grouped : (design : Design) (rules : Rules) (cell : ℕ) (pairing : Pairing) (circuit : Circuit) (flat : FlatModel) (result : Result Flattened Hindrance) → IsFlatCircuit design rules cell pairing circuit
+    → GroupsTell design rules cell pairing circuit flat result → CircuitGrouped design rules cell pairing flat result
+circuit_grouped design rules cell pairing circuit flat (Ok f) is tells =
+    (subst (IsFlatCircuit design rules cell pairing) (sym tells.circuit_is) is, subst (λ (c : Circuit). IsGrouped design rules cell pairing c flat f) is.is tells)
+circuit_grouped design rules cell pairing circuit flat (Err stop) is tells =
+    subst (λ (c : Circuit). Stops (IsFoundBy (group_why design rules cell c flat)) stop) is.is tells
+
+-- with the groups all is known, or their cause is that of the cell
+pub flattened_tells : (design : Design) (blif : Blif) (rules : Rules) (cell m : ℕ) (flat : FlatModel) (pairing : Pairing) (result : Result Flattened Hindrance) → paired_model design blif rules cell ≡ Model m
+    → AreRules rules → IsStructured (top_before design rules cell) → too_large (model_limits blif m) ≡ None → flat ≡ flat_model_of blif m → IsFlatModel flat → IsPairing design cell m flat rules pairing
+    → latch_without_clock flat rules ≡ None → CircuitGrouped design rules cell pairing flat result → FlattenedTells design blif rules cell m result
+flattened_tells design blif rules cell m flat pairing (Ok f) paired ruled structured small model_is model pairs clock tells =
+    flattened_by design blif rules cell m flat pairing f paired ruled small model_is model pairs clock tells.0 tells.1
+flattened_tells design blif rules cell m flat pairing (Err stop) paired ruled structured small model_is model pairs clock tells =
+    stops_for (IsFoundBy (group_why design rules cell (flat_circuit design rules cell pairing) flat)) (IsEarlyWhy design blif rules cell)
+    (by_groups design blif rules cell m paired structured small flat model_is pairs.ports pairs.outputs clock pairing pairs.is) stop tells

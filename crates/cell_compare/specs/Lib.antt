@@ -1,7 +1,5 @@
 pub mod Cells
 pub mod Compared
-pub mod Outputs
-pub mod PhaseSteps
-pub mod Phases
-pub mod PortLists
+pub mod Sizes
 pub mod Steps
+pub mod Works

@@ -1,30 +1,34 @@
 //! A cell and its model flattened, or the first cause that stands in the way before the phases.
 
-ghost use Rattle.std.specs.Prelude.{◌≡◌, ◌<◌, filter, length};
+ghost use Rattle.std.specs.Prelude.{◌≡◌, ◌<◌, find, is_none, length, IfOk};
+ghost use Rattle.std.specs.Option.{option_copied};
 ghost use Rattle.blif_flat.specs.Counts.{AreModelTables};
-ghost use Rattle.cell_compare.specs.Compared.{IsBuilt};
-ghost use Rattle.cell_compare.specs.Steps.{CircuitTells, FlattenedTells, InputsTell, ModelTells, PairingTells};
+ghost use Rattle.cell_compare.specs.Compared.{AreInputs};
+ghost use Rattle.cell_compare.specs.Steps.{CircuitGrouped, CircuitTells, ClockTells, FlattenedTells, GroupsTell, ModelTells, PairingTells};
 ghost use Rattle.latch_match.specs.Paired.{PairGives};
 ghost use Rattle.prepared_tables.specs.Prepared.{ArePrepared};
 ghost use Rattle.rule_index.specs.Tables.{AreIndexed};
 ghost use Rattle.vrt_model.specs.Circuits.{IsCircuit};
+ghost use Rattle.vrt_model.specs.Comparison.{cell_at};
+ghost use Rattle.vrt_model.specs.Elements.{signal_name};
 ghost use Rattle.vrt_model.specs.Inputs.{AreRules, IsBlif, IsDesign};
 ghost use Rattle.vrt_model.specs.Models.{AreModels};
 ghost use Rattle.vrt_model.specs.PairedPorts.{Model, paired_model};
 ghost use Rattle.vrt_model.specs.Unsupported.{top_before};
-ghost use Rattle.vrt_model.specs.Variables.{is_input};
-ghost use Rattle.vrt_model.specs.declared.circuit.FlatNet.{FlatNet as NetValue};
+ghost use Rattle.vrt_model.specs.declared.flat_model.FlatLatch.{FlatLatch as LatchValue};
 
 use crate::flattened::Flattened;
 use crate::hindrance::Hindrance;
-use crate::ports::{cell_of, is_input};
 use blif_flat::{FlatModelFault, ModelTables, flat_model_with};
 use flatten::{FlatFault, flat_with, structure_with};
+use hold_groups::{MatchFault, groups};
 use latch_match::{PairFault, pair_ports_with};
 use prepared_tables::Prepared;
 use rule_index::RuleIndex;
 use std::alloc::Global;
-use vrt_model::{Blif, Circuit, Design, FlatModel, FlatNet, Pairing, Rules, Why};
+use vrt_model::{
+    Blif, Cell, Circuit, Design, FlatLatch, FlatModel, NoMemory, Pairing, Rules, Text, Why,
+};
 
 /// What stands in the way of the circuit of a cell. Its counts stop at once; a device or a tie is told after the counts
 /// of the model.
@@ -66,6 +70,14 @@ fn flat_model_of(
         Err(FlatModelFault::Limit { count }) => Err(Hindrance::Because(Why::TooLarge { count })),
         Err(FlatModelFault::NoMemory) => Err(Hindrance::NoMemory),
     }
+}
+
+/// A cell by its number.
+fn cell_of(design: &Design, cell: u32) -> &Cell
+    requires { cell < length design.now.cells }
+    ensures { result.now ≡ cell_at design.entry.now cell }
+{
+    &design.cells.as_slice()[cell as usize]
 }
 
 /// The pairing of the ports of a cell by its number.
@@ -111,8 +123,98 @@ fn pairing_of(
     }
 }
 
-/// A cell and its model flattened, with their pairing; or the first cause, which is no cycle: a count of the circuit, a
-/// count of the model, the model of a device, a tied supply, a port, an output that is an input.
+/// The first latch that names no clock.
+fn unclocked(latches: &[FlatLatch]) -> Option<&FlatLatch>
+    ensures { option_copied result ≡ find (λ (l : LatchValue). is_none l.control) latches.entry.now }
+{
+    latches.iter().find(|latch| latch.control.is_none())
+}
+
+/// The name of a signal of a model.
+fn name_of_signal(alloc: Global, flat: &FlatModel, signal: u32) -> Result<Text, NoMemory>
+    ensures { IfOk result (λ name. name ≡ signal_name flat.now signal) }
+{
+    match flat.signals.get(signal as usize) {
+        Some(name) => Text::from_bytes(alloc, name.as_bytes()),
+        None => Ok(Text::new(alloc)),
+    }
+}
+
+/// Each latch has a clock: its own, or the default one; else the first without is the cause.
+fn clocked(alloc: Global, flat: &FlatModel, rules: &Rules) -> Result<(), Hindrance>
+    ensures { ClockTells flat.now rules.now result }
+{
+    if rules.defaultclocks.get(0).is_some() {
+        return Ok(());
+    }
+    match unclocked(flat.latches.as_slice()) {
+        Some(latch) => {
+            let latch = name_of_signal(alloc, flat, latch.output)?;
+            Err(Hindrance::Because(Why::NoClock { latch }))
+        }
+        None => Ok(()),
+    }
+}
+
+/// A circuit and a model with the groups of the circuit's holds, or the latch element that no hold stands for.
+fn grouped(
+    alloc: Global,
+    design: &Design,
+    rules: &Rules,
+    cell: u32,
+    pairing: Pairing,
+    circuit: Circuit,
+    model: FlatModel,
+) -> Result<Flattened, Hindrance>
+    requires { IsCircuit circuit }
+    ensures { GroupsTell design.now rules.now cell pairing circuit model result }
+{
+    match groups(alloc, design, &circuit, &model, rules, cell) {
+        Ok(groups) => Ok(Flattened {
+            pairing,
+            circuit,
+            model,
+            groups,
+        }),
+        Err(MatchFault::Unmatched { name }) => Err(Hindrance::Because(Why::Unmatched { name })),
+        Err(MatchFault::NoMemory) => Err(Hindrance::NoMemory),
+    }
+}
+
+/// The flat circuit of a cell that pairs with a model by this, with the groups of its holds.
+fn with_circuit(
+    alloc: Global,
+    prepared: &Prepared,
+    design: &Design,
+    blif: &Blif,
+    rules: &Rules,
+    cell: u32,
+    pairing: Pairing,
+    model: FlatModel,
+) -> Result<Flattened, Hindrance>
+    requires prepared { ArePrepared design.now blif.now rules.now prepared.now }
+    requires inputs { AreInputs design.now blif.now rules.now cell }
+    ensures { CircuitGrouped design.now rules.now cell pairing model result }
+{
+    // the models are in the tables
+    let _unread = blif;
+    match flat_with(
+        alloc,
+        &prepared.index,
+        &prepared.nets,
+        design,
+        rules,
+        cell,
+        &pairing,
+    ) {
+        Ok(circuit) => grouped(alloc, design, rules, cell, pairing, circuit, model),
+        Err(_) => Err(Hindrance::NoMemory),
+    }
+}
+
+/// A cell and its model flattened, with their pairing and the groups of its holds; or the first cause, which is no cycle: a
+/// count of the circuit, a count of the model, the model of a device, a tied supply, a port, an output that is an input, a
+/// latch without clock, a latch element without hold.
 pub(crate) fn flatten_cell(
     alloc: Global,
     prepared: &Prepared,
@@ -123,12 +225,7 @@ pub(crate) fn flatten_cell(
     model: u32,
 ) -> Result<Flattened, Hindrance>
     requires prepared { ArePrepared design.now blif.now rules.now prepared.now }
-    requires design { IsDesign design.now }
-    requires blif { IsBlif blif.now }
-    requires models { AreModels blif.now }
-    requires rules { AreRules rules.now }
-    requires cell { cell < length design.now.cells }
-    requires built { IsBuilt design.now blif.now rules.now cell }
+    requires inputs { AreInputs design.now blif.now rules.now cell }
     requires paired { paired_model design.now blif.now rules.now cell ≡ Model model }
     ensures { FlattenedTells design.now blif.now rules.now cell model result }
 {
@@ -139,32 +236,8 @@ pub(crate) fn flatten_cell(
         return Err(Hindrance::Because(why));
     }
     let pairing = pairing_of(alloc, index, design, cell, model, &flat_model, rules)?;
-    match flat_with(alloc, index, &prepared.nets, design, rules, cell, &pairing) {
-        Ok(circuit) => Ok(Flattened {
-            pairing,
-            circuit,
-            model: flat_model,
-        }),
-        Err(_) => Err(Hindrance::NoMemory),
-    }
-}
-
-/// How many input nets a circuit has, where these are more than 1,000.
-pub(crate) fn too_many_inputs(circuit: &Circuit) -> Option<u32>
-    requires { IsCircuit circuit.now }
-    ensures { InputsTell circuit.now result }
-{
-    let count = input_count(circuit.nets.as_slice());
-    if count > 1000 {
-        Some(count as u32)
-    } else {
-        None
-    }
-}
-
-/// How many of some nets are inputs.
-fn input_count(nets: &[FlatNet]) -> usize
-    ensures { result ≡ length (filter (λ (net : NetValue). is_input net.kind) nets.now) }
-{
-    nets.iter().filter(|net| is_input(net.kind)).count()
+    clocked(alloc, &flat_model, rules)?;
+    with_circuit(
+        alloc, prepared, design, blif, rules, cell, pairing, flat_model,
+    )
 }

@@ -1,13 +1,13 @@
 //! What is known of a cell with its verdict.
 
-ghost use Rattle.std.specs.Prelude.{◌≡◌, ◌↔◌, [], All, IsTrue, false, filter, length, IfOk};
-ghost use Rattle.cell_compare.specs.Steps.{AreSoft, is_output_role};
+ghost use Rattle.std.specs.Prelude.{◌≡◌, ◌↔◌, ◌&&◌, [], All, IsTrue, false, true, filter, length, IfOk};
+ghost use Rattle.cell_compare.specs.Works.{AreSoft, is_output_role};
 ghost use Rattle.vrt_model.specs.declared.verdict.Verdict.TheVariants.{Equal};
 ghost use Rattle.vrt_model.specs.declared.whole.Drive.{Drive as DriveValue};
 ghost use Rattle.vrt_model.specs.declared.whole.Drive.TheVariants.{Soft};
 
 use std::alloc::Global;
-use vrt_model::{CellFacts, Drive, NoMemory, PortRole, Seq, Verdict};
+use vrt_model::{CellFacts, Circuit, Drive, FlatModel, NoMemory, PortRole, Seq, Verdict};
 
 /// Whether a cell is equal.
 fn is_equal(verdict: &Verdict) -> bool
@@ -60,14 +60,31 @@ pub(crate) fn no_facts(alloc: Global) -> CellFacts
     }
 }
 
-/// What is known of a cell with this verdict whose ports have these roles, where it has neither hold nor latch: that it is
-/// equal, and then one drive for each output, of which nothing is said; else nothing.
+/// Whether a circuit has no hold, and a model no latch.
+pub(crate) fn is_bare(circuit: &Circuit, model: &FlatModel) -> bool
+    ensures { (result ≡ true) ↔ ((circuit.now.holds ≡ []) × (model.now.latches ≡ [])) }
+{
+    let holds = circuit.holds.len();
+    let latches = model.latches.len();
+    both(holds == 0, latches == 0)
+}
+
+/// Whether both hold.
+fn both(a: bool, b: bool) -> bool
+    ensures { result ≡ (a && b) }
+{
+    a && b
+}
+
+/// What is known of a cell with this verdict whose ports have these roles: that it is equal, that it is stateless as well where
+/// it is bare, without hold and latch, and then one drive for each output, of which nothing is said; else nothing.
 pub(crate) fn facts_of(
     alloc: Global,
     verdict: &Verdict,
     roles: &[PortRole],
+    bare: bool,
 ) -> Result<CellFacts, NoMemory>
-    ensures { IfOk result (AreSoft roles.now verdict.now) }
+    ensures { IfOk result (AreSoft roles.now bare verdict.now) }
 {
     if !is_equal(verdict) {
         return Ok(no_facts(alloc));
@@ -75,7 +92,7 @@ pub(crate) fn facts_of(
     let drives = soft_drives(alloc, output_count(roles))?;
     Ok(CellFacts {
         equal: true,
-        stateless: true,
+        stateless: bare,
         drives,
     })
 }

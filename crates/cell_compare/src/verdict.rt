@@ -1,19 +1,21 @@
 //! One cell compared with its model.
 
 ghost use Rattle.std.specs.Prelude.{◌≡◌, ◌≤◌, ◌<◌, [], None, false, length, IfOk};
-ghost use Rattle.cell_compare.specs.Compared.{AreInputs, IsBuilt};
-ghost use Rattle.cell_compare.specs.Cells.{HasLine, HasFacts};
+ghost use Rattle.cell_compare.specs.Cells.{HasFacts, HasLine, HasRuns, IsComplete};
+ghost use Rattle.cell_compare.specs.Compared.{AreInputs};
 ghost use Rattle.prepared_tables.specs.Prepared.{ArePrepared};
+ghost use Rattle.vrt_model.specs.Hierarchy.{IsOrdered};
 ghost use Rattle.vrt_model.specs.Inputs.{AreRules, IsBlif, IsDesign};
 ghost use Rattle.vrt_model.specs.Models.{AreModels};
 ghost use Rattle.vrt_model.specs.PairedPorts.{Model, model_of_paired, paired_model};
 ghost use Rattle.vrt_model.specs.Verdicts.{IsVerdict};
 
-use crate::flattened::{Comparison, Flattened};
+use crate::flattened::Flattened;
 use crate::flattening::flatten_cell;
 use crate::hindrance::Hindrance;
-use crate::known_facts::{facts_of, no_facts};
-use crate::phase_search::check_cell;
+use crate::known_facts::{facts_of, is_bare, no_facts};
+use crate::phases::check_cell;
+use phase_terms::Comparison;
 use prepared_tables::{Prepared, is_skipped_with, model_of_with, prepare};
 use std::alloc::Global;
 use vrt_model::{Blif, CellFacts, Design, NoMemory, Rules, Seq, Verdict, Why};
@@ -69,6 +71,8 @@ fn compare_with(
     ensures verdict { IfOk result (λ c. IsVerdict design.now blif.now rules.now budget cell c.verdict) }
     ensures line { IfOk result (λ c. HasLine design.now blif.now rules.now cell c.verdict c.flattened) }
     ensures facts { IfOk result (λ c. HasFacts design.now blif.now rules.now cell c.verdict c.facts) }
+    ensures complete { IfOk result (λ c. IsComplete design.now blif.now rules.now budget cell c.verdict) }
+    ensures runs { IfOk result (λ c. HasRuns design.now blif.now rules.now cell c.verdict) }
 {
     let flattened = match flatten_cell(alloc, prepared, design, blif, rules, cell, model) {
         Ok(flattened) => flattened,
@@ -80,10 +84,14 @@ fn compare_with(
         rules,
         index: &prepared.index,
         cell,
-        flattened: &flattened,
+        pairing: &flattened.pairing,
+        circuit: &flattened.circuit,
+        model: &flattened.model,
+        groups: &flattened.groups,
     };
     let verdict = check_cell(alloc, budget, compared)?;
-    let facts = facts_of(alloc, &verdict, flattened.pairing.ports.as_slice())?;
+    let bare = is_bare(&flattened.circuit, &flattened.model);
+    let facts = facts_of(alloc, &verdict, flattened.pairing.ports.as_slice(), bare)?;
     Ok(Compared {
         verdict,
         facts,
@@ -92,7 +100,7 @@ fn compare_with(
 }
 
 /// The number of the model with which a cell pairs.
-fn paired_number(
+pub(crate) fn paired_number(
     prepared: &Prepared,
     design: &Design,
     blif: &Blif,
@@ -126,10 +134,12 @@ pub fn compare_prepared(
     requires models { AreModels blif.now }
     requires rules { AreRules rules.now }
     requires cell { cell < length design.now.cells }
-    requires built { IsBuilt design.now blif.now rules.now cell }
+    requires ordered { IsOrdered design.now rules.now }
     ensures verdict { IfOk result (λ c. IsVerdict design.now blif.now rules.now budget cell c.verdict) }
     ensures line { IfOk result (λ c. HasLine design.now blif.now rules.now cell c.verdict c.flattened) }
     ensures facts { IfOk result (λ c. HasFacts design.now blif.now rules.now cell c.verdict c.facts) }
+    ensures complete { IfOk result (λ c. IsComplete design.now blif.now rules.now budget cell c.verdict) }
+    ensures runs { IfOk result (λ c. HasRuns design.now blif.now rules.now cell c.verdict) }
 {
     let _unread = facts;
     if is_skipped_with(prepared, design, rules, cell) {
@@ -141,9 +151,8 @@ pub fn compare_prepared(
     }
 }
 
-/// The verdict on a cell without instances, for models without latches and for rules without holds, keepers, matches and
-/// constraints. Phase by phase its circuit is compared with its model by diagrams, which take at most `budget` nodes in
-/// each phase. What is known of other cells is not looked at yet.
+/// The verdict on a cell, with all its instances unrolled. Phase by phase its circuit is compared with its model by diagrams,
+/// which take at most `budget` nodes in each phase. What is known of other cells is not looked at yet.
 ///
 /// `Budget` comes only with more than four variables, where the nodes that its phase may need are more than the budget;
 /// beside it and want of memory each verdict comes exactly where it holds.
@@ -162,10 +171,12 @@ pub fn compare(
     requires models { AreModels blif.now }
     requires rules { AreRules rules.now }
     requires cell { cell < length design.now.cells }
-    requires built { IsBuilt design.now blif.now rules.now cell }
+    requires ordered { IsOrdered design.now rules.now }
     ensures verdict { IfOk result (λ c. IsVerdict design.now blif.now rules.now budget cell c.verdict) }
     ensures line { IfOk result (λ c. HasLine design.now blif.now rules.now cell c.verdict c.flattened) }
     ensures facts { IfOk result (λ c. HasFacts design.now blif.now rules.now cell c.verdict c.facts) }
+    ensures complete { IfOk result (λ c. IsComplete design.now blif.now rules.now budget cell c.verdict) }
+    ensures runs { IfOk result (λ c. HasRuns design.now blif.now rules.now cell c.verdict) }
 {
     let prepared = prepare(alloc, design, blif, rules)?;
     compare_prepared(alloc, budget, &prepared, design, blif, rules, cell, facts)

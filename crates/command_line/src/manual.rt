@@ -30,12 +30,11 @@ pub fn help() -> &'static [u8]
       replay         the values of the nets of a cell at one valuation\n\
       classes        the class of each channel-connected part\n\
       gen            makes a hierarchy of cells, and checks it; no files are named\n\
-      Not built yet: replay, classes, gen and --cell.\n\
 \n\
       status 0       each cell is equal, or what was asked for is written\n\
       status 1       a cell has a fault\n\
       status 2       the words are not understood\n\
-      status 3       a file is too long or faulty, a name is not there, or a form is not built yet\n\
+      status 3       a file is too long or faulty, or a name is not there\n\
       status 4       no cell has a fault, and one was not decided\n\
       status 5       a file could not be read\n\
       status 6       the output could not be written\n\

@@ -1,9 +1,11 @@
-pub mod BuiltLaws
+pub mod CellLaws
+pub mod ClassLaws
 pub mod EnterShown
 pub mod KeptFightShown
 pub mod NextShown
 pub mod PutLaws
 pub mod RefusalLaws
+pub mod ReplayLaws
 pub mod ReportLaws
 pub mod UnsettledShown
 pub mod WorkedFaults

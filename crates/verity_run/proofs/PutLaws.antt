@@ -1,9 +1,10 @@
 -- What is written by several puts, and how a run ends.
-use Rattle.std.proofs.Common.{◌≡◌, ◌≤◌, inl, inr, ◌∷◌, ◌++◌, [], ℕ, suc, List, take, Option, Some, None, refl, sym, ap, ◌∙◌, append-nil, append_assoc, subst, arith}
+use Rattle.std.proofs.Common.{◌≡◌, ◌≤◌, ◌<◌, ◌+◌, inl, inr, ◌∷◌, ◌++◌, [], ℕ, zero, suc, List, drop, get_or, length, take, Option, Some, None, refl, sym, ap, ◌∙◌, append-nil, append_assoc, subst, arith}
+use Rattle.std.proofs.lemmas.List.{drop_more, take_all, take_more}
 use Rattle.std.specs.Io.KnownBytes.{Appends, Keeps}
 use Rattle.vrt_io.specs.Causes.{Rose}
 use Rattle.verity_run.specs.Messages.{joined}
-use Rattle.verity_run.specs.Runs.{Ends, MayBeCut, PutsLine}
+use Rattle.verity_run.specs.Runs.{Ends, MayBeCut, PutsLine, StopsLine, StopsLines}
 use Rattle.verity_run.specs.declared.status.Status.{Status}
 use Rattle.verity_run.specs.declared.status.Status.TheVariants.{NoMemory, WriteFault}
 
@@ -26,7 +27,7 @@ pub nothing_put : (a : Option (List ℕ)) → Appends a a []
 nothing_put None = tt
 nothing_put (Some x) = sym (append-nil x)
 
-joined_behind : (xs ys : List (List ℕ)) → joined (xs ++ ys) ≡ joined xs ++ joined ys
+pub joined_behind : (xs ys : List (List ℕ)) → joined (xs ++ ys) ≡ joined xs ++ joined ys
 joined_behind [] ys = refl
 joined_behind (x ∷ xs) ys = ap (λ t. x ++ t) (joined_behind xs ys) ∙ sym (append_assoc x (joined xs) (joined ys))
 
@@ -41,6 +42,53 @@ front_behind (x ∷ before) rest k = let found = front_behind before rest k in (
 
 pub rose_since : (old mid new : ℕ) → old ≤ mid → Rose mid new → Rose old new
 rose_since old mid new le rose = omega (arith, rose)
+
+-- a front of what stands before is a front
+front_in : (before rest : List ℕ) (n : ℕ) → (m : ℕ) × (take m (before ++ rest) ≡ take n before)
+front_in [] rest zero = (0, refl)
+front_in [] rest (suc n) = (0, refl)
+front_in (x ∷ before) rest zero = (0, refl)
+front_in (x ∷ before) rest (suc n) = let found = front_in before rest n in (suc found.0, ap (λ t. x ∷ t) found.1)
+
+-- a list is its front and the rest
+pub split_at : {X : Type 0} (k : ℕ) (xs : List X) → xs ≡ take k xs ++ drop k xs
+split_at zero xs = refl
+split_at (suc k) [] = refl
+split_at (suc k) (x ∷ xs) = ap (λ t. x ∷ t) (split_at k xs)
+
+-- ---- several lines
+
+-- one line more
+pub lines_more : (lines : List (List ℕ)) (i : ℕ) (line given : List ℕ) (old mid new : Option (List ℕ)) → i < length lines → line ≡ get_or lines i line → given ≡ line
+    → Appends old mid (joined (take i lines)) → Appends mid new given → Appends old new (joined (take (i + 1) lines))
+lines_more lines i line given old mid new lt is same before one =
+    subst (Appends old new)
+    (sym (ap joined (take_more lines i line lt ∙ ap (λ l. take i lines ++ l ∷ []) (sym is)) ∙ joined_more (take i lines) line))
+    (appended old mid new (joined (take i lines)) line before (subst (Appends mid new) same one))
+
+-- a line that was not put as a whole
+pub lines_stop : (lines : List (List ℕ)) (i : ℕ) (line given : List ℕ) (end : Status) (old mid new : Option (List ℕ)) (before between now : ℕ) → i < length lines → line ≡ get_or lines i line → given ≡ line
+    → Appends old mid (joined (take i lines)) → before ≤ between → StopsLine end given mid new between now → StopsLines end lines old new before now
+lines_stop lines i line given end old mid new before between now lt is same put le stops = record {
+  stopped = stops.stopped;
+  fault = λ e.
+      let w = stops.fault e in
+      let own = front_in line (joined (drop (i + 1) lines)) w.1.0 in
+      let found = front_behind (joined (take i lines)) (line ++ joined (drop (i + 1) lines)) own.0 in
+      let front : take found.0 (joined lines) ≡ joined (take i lines) ++ take w.1.0 line =
+      ap (take found.0) whole ∙ found.1 ∙ ap (λ t. joined (take i lines) ++ t) own.1 in
+      (rose_since before between now le w.0, (found.0, subst (Appends old new) (sym front) (appended old mid new (joined (take i lines)) (take w.1.0 line) put (subst (λ (l : List ℕ). Appends mid new (take w.1.0 l)) same w.1.1))));
+  memory = λ e. (i, kept_behind old mid new (joined (take i lines)) put (stops.memory e));
+} where
+  rest : drop i lines ≡ line ∷ drop (i + 1) lines
+  rest = drop_more lines i line lt ∙ ap (λ l. l ∷ drop (i + 1) lines) (sym is)
+
+  whole : joined lines ≡ joined (take i lines) ++ (line ++ joined (drop (i + 1) lines))
+  whole = ap joined (split_at i lines ∙ ap (λ t. take i lines ++ t) rest) ∙ joined_behind (take i lines) (line ∷ drop (i + 1) lines)
+
+-- all lines were put
+pub lines_end : (lines : List (List ℕ)) (i : ℕ) (old new : Option (List ℕ)) → length lines ≤ i → Appends old new (joined (take i lines)) → Appends old new (joined lines)
+lines_end lines i old new past put = subst (λ (ls : List (List ℕ)). Appends old new (joined ls)) (take_all i lines past) put
 
 -- ---- ends
 

@@ -1,32 +1,71 @@
--- The report, cell by cell.
-use Rattle.std.proofs.Common.{◌≡◌, ◌≤◌, ◌<◌, arith, take, Option, ◌⊎◌, inl, inr, ◌∷◌, ◌++◌, ◌+◌, ◌||◌, [], ℕ, zero, suc, List, Bool, true, false, cond, get_or, length, Some, refl, sym, ap, ap₂, ◌∙◌, append_assoc, subst, length-append}
-use Rattle.std.specs.Io.KnownBytes.{Appends}
-use Rattle.std.specs.Prelude.{slice_get, unwrap_or}
+-- Reports, cell by cell.
+use Rattle.std.proofs.Common.{◌≡◌, ◌≤◌, ◌<◌, ◌+◌, arith, take, drop, Option, inl, inr, ◌∷◌, ◌++◌, ◌||◌, [], ℕ, List, Bool, true, false, cond, get_or, length, refl, sym, ap, ap₂, ◌∙◌, append_assoc, append-nil, subst}
+use Rattle.std.specs.Io.KnownBytes.{Appends, Keeps}
 use Rattle.std.specs.List.{list_any}
-use Rattle.std.proofs.lemmas.List.{map-append}
+use Rattle.std.proofs.lemmas.List.{map-append, take_all, take_more}
+use Rattle.std.proofs.lemmas.List.Elements.{All-append, All-cons, All-nil}
 use Rattle.std.proofs.lemmas.List.Folds.{list_any-append}
-use Rattle.std.proofs.lemmas.Option.{none-some, same_Some, slice_get-get_or}
-use Rattle.verity_run.proofs.PutLaws.{appended, front_behind, joined_more, kept_behind, nothing_put, rose_since}
-use Rattle.verity_run.specs.Messages.{joined}
-use Rattle.verity_run.specs.Reports.{AreAnswers, BeginsReport, IsEnded, IsReportOf, PutsCell, PutsCells, ReportsCells, StopsAtCell, answer_lines, cell_line, is_fault, is_undecided, status_by, with_verdict}
-use Rattle.verity_run.specs.Runs.{Ends, StopsLine}
+use Rattle.verity_run.proofs.PutLaws.{appended, front_behind, joined_behind, kept_behind, nothing_put, rose_since, split_at}
+use Rattle.verity_run.specs.Asked.{ReportsGenerated}
+use Rattle.verity_run.specs.Messages.{joined, last_line}
+use Rattle.verity_run.specs.Reports.{Begins, IsChecked, IsEnded, PutsCell, PutsReport, Reports, ReportsCells, StopsCell, StopsReport, answer_lines, counted, is_fault, is_undecided, more, none, status_by, with_count}
+use Rattle.verity_run.specs.Runs.{Ends, PutsLine, StopsLines}
+use Rattle.verity_run.specs.declared.status.Count.{Count}
+use Rattle.verity_run.specs.declared.status.Count.TheVariants.{Nothing, Pending, Faulty}
 use Rattle.verity_run.specs.declared.status.Status.{Status}
-use Rattle.verity_run.specs.declared.status.Status.TheVariants.{AllEqual, SomeFault, Undecided}
-use Rattle.vrt_model.specs.Comparison.{cell_at}
-use Rattle.vrt_model.specs.Lists.{At}
+use Rattle.verity_run.specs.declared.status.Status.TheVariants.{AllEqual, InputRefused, NoMemory, ReadFault, SomeFault, Undecided, Usage, WriteFault}
+use Rattle.vrt_io.specs.Causes.{Rose}
 use Rattle.vrt_model.specs.Verdicts.{Answer, IsVerdict, answer_line, report}
 use Rattle.vrt_model.specs.declared.blif.Blif.{Blif}
-use Rattle.vrt_model.specs.declared.design.Cell.{Cell}
 use Rattle.vrt_model.specs.declared.design.Design.{Design}
 use Rattle.vrt_model.specs.declared.rules.Rules.{Rules}
 use Rattle.vrt_model.specs.declared.verdict.Verdict.{Verdict}
 use Rattle.vrt_model.specs.declared.verdict.Verdict.TheVariants.{Equal, Skipped, Fault, Vacuous, Budget, Unsupported}
 
--- ---- the status
+-- ---- the status of a report
+
+pub all_equal : IsEnded AllEqual
+all_equal = record { written = λ e. cc; had = λ e. cc; read = λ e. cc; understood = λ e. cc }
+
+some_fault : IsEnded SomeFault
+some_fault = record { written = λ e. cc; had = λ e. cc; read = λ e. cc; understood = λ e. cc }
+
+undecided : IsEnded Undecided
+undecided = record { written = λ e. cc; had = λ e. cc; read = λ e. cc; understood = λ e. cc }
+
+ended_by : (p q : Bool) → IsEnded (cond p SomeFault (cond q Undecided AllEqual))
+ended_by true q = some_fault
+ended_by false true = undecided
+ended_by false false = all_equal
+
+-- it comes with files that were read
+pub checked_ends : (design : Design) (blif : Blif) (rules : Rules) (budget : ℕ) (cells : List ℕ) (status : Status) (lines : List (List ℕ))
+    → ReportsCells design blif rules budget cells status lines → IsEnded status
+checked_ends design blif rules budget cells status lines r =
+    subst IsEnded (sym r.ended) (ended_by (list_any (λ (a : Answer). is_fault a.verdict) r.answers) (list_any (λ (a : Answer). is_undecided a.verdict) r.answers))
+
+pub counted_ends : (status : Status) (count : Count) → IsEnded status → IsEnded (with_count status count)
+counted_ends status Nothing ended = ended
+counted_ends status Faulty ended = some_fault
+counted_ends AllEqual Pending ended = undecided
+counted_ends SomeFault Pending ended = some_fault
+counted_ends Usage Pending ended = undecided
+counted_ends InputRefused Pending ended = undecided
+counted_ends Undecided Pending ended = undecided
+counted_ends ReadFault Pending ended = undecided
+counted_ends WriteFault Pending ended = undecided
+counted_ends NoMemory Pending ended = undecided
+
+pub reports_end : (IsOf : ℕ → Count → List (List ℕ) → Type 0) (cells : List ℕ) (status : Status) (lines : List (List ℕ)) → Reports IsOf cells status lines → IsEnded status
+reports_end IsOf cells status lines none = all_equal
+reports_end IsOf cells status lines (more {cells = before} {status = old} {lines = less} n count own rest is on counts all) =
+    subst IsEnded (sym counts) (counted_ends old count (reports_end IsOf before old less rest))
+
+-- ---- verdicts
 
 one_more_status : (p q : Bool) (v : Verdict)
     → cond (p || (is_fault v || false)) SomeFault (cond (q || (is_undecided v || false)) Undecided AllEqual)
-    ≡ with_verdict (cond p SomeFault (cond q Undecided AllEqual)) v
+    ≡ with_count (cond p SomeFault (cond q Undecided AllEqual)) (counted v)
 one_more_status true true Equal = refl
 one_more_status true false Equal = refl
 one_more_status false true Equal = refl
@@ -52,50 +91,12 @@ one_more_status true false (Unsupported why) = refl
 one_more_status false true (Unsupported why) = refl
 one_more_status false false (Unsupported why) = refl
 
-status_more : (answers : List Answer) (a : Answer) → status_by (answers ++ a ∷ []) ≡ with_verdict (status_by answers) a.verdict
+status_more : (answers : List Answer) (a : Answer) → status_by (answers ++ a ∷ []) ≡ with_count (status_by answers) (counted a.verdict)
 status_more answers a =
     ap₂ (λ p q. cond p SomeFault (cond q Undecided AllEqual))
     (list_any-append (λ (a : Answer). is_fault a.verdict) answers (a ∷ []))
     (list_any-append (λ (a : Answer). is_undecided a.verdict) answers (a ∷ []))
     ∙ one_more_status (list_any (λ (a : Answer). is_fault a.verdict) answers) (list_any (λ (a : Answer). is_undecided a.verdict) answers) a.verdict
-
-ended_by : (p q : Bool) → IsEnded (cond p SomeFault (cond q Undecided AllEqual))
-ended_by true q = record { written = λ e. cc; had = λ e. cc; read = λ e. cc; understood = λ e. cc }
-ended_by false true = record { written = λ e. cc; had = λ e. cc; read = λ e. cc; understood = λ e. cc }
-ended_by false false = record { written = λ e. cc; had = λ e. cc; read = λ e. cc; understood = λ e. cc }
-
--- the status of a report comes with files that were read
-pub report_ends : (design : Design) (blif : Blif) (rules : Rules) (budget count : ℕ) (status : Status) (lines : List (List ℕ))
-    → ReportsCells design blif rules budget count status lines → IsEnded status
-report_ends design blif rules budget count status lines r =
-    subst IsEnded (sym r.ended) (ended_by (list_any (λ (a : Answer). is_fault a.verdict) r.answers) (list_any (λ (a : Answer). is_undecided a.verdict) r.answers))
-
--- ---- the answers
-
--- an item of a list with one more at its end
-at_end : {X : Type 0} (xs : List X) (y : X) (k : ℕ) (x : X) → slice_get (xs ++ y ∷ []) k ≡ Some x → (slice_get xs k ≡ Some x) ⊎ ((k ≡ length xs) × (y ≡ x))
-at_end [] y zero x e = inr (refl, same_Some y x e)
-at_end [] y (suc k) x e = absurd (none-some x e)
-at_end (z ∷ xs) y zero x e = inl e
-at_end (z ∷ xs) y (suc k) x e = elim (at_end xs y k x e) [ inl there ↦ inl there | inr last ↦ inr (ap suc last.0, last.1) ]
-
-answers_more : (design : Design) (blif : Blif) (rules : Rules) (budget n : ℕ) (answers : List Answer) (a : Answer) → AreAnswers design blif rules budget n answers
-    → a.cell ≡ n → IsVerdict design blif rules budget n a.verdict → AreAnswers design blif rules budget (n + 1) (answers ++ a ∷ [])
-answers_more design blif rules budget n answers a are place verdict = record {
-  all = length-append answers (a ∷ []) ∙ ap (λ k. k + 1) are.all;
-  cells = each;
-}
-  where
-    last : (k : ℕ) (b : Answer) → k ≡ length answers → a ≡ b → (b.cell ≡ k) × IsVerdict design blif rules budget k b.verdict
-    last k b at same =
-        let here : n ≡ k = sym are.all ∙ sym at in
-        let Q : Answer → Type 0 = λ c. (c.cell ≡ k) × IsVerdict design blif rules budget k c.verdict in
-        subst Q same (place ∙ here, subst (λ m. IsVerdict design blif rules budget m a.verdict) here verdict)
-
-    each : (k : ℕ) (b : Answer) → At (answers ++ a ∷ []) k b → (b.cell ≡ k) × IsVerdict design blif rules budget k b.verdict
-    each k b e = elim (at_end answers a k b e) [ inl there ↦ are.cells k b there | inr end ↦ last k b end.0 end.1 ]
-
--- ---- the text
 
 text_of : (design : Design) (blif : Blif) (rules : Rules) (answers : List Answer) → joined (answer_lines design blif rules answers) ≡ report design blif rules answers
 text_of design blif rules [] = refl
@@ -103,124 +104,204 @@ text_of design blif rules (a ∷ answers) =
     append_assoc (answer_line design blif rules a) (10 ∷ []) (joined (answer_lines design blif rules answers))
     ∙ ap (λ t. answer_line design blif rules a ++ 10 ∷ t) (text_of design blif rules answers)
 
--- ---- the report
+-- the report of no cell, and of one more
+verdicts_none : (design : Design) (blif : Blif) (rules : Rules) (budget : ℕ) → ReportsCells design blif rules budget [] AllEqual []
+verdicts_none design blif rules budget = record { answers = []; on = refl; verdicts = All-nil (λ (a : Answer). IsVerdict design blif rules budget a.cell a.verdict); ended = refl; lines_are = refl; text = refl }
 
--- of no cell
-report_none : (design : Design) (blif : Blif) (rules : Rules) (budget : ℕ) → ReportsCells design blif rules budget 0 AllEqual []
-report_none design blif rules budget = record {
-  answers = [];
-  verdicts = record { all = refl; cells = λ n a e. absurd (none-some a e) };
-  ended = refl;
-  lines_are = refl;
-  text = refl;
-}
-
--- of one cell more
-report_more : (design : Design) (blif : Blif) (rules : Rules) (budget n : ℕ) (old new : Status) (before after : List (List ℕ)) (v : Verdict) (line : List ℕ)
-    → ReportsCells design blif rules budget n old before → IsVerdict design blif rules budget n v
-    → line ≡ answer_line design blif rules (record { cell = n; verdict = v }) ++ 10 ∷ [] → new ≡ with_verdict old v → after ≡ before ++ line ∷ []
-    → ReportsCells design blif rules budget (n + 1) new after
-report_more design blif rules budget n old new before after v line r verdict told status lines =
-    let a : Answer = record { cell = n; verdict = v } in
-    let listed : after ≡ answer_lines design blif rules (r.answers ++ a ∷ []) =
-    lines ∙ ap₂ (λ ls l. ls ++ l ∷ []) r.lines_are told ∙ sym (map-append (λ (a : Answer). answer_line design blif rules a ++ 10 ∷ []) r.answers (a ∷ [])) in
+verdicts_more : (design : Design) (blif : Blif) (rules : Rules) (budget n : ℕ) (cells cells' : List ℕ) (status status' : Status) (lines lines' own : List (List ℕ)) (count : Count)
+    → ReportsCells design blif rules budget cells status lines → IsChecked design blif rules budget n count own
+    → cells' ≡ cells ++ n ∷ [] → status' ≡ with_count status count → lines' ≡ lines ++ own
+    → ReportsCells design blif rules budget cells' status' lines'
+verdicts_more design blif rules budget n cells cells' status status' lines lines' own count r is on counts all =
+    let a : Answer = record { cell = n; verdict = is.verdict } in
+    let listed : lines' ≡ answer_lines design blif rules (r.answers ++ a ∷ []) =
+    all ∙ ap₂ (λ ls l. ls ++ l) r.lines_are is.line ∙ sym (map-append (λ (a : Answer). answer_line design blif rules a ++ 10 ∷ []) r.answers (a ∷ [])) in
     record {
       answers = r.answers ++ a ∷ [];
-      verdicts = answers_more design blif rules budget n r.answers a r.verdicts refl verdict;
-      ended = status ∙ ap (λ s. with_verdict s v) r.ended ∙ sym (status_more r.answers a);
+      on = map-append (λ (a : Answer). a.cell) r.answers (a ∷ []) ∙ ap (λ xs. xs ++ n ∷ []) r.on ∙ sym on;
+      verdicts =
+          let P : Answer → Type 0 = λ b. IsVerdict design blif rules budget b.cell b.verdict in
+          All-append P r.answers (a ∷ []) r.verdicts (All-cons P a [] is.is (All-nil P));
+      ended = counts ∙ ap₂ with_count r.ended is.counts ∙ sym (status_more r.answers a);
       lines_are = listed;
       text = ap joined listed ∙ text_of design blif rules (r.answers ++ a ∷ []);
     }
 
--- ---- cell by cell
+-- cell by cell, the report is that of the verdicts
+pub verdicts_of : (design : Design) (blif : Blif) (rules : Rules) (budget : ℕ) (cells : List ℕ) (status : Status) (lines : List (List ℕ))
+    → Reports (IsChecked design blif rules budget) cells status lines → ReportsCells design blif rules budget cells status lines
+verdicts_of design blif rules budget cells status lines none = verdicts_none design blif rules budget
+verdicts_of design blif rules budget cells status lines (more {cells = before} {status = old} {lines = less} n count own rest is on counts all) =
+    verdicts_more design blif rules budget n before cells old status less lines own count (verdicts_of design blif rules budget before old less rest) is on counts all
 
--- no line was put yet
-pub cells_none : (design : Design) (blif : Blif) (rules : Rules) (budget : ℕ) (old : Option (List ℕ)) → PutsCells design blif rules budget 0 AllEqual old old
-cells_none design blif rules budget old = record { lines = []; cells = report_none design blif rules budget; put = nothing_put old }
+-- ---- what was put
 
--- a line that was put is that of its cell
-pub cell_put : (design : Design) (blif : Blif) (rules : Rules) (budget n : ℕ) (status more : Status) (old new : Option (List ℕ)) (v : Verdict) (line : List ℕ)
-    → IsVerdict design blif rules budget n v → line ≡ cell_line design blif rules n v → more ≡ with_verdict status v → Appends old new line
-    → PutsCell design blif rules budget n status more old new
-cell_put design blif rules budget n status more old new v line verdict told counted put =
-    record { verdict = v; is = verdict; counted = counted; put = subst (Appends old new) told put }
+memory_is_no_fault : (status : Status) → status ≡ NoMemory → status ≡ WriteFault → ⊥
+memory_is_no_fault status p q = cc
 
--- a line that was not put as a whole
-pub cell_stops : (design : Design) (blif : Blif) (rules : Rules) (budget n : ℕ) (status : Status) (old new : Option (List ℕ)) (before now : ℕ) (v : Verdict) (line : List ℕ)
-    → IsVerdict design blif rules budget n v → line ≡ cell_line design blif rules n v → StopsLine status line old new before now
-    → StopsAtCell design blif rules budget n status old new before now
-cell_stops design blif rules budget n status old new before now v line verdict told stops = record {
-  stopped = stops.stopped;
-  fault = λ e. let w = stops.fault e in (v, verdict, (w.0, (w.1.0, subst (λ (l : List ℕ). Appends old new (take w.1.0 l)) told w.1.1)));
-  memory = stops.memory;
-}
+module _ (IsOf : ℕ → Count → List (List ℕ) → Type 0) where
+  -- no cell was reported yet
+  pub report_none : (old : Option (List ℕ)) → PutsReport IsOf [] AllEqual old old
+  report_none old = record { lines = []; reports = none; put = nothing_put old }
 
--- one line more
-pub cells_more : (design : Design) (blif : Blif) (rules : Rules) (budget n : ℕ) (status more : Status) (old mid new : Option (List ℕ))
-    → PutsCells design blif rules budget n status old mid → PutsCell design blif rules budget n status more mid new
-    → PutsCells design blif rules budget (n + 1) more old new
-cells_more design blif rules budget n status more old mid new puts one =
-    let line = cell_line design blif rules n one.verdict in
-    record {
-      lines = puts.lines ++ line ∷ [];
-      cells = report_more design blif rules budget n status more puts.lines (puts.lines ++ line ∷ []) one.verdict line puts.cells one.is refl one.counted refl;
-      put = subst (Appends old new) (sym (joined_more puts.lines line)) (appended old mid new (joined puts.lines) line puts.put one.put);
-    }
+  -- the lines of a cell were put
+  pub cell_put : (n : ℕ) (count : Count) (lines given : List (List ℕ)) (status next : Status) (old new : Option (List ℕ)) → IsOf n count lines → given ≡ lines
+      → next ≡ with_count status count → Appends old new (joined given) → PutsCell IsOf n status next old new
+  cell_put n count lines given status next old new is same counts put =
+      record { count = count; lines = lines; is = is; counts = counts; put = subst (λ (ls : List (List ℕ)). Appends old new (joined ls)) same put }
 
--- the beginning of the report that was put so far
-begun : (design : Design) (blif : Blif) (rules : Rules) (budget n : ℕ) (status : Status) (lines : List (List ℕ)) → n ≤ length design.cells
-    → ReportsCells design blif rules budget n status lines → BeginsReport design blif rules budget lines
-begun design blif rules budget n status lines le cells = record { count = n; within = le; status = status; cells = cells }
+  -- lines of a cell that were not put as a whole
+  pub cell_stops : (n : ℕ) (count : Count) (lines given : List (List ℕ)) (status : Status) (old new : Option (List ℕ)) (before now : ℕ) → IsOf n count lines → given ≡ lines
+      → StopsLines status given old new before now → StopsCell IsOf n status old new before now
+  cell_stops n count lines given status old new before now is same stops = record {
+    stopped = stops.stopped;
+    fault = λ e. let w = stops.fault e in (count, lines, is, (w.0, (w.1.0, subst (λ (ls : List (List ℕ)). Appends old new (take w.1.0 (joined ls))) same w.1.1)));
+    memory = λ e. let w = stops.memory e in inr (count, lines, is, (w.0, subst (λ (ls : List (List ℕ)). Appends old new (joined (take w.0 ls))) same w.1));
+  }
 
--- the run ends in the line of a cell, or before it
-pub cells_stop : (design : Design) (blif : Blif) (rules : Rules) (budget n : ℕ) (status end : Status) (old mid new : Option (List ℕ)) (before between now : ℕ)
-    → n < length design.cells → PutsCells design blif rules budget n status old mid → before ≤ between
-    → StopsAtCell design blif rules budget n end mid new between now
-    → Ends (IsReportOf design blif rules budget) (BeginsReport design blif rules budget) end old new before now
-cells_stop design blif rules budget n status end old mid new before between now lt puts le stops = record {
-  whole = λ p q. absurd (elim stops.stopped [ inl e ↦ p e | inr e ↦ q e ]);
+  -- nothing of a cell was put
+  pub nothing_of_cell : (n : ℕ) (status : Status) (old : Option (List ℕ)) (before now : ℕ) → status ≡ NoMemory → Keeps old old → StopsCell IsOf n status old old before now
+  nothing_of_cell n status old before now is kept =
+      record { stopped = inr is; fault = λ e. absurd (memory_is_no_fault status is e); memory = λ e. inl kept }
+
+  -- one cell more
+  pub report_more : (cells : List ℕ) (i n : ℕ) (status next : Status) (old mid new : Option (List ℕ)) → i < length cells → n ≡ get_or cells i 0
+      → PutsReport IsOf (take i cells) status old mid → PutsCell IsOf n status next mid new → PutsReport IsOf (take (i + 1) cells) next old new
+  report_more cells i n status next old mid new lt is puts one = record {
+    lines = puts.lines ++ one.lines;
+    reports = more n one.count one.lines puts.reports one.is (take_more cells i 0 lt ∙ ap (λ k. take i cells ++ k ∷ []) (sym is)) one.counts refl;
+    put = subst (Appends old new) (sym (joined_behind puts.lines one.lines)) (appended old mid new (joined puts.lines) (joined one.lines) puts.put one.put);
+  }
+
+  -- lines that begin the report of the cells up to one
+  begun_with : (cells : List ℕ) (i n : ℕ) (status : Status) (count : Count) (lines own front back : List (List ℕ)) → i < length cells → n ≡ get_or cells i 0
+      → Reports IsOf (take i cells) status lines → IsOf n count own → own ≡ front ++ back → Begins (Reports IsOf) cells (lines ++ front)
+  begun_with cells i n status count lines own front back lt is reports of own_is = (
+    i + 1,
+    with_count status count,
+    back,
+    more n count own reports of (take_more cells i 0 lt ∙ ap (λ k. take i cells ++ k ∷ []) (sym is)) refl
+        (append_assoc lines front back ∙ ap (λ ls. lines ++ ls) (sym own_is)),
+  )
+
+  -- the report ends at a cell
+  pub report_stops : (cells : List ℕ) (i n : ℕ) (status end : Status) (old mid new : Option (List ℕ)) (before between now : ℕ) → i < length cells → n ≡ get_or cells i 0
+      → PutsReport IsOf (take i cells) status old mid → before ≤ between → StopsCell IsOf n end mid new between now → StopsReport IsOf cells end old new before now
+  report_stops cells i n status end old mid new before between now lt is puts le stops = record {
+    stopped = stops.stopped;
+    fault = λ e. cut (stops.fault e);
+    memory = λ e. elim (stops.memory e) [
+      | inl kept ↦ (puts.lines, so_far, kept_behind old mid new (joined puts.lines) puts.put kept)
+      | inr w ↦ first (w.0) (w.1) w.2 w.3.0 w.3.1
+    ];
+  } where
+    so_far : Begins (Reports IsOf) cells puts.lines
+    so_far = (i, status, [], subst (Reports IsOf (take i cells) status) (sym (append-nil puts.lines)) puts.reports)
+
+    cut : (count : Count) × (lines : List (List ℕ)) × IsOf n count lines × (Rose between now × ((k : ℕ) × Appends mid new (take k (joined lines))))
+        → Rose before now × ((lines : List (List ℕ)) × Begins (Reports IsOf) cells lines × ((k : ℕ) × Appends old new (take k (joined lines))))
+    cut w =
+        let lines = puts.lines ++ w.1 in
+        let found = front_behind (joined puts.lines) (joined w.1) w.3.1.0 in
+        let front : take found.0 (joined lines) ≡ joined puts.lines ++ take w.3.1.0 (joined w.1) = ap (take found.0) (joined_behind puts.lines w.1) ∙ found.1 in (
+          rose_since before between now le w.3.0,
+          (
+            lines,
+            begun_with cells i n status w.0 puts.lines w.1 w.1 [] lt is puts.reports w.2 (sym (append-nil w.1)),
+            (found.0, subst (Appends old new) (sym front) (appended old mid new (joined puts.lines) (take w.3.1.0 (joined w.1)) puts.put w.3.1.1)),
+          ),
+        )
+
+    first : (count : Count) (lines : List (List ℕ)) → IsOf n count lines → (k : ℕ) → Appends mid new (joined (take k lines))
+        → (ls : List (List ℕ)) × Begins (Reports IsOf) cells ls × Appends old new (joined ls)
+    first count lines of k put = (
+      puts.lines ++ take k lines,
+      begun_with cells i n status count puts.lines lines (take k lines) (drop k lines) lt is puts.reports of (split_at k lines),
+      subst (Appends old new) (sym (joined_behind puts.lines (take k lines))) (appended old mid new (joined puts.lines) (joined (take k lines)) puts.put put),
+    )
+
+  -- all cells were reported
+  pub report_end : (cells : List ℕ) (i : ℕ) (status : Status) (old new : Option (List ℕ)) → length cells ≤ i → PutsReport IsOf (take i cells) status old new → PutsReport IsOf cells status old new
+  report_end cells i status old new past puts = subst (λ (xs : List ℕ). PutsReport IsOf xs status old new) (take_all i cells past) puts
+
+-- ---- how a report ends
+
+module _ (IsOf : ℕ → Count → List (List ℕ) → Type 0) (cells : List ℕ) (status : Status) (old new : Option (List ℕ)) (before now : ℕ) where
+  -- with all its lines
+  pub all_ends : PutsReport IsOf cells status old new → Ends (Reports IsOf cells) (Begins (Reports IsOf) cells) status old new before now
+  all_ends puts =
+      let ended = reports_end IsOf cells status puts.lines puts.reports in
+      record { whole = λ p q. (puts.lines, puts.reports, puts.put); fault = λ e. absurd (ended.written e); memory = λ e. absurd (ended.had e) }
+
+  -- before its end
+  pub front_ends : StopsReport IsOf cells status old new before now → Ends (Reports IsOf cells) (Begins (Reports IsOf) cells) status old new before now
+  front_ends stops = record {
+    whole = λ p q. absurd (elim stops.stopped [ inl e ↦ p e | inr e ↦ q e ]);
+    fault = λ e. let w = stops.fault e in (w.0, (w.1.0, inr w.1.1, w.1.2));
+    memory = λ e. inr (stops.memory e);
+  }
+
+module _ (design : Design) (blif : Blif) (rules : Rules) (budget : ℕ) (cells : List ℕ) (status : Status) (old new : Option (List ℕ)) (before now : ℕ) where
+  abbrev pub IsOf : ℕ → Count → List (List ℕ) → Type 0
+  IsOf = IsChecked design blif rules budget
+
+  begun : (lines : List (List ℕ)) → Begins (Reports (IsChecked design blif rules budget)) cells lines → Begins (ReportsCells design blif rules budget) cells lines
+  begun lines b = (b.0, b.1, b.2, verdicts_of design blif rules budget (take b.0 cells) b.1 (lines ++ b.2) b.3)
+
+  -- with all its lines
+  pub check_ends : PutsReport (IsChecked design blif rules budget) cells status old new
+      → Ends (ReportsCells design blif rules budget cells) (Begins (ReportsCells design blif rules budget) cells) status old new before now
+  check_ends puts =
+      let r = verdicts_of design blif rules budget cells status puts.lines puts.reports in
+      let ended = checked_ends design blif rules budget cells status puts.lines r in
+      record { whole = λ p q. (puts.lines, r, puts.put); fault = λ e. absurd (ended.written e); memory = λ e. absurd (ended.had e) }
+
+  -- before its end, whatever the answer would be
+  pub stopped_ends : (A : Status → List (List ℕ) → Type 0) → StopsReport (IsChecked design blif rules budget) cells status old new before now
+      → Ends A (Begins (ReportsCells design blif rules budget) cells) status old new before now
+  stopped_ends A stops = record {
+    whole = λ p q. absurd (elim stops.stopped [ inl e ↦ p e | inr e ↦ q e ]);
+    fault = λ e. let w = stops.fault e in (w.0, (w.1.0, inr (begun w.1.0 w.1.1), w.1.2));
+    memory = λ e. let w = stops.memory e in inr (w.0, begun w.0 w.1, w.2);
+  }
+
+-- the status of a report that was put is no failure of a put
+pub put_ends : (design : Design) (blif : Blif) (rules : Rules) (budget : ℕ) (cells : List ℕ) (status : Status) (old new : Option (List ℕ))
+    → PutsReport (IsChecked design blif rules budget) cells status old new → IsEnded status
+put_ends design blif rules budget cells status old new puts =
+    checked_ends design blif rules budget cells status puts.lines (verdicts_of design blif rules budget cells status puts.lines puts.reports)
+
+-- with one line more
+pub generated_ends : (design : Design) (blif : Blif) (rules : Rules) (budget size : ℕ) (cells : List ℕ) (status end : Status) (old mid new : Option (List ℕ)) (before between now : ℕ)
+    → PutsReport (IsChecked design blif rules budget) cells status old mid → before ≤ between → PutsLine status end (last_line size) mid new between now
+    → Ends (ReportsGenerated design blif rules budget size cells) (Begins (ReportsCells design blif rules budget) cells) end old new before now
+generated_ends design blif rules budget size cells status end old mid new before between now puts le last = record {
+  whole = λ p q.
+      let w = last.whole p q in
+      (all, subst (λ (s : Status). ReportsGenerated design blif rules budget size cells s all) (sym w.0) answer, subst (Appends old new) (sym text) (appended old mid new (joined puts.lines) line puts.put w.1));
   fault = λ e.
-      let w = stops.fault e in
-      let line = cell_line design blif rules n w.0 in
-      let lines = puts.lines ++ line ∷ [] in
-      let found = front_behind (joined puts.lines) line w.2.1.0 in
-      let front : take found.0 (joined lines) ≡ joined puts.lines ++ take w.2.1.0 line = ap (take found.0) (joined_more puts.lines line) ∙ found.1 in
-      let cells =
-      report_more design blif rules budget n status (with_verdict status w.0) puts.lines lines w.0 line puts.cells w.1 refl refl refl in (
-        rose_since before between now le w.2.0,
-        (
-          lines,
-          inr (begun design blif rules budget (n + 1) (with_verdict status w.0) lines (next_within n (length design.cells) lt) cells),
-          (found.0, subst (Appends old new) (sym front) (appended old mid new (joined puts.lines) (take w.2.1.0 line) puts.put w.2.1.1)),
-        ),
-      );
-  memory = λ e. inr (puts.lines, begun design blif rules budget n status puts.lines (all_within n (length design.cells) lt) puts.cells, kept_behind old mid new (joined puts.lines) puts.put (stops.memory e));
-}
-  where
-    next_within : (n all : ℕ) → n < all → n + 1 ≤ all
-    next_within n all lt = omega (arith, lt)
+      let w = last.fault e in
+      let found = front_behind (joined puts.lines) line w.1.0 in
+      let front : take found.0 (joined all) ≡ joined puts.lines ++ take w.1.0 line = ap (take found.0) text ∙ found.1 in
+      (rose_since before between now le w.0, (all, inl (status, answer), (found.0, subst (Appends old new) (sym front) (appended old mid new (joined puts.lines) (take w.1.0 line) puts.put w.1.1))));
+  memory = λ e. inr (puts.lines, so_far, kept_behind old mid new (joined puts.lines) puts.put (last.memory e));
+} where
+  line : List ℕ
+  line = last_line size
 
-    all_within : (n all : ℕ) → n < all → n ≤ all
-    all_within n all lt = omega (arith, lt)
+  all : List (List ℕ)
+  all = puts.lines ++ line ∷ []
 
--- all lines were put
-pub cells_end : (design : Design) (blif : Blif) (rules : Rules) (budget n : ℕ) (cells : List Cell) (status : Status) (old new : Option (List ℕ)) (before now : ℕ)
-    → cells ≡ design.cells → length cells ≤ n → n ≤ length cells → PutsCells design blif rules budget n status old new
-    → Ends (IsReportOf design blif rules budget) (BeginsReport design blif rules budget) status old new before now
-cells_end design blif rules budget n cells status old new before now same past within puts =
-    let all : n ≡ length design.cells = equal n (length cells) within past ∙ ap length same in
-    let ended = report_ends design blif rules budget n status puts.lines puts.cells in
-    record {
-      whole = λ p q. (puts.lines, subst (λ (m : ℕ). ReportsCells design blif rules budget m status puts.lines) all puts.cells, puts.put);
-      fault = λ e. absurd (ended.written e);
-      memory = λ e. absurd (ended.had e);
-    }
-  where
-    equal : (a b : ℕ) → a ≤ b → b ≤ a → a ≡ b
-    equal a b p q = omega (arith, p, q)
+  text : joined all ≡ joined puts.lines ++ line
+  text = joined_behind puts.lines (line ∷ []) ∙ ap (λ t. joined puts.lines ++ t) (append-nil line)
 
--- a cell by its place
-pub cell_there : (design : Design) (n : ℕ) (cells : List Cell) (c : Cell) → cells ≡ design.cells → n < length cells → c ≡ get_or cells n c → c ≡ cell_at design n
-cell_there design n cells c same lt is =
-    let none : Cell = record { line = 0; name = []; ports = []; devices = []; instances = [] } in
-    is ∙ sym (ap (λ (o : Option Cell). unwrap_or o none) (ap (λ (cs : List Cell). slice_get cs n) (sym same) ∙ slice_get-get_or cells n c lt))
+  report : ReportsCells design blif rules budget cells status puts.lines
+  report = verdicts_of design blif rules budget cells status puts.lines puts.reports
+
+  answer : ReportsGenerated design blif rules budget size cells status all
+  answer = record { report = puts.lines; reported = report; last = refl }
+
+  so_far : Begins (ReportsCells design blif rules budget) cells puts.lines
+  so_far =
+      let R : List ℕ → List (List ℕ) → Type 0 = λ cs ls. ReportsCells design blif rules budget cs status ls in
+      (length cells, status, [], subst (λ (ls : List (List ℕ)). R (take (length cells) cells) ls) (sym (append-nil puts.lines)) (subst (λ (cs : List ℕ). R cs puts.lines) (sym (take_all (length cells) cells (omega arith))) report))

@@ -1,10 +1,11 @@
 -- The three files as they are given, and what is read from them.
-use Rattle.std.specs.Prelude.{◌≡◌, ℕ, List}
+use Rattle.std.specs.Prelude.{◌≡◌, ℕ, List, codes}
 use Rattle.blif_reader.specs.Cards.{cards_of as models_cards_of}
 use Rattle.blif_reader.specs.Models.{blif_of}
 use Rattle.blif_reader.specs.Refused.{fault_of as models_fault_of}
 use Rattle.blif_reader.specs.declared.cards.Card.{Card as ModelsCard}
 use Rattle.command_line.specs.declared.request.FileWords.{FileWords}
+use Rattle.generator.specs.Texts.{blif_text, rules_text, spice_text}
 use Rattle.rules_reader.specs.Entries.{cards_of as rules_cards_of}
 use Rattle.rules_reader.specs.Refused.{fault_of as rules_fault_of}
 use Rattle.rules_reader.specs.Tables.{AreRulesOf}
@@ -15,6 +16,7 @@ use Rattle.spice_reader.specs.Refused.{IsNetlist}
 use Rattle.spice_reader.specs.declared.card.Card.{Card as NetlistCard}
 use Rattle.text_lines.specs.Faults.{IsClean}
 use Rattle.verity_run.specs.declared.reads.Texts.{Texts}
+use Rattle.verity_run.specs.declared.refusals.Bytes.{Bytes}
 use Rattle.vrt_model.specs.Inputs.{AreRules, IsBlif, IsDesign}
 use Rattle.vrt_model.specs.Models.{AreModels}
 use Rattle.vrt_model.specs.declared.blif.Blif.{Blif}
@@ -41,9 +43,16 @@ names_in words = by_file words.spice.now words.blif.now words.rules.now
 abbrev pub bytes_in : Texts → ByFile
 bytes_in texts = by_file texts.spice.items texts.blif.items texts.rules.items
 
--- the files of these words and bytes
-abbrev pub given : FileWords → Texts → Given
-given words texts = record { words = names_in words; bytes = bytes_in texts }
+abbrev pub bytes_of : Bytes → ByFile
+bytes_of bytes = by_file bytes.spice.now bytes.blif.now bytes.rules.now
+
+-- these bytes under these names
+abbrev pub given : ByFile → ByFile → Given
+given words bytes = record { words = words; bytes = bytes }
+
+-- the texts of a size, under the names that the usage line has for files
+abbrev pub generated : ℕ → Given
+generated size = given (by_file (codes "SPICE") (codes "BLIF") (codes "RULES")) (by_file (spice_text size) (blif_text size) rules_text)
 
 -- ---- what is read
 

@@ -1,8 +1,11 @@
+pub mod Asked
+pub mod Classes
 pub mod Given
 pub mod Messages
+pub mod Named
 pub mod Reads
 pub mod Refusals
+pub mod Replays
 pub mod Reports
 pub mod Runs
-pub mod Unbuilt
 pub mod VerdictLines

@@ -1,15 +1,19 @@
 -- The lines that a run writes beside the verdicts.
-use Rattle.std.specs.Prelude.{ℕ, List, [], ◌∷◌, ◌++◌, codes}
+use Rattle.std.specs.Prelude.{ℕ, List, [], ◌∷◌, ◌++◌, ◌+◌, ◌*◌, codes, get_or}
 use Rattle.std.specs.Fmt.{decimal}
 use Rattle.blif_checks.specs.declared.faults.ModelFault.{ModelFault}
 use Rattle.blif_checks.specs.declared.faults.ModelFault.TheVariants as models
 use Rattle.blif_reader.specs.declared.faults.BlifFault.{BlifFault}
 use Rattle.blif_reader.specs.declared.faults.BlifFault.TheVariants as blif
+use Rattle.hierarchy.specs.declared.faults.HierFault.{HierFault}
+use Rattle.hierarchy.specs.declared.faults.HierFault.TheVariants as cells
+use Rattle.mode_lines.specs.Lines.{generated_line}
 use Rattle.rules_reader.specs.declared.faults.RulesFault.{RulesFault}
 use Rattle.rules_reader.specs.declared.faults.RulesFault.TheVariants as rules
 use Rattle.spice_reader.specs.declared.faults.SpiceFault.{SpiceFault}
 use Rattle.spice_reader.specs.declared.faults.SpiceFault.TheVariants as spice
-use Rattle.vrt_model.specs.Hierarchy.{Missing}
+use Rattle.vrt_model.specs.Comparison.{cell_at}
+use Rattle.vrt_model.specs.declared.design.Design.{Design}
 
 -- pieces, one behind the other
 abbrev pub joined : List (List ℕ) → List ℕ
@@ -30,12 +34,17 @@ refusal_line file line cause name =
 abbrev pub too_long_line : List ℕ → List ℕ
 too_long_line file = refusal_line file 0 (codes "longer than 16777216 bytes") []
 
-abbrev pub unbuilt_line : List ℕ → ℕ → List ℕ
-unbuilt_line file line = refusal_line file line (codes "not built yet") []
+-- the line for what the words name, with line 0
+abbrev pub words_line : List ℕ → List ℕ → List ℕ
+words_line cause name = refusal_line (codes "words") 0 cause name
 
--- the line where what the words ask for is not built yet
-abbrev pub words_unbuilt_line : List ℕ
-words_unbuilt_line = unbuilt_line (codes "words") 0
+-- the line for a name in the words that is not there
+abbrev pub no_name_line : List ℕ → List ℕ
+no_name_line name = words_line (codes "no such name: ") name
+
+-- the last line where the texts are generated: the size, the flat devices and the variables of the cell `top`
+abbrev pub last_line : ℕ → List ℕ
+last_line size = generated_line size (42 * size) (2 * size + 2)
 
 -- the line of a SPICE fault; want of memory has none
 abbrev pub spice_line : List ℕ → SpiceFault → List ℕ
@@ -89,6 +98,16 @@ models_line file (models.DrivenTwice line name) = refusal_line file line (codes 
 models_line file (models.Undriven line name) = refusal_line file line (codes "no driver: ") name
 models_line file models.NoMemory = []
 
--- the line of a name in the rules that is not there
-abbrev pub missing_line : List ℕ → Missing → List ℕ
-missing_line file missing = refusal_line file missing.line (codes "no such name: ") missing.name
+-- so many nets for so many ports
+abbrev pub nets_for_ports : ℕ → ℕ → List ℕ
+nets_for_ports nets ports = joined (decimal nets ∷ codes " nets for " ∷ decimal ports ∷ codes " ports" ∷ [])
+
+-- the line of why cells have no order, of the netlist or of the rules; a cell that contains itself is the first of its chain;
+-- want of memory has none
+abbrev pub cells_line : List ℕ → List ℕ → Design → HierFault → List ℕ
+cells_line spice rules design (cells.UnknownCell line name) = refusal_line spice line (codes "no cell ") name
+cells_line spice rules design (cells.PortCount line nets ports) = refusal_line spice line (nets_for_ports nets ports) []
+cells_line spice rules design (cells.Recursion line chain) = refusal_line spice line (codes "cell contains itself: ") (cell_at design (get_or chain 0 0)).name
+cells_line spice rules design (cells.Depth line depth) = refusal_line spice line (codes "deeper than 32") []
+cells_line spice rules design (cells.NoSuchName line name) = refusal_line rules line (codes "no such name: ") name
+cells_line spice rules design cells.NoMemory = []

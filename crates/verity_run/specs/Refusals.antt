@@ -1,12 +1,13 @@
 -- The first refusal of the readers and of the models.
-use Rattle.std.specs.Prelude.{◌≡◌, ◌⊎◌, ℕ, List, None, Some, MatchOption}
-use Rattle.std.specs.declared.option.Option.{Option}
+use Rattle.std.specs.Prelude.{◌≡◌, ◌⊎◌, ℕ, List}
 use Rattle.blif_checks.specs.Checked.{IsModelFault}
 use Rattle.blif_checks.specs.declared.faults.ModelFault.{ModelFault}
 use Rattle.blif_reader.specs.Cards.{cards_of as models_cards_of}
 use Rattle.blif_reader.specs.Models.{blif_of}
 use Rattle.blif_reader.specs.Refused.{fault_of as models_fault_of}
 use Rattle.blif_reader.specs.declared.faults.BlifFault.{BlifFault}
+use Rattle.hierarchy.specs.Order.{IsHierFault}
+use Rattle.hierarchy.specs.declared.faults.HierFault.{HierFault}
 use Rattle.rules_reader.specs.Entries.{cards_of as rules_cards_of}
 use Rattle.rules_reader.specs.Refused.{fault_of as rules_fault_of}
 use Rattle.rules_reader.specs.declared.faults.RulesFault.{RulesFault}
@@ -15,15 +16,13 @@ use Rattle.spice_reader.specs.Refused.{IsFaultOf, IsNetlist}
 use Rattle.spice_reader.specs.declared.faults.SpiceFault.{SpiceFault}
 use Rattle.text_lines.specs.Faults.{IsClean, IsFirst}
 use Rattle.vrt_io.specs.Causes.{Rose}
-use Rattle.verity_run.specs.Given.{AreRead, ByFile, Given, models_cards, netlist_cards, rules_cards}
-use Rattle.verity_run.specs.Messages.{blif_line, missing_line, models_line, read_failed_line, rules_line, spice_line, too_long_line, words_unbuilt_line}
-use Rattle.verity_run.specs.Reads.{AreTold, FilesTold, IsFileWord, IsFirstLong}
-use Rattle.verity_run.specs.Unbuilt.{unbuilt_in, unbuilt_text}
+use Rattle.verity_run.specs.Given.{ByFile, Given, models_cards, netlist_cards, rules_cards}
+use Rattle.verity_run.specs.Messages.{blif_line, cells_line, models_line, read_failed_line, rules_line, spice_line, too_long_line}
+use Rattle.verity_run.specs.Reads.{FilesTold, IsFileWord, IsFirstLong}
 use Rattle.verity_run.specs.declared.reads.Stop.{Stop}
 use Rattle.verity_run.specs.declared.reads.Stop.TheVariants.{Failed, TooLong}
 use Rattle.verity_run.specs.declared.refusals.Refusal.{Refusal}
 use Rattle.verity_run.specs.declared.refusals.Refusal.TheVariants.{Unread, Told, NoMemory}
-use Rattle.vrt_model.specs.Hierarchy.{Missing, missing_name}
 use Rattle.vrt_model.specs.declared.blif.Blif.{Blif}
 use Rattle.vrt_model.specs.declared.design.Design.{Design}
 use Rattle.vrt_model.specs.declared.rules.Rules.{Rules}
@@ -63,56 +62,21 @@ IsRefusal g line =
     ⊎ (IsClean models_fault_of (models_cards g) × (OfRules g.words.rules g.bytes.rules line
     ⊎ (IsClean rules_fault_of (rules_cards g) × OfUnrolling g.words.blif (blif_of (models_cards g)) line)))))
 
--- ---- what is in the way of the comparison
+-- ---- the order of the cells
 
--- the line of the first form that is not built yet
-abbrev pub OfForm : ByFile → Design → Blif → Rules → List ℕ → Type 0
-OfForm words design blif rules line = MatchOption (unbuilt_in design blif rules) ⊥ (λ form. line ≡ unbuilt_text words form)
-
--- the line of the first name in the rules that is not there
-abbrev pub OfName : ByFile → Design → Rules → List ℕ → Type 0
-OfName words design rules line = MatchOption (missing_name design rules) ⊥ (λ (missing : Missing). line ≡ missing_line words.rules missing)
-
--- the line of what is in the way of comparing what was read: what the words ask for is not built yet and has no budget, else a
--- form is not built yet, else a name in the rules is not there
-abbrev pub IsBarred : Option ℕ → ByFile → Design → Blif → Rules → List ℕ → Type 0
-IsBarred None words design blif rules line = line ≡ words_unbuilt_line
-IsBarred (Some budget) words design blif rules line =
-    OfForm words design blif rules line ⊎ ((unbuilt_in design blif rules ≡ None) × OfName words design rules line)
-
--- nothing is in the way: what the words ask for has this budget for each cell, all is built, and each name is there
-pub record AreReady (words_budget : Option ℕ) (design : Design) (blif : Blif) (rules : Rules) (budget : ℕ) : Type 0 where
-  pub asked : words_budget ≡ Some budget
-  pub built : unbuilt_in design blif rules ≡ None
-  pub named : missing_name design rules ≡ None
+-- the line of why the cells have no order
+pub record OfOrder (words : ByFile) (design : Design) (rules : Rules) (line : List ℕ) : Type 0 where
+  pub fault : HierFault
+  pub first : IsHierFault design rules fault
+  pub told : line ≡ cells_line words.spice words.rules design fault
 
 -- ---- three files
-
--- what three files say, none of which is too long or refused
-pub record FilesSay (told : FilesTold) (words : ByFile) (design : Design) (blif : Blif) (rules : Rules) : Type 0 where
-  pub bytes : ByFile
-  pub given : AreTold told words bytes
-  pub read : AreRead (record { words = words; bytes = bytes }) design blif rules
 
 -- the line of the first file that is too long
 pub record OfLength (told : FilesTold) (words : ByFile) (line : List ℕ) : Type 0 where
   pub name : List ℕ
   pub first : IsFirstLong told words name
   pub line_is : line ≡ too_long_line name
-
--- the line of the first refusal of files of which none is too long
-pub record OfTexts (told : FilesTold) (words : ByFile) (line : List ℕ) : Type 0 where
-  pub bytes : ByFile
-  pub given : AreTold told words bytes
-  pub first : IsRefusal (record { words = words; bytes = bytes }) line
-
--- the line of what is in the way of comparing what the files say
-pub record OfInputs (budget : Option ℕ) (told : FilesTold) (words : ByFile) (line : List ℕ) : Type 0 where
-  pub design : Design
-  pub blif : Blif
-  pub rules : Rules
-  pub say : FilesSay told words design blif rules
-  pub barred : IsBarred budget words design blif rules line
 
 -- the line of a file that could not be read: the count of faults rose
 pub record OfFault (before now : ℕ) (words : ByFile) (line : List ℕ) : Type 0 where
@@ -138,7 +102,6 @@ abbrev pub TellsStop : Stop → List ℕ → Refusal → Type 0
 TellsStop stop name refusal =
     TellsEither (λ line. (stop ≡ Failed) × (line ≡ read_failed_line name)) (λ line. (stop ≡ TooLong) × (line ≡ too_long_line name)) refusal
 
--- why nothing is read from the three files
+-- why the three files are not read
 abbrev pub TellsFiles : FilesTold → ByFile → ℕ → ℕ → Refusal → Type 0
-TellsFiles told words before now refusal =
-    TellsEither (OfFault before now words) (λ line. OfLength told words line ⊎ OfTexts told words line) refusal
+TellsFiles told words before now refusal = TellsEither (OfFault before now words) (OfLength told words) refusal

@@ -1,13 +1,15 @@
--- The report of all cells, its status and its beginnings.
-use Rattle.std.specs.Prelude.{◌≡◌, ◌≢◌, ◌≤◌, ◌⊎◌, ◌++◌, ◌∷◌, [], ℕ, List, Bool, true, false, cond, map, length, take}
+-- Reports: what is written of cells one behind the other, the status with it, and how a report begins.
+use Rattle.std.specs.Prelude.{◌≡◌, ◌≢◌, ◌⊎◌, ◌<◌, ◌++◌, ◌∷◌, [], ℕ, List, Bool, true, false, All, cond, length, map, take}
 use Rattle.std.specs.Io.KnownBytes.{Appends, Keeps}
 use Rattle.std.specs.List.{list_any}
 use Rattle.std.specs.declared.option.Option.{Option}
 use Rattle.vrt_io.specs.Causes.{Rose}
 use Rattle.verity_run.specs.Messages.{joined}
+use Rattle.verity_run.specs.declared.status.Count.{Count}
+use Rattle.verity_run.specs.declared.status.Count.TheVariants.{Nothing, Pending, Faulty}
 use Rattle.verity_run.specs.declared.status.Status.{Status}
 use Rattle.verity_run.specs.declared.status.Status.TheVariants.{AllEqual, NoMemory, ReadFault, SomeFault, Undecided, Usage, WriteFault}
-use Rattle.vrt_model.specs.Lists.{At}
+use Rattle.vrt_model.specs.Lists.{Among}
 use Rattle.vrt_model.specs.Verdicts.{Answer, IsVerdict, answer_line, report}
 use Rattle.vrt_model.specs.declared.blif.Blif.{Blif}
 use Rattle.vrt_model.specs.declared.design.Design.{Design}
@@ -15,7 +17,60 @@ use Rattle.vrt_model.specs.declared.rules.Rules.{Rules}
 use Rattle.vrt_model.specs.declared.verdict.Verdict.{Verdict}
 use Rattle.vrt_model.specs.declared.verdict.Verdict.TheVariants.{Equal, Skipped, Fault, Vacuous, Budget, Unsupported}
 
--- ---- the status of a report
+-- ---- the status
+
+-- what a verdict counts for; a cell that is skipped does not count
+abbrev pub counted : Verdict → Count
+counted Equal = Nothing
+counted Skipped = Nothing
+counted (Fault fault) = Faulty
+counted (Vacuous phase) = Pending
+counted (Budget nodes phase) = Pending
+counted (Unsupported why) = Pending
+
+-- the status with one cell more; a fault counts before what is not decided
+abbrev pub with_undecided : Status → Status
+with_undecided SomeFault = SomeFault
+with_undecided status = Undecided
+
+abbrev pub with_count : Status → Count → Status
+with_count status Nothing = status
+with_count status Pending = with_undecided status
+with_count status Faulty = SomeFault
+
+-- ---- a report, cell by cell
+
+-- Here `IsOf` says what may be written of a cell: its number, what it counts for, and its lines.
+
+-- of no cell nothing is written; each cell more adds its lines behind, and counts
+pub data Reports (IsOf : ℕ → Count → List (List ℕ) → Type 0) : List ℕ → Status → List (List ℕ) → Type 0 where
+  none : Reports IsOf [] AllEqual []
+  more :
+      {cells cells' : List ℕ} {status status' : Status} {lines lines' : List (List ℕ)} (n : ℕ) (count : Count) (own : List (List ℕ))
+      → Reports IsOf cells status lines → IsOf n count own
+      → cells' ≡ cells ++ n ∷ [] → status' ≡ with_count status count → lines' ≡ lines ++ own
+      → Reports IsOf cells' status' lines'
+
+-- lines with which the report of cells begins: with some behind them they are the report of the first cells, however many
+abbrev pub Begins : (List ℕ → Status → List (List ℕ) → Type 0) → List ℕ → List (List ℕ) → Type 0
+Begins IsReport cells lines = (count : ℕ) × (status : Status) × (rest : List (List ℕ)) × IsReport (take count cells) status (lines ++ rest)
+
+-- the cells are cells of the netlist
+abbrev pub AreThere : Design → List ℕ → Type 0
+AreThere design cells = (n : ℕ) → Among cells n → n < length design.cells
+
+-- ---- verdicts
+
+-- the line of a cell with this verdict, with its line feed
+abbrev pub cell_line : Design → Blif → Rules → ℕ → Verdict → List ℕ
+cell_line design blif rules cell verdict = answer_line design blif rules (record { cell = cell; verdict = verdict }) ++ 10 ∷ []
+
+-- what a check writes of a cell: the line of its verdict
+pub record IsChecked (design : Design) (blif : Blif) (rules : Rules) (budget cell : ℕ) (count : Count) (lines : List (List ℕ)) : Type 0 where
+  pub verdict : Verdict
+  pub is : IsVerdict design blif rules budget cell verdict
+  pub counts : count ≡ counted verdict
+  pub line : lines ≡ cell_line design blif rules cell verdict ∷ []
 
 abbrev pub is_fault : Verdict → Bool
 is_fault Equal = false
@@ -39,74 +94,47 @@ status_by answers =
     cond (list_any (λ (a : Answer). is_fault a.verdict) answers) SomeFault
     (cond (list_any (λ (a : Answer). is_undecided a.verdict) answers) Undecided AllEqual)
 
--- the status with one verdict more
-abbrev pub with_undecided : Status → Status
-with_undecided SomeFault = SomeFault
-with_undecided status = Undecided
-
-abbrev pub with_verdict : Status → Verdict → Status
-with_verdict status Equal = status
-with_verdict status Skipped = status
-with_verdict status (Fault fault) = SomeFault
-with_verdict status (Vacuous phase) = with_undecided status
-with_verdict status (Budget nodes phase) = with_undecided status
-with_verdict status (Unsupported why) = with_undecided status
-
--- ---- the report
-
 -- one line for each answer, with its line feed
 abbrev pub answer_lines : Design → Blif → Rules → List Answer → List (List ℕ)
 answer_lines design blif rules answers = map (λ (a : Answer). answer_line design blif rules a ++ 10 ∷ []) answers
 
--- the answers on the first so many cells: each on the cell of its place, with its verdict
-pub record AreAnswers (design : Design) (blif : Blif) (rules : Rules) (budget count : ℕ) (answers : List Answer) : Type 0 where
-  pub all : length answers ≡ count
-  pub cells : (n : ℕ) (a : Answer) → At answers n a → (a.cell ≡ n) × IsVerdict design blif rules budget n a.verdict
-
--- the report of the first so many cells, and its status
-pub record ReportsCells (design : Design) (blif : Blif) (rules : Rules) (budget count : ℕ) (status : Status) (lines : List (List ℕ)) : Type 0 where
+-- the report of the verdicts on cells in this order, and its status
+pub record ReportsCells (design : Design) (blif : Blif) (rules : Rules) (budget : ℕ) (cells : List ℕ) (status : Status) (lines : List (List ℕ)) : Type 0 where
   pub answers : List Answer
-  pub verdicts : AreAnswers design blif rules budget count answers
+  pub on : map (λ (a : Answer). a.cell) answers ≡ cells
+  pub verdicts : All (λ (a : Answer). IsVerdict design blif rules budget a.cell a.verdict) answers
   pub ended : status ≡ status_by answers
   pub lines_are : lines ≡ answer_lines design blif rules answers
   pub text : joined lines ≡ report design blif rules answers
 
--- the report of all cells
-abbrev pub IsReportOf : Design → Blif → Rules → ℕ → Status → List (List ℕ) → Type 0
-IsReportOf design blif rules budget status lines = ReportsCells design blif rules budget (length design.cells) status lines
+-- ---- what was put of a report
 
--- the beginning of a report: the lines of the first cells in the order of the file, however many, each the line of the cell
--- of its place with the verdict on it
-pub record BeginsReport (design : Design) (blif : Blif) (rules : Rules) (budget : ℕ) (lines : List (List ℕ)) : Type 0 where
-  pub count : ℕ
-  pub within : count ≤ length design.cells
-  pub status : Status
-  pub cells : ReportsCells design blif rules budget count status lines
-
--- ---- cell by cell
-
--- the line of a cell with this verdict, with its line feed
-abbrev pub cell_line : Design → Blif → Rules → ℕ → Verdict → List ℕ
-cell_line design blif rules cell verdict = answer_line design blif rules (record { cell = cell; verdict = verdict }) ++ 10 ∷ []
-
--- the lines of the first so many cells were put
-pub record PutsCells (design : Design) (blif : Blif) (rules : Rules) (budget count : ℕ) (status : Status) (old new : Option (List ℕ)) : Type 0 where
+-- the report of cells was put
+pub record PutsReport (IsOf : ℕ → Count → List (List ℕ) → Type 0) (cells : List ℕ) (status : Status) (old new : Option (List ℕ)) : Type 0 where
   pub lines : List (List ℕ)
-  pub cells : ReportsCells design blif rules budget count status lines
+  pub reports : Reports IsOf cells status lines
   pub put : Appends old new (joined lines)
 
--- the line of a cell was put, and the status counts its verdict
-pub record PutsCell (design : Design) (blif : Blif) (rules : Rules) (budget cell : ℕ) (status more : Status) (old new : Option (List ℕ)) : Type 0 where
-  pub verdict : Verdict
-  pub is : IsVerdict design blif rules budget cell verdict
-  pub counted : more ≡ with_verdict status verdict
-  pub put : Appends old new (cell_line design blif rules cell verdict)
-
--- the run ends at a cell: the output failed in its line, or memory was wanting and nothing of its line was put
-pub record StopsAtCell (design : Design) (blif : Blif) (rules : Rules) (budget cell : ℕ) (status : Status) (old new : Option (List ℕ)) (before now : ℕ) : Type 0 where
+-- The report was not put as a whole: the output failed, and a front of its first lines was put; or memory was wanting, and
+-- its first lines were.
+pub record StopsReport (IsOf : ℕ → Count → List (List ℕ) → Type 0) (cells : List ℕ) (status : Status) (old new : Option (List ℕ)) (before now : ℕ) : Type 0 where
   pub stopped : (status ≡ WriteFault) ⊎ (status ≡ NoMemory)
-  pub fault : status ≡ WriteFault → (verdict : Verdict) × IsVerdict design blif rules budget cell verdict × (Rose before now × ((n : ℕ) × Appends old new (take n (cell_line design blif rules cell verdict))))
-  pub memory : status ≡ NoMemory → Keeps old new
+  pub fault : status ≡ WriteFault → Rose before now × ((lines : List (List ℕ)) × Begins (Reports IsOf) cells lines × ((n : ℕ) × Appends old new (take n (joined lines))))
+  pub memory : status ≡ NoMemory → (lines : List (List ℕ)) × Begins (Reports IsOf) cells lines × Appends old new (joined lines)
+
+-- the lines of a cell were put, and the status counts it
+pub record PutsCell (IsOf : ℕ → Count → List (List ℕ) → Type 0) (cell : ℕ) (status more : Status) (old new : Option (List ℕ)) : Type 0 where
+  pub count : Count
+  pub lines : List (List ℕ)
+  pub is : IsOf cell count lines
+  pub counts : more ≡ with_count status count
+  pub put : Appends old new (joined lines)
+
+-- The run ends at a cell: the output failed in its lines, or memory was wanting, and the first of its lines were put, or nothing.
+pub record StopsCell (IsOf : ℕ → Count → List (List ℕ) → Type 0) (cell : ℕ) (status : Status) (old new : Option (List ℕ)) (before now : ℕ) : Type 0 where
+  pub stopped : (status ≡ WriteFault) ⊎ (status ≡ NoMemory)
+  pub fault : status ≡ WriteFault → (count : Count) × (lines : List (List ℕ)) × IsOf cell count lines × (Rose before now × ((n : ℕ) × Appends old new (take n (joined lines))))
+  pub memory : status ≡ NoMemory → Keeps old new ⊎ ((count : Count) × (lines : List (List ℕ)) × IsOf cell count lines × ((k : ℕ) × Appends old new (joined (take k lines))))
 
 -- a status that comes with files that were read
 pub record IsEnded (status : Status) : Type 0 where

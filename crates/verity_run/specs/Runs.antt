@@ -1,5 +1,6 @@
 -- What a run answers and writes, each answer by its cause.
-use Rattle.std.specs.Prelude.{◌≡◌, ◌≢◌, ◌≤◌, ◌⊎◌, ℕ, List, [], ◌∷◌, take, Some, None, unwrap_or}
+use Rattle.std.specs.Prelude.{◌≡◌, ◌≢◌, ◌⊎◌, ℕ, List, [], ◌∷◌, take}
+use Rattle.std.specs.Borrow.{Bor}
 use Rattle.std.specs.declared.option.Option.{Option}
 use Rattle.std.specs.Io.KnownBytes.{Appends, Keeps}
 use Rattle.command_line.specs.Manual.{help_text, version_line}
@@ -8,11 +9,12 @@ use Rattle.command_line.specs.declared.request.Asked.TheVariants.{Help, Version}
 use Rattle.command_line.specs.declared.request.Request.{Request}
 use Rattle.command_line.specs.declared.request.Request.TheVariants.{Check, Replay, Classes, Generate}
 use Rattle.vrt_io.specs.Causes.{Rose}
-use Rattle.verity_run.specs.Given.{ByFile}
-use Rattle.verity_run.specs.Messages.{joined, usage_line, words_unbuilt_line}
-use Rattle.verity_run.specs.Reads.{FilesTold}
-use Rattle.verity_run.specs.Refusals.{AreReady, FilesSay, OfFault, OfInputs, OfLength, OfTexts}
-use Rattle.verity_run.specs.Reports.{BeginsReport, IsReportOf}
+use Rattle.verity_run.specs.Asked.{AreReady, IsAnswer, IsBarred, IsBegun}
+use Rattle.verity_run.specs.Given.{AreRead, ByFile, Given, generated, given}
+use Rattle.verity_run.specs.Messages.{joined, usage_line}
+use Rattle.verity_run.specs.Reads.{AreTold, FilesTold}
+use Rattle.verity_run.specs.Refusals.{IsRefusal, OfFault, OfLength}
+use Rattle.verity_run.specs.Replays.{IsReplay, OfReplay}
 use Rattle.verity_run.specs.declared.refusals.Refusal.{Refusal}
 use Rattle.verity_run.specs.declared.refusals.Refusal.TheVariants.{Unread, Told, NoMemory as OutOfMemory}
 use Rattle.verity_run.specs.declared.status.Status.{Status}
@@ -28,6 +30,12 @@ pub record StopsLine (status : Status) (line : List ℕ) (old new : Option (List
   pub stopped : (status ≡ WriteFault) ⊎ (status ≡ NoMemory)
   pub fault : status ≡ WriteFault → Rose before now × ((n : ℕ) × Appends old new (take n line))
   pub memory : status ≡ NoMemory → Keeps old new
+
+-- Lines were not put as a whole: the output failed, and a front of them was put; or memory was wanting, and the first of them were.
+pub record StopsLines (status : Status) (lines : List (List ℕ)) (old new : Option (List ℕ)) (before now : ℕ) : Type 0 where
+  pub stopped : (status ≡ WriteFault) ⊎ (status ≡ NoMemory)
+  pub fault : status ≡ WriteFault → Rose before now × ((n : ℕ) × Appends old new (take n (joined lines)))
+  pub memory : status ≡ NoMemory → (k : ℕ) × Appends old new (joined (take k lines))
 
 -- What was written and answered, where one line and this status were wanted: the line, or what StopsLine says.
 pub record PutsLine (wanted status : Status) (line : List ℕ) (old new : Option (List ℕ)) (before now : ℕ) : Type 0 where
@@ -46,6 +54,47 @@ pub record Ends (IsAnswer : Status → List (List ℕ) → Type 0) (IsBegun : Li
   pub fault : status ≡ WriteFault → Rose before now × ((lines : List (List ℕ)) × MayBeCut IsAnswer IsBegun lines × ((n : ℕ) × Appends old new (take n (joined lines))))
   pub memory : status ≡ NoMemory → Keeps old new ⊎ ((lines : List (List ℕ)) × IsBegun lines × Appends old new (joined lines))
 
+-- ---- what was read
+
+-- one line, and the status of what is refused
+pub record Refuses (IsLine : List ℕ → Type 0) (status : Status) (lines : List (List ℕ)) : Type 0 where
+  pub line : List ℕ
+  pub cause : IsLine line
+  pub answer : status ≡ InputRefused
+  pub told_is : lines ≡ line ∷ []
+
+-- what is to be answered and written for a request on cells, models and rules: the one line of what stands in its way, or what
+-- it asks for
+abbrev pub AnswersInputs : Request → ByFile → Design → Blif → Rules → Status → List (List ℕ) → Type 0
+AnswersInputs request words design blif rules status lines =
+    Refuses (IsBarred request words design blif rules) status lines
+    ⊎ ((cells : List ℕ) × AreReady request design rules cells × IsAnswer request design blif rules cells status lines)
+
+-- for a replay: the one line of what stands in its way, or its lines
+abbrev pub AnswersReplay : Design → Blif → Rules → List ℕ → List ℕ → Option (Bor (List ℕ)) → Status → List (List ℕ) → Type 0
+AnswersReplay design blif rules cell phase at status lines = Refuses (OfReplay design blif rules cell phase at) status lines ⊎ IsReplay design blif rules cell phase at status lines
+
+-- lines with which that begins
+abbrev pub BeginsInputs : Request → Design → Blif → Rules → List (List ℕ) → Type 0
+BeginsInputs request design blif rules lines = (cells : List ℕ) × AreReady request design rules cells × IsBegun request design blif rules cells lines
+
+-- three texts say these cells, models and rules, of which this holds
+pub record TextsSay (g : Given) (P : Design → Blif → Rules → Type 0) : Type 0 where
+  pub design : Design
+  pub blif : Blif
+  pub rules : Rules
+  pub read : AreRead g design blif rules
+  pub holds : P design blif rules
+
+-- what is to be answered and written for a request on three texts: the one line of the first refusal, or what is said of what
+-- they say
+abbrev pub AnswersTexts : Request → Given → Status → List (List ℕ) → Type 0
+AnswersTexts request g status lines =
+    Refuses (IsRefusal g) status lines ⊎ TextsSay g (λ design blif rules. AnswersInputs request g.words design blif rules status lines)
+
+abbrev pub BeginsTexts : Request → Given → List (List ℕ) → Type 0
+BeginsTexts request g lines = TextsSay g (λ design blif rules. BeginsInputs request design blif rules lines)
+
 -- ---- what three files give
 
 -- a file could not be read: the count of faults rose
@@ -53,35 +102,21 @@ pub record FailsToRead (words : ByFile) (before now : ℕ) (status : Status) (li
   pub answer : status ≡ ReadFault
   pub told : (line : List ℕ) × OfFault before now words line × (lines ≡ line ∷ [])
 
--- no cell is compared, by the first cause in this order: a file is too long, one is refused, something is in the way
-pub record RefusesFiles (budget : Option ℕ) (told : FilesTold) (words : ByFile) (status : Status) (lines : List (List ℕ)) : Type 0 where
-  pub line : List ℕ
-  pub cause : OfLength told words line ⊎ (OfTexts told words line ⊎ OfInputs budget told words line)
-  pub answer : status ≡ InputRefused
-  pub told_is : lines ≡ line ∷ []
+-- the files have these bytes, of which this holds
+pub record FilesGive (told : FilesTold) (words : ByFile) (P : Given → Type 0) : Type 0 where
+  pub bytes : ByFile
+  pub told_are : AreTold told words bytes
+  pub holds : P (given words bytes)
 
--- the cells of three files are compared, and this holds of what the files say and of the budget of nodes for each cell
-pub record ComparesFiles (words_budget : Option ℕ) (told : FilesTold) (words : ByFile) (P : Design → Blif → Rules → ℕ → Type 0) : Type 0 where
-  pub design : Design
-  pub blif : Blif
-  pub rules : Rules
-  pub budget : ℕ
-  pub say : FilesSay told words design blif rules
-  pub ready : AreReady words_budget design blif rules budget
-  pub holds : P design blif rules budget
+-- what is to be answered and written for three files, with the count of the files' faults before and now, by the first cause in
+-- this order: a file is too long, else what their texts give
+abbrev pub AnswersFiles : Request → FilesTold → ByFile → ℕ → ℕ → Status → List (List ℕ) → Type 0
+AnswersFiles request told words before now status lines =
+    FailsToRead words before now status lines
+    ⊎ (Refuses (OfLength told words) status lines ⊎ FilesGive told words (λ g. AnswersTexts request g status lines))
 
--- the report of their cells
-abbrev pub ReportsFiles : Option ℕ → FilesTold → ByFile → Status → List (List ℕ) → Type 0
-ReportsFiles budget told words status lines = ComparesFiles budget told words (λ design blif rules nodes. IsReportOf design blif rules nodes status lines)
-
--- its beginning
-abbrev pub BeginsFiles : Option ℕ → FilesTold → ByFile → List (List ℕ) → Type 0
-BeginsFiles budget told words lines = ComparesFiles budget told words (λ design blif rules nodes. BeginsReport design blif rules nodes lines)
-
--- what is to be answered and written for three files, with the count of the files' faults before and now
-abbrev pub AnswersFiles : Option ℕ → FilesTold → ByFile → ℕ → ℕ → Status → List (List ℕ) → Type 0
-AnswersFiles budget told words before now status lines =
-    FailsToRead words before now status lines ⊎ (RefusesFiles budget told words status lines ⊎ ReportsFiles budget told words status lines)
+abbrev pub BeginsFiles : Request → FilesTold → ByFile → List (List ℕ) → Type 0
+BeginsFiles request told words lines = FilesGive told words (λ g. BeginsTexts request g lines)
 
 -- ---- what a request gives
 
@@ -89,34 +124,29 @@ AnswersFiles budget told words before now status lines =
 abbrev pub names_by : ByFile → List (List ℕ)
 names_by words = words.spice ∷ words.blif ∷ words.rules ∷ []
 
--- the budget of nodes for each cell, 4,000,000 where the words give none; no budget where what the words ask for is not
--- built yet
-abbrev pub budget_of : Request → Option ℕ
-budget_of (Check None budget files) = Some (unwrap_or budget 4000000)
-budget_of (Check (Some cell) budget files) = None
-budget_of (Replay cell phase at files) = None
-budget_of (Classes cell files) = None
-budget_of (Generate size budget) = None
+-- for texts that are generated
+abbrev pub AnswersGenerated : Request → Status → List (List ℕ) → Type 0
+AnswersGenerated (Check cell budget files) status lines = ⊥
+AnswersGenerated (Replay cell phase at files) status lines = ⊥
+AnswersGenerated (Classes cell files) status lines = ⊥
+AnswersGenerated (Generate size budget) status lines = AnswersTexts (Generate size budget) (generated size) status lines
 
--- a budget of nodes that diagrams can have
-abbrev pub IsBudget : ℕ → Type 0
-IsBudget budget = (65536 ≤ budget) × (budget ≤ 64000000)
-
--- a request without files is not built yet
-pub record LacksFiles (names : List (List ℕ)) (status : Status) (lines : List (List ℕ)) : Type 0 where
-  pub generated : names ≡ []
-  pub answer : status ≡ InputRefused
-  pub told : lines ≡ words_unbuilt_line ∷ []
+abbrev pub BeginsGenerated : Request → List (List ℕ) → Type 0
+BeginsGenerated (Check cell budget files) lines = ⊥
+BeginsGenerated (Replay cell phase at files) lines = ⊥
+BeginsGenerated (Classes cell files) lines = ⊥
+BeginsGenerated (Generate size budget) lines = BeginsTexts (Generate size budget) (generated size) lines
 
 -- what is to be answered and written for a request
 abbrev pub Serves : Request → FilesTold → ℕ → ℕ → Status → List (List ℕ) → Type 0
 Serves request told before now status lines =
-    LacksFiles (file_names request) status lines
-    ⊎ ((words : ByFile) × (file_names request ≡ names_by words) × AnswersFiles (budget_of request) told words before now status lines)
+    AnswersGenerated request status lines
+    ⊎ ((words : ByFile) × (file_names request ≡ names_by words) × AnswersFiles request told words before now status lines)
 
--- lines that begin the report of its files
+-- lines with which that begins
 abbrev pub BeginsRequest : Request → FilesTold → List (List ℕ) → Type 0
-BeginsRequest request told lines = (words : ByFile) × (file_names request ≡ names_by words) × BeginsFiles (budget_of request) told words lines
+BeginsRequest request told lines =
+    BeginsGenerated request lines ⊎ ((words : ByFile) × (file_names request ≡ names_by words) × BeginsFiles request told words lines)
 
 -- ---- what the words give
 

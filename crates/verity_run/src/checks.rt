@@ -1,83 +1,105 @@
-//! What is in the way of comparing what the files say.
+//! The cells that a request asks for, or what is in its way.
 
-ghost use Rattle.std.specs.Prelude.{◌≡◌, None, IfOk, IfErr, IfSome};
-ghost use Rattle.verity_run.specs.Given.{AreFit, names_in};
-ghost use Rattle.verity_run.specs.Refusals.{AreReady, IsBarred, OfForm, OfName, Tells};
-ghost use Rattle.verity_run.specs.Runs.{IsBudget};
-ghost use Rattle.verity_run.specs.Unbuilt.{AreBuilt, AreRulesBuilt, unbuilt_in, unbuilt_text};
-ghost use Rattle.vrt_model.specs.Hierarchy.{missing_name};
+ghost use Rattle.std.specs.Prelude.{◌≡◌, ◌⊎◌, IfErr, IfOk, option_map};
+ghost use Rattle.command_line.specs.Requests.{value_of};
+ghost use Rattle.hierarchy.specs.Order.{IsHierFault};
+ghost use Rattle.cells_below.specs.Below.{AreNumbered};
+ghost use Rattle.verity_run.specs.Asked.{AreAsked, OfCellWord, cell_word};
+ghost use Rattle.verity_run.specs.Given.{names_in};
+ghost use Rattle.verity_run.specs.Refusals.{OfOrder, Tells};
+ghost use Rattle.vrt_model.specs.Hierarchy.{IsOrdered, cell_order};
 ghost use Rattle.vrt_model.specs.Inputs.{IsDesign};
+ghost use Rattle.vrt_model.specs.declared.rules.Rules.{Rules as RulesValue};
 
 use crate::messages;
-use crate::refusals::{Inputs, Refusal};
-use crate::unbuilt::{Unbuilt, first_unbuilt};
-use command_line::FileWords;
-use hierarchy::missing_name;
+use crate::refusals::{Inputs, Refusal, told};
+use cells_below::cells_below;
+use command_line::{FileWords, Request};
+use hierarchy::{HierFault, order};
+use rule_index::{RuleIndex, lowered_name};
 use std::alloc::Global;
-use vrt_model::{NoMemory, Text};
+use vrt_model::{Design, Seq};
 
-/// The line for a form that is not built yet.
-fn unbuilt_line(alloc: Global, words: &FileWords<'_>, form: Unbuilt) -> Result<Text, NoMemory>
-    ensures { IfOk result (λ line. line ≡ unbuilt_text (names_in words.now) form) }
-{
-    match form {
-        Unbuilt::Netlist(line) => messages::unbuilt(alloc, words.spice.as_bytes(), line),
-        Unbuilt::Model(line) => messages::unbuilt(alloc, words.blif.as_bytes(), line),
-        Unbuilt::Rules(line) => messages::unbuilt(alloc, words.rules.as_bytes(), line),
-    }
-}
-
-/// Refuses a form that is not built yet.
-fn check_forms(alloc: Global, words: &FileWords<'_>, inputs: &Inputs) -> Result<(), Refusal>
-    ensures ok { IfOk result (λ _. unbuilt_in inputs.now.design inputs.now.blif inputs.now.rules ≡ None) }
-    ensures built { IfOk result (λ _. AreBuilt inputs.now.design inputs.now.blif inputs.now.rules) }
-    ensures err { IfErr result (Tells (OfForm (names_in words.now) inputs.now.design inputs.now.blif inputs.now.rules)) }
-{
-    match first_unbuilt(&inputs.design, &inputs.blif, &inputs.rules) {
-        Some(form) => {
-            let line = unbuilt_line(alloc, words, form)?;
-            Err(Refusal::Told(line))
-        }
-        None => Ok(()),
-    }
-}
-
-/// Refuses a name in the rules that is not there.
-fn check_names(alloc: Global, words: &FileWords<'_>, inputs: &Inputs) -> Result<(), Refusal>
-    requires design { IsDesign inputs.now.design }
-    requires built { AreRulesBuilt inputs.now.rules }
-    ensures ok { IfOk result (λ _. missing_name inputs.now.design inputs.now.rules ≡ None) }
-    ensures err { IfErr result (Tells (OfName (names_in words.now) inputs.now.design inputs.now.rules)) }
-{
-    match missing_name(alloc, &inputs.design, &inputs.rules)? {
-        Some(missing) => {
-            let line = messages::missing(alloc, words.rules.as_bytes(), &missing)?;
-            Err(Refusal::Told(line))
-        }
-        None => Ok(()),
-    }
-}
-
-/// The budget of nodes for each cell, where nothing is in the way of comparing what the files say: what the words ask for is
-/// built and so has a budget, all forms in the files are built, and each name in the rules is there.
-pub fn check_inputs(
+/// The refusal of cells that have no order.
+fn order_refusal(
     alloc: Global,
     words: &FileWords<'_>,
-    budget: Option<u32>,
-    inputs: &Inputs,
-) -> Result<u32, Refusal>
-    requires budget { IfSome budget IsBudget }
-    requires fit { AreFit inputs.now.design inputs.now.blif inputs.now.rules }
-    ensures ready { IfOk result (AreReady budget inputs.now.design inputs.now.blif inputs.now.rules) }
-    ensures range { IfOk result IsBudget }
-    ensures built { IfOk result (λ _. AreBuilt inputs.now.design inputs.now.blif inputs.now.rules) }
-    ensures err { IfErr result (Tells (IsBarred budget (names_in words.now) inputs.now.design inputs.now.blif inputs.now.rules)) }
+    design: &Design,
+    fault: &HierFault,
+) -> Refusal
+    ensures { (rules : RulesValue) → (fault.now ≡ HierFault.NoMemory) ⊎ IsHierFault design.now rules fault.now → Tells (OfOrder (names_in words.now) design.now rules) result }
 {
-    let Some(budget) = budget else {
-        let line = messages::words_unbuilt(alloc)?;
-        return Err(Refusal::Told(line));
-    };
-    check_forms(alloc, words, inputs)?;
-    check_names(alloc, words, inputs)?;
-    Ok(budget)
+    match fault {
+        HierFault::NoMemory => Refusal::NoMemory,
+        _ => told(messages::cells_refusal(alloc, words, design, fault)),
+    }
+}
+
+/// All cells in their order, or the refusal of the first fault.
+pub fn order_cells(
+    alloc: Global,
+    words: &FileWords<'_>,
+    inputs: &Inputs,
+) -> Result<Seq<u32>, Refusal>
+    requires { IsDesign inputs.now.design }
+    ensures ok { IfOk result (λ cells. IsOrdered inputs.now.design inputs.now.rules × (cells ≡ cell_order inputs.now.design)) }
+    ensures err { IfErr result (Tells (OfOrder (names_in words.now) inputs.now.design inputs.now.rules)) }
+{
+    match order(alloc, &inputs.design, &inputs.rules) {
+        Ok(cells) => Ok(cells),
+        Err(fault) => Err(order_refusal(alloc, words, &inputs.design, &fault)),
+    }
+}
+
+/// The cell of a name and those below it, in the order of all, or the refusal of a name that is not there.
+fn cells_named(
+    alloc: Global,
+    index: &RuleIndex,
+    design: &Design,
+    word: &str,
+    order: &[u32],
+) -> Result<Seq<u32>, Refusal>
+    requires numbered { AreNumbered design.now index.now }
+    requires order { order.now ≡ cell_order design.now }
+    ensures ok { IfOk result (AreAsked design.now (Some word.now)) }
+    ensures err { IfErr result (Tells (OfCellWord design.now (Some word.now))) }
+{
+    let name = lowered_name(alloc, word.as_bytes())?;
+    match index.cells.get(name.as_bytes()) {
+        Some(top) => {
+            let cells = cells_below(alloc, index, design, *top, order)?;
+            Ok(cells)
+        }
+        None => Err(told(messages::no_name(alloc, name.as_bytes()))),
+    }
+}
+
+/// The name of the cell that is asked for.
+fn cell_word<'a>(request: &Request<'a>) -> Option<&'a str>
+    ensures { value_of result ≡ cell_word request.now }
+{
+    match request {
+        Request::Check { cell, .. } | Request::Classes { cell, .. } => *cell,
+        Request::Replay { cell, .. } => Some(*cell),
+        Request::Generate { .. } => None,
+    }
+}
+
+/// The cells that are asked for, in their order: all, or one and those below it. A name that is not there is refused.
+pub fn asked_cells(
+    alloc: Global,
+    request: &Request<'_>,
+    index: &RuleIndex,
+    design: &Design,
+    order: Seq<u32>,
+) -> Result<Seq<u32>, Refusal>
+    requires numbered { AreNumbered design.now index.now }
+    requires order { order ≡ cell_order design.now }
+    ensures ok { IfOk result (AreAsked design.now (cell_word request.now)) }
+    ensures err { IfErr result (Tells (OfCellWord design.now (cell_word request.now))) }
+{
+    match cell_word(request) {
+        Some(word) => cells_named(alloc, index, design, word, order.as_slice()),
+        None => Ok(order),
+    }
 }

@@ -1,15 +1,16 @@
 //! The run of the checker, from its words and files to what it writes.
 #![tactic(auto)]
 
+mod answers;
 mod checks;
 mod messages;
 mod puts;
 mod reads;
 mod refusals;
+mod replays;
 mod report;
 mod status;
 mod top;
-mod unbuilt;
 
 pub use status::Status;
 pub use top::run;

@@ -1,16 +1,18 @@
 //! The lines that a run writes beside the verdicts.
 
 ghost use Rattle.std.specs.Prelude.{◌≡◌, ◌∷◌, [], codes, map, IfOk};
-ghost use Rattle.hierarchy.specs.Names.{missing_of};
-ghost use Rattle.verity_run.specs.Messages.{joined, missing_line, read_failed_line, too_long_line, unbuilt_line, refusal_line, usage_line, words_unbuilt_line};
+ghost use Rattle.generator.specs.Texts.{IsSize};
+ghost use Rattle.verity_run.specs.Messages.{joined, last_line, no_name_line, read_failed_line, refusal_line, too_long_line, usage_line, words_line};
 
 mod blif;
+mod cells;
 mod models;
 mod rules;
 mod spice;
 
 pub use blif::blif_refusal;
-use hierarchy::MissingName;
+pub use cells::cells_refusal;
+use mode_lines::generated_line;
 pub use models::models_refusal;
 pub use rules::rules_refusal;
 pub use spice::spice_refusal;
@@ -110,23 +112,38 @@ pub fn too_long(alloc: Global, file: &[u8]) -> Result<Text, NoMemory>
     refusal(alloc, file, 0, b"longer than 16777216 bytes", b"")
 }
 
-/// The line for what is not built yet.
-pub fn unbuilt(alloc: Global, file: &[u8], line: u32) -> Result<Text, NoMemory>
-    ensures { IfOk result (λ text. text ≡ unbuilt_line file.now line) }
+/// The line for what the words name.
+fn of_words(alloc: Global, cause: &[u8], name: &[u8]) -> Result<Text, NoMemory>
+    ensures { IfOk result (λ text. text ≡ words_line cause.now name.now) }
 {
-    refusal(alloc, file, line, b"not built yet", b"")
+    refusal(alloc, b"words", 0, cause, name)
 }
 
-/// The line where what the words ask for is not built yet.
-pub fn words_unbuilt(alloc: Global) -> Result<Text, NoMemory>
-    ensures { IfOk result (λ text. text ≡ words_unbuilt_line) }
+/// The line for a list that has another form.
+pub fn no_form(alloc: Global) -> Result<Text, NoMemory>
+    ensures { IfOk result (λ text. text ≡ words_line (codes "list does not fit") []) }
 {
-    unbuilt(alloc, b"words", 0)
+    of_words(alloc, b"list does not fit", b"")
 }
 
-/// The line for a name in the rules that is not there.
-pub fn missing(alloc: Global, file: &[u8], missing: &MissingName<'_>) -> Result<Text, NoMemory>
-    ensures { IfOk result (λ text. text ≡ missing_line file.now (missing_of missing.now)) }
+/// The line for a name that a list has twice.
+pub fn twice(alloc: Global, name: &[u8]) -> Result<Text, NoMemory>
+    ensures { IfOk result (λ text. text ≡ words_line (codes "given twice: ") name.now) }
 {
-    refusal(alloc, file, missing.line, b"no such name: ", missing.name)
+    of_words(alloc, b"given twice: ", name)
+}
+
+/// The line for a name in the words that is not there.
+pub fn no_name(alloc: Global, name: &[u8]) -> Result<Text, NoMemory>
+    ensures { IfOk result (λ text. text ≡ no_name_line name.now) }
+{
+    of_words(alloc, b"no such name: ", name)
+}
+
+/// The last line where the texts are generated.
+pub fn generated(alloc: Global, size: u32) -> Result<Text, NoMemory>
+    requires { IsSize size }
+    ensures { IfOk result (λ text. text ≡ last_line size) }
+{
+    generated_line(alloc, size, u64::from(42 * size), u64::from(2 * size + 2))
 }

@@ -1,6 +1,6 @@
 //! What the three files say, or why no cell is compared.
 
-ghost use Rattle.std.specs.Prelude.{◌≡◌, ◌≤◌, ◌⊎◌, length, vec_len, IfOk, IfErr, MatchResult};
+ghost use Rattle.std.specs.Prelude.{◌≡◌, ◌≤◌, ◌⊎◌, length, IfOk, IfErr, MatchResult};
 ghost use Rattle.blif_checks.specs.Checked.{IsModelFault};
 ghost use Rattle.blif_reader.specs.Cards.{cards_of as models_cards_of};
 ghost use Rattle.blif_reader.specs.Models.{blif_of};
@@ -12,29 +12,39 @@ ghost use Rattle.spice_reader.specs.Cards.{cards_of as netlist_cards_of};
 ghost use Rattle.spice_reader.specs.Netlist.{design_of};
 ghost use Rattle.spice_reader.specs.Refused.{IsNetlist};
 ghost use Rattle.text_lines.specs.Faults.{IsClean};
-ghost use Rattle.verity_run.specs.Given.{AreFit, AreRead, given, names_in};
-ghost use Rattle.verity_run.specs.Refusals.{FilesSay, IsRefusal, OfModels, OfNetlist, OfRules, OfUnrolling, Tells, TellsFiles, TellsStop};
+ghost use Rattle.verity_run.specs.Given.{AreFit, AreRead, bytes_of, given, names_in};
+ghost use Rattle.verity_run.specs.Refusals.{IsRefusal, OfModels, OfNetlist, OfRules, OfUnrolling, Tells, TellsStop};
 ghost use Rattle.vrt_model.specs.Inputs.{AreRules, IsBlif, IsDesign};
 ghost use Rattle.vrt_model.specs.Models.{AreModels};
 ghost use Rattle.vrt_model.specs.declared.blif.Blif.{Blif as BlifValue};
 
 use crate::messages;
-use crate::reads::{Stop, Stopped, Texts, read_files};
+use crate::reads::{Stop, Stopped};
 use blif_flat::{ModelFault, check_models};
 use blif_reader::{BlifFault, read_blif};
 use command_line::FileWords;
 use rules_reader::{RulesFault, read_rules};
 use spice_reader::{SpiceFault, read_spice};
 use std::alloc::Global;
-use vrt_io::Files;
 use vrt_model::{Blif, Design, NoMemory, Rules, Text};
+
+/// The bytes of three texts.
+#[derive(Clone, Copy)]
+pub struct Bytes<'a> {
+    /// The netlist.
+    pub spice: &'a [u8],
+    /// The models.
+    pub blif: &'a [u8],
+    /// The rules.
+    pub rules: &'a [u8],
+}
 
 /// Why no cell is compared.
 #[derive(Drop)]
 pub enum Refusal {
     /// A file could not be read: status 5, with this line.
     Unread(Text),
-    /// A file is refused, or what is asked for is not built yet: status 3, with this line.
+    /// A file is refused, or what the words name is not there: status 3, with this line.
     Told(Text),
     /// Memory was wanting: status 7, and no line.
     NoMemory,
@@ -72,7 +82,7 @@ impl Drop for Inputs {
 }
 
 /// The refusal with a line.
-fn told(line: Result<Text, NoMemory>) -> Refusal
+pub fn told(line: Result<Text, NoMemory>) -> Refusal
     ensures { MatchResult line (λ text. result ≡ Refusal.Told text) (λ _. result ≡ Refusal.NoMemory) }
 {
     match line {
@@ -147,17 +157,21 @@ fn unroll(alloc: Global, word: &str, blif: &Blif) -> Result<(), Refusal>
 
 /// Reads the netlist, the models and the rules out of their texts, and refuses models that cannot be unrolled: the first
 /// refusal in this order.
-fn read_texts(alloc: Global, words: &FileWords<'_>, texts: &Texts) -> Result<Inputs, Refusal>
-    requires spice { vec_len texts.now.spice ≤ 16777216 }
-    requires blif { vec_len texts.now.blif ≤ 16777216 }
-    requires rules { vec_len texts.now.rules ≤ 16777216 }
-    ensures ok { IfOk result (λ i. AreRead (given words.now texts.now) i.design i.blif i.rules) }
+pub fn read_texts(
+    alloc: Global,
+    words: &FileWords<'_>,
+    bytes: &Bytes<'_>,
+) -> Result<Inputs, Refusal>
+    requires spice { length bytes.now.spice.now ≤ 16777216 }
+    requires blif { length bytes.now.blif.now ≤ 16777216 }
+    requires rules { length bytes.now.rules.now ≤ 16777216 }
+    ensures ok { IfOk result (λ i. AreRead (given (names_in words.now) (bytes_of bytes.now)) i.design i.blif i.rules) }
     ensures fit { IfOk result (λ i. AreFit i.design i.blif i.rules) }
-    ensures err { IfErr result (Tells (IsRefusal (given words.now texts.now))) }
+    ensures err { IfErr result (Tells (IsRefusal (given (names_in words.now) (bytes_of bytes.now)))) }
 {
-    let design = read_netlist(alloc, words.spice, texts.spice.as_slice())?;
-    let blif = read_models(alloc, words.blif, texts.blif.as_slice())?;
-    let rules = read_lines(alloc, words.rules, texts.rules.as_slice())?;
+    let design = read_netlist(alloc, words.spice, bytes.spice)?;
+    let blif = read_models(alloc, words.blif, bytes.blif)?;
+    let rules = read_lines(alloc, words.rules, bytes.rules)?;
     unroll(alloc, words.blif, &blif)?;
     Ok(Inputs {
         design,
@@ -167,7 +181,7 @@ fn read_texts(alloc: Global, words: &FileWords<'_>, texts: &Texts) -> Result<Inp
 }
 
 /// The refusal where a file was not read.
-fn unread(alloc: Global, stopped: &Stopped<'_>) -> Refusal
+pub fn unread(alloc: Global, stopped: &Stopped<'_>) -> Refusal
     ensures { TellsStop stopped.now.stop stopped.now.name.now result }
 {
     match stopped.stop {
@@ -175,26 +189,7 @@ fn unread(alloc: Global, stopped: &Stopped<'_>) -> Refusal
             Ok(line) => Refusal::Unread(line),
             Err(_) => Refusal::NoMemory,
         },
-        Stop::TooLong => match messages::too_long(alloc, stopped.name.as_bytes()) {
-            Ok(line) => Refusal::Told(line),
-            Err(_) => Refusal::NoMemory,
-        },
+        Stop::TooLong => told(messages::too_long(alloc, stopped.name.as_bytes())),
         Stop::NoMemory => Refusal::NoMemory,
-    }
-}
-
-/// Reads the three files: what they say, or why no cell is compared.
-pub fn read_inputs<F: Files>(
-    alloc: Global,
-    words: &FileWords<'_>,
-    files: &mut F,
-) -> Result<Inputs, Refusal>
-    ensures ok { IfOk result (λ i. FilesSay (F.told files.old) (names_in words.now) i.design i.blif i.rules) }
-    ensures fit { IfOk result (λ i. AreFit i.design i.blif i.rules) }
-    ensures err { IfErr result (TellsFiles (F.told files.old) (names_in words.now) (F.faults files.old) (F.faults files.new)) }
-{
-    match read_files(alloc, files, words) {
-        Ok(texts) => read_texts(alloc, words, &texts),
-        Err(stopped) => Err(unread(alloc, &stopped)),
     }
 }

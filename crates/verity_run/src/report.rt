@@ -1,63 +1,57 @@
-//! The report of all cells: each is compared with its model, and its line is put at once.
+//! The report of cells: the lines of each, its verdict or its classes, are put before the next is looked at.
 
-ghost use Rattle.std.specs.Prelude.{◌≡◌, ◌<◌, ◌≤◌, ◌++◌, ◌∷◌, [], IfOk, IfErr, length};
+ghost use Rattle.std.specs.Prelude.{◌≡◌, ◌<◌, ◌≤◌, ◌++◌, ◌∷◌, [], ℕ, List, None, IfOk, IfErr, length};
 ghost use Rattle.std.specs.Option.{option_copied};
+ghost use Rattle.cell_compare.specs.Cells.{HasEarlyLine, IsEarly, IsFlattenedTo};
+ghost use Rattle.channel_parts.specs.Classes.{AreClasses};
+ghost use Rattle.channel_parts.specs.declared.class.ClassLine.{ClassLine as ClassLineValue};
+ghost use Rattle.mode_lines.specs.Lines.{class_lines};
 ghost use Rattle.prepared_tables.specs.Prepared.{ArePrepared};
+ghost use Rattle.verity_run.specs.Classes.{IsBudget, IsClassed, IsOfTask, IsTask};
 ghost use Rattle.verity_run.specs.Given.{AreFit};
-ghost use Rattle.verity_run.specs.Reports.{BeginsReport, IsReportOf, PutsCell, StopsAtCell, cell_line, with_undecided, with_verdict};
-ghost use Rattle.verity_run.specs.Runs.{Ends, IsBudget};
-ghost use Rattle.verity_run.specs.Unbuilt.{AreBuilt};
+ghost use Rattle.verity_run.specs.Reports.{AreThere, IsChecked, PutsCell, PutsReport, StopsCell, StopsReport, counted};
 ghost use Rattle.verity_run.specs.VerdictLines.{circuit_in, model_in};
+ghost use Rattle.vrt_model.specs.Circuits.{IsFlat};
 ghost use Rattle.vrt_model.specs.Comparison.{cell_at};
+ghost use Rattle.vrt_model.specs.Hierarchy.{IsOrdered};
 ghost use Rattle.vrt_model.specs.VerdictText.{verdict_line};
-ghost use Rattle.vrt_model.specs.Verdicts.{IsVerdict};
 
-use crate::puts::put_line;
+use crate::puts::put_lines;
 use crate::refusals::Inputs;
-use crate::status::Status;
-use cell_compare::{Compared, Flattened, compare_prepared};
-use prepared_tables::{Prepared, prepare};
+use crate::status::{Count, Status, counted, with_count};
+use cell_compare::{EarlyCell, Flattened, compare_prepared, early_prepared};
+use channel_parts::classes;
+use mode_lines::class_lines;
+use prepared_tables::Prepared;
 use std::alloc::Global;
 use vrt_io::Sink;
-use vrt_model::{Cell, Circuit, FlatModel, NoMemory, Rules, Seq, Text, Verdict};
+use vrt_model::{Cell, Circuit, Design, FlatModel, NoMemory, Phase, Rules, Seq, Text, Verdict};
 use witness::verdict_text;
 
-/// What is found of a cell, and its line.
-struct CellAnswer {
-    compared: Compared,
-    line: Text,
+/// What is asked of each cell.
+#[derive(Clone, Copy)]
+pub enum Task {
+    /// To compare it with its model, with this budget of nodes.
+    Check(u32),
+    /// To tell the classes of its channel-connected parts.
+    Classes,
+}
+
+/// What is written of a cell.
+pub struct CellLines {
+    /// What the cell counts for in the status.
+    pub count: Count,
+    /// Its lines, each with its line feed.
+    pub lines: Seq<Text>,
 }
 
 /// By hand, so that letting go of one is a call.
-impl Drop for CellAnswer {
+impl Drop for CellLines {
     fn drop(self) {
-        let CellAnswer {
-            compared: _compared,
-            line: _line,
+        let CellLines {
+            count: _count,
+            lines: _lines,
         } = self;
-    }
-}
-
-/// The status with one more cell that is not decided. A fault counts before it.
-fn with_undecided(status: Status) -> Status
-    ensures { result ≡ with_undecided status }
-{
-    match status {
-        Status::SomeFault => Status::SomeFault,
-        _ => Status::Undecided,
-    }
-}
-
-/// The status with one verdict more. A cell that is skipped does not count.
-fn with_verdict(status: Status, verdict: &Verdict) -> Status
-    ensures { result ≡ with_verdict status verdict.now }
-{
-    match verdict {
-        Verdict::Equal | Verdict::Skipped => status,
-        Verdict::Fault(_) => Status::SomeFault,
-        Verdict::Vacuous { .. } | Verdict::Budget { .. } | Verdict::Unsupported(_) => {
-            with_undecided(status)
-        }
     }
 }
 
@@ -81,34 +75,68 @@ fn model_in(flattened: &Option<Flattened>) -> Option<&FlatModel>
     }
 }
 
-/// The line of a verdict on a cell, with its line feed. A cycle is named by the flat circuit and the flat model.
-fn line_of(alloc: Global, cell: &Cell, rules: &Rules, compared: &Compared) -> Result<Text, NoMemory>
-    ensures { IfOk result (λ text. text ≡ verdict_line cell.now.name compared.now.verdict rules.now (circuit_in compared.now.flattened) (model_in compared.now.flattened) ++ 10 ∷ []) }
+/// A cell by its number.
+pub fn cell_of(design: &Design, number: u32) -> &Cell
+    requires { number < length design.now.cells }
+    ensures { result.now ≡ cell_at design.now number }
 {
-    let circuit = circuit_in(&compared.flattened);
-    let flat = model_in(&compared.flattened);
-    let mut line = verdict_text(alloc, &cell.name, &compared.verdict, rules, circuit, flat)?;
+    &design.cells.as_slice()[number as usize]
+}
+
+/// The line of a verdict on a cell, with its line feed. A cycle is named by the flat circuit and the flat model.
+fn line_of(
+    alloc: Global,
+    cell: &Cell,
+    rules: &Rules,
+    verdict: &Verdict,
+    flattened: &Option<Flattened>,
+) -> Result<Text, NoMemory>
+    ensures { IfOk result (λ text. text ≡ verdict_line cell.now.name verdict.now rules.now (circuit_in flattened.now) (model_in flattened.now) ++ 10 ∷ []) }
+{
+    let circuit = circuit_in(flattened);
+    let flat = model_in(flattened);
+    let mut line = verdict_text(alloc, &cell.name, verdict, rules, circuit, flat)?;
     line.extend(b"\n")?;
     Ok(line)
 }
 
-/// What is found of the cell of a number, and its line.
-fn answer_on(
+/// One line of a cell.
+fn one_line(alloc: Global, count: Count, line: Text) -> Result<CellLines, NoMemory>
+    ensures { IfOk result (λ t. (t.count ≡ count) × (t.lines ≡ line ∷ [])) }
+{
+    let mut lines = Seq::new(alloc);
+    lines.append(line)?;
+    Ok(CellLines { count, lines })
+}
+
+/// The line of a verdict on a cell, and what it counts for.
+pub fn verdict_lines(
+    alloc: Global,
+    cell: &Cell,
+    rules: &Rules,
+    verdict: &Verdict,
+    flattened: &Option<Flattened>,
+) -> Result<CellLines, NoMemory>
+    ensures { IfOk result (λ t. (t.count ≡ counted verdict.now) × (t.lines ≡ (verdict_line cell.now.name verdict.now rules.now (circuit_in flattened.now) (model_in flattened.now) ++ 10 ∷ []) ∷ [])) }
+{
+    let line = line_of(alloc, cell, rules, verdict, flattened)?;
+    one_line(alloc, counted(verdict), line)
+}
+
+/// The verdict's line of the cell of a number.
+fn checked(
     alloc: Global,
     budget: u32,
     prepared: &Prepared,
     inputs: &Inputs,
     number: u32,
-    cell: &Cell,
-) -> Result<CellAnswer, NoMemory>
+) -> Result<CellLines, NoMemory>
     requires budget { IsBudget budget }
     requires prepared { ArePrepared inputs.now.design inputs.now.blif inputs.now.rules prepared.now }
     requires fit { AreFit inputs.now.design inputs.now.blif inputs.now.rules }
-    requires built { AreBuilt inputs.now.design inputs.now.blif inputs.now.rules }
+    requires ordered { IsOrdered inputs.now.design inputs.now.rules }
     requires number { number < length inputs.now.design.cells }
-    requires cell { cell.now ≡ cell_at inputs.now.design number }
-    ensures verdict { IfOk result (λ a. IsVerdict inputs.now.design inputs.now.blif inputs.now.rules budget number a.compared.verdict) }
-    ensures line { IfOk result (λ a. a.line ≡ cell_line inputs.now.design inputs.now.blif inputs.now.rules number a.compared.verdict) }
+    ensures { IfOk result (λ t. IsChecked inputs.now.design inputs.now.blif inputs.now.rules budget number t.count t.lines) }
 {
     // nothing that is known of other cells is looked at yet
     let facts = Seq::new(alloc);
@@ -122,86 +150,177 @@ fn answer_on(
         number,
         &facts,
     )?;
-    let line = line_of(alloc, cell, &inputs.rules, &compared)?;
-    Ok(CellAnswer { compared, line })
+    verdict_lines(
+        alloc,
+        cell_of(&inputs.design, number),
+        &inputs.rules,
+        &compared.verdict,
+        &compared.flattened,
+    )
 }
 
-/// Compares a cell with its model and puts its line: the status with its verdict, or the status with which the run ends here.
-fn report_cell<O: Sink>(
+/// The lines of the classes of a flat circuit.
+fn lines_of_classes(
     alloc: Global,
-    budget: u32,
+    cell: &Cell,
+    circuit: &Circuit,
+    phases: &Seq<Phase>,
+) -> Result<Seq<Text>, NoMemory>
+    requires { IsFlat circuit.now }
+    ensures { IfOk result (λ lines. (found : List ClassLineValue) × AreClasses circuit.now phases.now found × (lines ≡ class_lines cell.now.name circuit.now found)) }
+{
+    let found = classes(alloc, circuit, phases)?;
+    class_lines(alloc, &cell.name, circuit, &found)
+}
+
+/// The lines of the classes of a cell that is compared.
+fn class_lines_of(
+    alloc: Global,
+    inputs: &Inputs,
+    number: u32,
+    flattened: &Option<Flattened>,
+) -> Result<CellLines, NoMemory>
+    requires number { number < length inputs.now.design.cells }
+    requires early { IsEarly inputs.now.design inputs.now.blif inputs.now.rules number None }
+    requires made { IsFlattenedTo inputs.now.design inputs.now.blif inputs.now.rules number None flattened.now }
+    ensures { IfOk result (λ t. IsClassed inputs.now.design inputs.now.blif inputs.now.rules number t.count t.lines) }
+{
+    let cell = cell_of(&inputs.design, number);
+    match flattened {
+        Some(found) => {
+            let lines = lines_of_classes(alloc, cell, &found.circuit, &inputs.rules.phases)?;
+            Ok(CellLines {
+                count: Count::Nothing,
+                lines,
+            })
+        }
+        None => Err(NoMemory),
+    }
+}
+
+/// The lines of the classes of a cell, or of its verdict where it is not compared.
+fn found_lines(
+    alloc: Global,
+    inputs: &Inputs,
+    number: u32,
+    found: &EarlyCell,
+) -> Result<CellLines, NoMemory>
+    requires number { number < length inputs.now.design.cells }
+    requires early { IsEarly inputs.now.design inputs.now.blif inputs.now.rules number found.now.verdict }
+    requires line { HasEarlyLine inputs.now.design inputs.now.blif inputs.now.rules number found.now.verdict found.now.flattened }
+    requires made { IsFlattenedTo inputs.now.design inputs.now.blif inputs.now.rules number found.now.verdict found.now.flattened }
+    ensures { IfOk result (λ t. IsClassed inputs.now.design inputs.now.blif inputs.now.rules number t.count t.lines) }
+{
+    match &found.verdict {
+        Some(verdict) => verdict_lines(
+            alloc,
+            cell_of(&inputs.design, number),
+            &inputs.rules,
+            verdict,
+            &found.flattened,
+        ),
+        None => class_lines_of(alloc, inputs, number, &found.flattened),
+    }
+}
+
+/// The lines of the classes of the cell of a number, or of its verdict where it is skipped or not supported.
+fn classed(
+    alloc: Global,
     prepared: &Prepared,
     inputs: &Inputs,
     number: u32,
-    cell: &Cell,
+) -> Result<CellLines, NoMemory>
+    requires prepared { ArePrepared inputs.now.design inputs.now.blif inputs.now.rules prepared.now }
+    requires fit { AreFit inputs.now.design inputs.now.blif inputs.now.rules }
+    requires ordered { IsOrdered inputs.now.design inputs.now.rules }
+    requires number { number < length inputs.now.design.cells }
+    ensures { IfOk result (λ t. IsClassed inputs.now.design inputs.now.blif inputs.now.rules number t.count t.lines) }
+{
+    let found = early_prepared(
+        alloc,
+        prepared,
+        &inputs.design,
+        &inputs.blif,
+        &inputs.rules,
+        number,
+    )?;
+    found_lines(alloc, inputs, number, &found)
+}
+
+/// What is written of the cell of a number.
+fn lines_for(
+    alloc: Global,
+    task: Task,
+    prepared: &Prepared,
+    inputs: &Inputs,
+    number: u32,
+) -> Result<CellLines, NoMemory>
+    requires task { IsTask task }
+    requires prepared { ArePrepared inputs.now.design inputs.now.blif inputs.now.rules prepared.now }
+    requires fit { AreFit inputs.now.design inputs.now.blif inputs.now.rules }
+    requires ordered { IsOrdered inputs.now.design inputs.now.rules }
+    requires number { number < length inputs.now.design.cells }
+    ensures { IfOk result (λ t. IsOfTask task inputs.now.design inputs.now.blif inputs.now.rules number t.count t.lines) }
+{
+    match task {
+        Task::Check(budget) => checked(alloc, budget, prepared, inputs, number),
+        Task::Classes => classed(alloc, prepared, inputs, number),
+    }
+}
+
+/// Looks at a cell and puts its lines: the status with it, or the status with which the run ends here.
+fn report_cell<O: Sink>(
+    alloc: Global,
+    task: Task,
+    prepared: &Prepared,
+    inputs: &Inputs,
+    number: u32,
     status: Status,
     out: &mut O,
 ) -> Result<Status, Status>
-    requires budget { IsBudget budget }
+    requires task { IsTask task }
     requires prepared { ArePrepared inputs.now.design inputs.now.blif inputs.now.rules prepared.now }
     requires fit { AreFit inputs.now.design inputs.now.blif inputs.now.rules }
-    requires built { AreBuilt inputs.now.design inputs.now.blif inputs.now.rules }
+    requires ordered { IsOrdered inputs.now.design inputs.now.rules }
     requires number { number < length inputs.now.design.cells }
-    requires cell { cell.now ≡ cell_at inputs.now.design number }
-    ensures more { IfOk result (λ more. PutsCell inputs.now.design inputs.now.blif inputs.now.rules budget number status more (O.written out.old) (O.written out.new)) }
-    ensures stopped { IfErr result (λ end. StopsAtCell inputs.now.design inputs.now.blif inputs.now.rules budget number end (O.written out.old) (O.written out.new) (O.faults out.old) (O.faults out.new)) }
+    ensures more { IfOk result (λ more. PutsCell (IsOfTask task inputs.now.design inputs.now.blif inputs.now.rules) number status more (O.written out.old) (O.written out.new)) }
+    ensures stopped { IfErr result (λ end. StopsCell (IsOfTask task inputs.now.design inputs.now.blif inputs.now.rules) number end (O.written out.old) (O.written out.new) (O.faults out.old) (O.faults out.new)) }
     ensures later { O.faults out.old ≤ O.faults out.new }
 {
-    match answer_on(alloc, budget, prepared, inputs, number, cell) {
-        Ok(answer) => match put_line(out, answer.line.as_bytes()) {
-            Ok(()) => Ok(with_verdict(status, &answer.compared.verdict)),
+    match lines_for(alloc, task, prepared, inputs, number) {
+        Ok(found) => match put_lines(out, found.lines.as_slice()) {
+            Ok(()) => Ok(with_count(status, found.count)),
             Err(end) => Err(end),
         },
         Err(_) => Err(Status::NoMemory),
     }
 }
 
-/// Compares each cell with its model, in the order of the file, by tables that were made before, and puts its line before
-/// the next is compared.
-fn report_by<O: Sink>(
+/// Looks at cells, in this order, and puts the lines of each before it looks at the next: the status of the report, or the
+/// status with which the run ends before its end.
+pub fn report_cells<O: Sink>(
     alloc: Global,
-    budget: u32,
+    task: Task,
     prepared: &Prepared,
     inputs: &Inputs,
+    cells: &[u32],
     out: &mut O,
-) -> Status
-    requires budget { IsBudget budget }
+) -> Result<Status, Status>
+    requires task { IsTask task }
     requires prepared { ArePrepared inputs.now.design inputs.now.blif inputs.now.rules prepared.now }
     requires fit { AreFit inputs.now.design inputs.now.blif inputs.now.rules }
-    requires built { AreBuilt inputs.now.design inputs.now.blif inputs.now.rules }
-    ensures { Ends (IsReportOf inputs.now.design inputs.now.blif inputs.now.rules budget) (BeginsReport inputs.now.design inputs.now.blif inputs.now.rules budget)
-        result (O.written out.old) (O.written out.new) (O.faults out.old) (O.faults out.new) }
+    requires ordered { IsOrdered inputs.now.design inputs.now.rules }
+    requires there { AreThere inputs.now.design cells.now }
+    ensures put { IfOk result (λ status. PutsReport (IsOfTask task inputs.now.design inputs.now.blif inputs.now.rules) cells.now status (O.written out.old) (O.written out.new)) }
+    ensures stopped { IfErr result (λ end. StopsReport (IsOfTask task inputs.now.design inputs.now.blif inputs.now.rules) cells.now end (O.written out.old) (O.written out.new) (O.faults out.old) (O.faults out.new)) }
+    ensures later { O.faults out.old ≤ O.faults out.new }
 {
     let mut status = Status::AllEqual;
-    for (number, cell) in inputs.design.cells.as_slice().iter().enumerate() {
-        match report_cell(
-            alloc,
-            budget,
-            prepared,
-            inputs,
-            number as u32,
-            cell,
-            status,
-            out,
-        ) {
+    for number in cells {
+        match report_cell(alloc, task, prepared, inputs, *number, status, out) {
             Ok(more) => status = more,
-            Err(end) => return end,
+            Err(end) => return Err(end),
         }
     }
-    status
-}
-
-/// Compares each cell with its model, in the order of the file, and puts its line before the next is compared. What is
-/// looked up for each cell is put into tables once, before the first.
-pub fn report_cells<O: Sink>(alloc: Global, budget: u32, inputs: &Inputs, out: &mut O) -> Status
-    requires budget { IsBudget budget }
-    requires fit { AreFit inputs.now.design inputs.now.blif inputs.now.rules }
-    requires built { AreBuilt inputs.now.design inputs.now.blif inputs.now.rules }
-    ensures { Ends (IsReportOf inputs.now.design inputs.now.blif inputs.now.rules budget) (BeginsReport inputs.now.design inputs.now.blif inputs.now.rules budget)
-        result (O.written out.old) (O.written out.new) (O.faults out.old) (O.faults out.new) }
-{
-    match prepare(alloc, &inputs.design, &inputs.blif, &inputs.rules) {
-        Ok(prepared) => report_by(alloc, budget, &prepared, inputs, out),
-        Err(_) => Status::NoMemory,
-    }
+    Ok(status)
 }

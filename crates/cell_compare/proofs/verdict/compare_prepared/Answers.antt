@@ -7,7 +7,7 @@ compare_with-requires-clause-inputs c = record {
   models = c.requires.models;
   valid = c.requires.rules;
   there = c.requires.cell;
-  built = c.requires.built;
+  ordered = c.requires.ordered;
 }
 
 pub is_skipped_with-requires : goal.is_skipped_with-requires

@@ -1,11 +1,24 @@
--- Without the tables nothing is put.
-use Rattle.std.proofs.Common.{refl}
-use Rattle.std.proofs.KnownBytes.{Keeps-refl}
-use Rattle.verity_run.proofs.PutLaws.{nothing_ends}
-use Rattle.verity_run.specs.Reports.{BeginsReport, IsReportOf}
+use Rattle.std.proofs.Common.{arith, refl}
+use Rattle.verity_run.specs.Classes.{IsOfTask}
+use Rattle.verity_run.proofs.CellLaws.{number_there}
+use Rattle.verity_run.proofs.ReportLaws.{report_more, report_none, report_stops}
 use Rattle.verity_run.proofs.report.report_cells.Goals as goal
 
-pub returns-in-Err : goal.returns-in-Err
-returns-in-Err g c =
-    let i = c.args.inputs.now in
-    nothing_ends (IsReportOf i.design i.blif i.rules c.args.budget) (BeginsReport i.design i.blif i.rules c.args.budget) _ _ _ _ _ refl (Keeps-refl _)
+pub loop-number-init : goal.loop-number-init
+loop-number-init g c = (report_none (IsOfTask c.args.task c.args.inputs.now.design c.args.inputs.now.blif c.args.inputs.now.rules) _, omega arith)
+
+pub report_cell-requires-clause-number : goal.report_cell-requires-clause-number
+report_cell-requires-clause-number g c =
+    number_there c.args.inputs.now.design c.args.cells.now c.loop-number.number-index _ (omega arith) refl c.requires.there
+
+pub returns-in-Err-clause-stopped : goal.returns-in-Err-clause-stopped
+returns-in-Err-clause-stopped g c =
+    report_stops (IsOfTask c.args.task c.args.inputs.now.design c.args.inputs.now.blif c.args.inputs.now.rules) c.args.cells.now c.loop-number.number-index _ _ _ _ _ _ _ _ _ (omega arith) refl
+    c.loop-number.invariant.0 c.loop-number.invariant.1 c.in-Err.ensures.stopped
+
+pub loop-number-preserved : goal.loop-number-preserved
+loop-number-preserved g c = (
+  report_more (IsOfTask c.args.task c.args.inputs.now.design c.args.inputs.now.blif c.args.inputs.now.rules) c.args.cells.now c.loop-number.number-index _ _ _ _ _ _ (omega arith) refl
+      c.loop-number.invariant.0 c.in-Ok.ensures.more,
+  omega (arith, c.loop-number.invariant.1, c.report_cell.ensures.later),
+)

@@ -1,12 +1,12 @@
 use Rattle.std.proofs.Common.{Err, ap, subst}
 use Rattle.command_line.specs.Command.{texts}
 use Rattle.command_line.specs.Requests.{Asks}
-use Rattle.verity_run.proofs.Written.{budget_fits, is_wanted, refuses_words, served_read, served_understood, shows_help, shows_version}
+use Rattle.verity_run.proofs.Written.{request_fits, is_wanted, refuses_words, served_read, served_understood, shows_help, shows_version}
 use Rattle.verity_run.proofs.top.run.Goals as goal
 
 pub serve-requires : goal.serve-requires
 serve-requires g c =
-    budget_fits (texts c.args.words.now) c.in-Ok-Run.request (subst (Asks (texts c.args.words.now)) c.in-Ok-Run.field-0-is c.in-Ok-Run.ensures.asked)
+    request_fits (texts c.args.words.now) c.in-Ok-Run.request (subst (Asks (texts c.args.words.now)) c.in-Ok-Run.field-0-is c.in-Ok-Run.ensures.asked)
 
 pub returns-in-Ok-Run-clause-answers : goal.returns-in-Ok-Run-clause-answers
 returns-in-Ok-Run-clause-answers g c =

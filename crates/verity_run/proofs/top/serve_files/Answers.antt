@@ -1,13 +1,16 @@
-use Rattle.verity_run.proofs.Written.{barred_answers, refusal_answers, report_answers}
+use Rattle.std.proofs.Common.{ap}
+use Rattle.verity_run.specs.Given.{bytes_in, bytes_of, given, names_in}
+use Rattle.verity_run.proofs.RefusalLaws.{stop_told}
+use Rattle.verity_run.proofs.Written.{files_answered, files_refused, same_texts}
 use Rattle.verity_run.proofs.top.serve_files.Goals as goal
-
-pub returns-in-Ok-check_inputs : goal.returns-in-Ok-check_inputs
-returns-in-Ok-check_inputs g c =
-    report_answers c.args.budget _ _ _ _ _ _ _ _ _ _ _ _ c.in-Ok-check_inputs.budget c.in-Ok.ensures.ok c.in-Ok-check_inputs.ensures.ready c.report_cells.ensures
 
 pub returns-in-Ok : goal.returns-in-Ok
 returns-in-Ok g c =
-    barred_answers c.args.budget _ _ _ _ _ _ _ _ _ _ _ _ c.in-Err-check_inputs.refusal c.in-Ok.ensures.ok c.in-Err-check_inputs.ensures.err c.refuse.ensures
+    let words = names_in c.args.words.now in
+    files_answered c.args.request.now _ words _ _ _ _ _ _ _ (bytes_in c.in-Ok.texts) c.in-Ok.ensures.ok
+    (same_texts c.args.request.now (given words (bytes_of c.bytes_in.result)) (given words (bytes_in c.in-Ok.texts)) _ _ _ _ _ (ap (given words) c.bytes_in.ensures) c.serve_texts.ensures)
 
-pub returns : goal.returns
-returns g c = refusal_answers c.args.budget _ _ _ _ _ _ _ _ _ c.in-Err.refusal c.in-Err.ensures.err c.refuse-in-Err.ensures
+pub returns-in-Err : goal.returns-in-Err
+returns-in-Err g c =
+    files_refused c.args.request.now _ (names_in c.args.words.now) _ _ _ _ _ _ _ c.unread.result
+    (stop_told _ _ _ _ c.in-Err.stopped.stop c.in-Err.stopped.name.now c.unread.result c.unread.ensures c.in-Err.ensures.err) c.refuse.ensures

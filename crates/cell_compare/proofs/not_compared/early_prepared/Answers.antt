@@ -1,0 +1,14 @@
+use Rattle.cell_compare.proofs.not_compared.early_prepared.Goals as goal
+
+pub early_with-requires-clause-inputs : goal.early_with-requires-clause-inputs
+early_with-requires-clause-inputs c = record {
+  netlist = c.requires.design;
+  names = c.requires.blif;
+  models = c.requires.models;
+  valid = c.requires.rules;
+  there = c.requires.cell;
+  ordered = c.requires.ordered;
+}
+
+pub is_skipped_with-requires : goal.is_skipped_with-requires
+is_skipped_with-requires c = c.requires.prepared.index_is.rules_are

@@ -1,0 +1,155 @@
+//! The phases of a comparison in their order, in one store.
+
+ghost use Rattle.std.specs.Prelude.{◌≡◌, ◌<◌, ◌≤◌, length, IfOk};
+ghost use Rattle.cell_compare.specs.Works.{AreVars, ArePlans, AreWithin, HasRoom, IsAcyclicPlan, IsChecked, IsTold, IsToldEarly, ArePhaseVars, PhaseTells};
+ghost use Rattle.phase_terms.specs.Ready.{IsReady, comparison_in};
+ghost use Rattle.phase_terms.specs.Stores.{counts_of};
+ghost use Rattle.rule_index.specs.Tables.{AreRuleTables};
+
+use crate::hindrance::Hindrance;
+use crate::sizes::{counts_with, most_variables};
+use crate::works::work_out;
+use bdd_core::Store;
+use node_pool::Mark;
+use phase_check::check_phase;
+use phase_open::word_count;
+use phase_terms::{Comparison, PhaseFound, PhasePlan, WordCounts};
+use phase_told::told_fault;
+use std::alloc::Global;
+use vrt_model::{NoMemory, Seq, Vars, Verdict};
+
+/// What is found in a phase, in a store that is cut back to its start: none where it is equal.
+fn found_in(
+    store: &mut Store,
+    alloc: Global,
+    budget: u32,
+    compared: Comparison<'_>,
+    phase: u32,
+    vars: &Vars,
+    plan: &PhasePlan,
+    counts: WordCounts,
+    start: Mark,
+) -> Result<Option<Verdict>, NoMemory>
+    requires budget { 65536 ≤ budget }
+    requires ready { IsReady (comparison_in compared) }
+    requires phase { phase < length compared.rules.now.phases }
+    requires vars { ArePhaseVars (comparison_in compared) phase vars.now }
+    requires within { length vars.now.sources ≤ counts.variables }
+    requires plan { IsAcyclicPlan (comparison_in compared) phase plan.now }
+    requires counts { counts ≡ counts_of (comparison_in compared) counts.variables }
+    requires few { (counts.elements ≤ 40000) × (counts.variables ≤ 1000) }
+    requires start { start.nodes ≡ 2 }
+    requires room { HasRoom (comparison_in compared) budget counts.variables start.words store.old }
+    ensures tells { IfOk result (PhaseTells (comparison_in compared.entry) budget phase) }
+    ensures room { HasRoom (comparison_in compared.entry) budget counts.variables start.words store.new }
+{
+    store.leave(start);
+    match check_phase(store, compared, phase, vars, plan, counts) {
+        PhaseFound::Clear => Ok(None),
+        PhaseFound::Vacuous => Ok(Some(Verdict::Vacuous { phase })),
+        PhaseFound::Fault(fault) => {
+            let told = told_fault(store, alloc, compared, phase, vars, fault)?;
+            Ok(Some(Verdict::Fault(told)))
+        }
+        PhaseFound::Spent => Ok(Some(Verdict::Budget {
+            nodes: budget,
+            phase,
+        })),
+    }
+}
+
+/// What is found phase by phase: the first that is not equal, or else equal.
+fn search(
+    store: &mut Store,
+    alloc: Global,
+    budget: u32,
+    compared: Comparison<'_>,
+    vars: &[Vars],
+    plans: &[PhasePlan],
+    counts: WordCounts,
+) -> Result<Verdict, NoMemory>
+    requires budget { 65536 ≤ budget }
+    requires ready { IsReady (comparison_in compared) }
+    requires vars { AreVars (comparison_in compared) (length compared.rules.now.phases) vars.now }
+    requires within { AreWithin vars.now counts.variables }
+    requires plans { ArePlans (comparison_in compared) (length compared.rules.now.phases) plans.now }
+    requires counts { counts ≡ counts_of (comparison_in compared) counts.variables }
+    requires few { (counts.elements ≤ 40000) × (counts.variables ≤ 1000) }
+    requires nodes { length store.old.nodes ≡ 2 }
+    requires room { HasRoom (comparison_in compared) budget counts.variables (length store.old.words) store.old }
+    ensures { IfOk result (IsChecked (comparison_in compared.entry) budget) }
+{
+    let start = store.mark();
+    for phase in 0..plans.len() {
+        let found = found_in(
+            store,
+            alloc,
+            budget,
+            compared,
+            phase as u32,
+            &vars[phase],
+            &plans[phase],
+            counts,
+            start,
+        )?;
+        if let Some(verdict) = found {
+            return Ok(verdict);
+        }
+    }
+    Ok(Verdict::Equal)
+}
+
+/// What is found phase by phase, with at most `budget` nodes in each.
+fn check_phases(
+    alloc: Global,
+    budget: u32,
+    compared: Comparison<'_>,
+    vars: &[Vars],
+    plans: &[PhasePlan],
+) -> Result<Verdict, NoMemory>
+    requires budget { (65536 ≤ budget) × (budget ≤ 64000000) }
+    requires ready { IsReady (comparison_in compared) }
+    requires vars { AreVars (comparison_in compared) (length compared.rules.now.phases) vars.now }
+    requires plans { ArePlans (comparison_in compared) (length compared.rules.now.phases) plans.now }
+    ensures { IfOk result (IsChecked (comparison_in compared.entry) budget) }
+{
+    let counts = counts_with(compared, most_variables(vars))?;
+    let words = word_count(counts);
+    let mut store = Store::with_budget(alloc, budget, words, counts.variables)?;
+    search(&mut store, alloc, budget, compared, vars, plans, counts)
+}
+
+/// The verdict on a comparison: too many variables, or a cycle in a phase, or what is found phase by phase.
+pub(crate) fn check_cell(
+    alloc: Global,
+    budget: u32,
+    compared: Comparison<'_>,
+) -> Result<Verdict, NoMemory>
+    requires budget { (65536 ≤ budget) × (budget ≤ 64000000) }
+    requires ready { IsReady (comparison_in compared) }
+    requires tables { AreRuleTables compared.rules.now compared.index.now }
+    ensures { IfOk result (IsTold (comparison_in compared.entry) budget) }
+{
+    let mut vars = Seq::new(alloc);
+    let mut plans = Seq::new(alloc);
+    match work_out(alloc, compared, &mut vars, &mut plans) {
+        Ok(()) => check_phases(alloc, budget, compared, vars.as_slice(), plans.as_slice()),
+        Err(Hindrance::Because(why)) => Ok(Verdict::Unsupported(why)),
+        Err(Hindrance::NoMemory) => Err(NoMemory),
+    }
+}
+
+/// The verdict on a comparison that has too many variables or a cycle in a phase; none on another.
+pub(crate) fn hindered(alloc: Global, compared: Comparison<'_>) -> Result<Option<Verdict>, NoMemory>
+    requires ready { IsReady (comparison_in compared) }
+    requires tables { AreRuleTables compared.rules.now compared.index.now }
+    ensures { IfOk result (IsToldEarly (comparison_in compared.entry)) }
+{
+    let mut vars = Seq::new(alloc);
+    let mut plans = Seq::new(alloc);
+    match work_out(alloc, compared, &mut vars, &mut plans) {
+        Ok(()) => Ok(None),
+        Err(Hindrance::Because(why)) => Ok(Some(Verdict::Unsupported(why))),
+        Err(Hindrance::NoMemory) => Err(NoMemory),
+    }
+}

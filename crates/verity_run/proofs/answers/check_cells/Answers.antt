@@ -1,0 +1,11 @@
+use Rattle.verity_run.specs.Reports.{ReportsCells}
+use Rattle.verity_run.proofs.ReportLaws.{check_ends, stopped_ends}
+use Rattle.verity_run.proofs.answers.check_cells.Goals as goal
+
+pub returns-in-Ok : goal.returns-in-Ok
+returns-in-Ok g c = check_ends c.args.inputs.now.design c.args.inputs.now.blif c.args.inputs.now.rules c.args.budget c.args.cells.now _ _ _ _ _ c.in-Ok.ensures.put
+
+pub returns-in-Err : goal.returns-in-Err
+returns-in-Err g c =
+    let i = c.args.inputs.now in
+    stopped_ends i.design i.blif i.rules c.args.budget c.args.cells.now _ _ _ _ _ (ReportsCells i.design i.blif i.rules c.args.budget c.args.cells.now) c.in-Err.ensures.stopped
