@@ -6,6 +6,7 @@ use Rattle.std.proofs.lemmas.List.{map-append, take_all, take_more}
 use Rattle.std.proofs.lemmas.List.Elements.{All-append, All-cons, All-nil}
 use Rattle.std.proofs.lemmas.List.Folds.{list_any-append}
 use Rattle.verity_run.proofs.PutLaws.{appended, front_behind, joined_behind, kept_behind, nothing_put, rose_since, split_at}
+use Rattle.cell_compare.specs.Cells.{HasRuns}
 use Rattle.verity_run.specs.Asked.{ReportsGenerated}
 use Rattle.verity_run.specs.Messages.{joined, last_line}
 use Rattle.verity_run.specs.Reports.{Begins, IsChecked, IsEnded, PutsCell, PutsReport, Reports, ReportsCells, StopsCell, StopsReport, answer_lines, counted, is_fault, is_undecided, more, none, status_by, with_count}
@@ -106,7 +107,7 @@ text_of design blif rules (a ∷ answers) =
 
 -- the report of no cell, and of one more
 verdicts_none : (design : Design) (blif : Blif) (rules : Rules) (budget : ℕ) → ReportsCells design blif rules budget [] AllEqual []
-verdicts_none design blif rules budget = record { answers = []; on = refl; verdicts = All-nil (λ (a : Answer). IsVerdict design blif rules budget a.cell a.verdict); ended = refl; lines_are = refl; text = refl }
+verdicts_none design blif rules budget = record { answers = []; on = refl; verdicts = All-nil (λ (a : Answer). IsVerdict design blif rules budget a.cell a.verdict); runs = All-nil (λ (a : Answer). HasRuns design blif rules a.cell a.verdict); ended = refl; lines_are = refl; text = refl }
 
 verdicts_more : (design : Design) (blif : Blif) (rules : Rules) (budget n : ℕ) (cells cells' : List ℕ) (status status' : Status) (lines lines' own : List (List ℕ)) (count : Count)
     → ReportsCells design blif rules budget cells status lines → IsChecked design blif rules budget n count own
@@ -122,6 +123,9 @@ verdicts_more design blif rules budget n cells cells' status status' lines lines
       verdicts =
           let P : Answer → Type 0 = λ b. IsVerdict design blif rules budget b.cell b.verdict in
           All-append P r.answers (a ∷ []) r.verdicts (All-cons P a [] is.is (All-nil P));
+      runs =
+          let P : Answer → Type 0 = λ b. HasRuns design blif rules b.cell b.verdict in
+          All-append P r.answers (a ∷ []) r.runs (All-cons P a [] is.runs (All-nil P));
       ended = counts ∙ ap₂ with_count r.ended is.counts ∙ sym (status_more r.answers a);
       lines_are = listed;
       text = ap joined listed ∙ text_of design blif rules (r.answers ++ a ∷ []);

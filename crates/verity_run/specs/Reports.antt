@@ -3,6 +3,7 @@ use Rattle.std.specs.Prelude.{◌≡◌, ◌≢◌, ◌⊎◌, ◌<◌, ◌++◌
 use Rattle.std.specs.Io.KnownBytes.{Appends, Keeps}
 use Rattle.std.specs.List.{list_any}
 use Rattle.std.specs.declared.option.Option.{Option}
+use Rattle.cell_compare.specs.Cells.{HasRuns}
 use Rattle.vrt_io.specs.Causes.{Rose}
 use Rattle.verity_run.specs.Messages.{joined}
 use Rattle.verity_run.specs.declared.status.Count.{Count}
@@ -65,10 +66,11 @@ AreThere design cells = (n : ℕ) → Among cells n → n < length design.cells
 abbrev pub cell_line : Design → Blif → Rules → ℕ → Verdict → List ℕ
 cell_line design blif rules cell verdict = answer_line design blif rules (record { cell = cell; verdict = verdict }) ++ 10 ∷ []
 
--- what a check writes of a cell: the line of its verdict
+-- what a check writes of a cell: the line of its verdict; where it is equal, each of its runs shows the bits of its model
 pub record IsChecked (design : Design) (blif : Blif) (rules : Rules) (budget cell : ℕ) (count : Count) (lines : List (List ℕ)) : Type 0 where
   pub verdict : Verdict
   pub is : IsVerdict design blif rules budget cell verdict
+  pub runs : HasRuns design blif rules cell verdict
   pub counts : count ≡ counted verdict
   pub line : lines ≡ cell_line design blif rules cell verdict ∷ []
 
@@ -98,11 +100,12 @@ status_by answers =
 abbrev pub answer_lines : Design → Blif → Rules → List Answer → List (List ℕ)
 answer_lines design blif rules answers = map (λ (a : Answer). answer_line design blif rules a ++ 10 ∷ []) answers
 
--- the report of the verdicts on cells in this order, and its status
+-- the report of the verdicts on cells in this order, and its status; each run of an equal one shows the bits of its model
 pub record ReportsCells (design : Design) (blif : Blif) (rules : Rules) (budget : ℕ) (cells : List ℕ) (status : Status) (lines : List (List ℕ)) : Type 0 where
   pub answers : List Answer
   pub on : map (λ (a : Answer). a.cell) answers ≡ cells
   pub verdicts : All (λ (a : Answer). IsVerdict design blif rules budget a.cell a.verdict) answers
+  pub runs : All (λ (a : Answer). HasRuns design blif rules a.cell a.verdict) answers
   pub ended : status ≡ status_by answers
   pub lines_are : lines ≡ answer_lines design blif rules answers
   pub text : joined lines ≡ report design blif rules answers
