@@ -38,5 +38,13 @@ pub fn help() -> &'static [u8]
       status 4       no cell has a fault, and one was not decided\n\
       status 5       a file could not be read\n\
       status 6       the output could not be written\n\
-      status 7       memory was wanting\n"
+      status 7       memory was wanting\n\
+\n\
+      docs/FAULTS.md     after a fault or a refusal: what each line means, and what to do\n\
+      docs/RULES.md      what the rules declare for each kind of cell\n\
+      docs/FORMATS.md    what each file may hold, and what is refused\n\
+      docs/LIBRARIES.md  netlists and models as other tools write them\n\
+\n\
+      limits of a file  16777216 bytes; 4096 cells, each with 4096 ports and 40000 cards\n\
+      limits of a cell  20000 nets, 40000 devices, and 1000 variables in a phase\n"
 }

@@ -14,7 +14,7 @@ use Rattle.spice_reader.specs.Refused.{IsNetlist}
 use Rattle.text_lines.specs.Faults.{IsClean}
 use Rattle.verity_run.specs.Given.{ByFile, Given, models_cards, netlist_cards, rules_cards}
 use Rattle.verity_run.specs.Messages.{cells_line, models_line, refusal_line}
-use Rattle.verity_run.specs.Reads.{FilesTold, StopsBy}
+use Rattle.verity_run.specs.Reads.{Source, StopsBy}
 use Rattle.verity_run.specs.Refusals.{IsRefusal, OfOrder, OfUnrolling, Tells, TellsFiles, TellsStop}
 use Rattle.verity_run.specs.declared.reads.Stop.{Stop}
 use Rattle.verity_run.specs.declared.refusals.Refusal.{Refusal}
@@ -74,10 +74,11 @@ recursion_line design line chain given file word name r same f n told =
 -- ---- the three files
 
 -- a file that was not read
-pub stop_told : (told : FilesTold) (words : ByFile) (before now : ℕ) (stop : Stop) (name : List ℕ) (r : Refusal) → TellsStop stop name r
-    → StopsBy stop name told words before now → TellsFiles told words before now r
-stop_told told words before now stop name (Unread line) t by =
-    let P : Stop → Type 0 = λ s. StopsBy s name told words before now in let cause = subst P t.0 by in record { name = name; rose = cause.0; named = cause.1; line_is = t.1 }
-stop_told told words before now stop name (Told line) t by =
-    let P : Stop → Type 0 = λ s. StopsBy s name told words before now in record { name = name; first = subst P t.0 by; line_is = t.1 }
-stop_told told words before now stop name NoMemory t by = tt
+pub stop_told : (source : Source) (words : ByFile) (before now : ℕ) (stop : Stop) (name : List ℕ) (r : Refusal) → TellsStop stop name r
+    → StopsBy stop name source words before now → TellsFiles source words before now r
+stop_told source words before now stop name (Unread line) t by =
+    let P : Stop → Type 0 = λ s. StopsBy s name source words before now in let cause = subst P t.0 by in
+    record { name = name; rose = cause.0; named = cause.1.0; failed = cause.1.1; line_is = t.1 }
+stop_told source words before now stop name (Told line) t by =
+    let P : Stop → Type 0 = λ s. StopsBy s name source words before now in record { name = name; first = subst P t.0 by; line_is = t.1 }
+stop_told source words before now stop name NoMemory t by = tt

@@ -17,7 +17,7 @@ use Rattle.verity_run.specs.Asked.{AreReady, IsAnswer, IsBarred, IsBegun, IsFitt
 use Rattle.verity_run.specs.Classes.{IsBudget, IsClassed}
 use Rattle.verity_run.specs.Given.{AreRead, ByFile, Given, generated, given}
 use Rattle.verity_run.specs.Messages.{usage_line}
-use Rattle.verity_run.specs.Reads.{AreTold, FilesTold}
+use Rattle.verity_run.specs.Reads.{AreLoaded, Source}
 use Rattle.verity_run.specs.Refusals.{IsRefusal, OfLength, OfOrder, Tells, TellsFiles}
 use Rattle.verity_run.specs.Replays.{BeginsReplay}
 use Rattle.verity_run.specs.Reports.{Begins as BeginsReport, IsEnded, Reports, ReportsCells}
@@ -100,7 +100,7 @@ replay_answered request cell phase at files words design blif rules cells status
       answers s lines (inl refuses) =
           inl (record {
             line = refuses.line;
-            cause = inr (ready.ordered, inr (subst (λ (r : Request). OfMode r design blif rules refuses.line) (sym is) refuses.cause));
+            cause = inr (ready.ordered, inr ((cells, ready.asked), subst (λ (r : Request). OfMode r design blif rules refuses.line) (sym is) refuses.cause));
             answer = refuses.answer;
             told_is = refuses.told_is;
           })
@@ -141,58 +141,58 @@ same_texts request g h status old new before now same ends = subst (λ (x : Give
 
 -- ---- three files
 
-module _ (request : Request) (told : FilesTold) (words : ByFile) (before now : ℕ) (status : Status) (old new : Option (List ℕ)) (faults_before faults_now : ℕ) where
+module _ (request : Request) (source : Source) (words : ByFile) (before now : ℕ) (status : Status) (old new : Option (List ℕ)) (faults_before faults_now : ℕ) where
   abbrev pub EndsFiles : Type 0
-  EndsFiles = Ends (AnswersFiles request told words before now) (BeginsFiles request told words) status old new faults_before faults_now
+  EndsFiles = Ends (AnswersFiles request source words before now) (BeginsFiles request source words) status old new faults_before faults_now
 
   -- files that are not read
-  pub files_refused : (r : Refusal) → TellsFiles told words before now r → RefusalEnds r status old new faults_before faults_now → EndsFiles
+  pub files_refused : (r : Refusal) → TellsFiles source words before now r → RefusalEnds r status old new faults_before faults_now → EndsFiles
   files_refused (Unread line) is ends =
-      line_ends (AnswersFiles request told words before now) (BeginsFiles request told words) ReadFault status line old new faults_before faults_now
+      line_ends (AnswersFiles request source words before now) (BeginsFiles request source words) ReadFault status line old new faults_before faults_now
       (inl (record { answer = refl; told = (line, is, refl) })) ends
   files_refused (Told line) long ends =
-      line_ends (AnswersFiles request told words before now) (BeginsFiles request told words) InputRefused status line old new faults_before faults_now
-      (inr (inl (refusing (OfLength told words) line long))) ends
+      line_ends (AnswersFiles request source words before now) (BeginsFiles request source words) InputRefused status line old new faults_before faults_now
+      (inr (inl (refusing (OfLength source words) line long))) ends
   files_refused OutOfMemory is ends =
-      nothing_ends (AnswersFiles request told words before now) (BeginsFiles request told words) status old new faults_before faults_now ends.0 ends.1
+      nothing_ends (AnswersFiles request source words before now) (BeginsFiles request source words) status old new faults_before faults_now ends.0 ends.1
 
   -- what their texts give
-  pub files_answered : (bytes : ByFile) → AreTold told words bytes
+  pub files_answered : (bytes : ByFile) → AreLoaded source words bytes
       → Ends (AnswersTexts request (given words bytes)) (BeginsTexts request (given words bytes)) status old new faults_before faults_now → EndsFiles
   files_answered bytes are ends =
-      ends_by (AnswersTexts request (given words bytes)) (AnswersFiles request told words before now) (BeginsTexts request (given words bytes)) (BeginsFiles request told words)
+      ends_by (AnswersTexts request (given words bytes)) (AnswersFiles request source words before now) (BeginsTexts request (given words bytes)) (BeginsFiles request source words)
       status old new faults_before faults_now
-      (λ s lines a. inr (inr (record { bytes = bytes; told_are = are; holds = a })))
-      (λ lines b. record { bytes = bytes; told_are = are; holds = b }) ends
+      (λ s lines a. inr (inr (record { bytes = bytes; loaded = are; holds = a })))
+      (λ lines b. record { bytes = bytes; loaded = are; holds = b }) ends
 
 -- ---- requests
 
-module _ (request : Request) (told : FilesTold) (before now : ℕ) (status : Status) (old new : Option (List ℕ)) (faults_before faults_now : ℕ) where
+module _ (request : Request) (source : Source) (before now : ℕ) (status : Status) (old new : Option (List ℕ)) (faults_before faults_now : ℕ) where
   abbrev pub EndsRequest : Type 0
-  EndsRequest = Ends (Serves request told before now) (BeginsRequest request told) status old new faults_before faults_now
+  EndsRequest = Ends (Serves request source before now) (BeginsRequest request source) status old new faults_before faults_now
 
   -- on files
   pub files_served : (words : ByFile) → file_names request ≡ names_by words
-      → Ends (AnswersFiles request told words before now) (BeginsFiles request told words) status old new faults_before faults_now → EndsRequest
+      → Ends (AnswersFiles request source words before now) (BeginsFiles request source words) status old new faults_before faults_now → EndsRequest
   files_served words files ends =
-      ends_by (AnswersFiles request told words before now) (Serves request told before now) (BeginsFiles request told words) (BeginsRequest request told)
+      ends_by (AnswersFiles request source words before now) (Serves request source before now) (BeginsFiles request source words) (BeginsRequest request source)
       status old new faults_before faults_now (λ s lines a. inr (words, files, a)) (λ lines b. inr (words, files, b)) ends
 
   -- on texts that are generated
   pub generated_served : Ends (AnswersGenerated request) (BeginsGenerated request) status old new faults_before faults_now → EndsRequest
   generated_served ends =
-      ends_by (AnswersGenerated request) (Serves request told before now) (BeginsGenerated request) (BeginsRequest request told)
+      ends_by (AnswersGenerated request) (Serves request source before now) (BeginsGenerated request) (BeginsRequest request source)
       status old new faults_before faults_now (λ s lines a. inl a) (λ lines b. inl b) ends
 
 -- of a size
-pub made_served : (request : Request) (size : ℕ) (budget : Option ℕ) (told : FilesTold) (before now : ℕ) (status : Status) (old new : Option (List ℕ)) (faults_before faults_now : ℕ)
+pub made_served : (request : Request) (size : ℕ) (budget : Option ℕ) (source : Source) (before now : ℕ) (status : Status) (old new : Option (List ℕ)) (faults_before faults_now : ℕ)
     → request ≡ Generate size budget → Ends (AnswersTexts request (generated size)) (BeginsTexts request (generated size)) status old new faults_before faults_now
-    → Ends (Serves request told before now) (BeginsRequest request told) status old new faults_before faults_now
-made_served request size budget told before now status old new faults_before faults_now is ends =
+    → Ends (Serves request source before now) (BeginsRequest request source) status old new faults_before faults_now
+made_served request size budget source before now status old new faults_before faults_now is ends =
     let P : Request → Type 0 =
     λ r. Ends (AnswersTexts r (generated size)) (BeginsTexts r (generated size)) status old new faults_before faults_now
     → Ends (AnswersGenerated r) (BeginsGenerated r) status old new faults_before faults_now in
-    generated_served request told before now status old new faults_before faults_now (subst P (sym is) (λ e. e) ends)
+    generated_served request source before now status old new faults_before faults_now (subst P (sym is) (λ e. e) ends)
 
 -- ---- statuses
 
@@ -249,55 +249,55 @@ module _ (status : Status) (lines : List (List ℕ)) where
   generated_calm (Generate size budget) a = texts_calm (Generate size budget) (generated size) a
 
 -- a read fault comes only where the count of faults rose, and words that are understood are no cause of Usage
-module _ (request : Request) (told : FilesTold) (before now : ℕ) (status : Status) (lines : List (List ℕ)) where
-  read_rose : Serves request told before now status lines → status ≡ ReadFault → Rose before now
+module _ (request : Request) (source : Source) (before now : ℕ) (status : Status) (lines : List (List ℕ)) where
+  read_rose : Serves request source before now status lines → status ≡ ReadFault → Rose before now
   read_rose (inl made) is = absurd ((generated_calm status lines request made).0 is)
   read_rose (inr (words, files, inl fails)) is = fails.told.1.rose
-  read_rose (inr (words, files, inr (inl refuses))) is = absurd ((refused_calm status lines (OfLength told words) refuses).0 is)
+  read_rose (inr (words, files, inr (inl refuses))) is = absurd ((refused_calm status lines (OfLength source words) refuses).0 is)
   read_rose (inr (words, files, inr (inr give))) is = absurd ((texts_calm status lines request (given words give.bytes) give.holds).0 is)
 
-  not_usage : Serves request told before now status lines → status ≡ Usage → ⊥
+  not_usage : Serves request source before now status lines → status ≡ Usage → ⊥
   not_usage (inl made) is = (generated_calm status lines request made).1 is
   not_usage (inr (words, files, inl fails)) is = read_is_usage status fails.answer is
-  not_usage (inr (words, files, inr (inl refuses))) is = (refused_calm status lines (OfLength told words) refuses).1 is
+  not_usage (inr (words, files, inr (inl refuses))) is = (refused_calm status lines (OfLength source words) refuses).1 is
   not_usage (inr (words, files, inr (inr give))) is = (texts_calm status lines request (given words give.bytes) give.holds).1 is
 
 -- how a request that is served ends
-module _ (request : Request) (told : FilesTold) (before now : ℕ) (status : Status) (old new : Option (List ℕ)) (faults_before faults_now : ℕ)
-    (ends : Ends (Serves request told before now) (BeginsRequest request told) status old new faults_before faults_now) where
+module _ (request : Request) (source : Source) (before now : ℕ) (status : Status) (old new : Option (List ℕ)) (faults_before faults_now : ℕ)
+    (ends : Ends (Serves request source before now) (BeginsRequest request source) status old new faults_before faults_now) where
   pub served_read : status ≡ ReadFault → Rose before now
   served_read is =
-      let w = ends.whole (read_is_written status is) (read_is_none status is) in read_rose request told before now status w.0 w.1 is
+      let w = ends.whole (read_is_written status is) (read_is_none status is) in read_rose request source before now status w.0 w.1 is
 
   pub served_understood : status ≡ Usage → ⊥
   served_understood is =
-      let w = ends.whole (usage_is_written status is) (usage_is_none status is) in not_usage request told before now status w.0 w.1 is
+      let w = ends.whole (usage_is_written status is) (usage_is_none status is) in not_usage request source before now status w.0 w.1 is
 
   -- it is what the words ask for
-  pub is_wanted : (words : List (List ℕ)) → AsksFor words request → Ends (Wants words told before now) (Begins words told) status old new faults_before faults_now
+  pub is_wanted : (words : List (List ℕ)) → AsksFor words request → Ends (Wants words source before now) (Begins words source) status old new faults_before faults_now
   is_wanted words asks =
-      ends_by (Serves request told before now) (Wants words told before now) (BeginsRequest request told) (Begins words told) status old new faults_before faults_now
+      ends_by (Serves request source before now) (Wants words source before now) (BeginsRequest request source) (Begins words source) status old new faults_before faults_now
       (λ s lines served. inr (inr (request, asks, served))) (λ lines begun. (request, asks, begun)) ends
 
 -- ---- words
 
-module _ (words : List (List ℕ)) (told : FilesTold) (before now : ℕ) (status : Status) (line : List ℕ) (old new : Option (List ℕ)) (faults_before faults_now : ℕ) where
+module _ (words : List (List ℕ)) (source : Source) (before now : ℕ) (status : Status) (line : List ℕ) (old new : Option (List ℕ)) (faults_before faults_now : ℕ) where
   abbrev EndsWords : Type 0
-  EndsWords = Ends (Wants words told before now) (Begins words told) status old new faults_before faults_now
+  EndsWords = Ends (Wants words source before now) (Begins words source) status old new faults_before faults_now
 
   pub shows_help : Asks words Help → line ≡ help_text → PutsLine AllEqual status line old new faults_before faults_now → EndsWords
   shows_help asks is put =
-      line_ends (Wants words told before now) (Begins words told) AllEqual status line old new faults_before faults_now
+      line_ends (Wants words source before now) (Begins words source) AllEqual status line old new faults_before faults_now
       (inr (inl (record { answer = refl; told = inl (asks, ap (λ l. l ∷ []) is) }))) put
 
   pub shows_version : Asks words Version → line ≡ version_line → PutsLine AllEqual status line old new faults_before faults_now → EndsWords
   shows_version asks is put =
-      line_ends (Wants words told before now) (Begins words told) AllEqual status line old new faults_before faults_now
+      line_ends (Wants words source before now) (Begins words source) AllEqual status line old new faults_before faults_now
       (inr (inl (record { answer = refl; told = inr (asks, ap (λ l. l ∷ []) is) }))) put
 
   pub refuses_words : IsUsage words → line ≡ usage_line → PutsLine Usage status line old new faults_before faults_now → EndsWords
   refuses_words bad is put =
-      line_ends (Wants words told before now) (Begins words told) Usage status line old new faults_before faults_now
+      line_ends (Wants words source before now) (Begins words source) Usage status line old new faults_before faults_now
       (inl (record { bad = bad; answer = refl; told = ap (λ l. l ∷ []) is })) put
 
 -- ---- budgets

@@ -60,12 +60,16 @@ OfMode (Replay cell phase at files) design blif rules line = OfReplay design bli
 OfMode (Classes cell files) design blif rules line = ⊥
 OfMode (Generate size budget) design blif rules line = ⊥
 
--- the line of the first: the cells have no order, else the cell that is asked for is not there, else what the mode asks for is
--- not to be had
+-- the cell that is asked for is there, where one is
+abbrev pub IsThere : Design → Option (List ℕ) → Type 0
+IsThere design word = (cells : List ℕ) × AreAsked design word cells
+
+-- the line of the first: the cells have no order, else the cell that is asked for is not there, else, where it is, what the mode
+-- asks for is not to be had
 abbrev pub IsBarred : Request → ByFile → Design → Blif → Rules → List ℕ → Type 0
 IsBarred request words design blif rules line =
     OfOrder words design rules line
-    ⊎ (IsOrdered design rules × (OfCellWord design (cell_word request) line ⊎ OfMode request design blif rules line))
+    ⊎ (IsOrdered design rules × (OfCellWord design (cell_word request) line ⊎ (IsThere design (cell_word request) × OfMode request design blif rules line)))
 
 -- nothing does, and these are the cells that are asked for
 pub record AreReady (request : Request) (design : Design) (rules : Rules) (cells : List ℕ) : Type 0 where

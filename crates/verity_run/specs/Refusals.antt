@@ -18,7 +18,7 @@ use Rattle.text_lines.specs.Faults.{IsClean, IsFirst}
 use Rattle.vrt_io.specs.Causes.{Rose}
 use Rattle.verity_run.specs.Given.{ByFile, Given, models_cards, netlist_cards, rules_cards}
 use Rattle.verity_run.specs.Messages.{blif_line, cells_line, models_line, read_failed_line, rules_line, spice_line, too_long_line}
-use Rattle.verity_run.specs.Reads.{FilesTold, IsFileWord, IsFirstLong}
+use Rattle.verity_run.specs.Reads.{IsFileWord, IsFirstLong, Source}
 use Rattle.verity_run.specs.declared.reads.Stop.{Stop}
 use Rattle.verity_run.specs.declared.reads.Stop.TheVariants.{Failed, TooLong}
 use Rattle.verity_run.specs.declared.refusals.Refusal.{Refusal}
@@ -73,16 +73,17 @@ pub record OfOrder (words : ByFile) (design : Design) (rules : Rules) (line : Li
 -- ---- three files
 
 -- the line of the first file that is too long
-pub record OfLength (told : FilesTold) (words : ByFile) (line : List ℕ) : Type 0 where
+pub record OfLength (source : Source) (words : ByFile) (line : List ℕ) : Type 0 where
   pub name : List ℕ
-  pub first : IsFirstLong told words name
+  pub first : IsFirstLong source words name
   pub line_is : line ≡ too_long_line name
 
--- the line of a file that could not be read: the count of faults rose
-pub record OfFault (before now : ℕ) (words : ByFile) (line : List ℕ) : Type 0 where
+-- the line of a file that could not be read: a load of it failed, and the count of faults rose
+pub record OfFault (source : Source) (before now : ℕ) (words : ByFile) (line : List ℕ) : Type 0 where
   pub name : List ℕ
   pub rose : Rose before now
   pub named : IsFileWord words name
+  pub failed : source.failed name
   pub line_is : line ≡ read_failed_line name
 
 -- ---- what a refusal tells
@@ -103,5 +104,5 @@ TellsStop stop name refusal =
     TellsEither (λ line. (stop ≡ Failed) × (line ≡ read_failed_line name)) (λ line. (stop ≡ TooLong) × (line ≡ too_long_line name)) refusal
 
 -- why the three files are not read
-abbrev pub TellsFiles : FilesTold → ByFile → ℕ → ℕ → Refusal → Type 0
-TellsFiles told words before now refusal = TellsEither (OfFault before now words) (OfLength told words) refusal
+abbrev pub TellsFiles : Source → ByFile → ℕ → ℕ → Refusal → Type 0
+TellsFiles source words before now refusal = TellsEither (OfFault source before now words) (OfLength source words) refusal

@@ -12,7 +12,7 @@ use Rattle.vrt_io.specs.Causes.{Rose}
 use Rattle.verity_run.specs.Asked.{AreReady, IsAnswer, IsBarred, IsBegun}
 use Rattle.verity_run.specs.Given.{AreRead, ByFile, Given, generated, given}
 use Rattle.verity_run.specs.Messages.{joined, usage_line}
-use Rattle.verity_run.specs.Reads.{AreTold, FilesTold}
+use Rattle.verity_run.specs.Reads.{AreLoaded, Source}
 use Rattle.verity_run.specs.Refusals.{IsRefusal, OfFault, OfLength}
 use Rattle.verity_run.specs.Replays.{IsReplay, OfReplay}
 use Rattle.verity_run.specs.declared.refusals.Refusal.{Refusal}
@@ -98,25 +98,25 @@ BeginsTexts request g lines = TextsSay g (λ design blif rules. BeginsInputs req
 -- ---- what three files give
 
 -- a file could not be read: the count of faults rose
-pub record FailsToRead (words : ByFile) (before now : ℕ) (status : Status) (lines : List (List ℕ)) : Type 0 where
+pub record FailsToRead (source : Source) (words : ByFile) (before now : ℕ) (status : Status) (lines : List (List ℕ)) : Type 0 where
   pub answer : status ≡ ReadFault
-  pub told : (line : List ℕ) × OfFault before now words line × (lines ≡ line ∷ [])
+  pub told : (line : List ℕ) × OfFault source before now words line × (lines ≡ line ∷ [])
 
 -- the files have these bytes, of which this holds
-pub record FilesGive (told : FilesTold) (words : ByFile) (P : Given → Type 0) : Type 0 where
+pub record FilesGive (source : Source) (words : ByFile) (P : Given → Type 0) : Type 0 where
   pub bytes : ByFile
-  pub told_are : AreTold told words bytes
+  pub loaded : AreLoaded source words bytes
   pub holds : P (given words bytes)
 
 -- what is to be answered and written for three files, with the count of the files' faults before and now, by the first cause in
 -- this order: a file is too long, else what their texts give
-abbrev pub AnswersFiles : Request → FilesTold → ByFile → ℕ → ℕ → Status → List (List ℕ) → Type 0
-AnswersFiles request told words before now status lines =
-    FailsToRead words before now status lines
-    ⊎ (Refuses (OfLength told words) status lines ⊎ FilesGive told words (λ g. AnswersTexts request g status lines))
+abbrev pub AnswersFiles : Request → Source → ByFile → ℕ → ℕ → Status → List (List ℕ) → Type 0
+AnswersFiles request source words before now status lines =
+    FailsToRead source words before now status lines
+    ⊎ (Refuses (OfLength source words) status lines ⊎ FilesGive source words (λ g. AnswersTexts request g status lines))
 
-abbrev pub BeginsFiles : Request → FilesTold → ByFile → List (List ℕ) → Type 0
-BeginsFiles request told words lines = FilesGive told words (λ g. BeginsTexts request g lines)
+abbrev pub BeginsFiles : Request → Source → ByFile → List (List ℕ) → Type 0
+BeginsFiles request source words lines = FilesGive source words (λ g. BeginsTexts request g lines)
 
 -- ---- what a request gives
 
@@ -138,15 +138,15 @@ BeginsGenerated (Classes cell files) lines = ⊥
 BeginsGenerated (Generate size budget) lines = BeginsTexts (Generate size budget) (generated size) lines
 
 -- what is to be answered and written for a request
-abbrev pub Serves : Request → FilesTold → ℕ → ℕ → Status → List (List ℕ) → Type 0
-Serves request told before now status lines =
+abbrev pub Serves : Request → Source → ℕ → ℕ → Status → List (List ℕ) → Type 0
+Serves request source before now status lines =
     AnswersGenerated request status lines
-    ⊎ ((words : ByFile) × (file_names request ≡ names_by words) × AnswersFiles request told words before now status lines)
+    ⊎ ((words : ByFile) × (file_names request ≡ names_by words) × AnswersFiles request source words before now status lines)
 
 -- lines with which that begins
-abbrev pub BeginsRequest : Request → FilesTold → List (List ℕ) → Type 0
-BeginsRequest request told lines =
-    BeginsGenerated request lines ⊎ ((words : ByFile) × (file_names request ≡ names_by words) × BeginsFiles request told words lines)
+abbrev pub BeginsRequest : Request → Source → List (List ℕ) → Type 0
+BeginsRequest request source lines =
+    BeginsGenerated request lines ⊎ ((words : ByFile) × (file_names request ≡ names_by words) × BeginsFiles request source words lines)
 
 -- ---- what the words give
 
@@ -162,14 +162,14 @@ pub record ShowsManual (words : List (List ℕ)) (status : Status) (lines : List
   pub told : (Asks words Help × (lines ≡ help_text ∷ [])) ⊎ (Asks words Version × (lines ≡ version_line ∷ []))
 
 -- what is to be answered and written for these words and files
-abbrev pub Wants : List (List ℕ) → FilesTold → ℕ → ℕ → Status → List (List ℕ) → Type 0
-Wants words told before now status lines =
+abbrev pub Wants : List (List ℕ) → Source → ℕ → ℕ → Status → List (List ℕ) → Type 0
+Wants words source before now status lines =
     RefusesWords words status lines
-    ⊎ (ShowsManual words status lines ⊎ ((request : Request) × AsksFor words request × Serves request told before now status lines))
+    ⊎ (ShowsManual words status lines ⊎ ((request : Request) × AsksFor words request × Serves request source before now status lines))
 
 -- lines that begin the report that the words ask for
-abbrev pub Begins : List (List ℕ) → FilesTold → List (List ℕ) → Type 0
-Begins words told lines = (request : Request) × AsksFor words request × BeginsRequest request told lines
+abbrev pub Begins : List (List ℕ) → Source → List (List ℕ) → Type 0
+Begins words source lines = (request : Request) × AsksFor words request × BeginsRequest request source lines
 
 -- ---- what a refusal gives
 

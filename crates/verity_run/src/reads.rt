@@ -2,7 +2,7 @@
 
 ghost use Rattle.std.specs.Prelude.{◌≡◌, ◌≤◌, vec_len, List, ℕ, IfOk, IfErr};
 ghost use Rattle.verity_run.specs.Given.{bytes_in, names_in};
-ghost use Rattle.verity_run.specs.Reads.{AreShort, AreTold, IsShort, IsTold, StopHasCause, StopsBy};
+ghost use Rattle.verity_run.specs.Reads.{AreLoaded, AreShort, IsLoaded, IsShort, StopHasCause, StopsBy, source_of};
 
 use command_line::FileWords;
 use std::alloc::Global;
@@ -55,12 +55,13 @@ fn read_file<'a, F: Files>(
     files: &mut F,
     name: &'a str,
 ) -> Result<Vec<u8>, Stopped<'a>>
-    ensures ok { IfOk result (λ v. IsTold (F.told files.old name.now) v.items) }
+    ensures ok { IfOk result (λ v. IsLoaded (source_of (F.told files.old) (F.gave files.new) (F.failed files.new)) name.now v.items) }
     ensures few { IfOk result (λ _. IsShort (F.told files.old name.now)) }
     ensures err { IfErr result (λ s. (s.name.now ≡ name.now)
-        × StopHasCause s.stop (F.told files.old name.now) (F.faults files.old) (F.faults files.new)) }
+        × StopHasCause s.stop (source_of (F.told files.old) (F.gave files.new) (F.failed files.new)) name.now (F.faults files.old) (F.faults files.new)) }
     ensures short { IfOk result (λ v. vec_len v ≤ 16777216) }
     ensures same { (n : List ℕ) → F.told files.new n ≡ F.told files.old n }
+    ensures kept { (n bytes : List ℕ) → F.gave files.old n bytes → F.gave files.new n bytes }
     ensures later { F.faults files.old ≤ F.faults files.new }
 {
     let mut bytes = Vec::new(alloc);
@@ -87,8 +88,8 @@ pub fn read_files<'a, F: Files>(
     files: &mut F,
     words: &FileWords<'a>,
 ) -> Result<Texts, Stopped<'a>>
-    ensures ok { IfOk result (λ t. AreTold (F.told files.old) (names_in words.now) (bytes_in t)) }
-    ensures err { IfErr result (λ s. StopsBy s.stop s.name.now (F.told files.old) (names_in words.now) (F.faults files.old) (F.faults files.new)) }
+    ensures ok { IfOk result (λ t. AreLoaded (source_of (F.told files.old) (F.gave files.new) (F.failed files.new)) (names_in words.now) (bytes_in t)) }
+    ensures err { IfErr result (λ s. StopsBy s.stop s.name.now (source_of (F.told files.old) (F.gave files.new) (F.failed files.new)) (names_in words.now) (F.faults files.old) (F.faults files.new)) }
     ensures short { IfOk result AreShort }
     ensures later { F.faults files.old ≤ F.faults files.new }
 {

@@ -8,6 +8,7 @@ ghost use Rattle.prepared_tables.specs.Prepared.{ArePrepared};
 ghost use Rattle.vrt_io.specs.Causes.{Rose};
 ghost use Rattle.verity_run.specs.Asked.{IsFitting};
 ghost use Rattle.verity_run.specs.Given.{AreFit, ByFile, bytes_in, bytes_of, generated, given, names_in};
+ghost use Rattle.verity_run.specs.Reads.{source_of};
 ghost use Rattle.verity_run.specs.Runs.{AnswersFiles, AnswersInputs, AnswersTexts, Begins, BeginsFiles, BeginsInputs, BeginsRequest, BeginsTexts, Ends, Serves, Wants};
 ghost use Rattle.vrt_model.specs.Hierarchy.{IsOrdered, cell_order};
 
@@ -129,7 +130,7 @@ fn serve_files<F: Files, O: Sink>(
     out: &mut O,
 ) -> Status
     requires { IsFitting request.now }
-    ensures { Ends (AnswersFiles request.now (F.told files.old) (names_in words.now) (F.faults files.old) (F.faults files.new)) (BeginsFiles request.now (F.told files.old) (names_in words.now))
+    ensures { Ends (AnswersFiles request.now (source_of (F.told files.old) (F.gave files.new) (F.failed files.new)) (names_in words.now) (F.faults files.old) (F.faults files.new)) (BeginsFiles request.now (source_of (F.told files.old) (F.gave files.new) (F.failed files.new)) (names_in words.now))
         result (O.written out.old) (O.written out.new) (O.faults out.old) (O.faults out.new) }
 {
     match read_files(alloc, files, words) {
@@ -171,7 +172,7 @@ fn serve<F: Files, O: Sink>(
     out: &mut O,
 ) -> Status
     requires { IsFitting request.now }
-    ensures { Ends (Serves request.now (F.told files.old) (F.faults files.old) (F.faults files.new)) (BeginsRequest request.now (F.told files.old))
+    ensures { Ends (Serves request.now (source_of (F.told files.old) (F.gave files.new) (F.failed files.new)) (F.faults files.old) (F.faults files.new)) (BeginsRequest request.now (source_of (F.told files.old) (F.gave files.new) (F.failed files.new)))
         result (O.written out.old) (O.written out.new) (O.faults out.old) (O.faults out.new) }
 {
     match request {
@@ -188,7 +189,7 @@ fn serve<F: Files, O: Sink>(
 pub fn run<F: Files, O: Sink>(alloc: Global, words: &[String], files: &mut F, out: &mut O) -> Status
     // Each answer has its cause, and its lines are written. Where the output failed, a front of them is, or of the first lines of
     // a report; for want of memory whole first lines of a report, or nothing.
-    ensures answers { Ends (Wants (texts words.now) (F.told files.old) (F.faults files.old) (F.faults files.new)) (Begins (texts words.now) (F.told files.old))
+    ensures answers { Ends (Wants (texts words.now) (source_of (F.told files.old) (F.gave files.new) (F.failed files.new)) (F.faults files.old) (F.faults files.new)) (Begins (texts words.now) (source_of (F.told files.old) (F.gave files.new) (F.failed files.new)))
         result (O.written out.old) (O.written out.new) (O.faults out.old) (O.faults out.new) }
     ensures usage { result ≡ Status.Usage → IsUsage (texts words.now) }
     ensures refused_words { IsUsage (texts words.now) → (result ≡ Status.Usage) ⊎ ((result ≡ Status.WriteFault) ⊎ (result ≡ Status.NoMemory)) }

@@ -1,6 +1,6 @@
 //! A source of files by name.
 
-ghost use Rattle.std.specs.Prelude.{◌≡◌, ◌≢◌, Some, ◌≤◌, ℕ, List, [], length};
+ghost use Rattle.std.specs.Prelude.{◌≡◌, ◌≢◌, Some, ◌≤◌, ℕ, List, [], length, ⊤};
 ghost use Rattle.std.specs.declared.option.Option.{Option};
 ghost use Rattle.vrt_io.specs.Loads.{LoadGives};
 
@@ -30,13 +30,23 @@ pub trait Files {
     /// How often the source has failed, up to the greatest `u64`.
     ghost faults: { Self → ℕ };
 
+    /// That a load of a name gave these bytes.
+    ghost gave: { Self → List ℕ → List ℕ → Type 0 } = { λ _ _ _. ⊤ };
+
+    /// That a load of a name failed.
+    ghost failed: { Self → List ℕ → Type 0 } = { λ _ _. ⊤ };
+
     /// Reads a whole file into an empty vector, which is empty again after each answer but `Done`.
     fn load(&mut self, alloc: Global, name: &str, into: &mut Vec<u8>) -> Loaded
         requires { into.old.items ≡ [] }
         ensures gives { LoadGives result (told self.old name.now) (faults self.old) (faults self.new) into.new.items }
         // No file changes, and the count of faults never falls.
         ensures same { (n : List ℕ) → told self.new n ≡ told self.old n }
-        ensures later { faults self.old ≤ faults self.new };
+        ensures later { faults self.old ≤ faults self.new }
+        // What was given, and what failed, is known from then on.
+        ensures given { result ≡ Loaded.Done → gave self.new name.now into.new.items }
+        ensures missed { result ≡ Loaded.Failed → failed self.new name.now }
+        ensures kept { (n bytes : List ℕ) → gave self.old n bytes → gave self.new n bytes };
 }
 
 /// Copies a file, if it is not too long.
