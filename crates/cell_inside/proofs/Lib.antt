@@ -1,0 +1,17 @@
+pub mod AssuredLaws
+pub mod Copies
+pub mod DepthLaws
+pub mod Example
+pub mod Images
+pub mod LeftWholeLaws
+pub mod NetKinds
+pub mod OneStateLaws
+pub mod OutputPins
+pub mod OutsideLaws
+pub mod PlacedLaws
+pub mod RegionLaws
+pub mod RootLaws
+pub mod ShiftedPlaces
+pub mod SolutionLaws
+pub mod UnjoinedLaws
+pub mod Valued

@@ -1,0 +1,10 @@
+pub mod Assured
+pub mod Inside
+pub mod LeftWhole
+pub mod OneState
+pub mod Placed
+pub mod Regions
+pub mod Replaced
+pub mod Replacements
+pub mod Shifted
+pub mod Unjoined
