@@ -29,5 +29,27 @@ pub cond_self : (b : Bool) → b ≡ cond b true false
 cond_self true = refl
 cond_self false = refl
 
+-- a constant in the place of a function that is tested
+pub then_true : (f h : Bool) → cond f true h ≡ cond f f h
+then_true true h = refl
+then_true false h = refl
+
+pub else_false : (f g : Bool) → cond f g false ≡ cond f g f
+else_false true g = refl
+else_false false g = refl
+
+-- the operands of a conjunction and of a disjunction turned
+pub and_turned : (f g : Bool) → cond g f false ≡ cond f g false
+and_turned true true = refl
+and_turned true false = refl
+and_turned false true = refl
+and_turned false false = refl
+
+pub or_turned : (f g : Bool) → cond g true f ≡ cond f true g
+or_turned true true = refl
+or_turned true false = refl
+or_turned false true = refl
+or_turned false false = refl
+
 pub is_below : (vars : ℕ) (ns : List Node) (i : ℕ) → IsReduced vars ns → 2 ≤ i → i < length ns → top ns i < vars
 is_below vars ns i r high within = omega (arith, Rattle.bdd_core.proofs.Canonical.top_is vars ns r i, (r.proper i high within).var_below)

@@ -8,9 +8,9 @@ use Rattle.bdd_core.specs.Store.{Diagrams}
 use Rattle.bdd_core.specs.Memo.{Remembers}
 
 pub record IsTable (m : Table) : Type 0 where
-  pub len : length m.entries.items ≡ m.mask + 1
-  pub some : 1024 ≤ length m.entries.items
-  pub taken : m.most ≤ vec_capacity m.entries
+  pub len : length m.pairs.items ≡ m.mask + 1
+  pub some : 512 ≤ length m.pairs.items
+  pub taken : m.most ≤ vec_capacity m.pairs
   pub most_fit : m.most ≤ 2 ^ 30
 
 pub record IsSound (s : Inside) : Type 0 where

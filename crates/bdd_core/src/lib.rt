@@ -15,6 +15,7 @@
 
 mod handle;
 mod memo;
+mod standard;
 mod store;
 
 pub use handle::{H, ONE, Spent, ZERO};

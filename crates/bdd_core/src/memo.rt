@@ -1,8 +1,7 @@
 //! The memo of a store's calls: answers that it has given, by what was asked. It may forget any of them.
 
-ghost use Rattle.std.specs.Prelude.{◌≡◌, ℕ, ◌+◌, ◌*◌, ◌<◌, ◌≤◌, ◌^◌, ◌⊎◌, ◌++◌, length, replicate, IfOk, IfSome, vec_capacity};
-ghost use Rattle.std.specs.List.{Contains};
-ghost use Rattle.bdd_core.specs.Memo.{IsEmpty, entry_at};
+ghost use Rattle.std.specs.Prelude.{◌≡◌, ℕ, ◌+◌, ◌*◌, ◌<◌, ◌≤◌, ◌^◌, ◌++◌, length, replicate, IfOk, IfSome, vec_capacity};
+ghost use Rattle.bdd_core.specs.Memo.{Holds, HoldsOnly, HoldsOnlyAlso, IsEmpty, no_pair};
 
 use std::alloc::{AllocError, Global};
 use std::marker::Model;
@@ -27,12 +26,26 @@ const EMPTY: Entry = Entry {
     r: 0,
 };
 
-/// How many entries a memo begins with. Their number is this times a power of 4.
-const FEWEST: u32 = 1024;
+/// The two entries of a place of the table.
+#[derive(Clone, Copy)]
+pub struct Pair {
+    /// The entry that was kept last.
+    pub newer: Entry,
+    /// The one that was the newer before.
+    pub older: Entry,
+}
 
-/// A table of entries, in which what was asked has one place. It grows with the count of a store's nodes.
+const NO_PAIR: Pair = Pair {
+    newer: EMPTY,
+    older: EMPTY,
+};
+
+/// How many pairs a memo begins with. Their number is this times a power of 4.
+const FEWEST: u32 = 512;
+
+/// A table of pairs of entries, in which what was asked has one place. It grows with the count of a store's nodes.
 pub struct Memo {
-    entries: Vec<Entry>,
+    pairs: Vec<Pair>,
     mask: u32,
     most: u32,
 }
@@ -41,7 +54,7 @@ pub struct Memo {
 impl Drop for Memo {
     fn drop(self) {
         let Memo {
-            entries: _entries,
+            pairs: _pairs,
             mask: _mask,
             most: _most,
         } = self;
@@ -50,13 +63,13 @@ impl Drop for Memo {
 
 impl Model for Memo {
     ghost use Rattle.std.specs.Prelude.{List};
-    ghost use Rattle.bdd_core.specs.declared.memo.Entry.{Entry};
+    ghost use Rattle.bdd_core.specs.declared.memo.Pair.{Pair};
 
-    ghost Value = { List Entry };
+    ghost Value = { List Pair };
 
     ghost use Rattle.bdd_core.specs.Inside.{IsTable};
 
-    ghost view = { λ m. m.entries.items };
+    ghost view = { λ m. m.pairs.items };
 
     ghost invariant = { IsTable };
 }
@@ -72,45 +85,75 @@ fn slot_at(mask: u32, f: u32, g: u32, h: u32) -> u32
     mixed & mask
 }
 
-/// Appends empty entries, for which there is room.
-fn push_empty(entries: &mut Vec<Entry>, len: u32)
-    requires { length entries.old.items + len ≤ vec_capacity entries.old }
-    ensures items { entries.new.items ≡ entries.old.items ++ replicate len (record { f = 0; g = 0; h = 0; r = 0 }) }
-    ensures capacity { vec_capacity entries.new ≡ vec_capacity entries.old }
+/// Appends empty pairs, for which there is room.
+fn push_empty(pairs: &mut Vec<Pair>, len: u32)
+    requires { length pairs.old.items + len ≤ vec_capacity pairs.old }
+    ensures items { pairs.new.items ≡ pairs.old.items ++ replicate len no_pair }
+    ensures capacity { vec_capacity pairs.new ≡ vec_capacity pairs.old }
 {
     for _ in 0..len {
-        entries.push_reserved(EMPTY);
+        pairs.push_reserved(NO_PAIR);
     }
 }
 
-/// Empties every entry.
-fn clear(entries: &mut Vec<Entry>)
-    ensures empty { IsEmpty entries.new.items }
-    ensures len { length entries.new.items ≡ length entries.old.items }
-    ensures capacity { vec_capacity entries.new ≡ vec_capacity entries.old }
+/// Empties every pair.
+fn clear(pairs: &mut Vec<Pair>)
+    ensures empty { IsEmpty pairs.new.items }
+    ensures len { length pairs.new.items ≡ length pairs.old.items }
+    ensures capacity { vec_capacity pairs.new ≡ vec_capacity pairs.old }
 {
-    for at in 0..entries.len() {
-        entries[at] = EMPTY;
+    for at in 0..pairs.len() {
+        pairs[at] = NO_PAIR;
     }
 }
 
-/// Copies each of the first entries to the place that it has now.
-fn place_anew(entries: &mut Vec<Entry>, few: usize, mask: u32)
-    requires within { few ≤ length entries.old.items }
-    requires len { length entries.old.items ≡ mask + 1 }
-    ensures known { (k : ℕ) → k < length entries.new.items → Contains entries.old.items (entry_at entries.new.items k) }
-    ensures len { length entries.new.items ≡ length entries.old.items }
-    ensures capacity { vec_capacity entries.new ≡ vec_capacity entries.old }
+/// Puts an entry first at its place, if it is not empty. Of the two that were there the newer one stays.
+fn put(pairs: &mut Vec<Pair>, mask: u32, entry: Entry)
+    requires { length pairs.old.items ≡ mask + 1 }
+    ensures only { HoldsOnlyAlso entry pairs.old.items pairs.new.items }
+    ensures len { length pairs.new.items ≡ length pairs.old.items }
+    ensures capacity { vec_capacity pairs.new ≡ vec_capacity pairs.old }
+{
+    if entry.f == 0 {
+        return;
+    }
+    let slot = slot_at(mask, entry.f, entry.g, entry.h) as usize;
+    let before = pairs[slot];
+    pairs[slot] = Pair {
+        newer: entry,
+        older: before.newer,
+    };
+}
+
+/// Moves the entries of a pair to the places that they have now.
+fn put_anew(pairs: &mut Vec<Pair>, at: usize, mask: u32)
+    requires within { at < length pairs.old.items }
+    requires len { length pairs.old.items ≡ mask + 1 }
+    ensures only { HoldsOnly pairs.old.items pairs.new.items }
+    ensures len { length pairs.new.items ≡ length pairs.old.items }
+    ensures capacity { vec_capacity pairs.new ≡ vec_capacity pairs.old }
+{
+    let pair = pairs[at];
+    pairs[at] = NO_PAIR;
+    put(pairs, mask, pair.older);
+    put(pairs, mask, pair.newer);
+}
+
+/// Moves the entries of each of the first pairs to the places that they have now.
+fn place_anew(pairs: &mut Vec<Pair>, few: usize, mask: u32)
+    requires within { few ≤ length pairs.old.items }
+    requires len { length pairs.old.items ≡ mask + 1 }
+    ensures only { HoldsOnly pairs.old.items pairs.new.items }
+    ensures len { length pairs.new.items ≡ length pairs.old.items }
+    ensures capacity { vec_capacity pairs.new ≡ vec_capacity pairs.old }
 {
     for at in 0..few {
-        let entry = entries[at];
-        let slot = slot_at(mask, entry.f, entry.g, entry.h) as usize;
-        entries[slot] = entry;
+        put_anew(pairs, at, mask);
     }
 }
 
 impl Memo {
-    /// With no answer, and memory for `most` entries or a few times as many.
+    /// With no answer, and memory for `most` pairs or a few times as many.
     pub fn open(alloc: Global, most: u32) -> Result<Memo, AllocError>
         requires { most ≤ 2 ^ 28 }
         ensures { IfOk result IsEmpty }
@@ -119,10 +162,10 @@ impl Memo {
         while room < most {
             room *= 4;
         }
-        let mut entries = Vec::with_capacity(alloc, room as usize)?;
-        push_empty(&mut entries, FEWEST);
+        let mut pairs = Vec::with_capacity(alloc, room as usize)?;
+        push_empty(&mut pairs, FEWEST);
         Ok(Memo {
-            entries,
+            pairs,
             mask: FEWEST - 1,
             most: room,
         })
@@ -130,44 +173,45 @@ impl Memo {
 
     /// The answer to what was asked, if it is still there.
     pub fn recall(&self, f: u32, g: u32, h: u32) -> Option<u32>
-        ensures { IfSome result (λ r. Contains self.now (record { f = f; g = g; h = h; r = r })) }
+        ensures { IfSome result (λ r. Holds self.now (record { f = f; g = g; h = h; r = r })) }
     {
-        let entry = self.entries[slot_at(self.mask, f, g, h) as usize];
-        if entry.f == f && entry.g == g && entry.h == h {
-            Some(entry.r)
-        } else {
-            None
+        let pair = self.pairs[slot_at(self.mask, f, g, h) as usize];
+        if pair.newer.f == f && pair.newer.g == g && pair.newer.h == h {
+            return Some(pair.newer.r);
         }
+        if pair.older.f == f && pair.older.g == g && pair.older.h == h {
+            return Some(pair.older.r);
+        }
+        None
     }
 
     /// Keeps an answer, in the place of another. `count` is the count of the store's nodes.
     pub fn keep(&mut self, entry: Entry, count: u32)
-        ensures { (k : ℕ) → k < length self.new → (entry_at self.new k ≡ entry) ⊎ ((entry_at self.new k).f ≡ 0) ⊎ Contains self.old (entry_at self.new k) }
+        ensures { HoldsOnlyAlso entry self.old self.new }
     {
         self.grow(count);
-        let slot = slot_at(self.mask, entry.f, entry.g, entry.h) as usize;
-        self.entries[slot] = entry;
+        put(&mut self.pairs, self.mask, entry);
     }
 
-    /// Has four times the entries where the store has as many nodes.
+    /// Has four times the pairs where the store has as many nodes as they have entries.
     fn grow(&mut self, count: u32)
-        ensures { (k : ℕ) → k < length self.new → ((entry_at self.new k).f ≡ 0) ⊎ Contains self.old (entry_at self.new k) }
+        ensures { HoldsOnly self.old self.new }
     {
-        let few = self.entries.len();
-        if (count as usize) < few || few > self.most as usize / 4 {
+        let few = self.pairs.len();
+        if (count as usize) < few * 2 || few > self.most as usize / 4 {
             return;
         }
-        push_empty(&mut self.entries, few as u32 * 3);
+        push_empty(&mut self.pairs, few as u32 * 3);
         self.mask = few as u32 * 4 - 1;
-        place_anew(&mut self.entries, few, self.mask);
+        place_anew(&mut self.pairs, few, self.mask);
     }
 
-    /// Forgets every answer. It takes steps in the number of entries of a new memo.
+    /// Forgets every answer. It takes steps in the number of pairs of a new memo.
     pub fn forget(&mut self)
         ensures { IsEmpty self.new }
     {
-        self.entries.truncate(FEWEST as usize);
+        self.pairs.truncate(FEWEST as usize);
         self.mask = FEWEST - 1;
-        clear(&mut self.entries);
+        clear(&mut self.pairs);
     }
 }

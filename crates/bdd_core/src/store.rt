@@ -6,6 +6,7 @@ ghost use Rattle.bdd_core.specs.Diagram.{IsSame, IsReduced, IsProper, choice, bi
 ghost use Rattle.bdd_core.specs.Memo.{fixed_mark};
 
 use crate::memo::{Entry, Memo};
+use crate::standard::standard;
 use crate::{H, ONE, Spent, ZERO};
 use node_pool::{Mark, Node, Pool, Span};
 use std::alloc::Global;
@@ -89,7 +90,7 @@ impl Store {
         };
         add_end(&mut pool, zero);
         add_end(&mut pool, one);
-        let Ok(memo) = Memo::open(alloc, budget / 16) else {
+        let Ok(memo) = Memo::open(alloc, budget / 2) else {
             return Err(NoMemory);
         };
         Ok(Store {
@@ -258,26 +259,41 @@ impl Store {
         if g == h {
             return Some(g);
         }
-        if g.0 == 1 && h.0 == 0 {
-            return Some(f);
+        self.recalled(f, g, h)
+    }
+
+    /// What is known of `choose` by the form that stands for what is asked. The first function is no constant.
+    fn recalled(&self, f: H, g: H, h: H) -> Option<H>
+        requires first { 2 ≤ f.0 }
+        requires live { IsLive self.now f × IsLive self.now g × IsLive self.now h }
+        ensures { IfSome result (λ r. Means self.now r (choice (function_of self.now f) (function_of self.now g) (function_of self.now h))) }
+    {
+        let _known = &self.pool;
+        let (test, high, low) = standard(f, g, h);
+        if high.0 == low.0 {
+            return Some(high);
         }
-        let Some(r) = self.memo.recall(f.0, g.0, h.0) else {
+        if high.0 == 1 && low.0 == 0 {
+            return Some(test);
+        }
+        let Some(r) = self.memo.recall(test.0, high.0, low.0) else {
             return None;
         };
         Some(H(r))
     }
 
-    /// Keeps an answer of `choose`.
+    /// Keeps an answer of `choose`, for the form that stands for what was asked.
     fn remember(&mut self, f: H, g: H, h: H, r: H)
         requires live { IsLive self.old f × IsLive self.old g × IsLive self.old h }
         requires is { Means self.old r (choice (function_of self.old f) (function_of self.old g) (function_of self.old h)) }
         ensures { self.new ≡ self.old }
     {
         let count = self.pool.node_count();
+        let (test, high, low) = standard(f, g, h);
         let entry = Entry {
-            f: f.0,
-            g: g.0,
-            h: h.0,
+            f: test.0,
+            g: high.0,
+            h: low.0,
             r: r.0,
         };
         self.memo.keep(entry, count);

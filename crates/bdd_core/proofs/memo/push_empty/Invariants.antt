@@ -1,8 +1,9 @@
 use Rattle.std.proofs.Common.{◌≡◌, ◌++◌, replicate, vec_capacity}
+use Rattle.bdd_core.specs.Memo.{no_pair}
 use Rattle.bdd_core.proofs.memo.push_empty.Given as goal
 
 abbrev pub invariant-loop : goal.invariant-loop
 invariant-loop l = record {
-  items : l.entries.items ≡ l.initial.entries.items ++ replicate l.counter (record { f = 0; g = 0; h = 0; r = 0 });
-  capacity : vec_capacity l.entries ≡ vec_capacity l.initial.entries;
+  items : l.pairs.items ≡ l.initial.pairs.items ++ replicate l.counter no_pair;
+  capacity : vec_capacity l.pairs ≡ vec_capacity l.initial.pairs;
 }
