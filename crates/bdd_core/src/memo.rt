@@ -43,11 +43,13 @@ const NO_PAIR: Pair = Pair {
 /// How many pairs a memo begins with. Their number is this times a power of 4.
 const FEWEST: u32 = 512;
 
-/// A table of pairs of entries, in which what was asked has one place. It grows with the count of a store's nodes.
+/// A table of pairs of entries, in which what was asked has one place. It grows with the count of a store's nodes, and
+/// counts how many answers it kept since it last grew.
 pub struct Memo {
     pairs: Vec<Pair>,
     mask: u32,
     most: u32,
+    kept: u32,
 }
 
 /// By hand, so that letting go of one is a call.
@@ -57,6 +59,7 @@ impl Drop for Memo {
             pairs: _pairs,
             mask: _mask,
             most: _most,
+            kept: _kept,
         } = self;
     }
 }
@@ -168,6 +171,7 @@ impl Memo {
             pairs,
             mask: FEWEST - 1,
             most: room,
+            kept: 0,
         })
     }
 
@@ -189,20 +193,26 @@ impl Memo {
     pub fn keep(&mut self, entry: Entry, count: u32)
         ensures { HoldsOnlyAlso entry self.old self.new }
     {
+        self.kept = self.kept.saturating_add(1);
         self.grow(count);
         put(&mut self.pairs, self.mask, entry);
     }
 
-    /// Has four times the pairs where the store has as many nodes as they have entries.
+    /// Has four times the pairs where the store has as many nodes as they have entries, and twice as many answers were
+    /// kept since they last grew: as long as few are asked for, a small table costs less, since caches hold it.
     fn grow(&mut self, count: u32)
         ensures { HoldsOnly self.old self.new }
     {
         let few = self.pairs.len();
-        if (count as usize) < few * 2 || few > self.most as usize / 4 {
+        if (count as usize) < few * 2 || (self.kept as usize) < few * 4 {
+            return;
+        }
+        if few > self.most as usize / 4 {
             return;
         }
         push_empty(&mut self.pairs, few as u32 * 3);
         self.mask = few as u32 * 4 - 1;
+        self.kept = 0;
         place_anew(&mut self.pairs, few, self.mask);
     }
 
@@ -212,6 +222,7 @@ impl Memo {
     {
         self.pairs.truncate(FEWEST as usize);
         self.mask = FEWEST - 1;
+        self.kept = 0;
         clear(&mut self.pairs);
     }
 }

@@ -68,7 +68,9 @@ impl Store {
     /// many variables. No other call of a store takes memory.
     ///
     /// At opening 20 KB are written, whatever the budget is: the first heads of the pool's chains and the first entries
-    /// of the memo. Both grow by 4 as the count of nodes reaches theirs, and the memo up to a sixteenth of the budget.
+    /// of the memo. Both grow by 4 as the count of nodes reaches theirs, the memo only where it is used so much. The most
+    /// that it has is as many entries as the budget has nodes or up to 4 times as many, so that its size does not depend
+    /// on the budget.
     pub fn with_budget(alloc: Global, budget: u32, words: u32, vars: u32) -> Result<Store, NoMemory>
         requires budget { (2 ≤ budget) × (budget ≤ 64000000) }
         requires vars { vars ≤ 1000 }
