@@ -99,6 +99,18 @@ static BDD parity(void)
     return odd;
 }
 
+static BDD row(int devices)
+{
+    static BDD words[1001];
+    words[0] = bddtrue;
+    for (int i = 1; i <= devices; i++)
+        words[i] = bddfalse;
+    for (int round = 0; round < devices; round++)
+        for (int i = devices; i > 0; i--)
+            words[i] = or_(words[i], and_(bit(i - 1), words[i - 1]));
+    return words[devices];
+}
+
 static BDD make(const char *name)
 {
     if (!strcmp(name, "andor-bad"))
@@ -113,6 +125,10 @@ static BDD make(const char *name)
         return adder();
     if (!strcmp(name, "nor"))
         return nor();
+    if (!strcmp(name, "row-400"))
+        return row(400);
+    if (!strcmp(name, "row-1000"))
+        return row(1000);
     return parity();
 }
 

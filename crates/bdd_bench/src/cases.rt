@@ -1,6 +1,6 @@
 //! The functions that are made.
 
-ghost use Rattle.std.specs.Prelude.{◌<◌, ◌≤◌, length};
+ghost use Rattle.std.specs.Prelude.{◌≡◌, ◌<◌, ◌≤◌, length};
 
 use crate::builder::{Builder, Refused};
 use bdd_core::{H, ONE, ZERO};
@@ -22,10 +22,14 @@ pub enum Case {
     Nor,
     /// The parity of 1,000 variables, made from the first to the last.
     Parity,
+    /// The product of 400 variables, made in rounds as a row of devices passes a signal on.
+    Row400,
+    /// The same of 1,000 variables.
+    Row1000,
 }
 
 /// All of them.
-pub const ALL: [Case; 7] = [
+pub const ALL: [Case; 9] = [
     Case::AndOrBad,
     Case::AndOrGood,
     Case::Queens,
@@ -33,6 +37,8 @@ pub const ALL: [Case; 7] = [
     Case::Adder,
     Case::Nor,
     Case::Parity,
+    Case::Row400,
+    Case::Row1000,
 ];
 
 /// The name of a case.
@@ -45,6 +51,8 @@ pub(crate) fn name(case: Case) -> &'static str {
         Case::Adder => "adder",
         Case::Nor => "nor",
         Case::Parity => "parity",
+        Case::Row400 => "row-400",
+        Case::Row1000 => "row-1000",
     }
 }
 
@@ -58,6 +66,8 @@ pub(crate) fn make(b: &mut Builder, case: Case) -> Result<H, Refused> {
         Case::Adder => adder(b),
         Case::Nor => nor(b),
         Case::Parity => parity(b),
+        Case::Row400 => row(b, 400),
+        Case::Row1000 => row(b, 1000),
     }
 }
 
@@ -184,4 +194,30 @@ fn parity(b: &mut Builder) -> Result<H, Refused> {
         odd = b.xor(odd, x)?;
     }
     Ok(odd)
+}
+
+/// Passes a signal on over each device of a row by one net, the last device first. The first word is that of the source.
+fn round(b: &mut Builder, words: &mut [H]) -> Result<(), Refused>
+    requires { length words.old ≤ 1001 }
+    ensures { length words.new ≡ length words.old }
+{
+    for at in (1..words.len()).rev() {
+        let gate = b.bit(at as u32 - 1)?;
+        let passed = b.and(gate, words[at - 1])?;
+        words[at] = b.or(words[at], passed)?;
+    }
+    Ok(())
+}
+
+/// What is at the far end of a row of so many devices, each with its own gate, after as many rounds: the product of the
+/// gates. Each round asks again for the products that the rounds before it made.
+fn row(b: &mut Builder, devices: usize) -> Result<H, Refused>
+    requires { devices ≤ 1000 }
+{
+    let mut words = [ZERO; 1001];
+    words[0] = ONE;
+    for _ in 0..devices {
+        round(b, &mut words[..devices + 1])?;
+    }
+    Ok(words[devices])
 }

@@ -43,13 +43,13 @@ const NO_PAIR: Pair = Pair {
 /// How many pairs a memo begins with. Their number is this times a power of 4.
 const FEWEST: u32 = 512;
 
-/// A table of pairs of entries, in which what was asked has one place. It grows with the count of a store's nodes, and
-/// counts how many answers it kept since it last grew.
+/// A table of pairs of entries, in which what was asked has one place. It grows with the count of a store's nodes, once
+/// it has kept so many answers more that it is used up twice.
 pub struct Memo {
     pairs: Vec<Pair>,
     mask: u32,
     most: u32,
-    kept: u32,
+    left: u32,
 }
 
 /// By hand, so that letting go of one is a call.
@@ -59,7 +59,7 @@ impl Drop for Memo {
             pairs: _pairs,
             mask: _mask,
             most: _most,
-            kept: _kept,
+            left: _left,
         } = self;
     }
 }
@@ -171,7 +171,7 @@ impl Memo {
             pairs,
             mask: FEWEST - 1,
             most: room,
-            kept: 0,
+            left: FEWEST * 4,
         })
     }
 
@@ -179,7 +179,7 @@ impl Memo {
     pub fn recall(&self, f: u32, g: u32, h: u32) -> Option<u32>
         ensures { IfSome result (λ r. Holds self.now (record { f = f; g = g; h = h; r = r })) }
     {
-        let pair = self.pairs[slot_at(self.mask, f, g, h) as usize];
+        let pair = &self.pairs[slot_at(self.mask, f, g, h) as usize];
         if pair.newer.f == f && pair.newer.g == g && pair.newer.h == h {
             return Some(pair.newer.r);
         }
@@ -193,26 +193,26 @@ impl Memo {
     pub fn keep(&mut self, entry: Entry, count: u32)
         ensures { HoldsOnlyAlso entry self.old self.new }
     {
-        self.kept = self.kept.saturating_add(1);
         self.grow(count);
         put(&mut self.pairs, self.mask, entry);
     }
 
     /// Has four times the pairs where the store has as many nodes as they have entries, and twice as many answers were
-    /// kept since they last grew: as long as few are asked for, a small table costs less, since caches hold it.
+    /// kept since they last grew: as long as few are kept, a small table costs less, since caches hold it.
     fn grow(&mut self, count: u32)
         ensures { HoldsOnly self.old self.new }
     {
-        let few = self.pairs.len();
-        if (count as usize) < few * 2 || (self.kept as usize) < few * 4 {
+        if self.left > 0 {
+            self.left -= 1;
             return;
         }
-        if few > self.most as usize / 4 {
+        let few = self.pairs.len();
+        if (count as usize) < few * 2 || few > self.most as usize / 4 {
             return;
         }
         push_empty(&mut self.pairs, few as u32 * 3);
         self.mask = few as u32 * 4 - 1;
-        self.kept = 0;
+        self.left = (few as u32).saturating_mul(16);
         place_anew(&mut self.pairs, few, self.mask);
     }
 
@@ -222,7 +222,7 @@ impl Memo {
     {
         self.pairs.truncate(FEWEST as usize);
         self.mask = FEWEST - 1;
-        self.kept = 0;
+        self.left = FEWEST * 4;
         clear(&mut self.pairs);
     }
 }

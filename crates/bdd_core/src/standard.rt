@@ -1,4 +1,5 @@
-//! One form for what `ite` is asked in several ways, so that the memo has one entry for them.
+//! One form for what `ite` is asked in several ways, so that the memo has one entry for them (K. S. Brace, R. L. Rudell,
+//! R. E. Bryant, Efficient implementation of a BDD package, Design Automation Conference 1990).
 
 ghost use Rattle.std.specs.Prelude.{ℕ, ◌<◌, ◌≤◌, List};
 ghost use Rattle.node_pool.specs.declared.region.Node.{Node};
@@ -7,7 +8,7 @@ ghost use Rattle.bdd_core.specs.Diagram.{IsSame, choice, meaning};
 use crate::{H, ONE, ZERO};
 
 /// What stands for `g` and `h` in `ite` of `f`, `g` and `h`, with a constant in the place of one that is `f`.
-fn constants(f: H, g: H, h: H) -> (H, H)
+pub fn constants(f: H, g: H, h: H) -> (H, H)
     ensures same { (nodes : List Node) → IsSame (choice (meaning nodes f.0) (meaning nodes result.0.0) (meaning nodes result.1.0)) (choice (meaning nodes f.0) (meaning nodes g.0) (meaning nodes h.0)) }
     ensures within { (n : ℕ) → 2 ≤ n → g.0 < n → h.0 < n → (result.0.0 < n) × (result.1.0 < n) }
 {
@@ -20,11 +21,10 @@ fn constants(f: H, g: H, h: H) -> (H, H)
     (g, h)
 }
 
-/// The operands of a conjunction and of a disjunction with the older one first.
-fn in_order(f: H, g: H, h: H) -> (H, H, H)
+/// What `ite` is asked, with the older operand of a conjunction and of a disjunction first.
+pub fn in_order(f: H, g: H, h: H) -> (H, H, H)
     ensures same { (nodes : List Node) → IsSame (choice (meaning nodes result.0.0) (meaning nodes result.1.0) (meaning nodes result.2.0)) (choice (meaning nodes f.0) (meaning nodes g.0) (meaning nodes h.0)) }
     ensures within { (n : ℕ) → 2 ≤ n → f.0 < n → g.0 < n → h.0 < n → (result.0.0 < n) × (result.1.0 < n) × (result.2.0 < n) }
-    ensures first { 2 ≤ f.0 → 2 ≤ result.0.0 }
 {
     if h.0 == 0 && g.0 >= 2 && g.0 < f.0 {
         return (g, f, ZERO);
@@ -33,16 +33,4 @@ fn in_order(f: H, g: H, h: H) -> (H, H, H)
         return (h, ONE, f);
     }
     (f, g, h)
-}
-
-/// Three functions whose `ite` is that of `f`, `g` and `h`: a constant stands in the place of `g` or `h` where that is `f`,
-/// and the operands of a conjunction and of a disjunction have the older one first (K. S. Brace, R. L. Rudell,
-/// R. E. Bryant, Efficient implementation of a BDD package, Design Automation Conference 1990).
-pub fn standard(f: H, g: H, h: H) -> (H, H, H)
-    ensures same { (nodes : List Node) → IsSame (choice (meaning nodes result.0.0) (meaning nodes result.1.0) (meaning nodes result.2.0)) (choice (meaning nodes f.0) (meaning nodes g.0) (meaning nodes h.0)) }
-    ensures within { (n : ℕ) → 2 ≤ n → f.0 < n → g.0 < n → h.0 < n → (result.0.0 < n) × (result.1.0 < n) × (result.2.0 < n) }
-    ensures first { 2 ≤ f.0 → 2 ≤ result.0.0 }
-{
-    let (g, h) = constants(f, g, h);
-    in_order(f, g, h)
 }

@@ -6,7 +6,7 @@ ghost use Rattle.bdd_core.specs.Diagram.{IsSame, IsReduced, IsProper, choice, bi
 ghost use Rattle.bdd_core.specs.Memo.{fixed_mark};
 
 use crate::memo::{Entry, Memo};
-use crate::standard::standard;
+use crate::standard::{constants, in_order};
 use crate::{H, ONE, Spent, ZERO};
 use node_pool::{Mark, Node, Pool, Span};
 use std::alloc::Global;
@@ -264,36 +264,37 @@ impl Store {
         self.recalled(f, g, h)
     }
 
-    /// What is known of `choose` by the form that stands for what is asked. The first function is no constant.
+    /// What is known of `choose` where its first function is no constant: the memo has it by constants in the place of
+    /// functions that are the first.
     fn recalled(&self, f: H, g: H, h: H) -> Option<H>
         requires first { 2 ≤ f.0 }
         requires live { IsLive self.now f × IsLive self.now g × IsLive self.now h }
         ensures { IfSome result (λ r. Means self.now r (choice (function_of self.now f) (function_of self.now g) (function_of self.now h))) }
     {
         let _known = &self.pool;
-        let (test, high, low) = standard(f, g, h);
+        let (high, low) = constants(f, g, h);
         if high.0 == low.0 {
             return Some(high);
         }
         if high.0 == 1 && low.0 == 0 {
-            return Some(test);
+            return Some(f);
         }
-        let Some(r) = self.memo.recall(test.0, high.0, low.0) else {
+        let Some(r) = self.memo.recall(f.0, high.0, low.0) else {
             return None;
         };
         Some(H(r))
     }
 
-    /// Keeps an answer of `choose`, for the form that stands for what was asked.
+    /// Keeps an answer of `choose`, as `recalled` asks for it.
     fn remember(&mut self, f: H, g: H, h: H, r: H)
         requires live { IsLive self.old f × IsLive self.old g × IsLive self.old h }
         requires is { Means self.old r (choice (function_of self.old f) (function_of self.old g) (function_of self.old h)) }
         ensures { self.new ≡ self.old }
     {
         let count = self.pool.node_count();
-        let (test, high, low) = standard(f, g, h);
+        let (high, low) = constants(f, g, h);
         let entry = Entry {
-            f: test.0,
+            f: f.0,
             g: high.0,
             h: low.0,
             r: r.0,
@@ -337,7 +338,8 @@ impl Store {
         ensures exact { IsExact self.old self.new (choice (function_of self.old f) (function_of self.old g) (function_of self.old h)) result }
     {
         self.sound();
-        self.choose(f, g, h)
+        let (test, high, low) = in_order(f, g, h);
+        self.choose(test, high, low)
     }
 
     /// An answer of `fix` that the memo has.
