@@ -1,5 +1,5 @@
 -- What a channel-connected part is in its circuit.
-use Rattle.std.specs.Prelude.{◌≡◌, ℕ, ◌<◌, ◌⊎◌, Bool, IsTrue, true, List, [], length, slice_get, filter_map, All}
+use Rattle.std.specs.Prelude.{◌≡◌, ℕ, ◌-◌, ◌<◌, ◌⊎◌, Bool, IsTrue, true, List, [], cond, length, slice_get, filter_map, All}
 use Rattle.vrt_model.specs.Circuits.{IsFlat, IsNet}
 use Rattle.vrt_model.specs.Lists.{At, Among}
 use Rattle.vrt_model.specs.Reading.{is_given}
@@ -14,6 +14,14 @@ use Rattle.channel_parts.specs.declared.part.Part.{Part}
 -- the devices of a part
 abbrev pub part_devices : Circuit → Part → List Device
 part_devices c part = filter_map (λ (d : Dev). slice_get c.devices d.0) part.devices
+
+-- the place to which a round over so many places comes at a step, forward or backward
+abbrev pub turned : Bool → ℕ → ℕ → ℕ
+turned forward count step = cond forward step (count - 1 - step)
+
+-- the device of a part that a round visits at a step
+abbrev pub IsVisited : Circuit → Part → Bool → ℕ → Device → Type 0
+IsVisited c part forward step d = (dev : Dev) × At part.devices (turned forward (length part.devices) step) dev × At c.devices dev.0 d
 
 -- the output pins of whole instances at the nets of a part: circuits without whole instances have none
 abbrev pub part_pins : Circuit → Part → List WholePin

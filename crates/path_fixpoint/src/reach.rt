@@ -15,7 +15,7 @@ ghost use Rattle.path_fixpoint.specs.Spending.{Spends};
 
 use crate::Part;
 use crate::signals::{fitting, reached, slot};
-use crate::steps::{blocks, is_full, place, through, widen, word};
+use crate::steps::{blocks, is_full, place, through, visited, widen, word};
 use bdd_core::{H, Spent, Store};
 use node_pool::Span;
 use vrt_model::{Circuit, Device, Kind};
@@ -109,7 +109,7 @@ fn visit(
     Ok(forth | back)
 }
 
-/// Goes over the devices of the part once, in place, and says whether anything changed.
+/// Goes over the devices of the part once, in place, forward or backward, and says whether anything changed.
 fn round(
     store: &mut Store,
     circuit: &Circuit,
@@ -119,6 +119,7 @@ fn round(
     roots: Span,
     out: Span,
     value: bool,
+    forward: bool,
 ) -> Result<bool, Spent>
     requires part { IsPartOf circuit.now part.now rising }
     requires words { HasRootWords circuit.now part.now gates roots out store.old }
@@ -129,10 +130,8 @@ fn round(
 {
     store.sound();
     let mut changed = false;
-    for dev in part.devices.as_slice() {
-        let Some(device) = circuit.devices.get(dev.0 as usize) else {
-            unreachable!();
-        };
+    for step in 0..part.devices.len() {
+        let device = visited(circuit, part, forward, step);
         let grew = match visit(
             store, circuit, part, rising, gates, roots, out, device, value,
         ) {
@@ -144,7 +143,8 @@ fn round(
     Ok(changed)
 }
 
-/// Spreads the marks of a value in rounds until no word changes, in at most as many rounds as the part has nets.
+/// Spreads the marks of a value in rounds, forward and backward by turns, until no word changes, in at most as many rounds
+/// as the part has nets.
 pub(crate) fn settle(
     store: &mut Store,
     circuit: &Circuit,
@@ -163,14 +163,18 @@ pub(crate) fn settle(
     ensures few { (u : ℕ) → IsSpanWithin u store.old gates → IsSpanWithin u store.old roots → IsSpanWithin u store.old out → Spends u (length part.now.nets * (length part.now.devices * 38)) out store.old store.new result }
 {
     store.sound();
+    let mut forward = true;
     'rounds: for _count in 0..part.nets.len() {
-        let changed = match round(store, circuit, part, rising, gates, roots, out, value) {
+        let changed = match round(
+            store, circuit, part, rising, gates, roots, out, value, forward,
+        ) {
             Ok(changed) => changed,
             Err(spent) => return Err(spent),
         };
         if !changed {
             return Ok(());
         }
+        forward = !forward;
     }
     Ok(())
 }

@@ -13,7 +13,7 @@ ghost use Rattle.bdd_ops.specs.Counting.{IsSpanWithin};
 ghost use Rattle.path_fixpoint.specs.Spending.{Spends};
 
 use crate::Part;
-use crate::steps::{blocks, is_full, place, strength, through, widen, word};
+use crate::steps::{blocks, is_full, place, strength, through, visited, widen, word};
 use bdd_core::{H, Spent, Store};
 use node_pool::Span;
 use vrt_model::{Circuit, Device, Kind};
@@ -95,7 +95,7 @@ fn visit(
     Ok(forth | back)
 }
 
-/// Goes over the devices of the part once, in place, and says whether anything changed.
+/// Goes over the devices of the part once, in place, forward or backward, and says whether anything changed.
 fn round(
     store: &mut Store,
     circuit: &Circuit,
@@ -104,6 +104,7 @@ fn round(
     gates: Span,
     out: Span,
     level: u32,
+    forward: bool,
 ) -> Result<bool, Spent>
     requires part { IsPartOf circuit.now part.now rising }
     requires words { HasWords circuit.now part.now gates out store.old }
@@ -115,10 +116,8 @@ fn round(
 {
     store.sound();
     let mut changed = false;
-    for dev in part.devices.as_slice() {
-        let Some(device) = circuit.devices.get(dev.0 as usize) else {
-            unreachable!();
-        };
+    for step in 0..part.devices.len() {
+        let device = visited(circuit, part, forward, step);
         let grew = match visit(store, circuit, part, rising, gates, out, device, level) {
             Ok(grew) => grew,
             Err(spent) => return Err(spent),
@@ -128,7 +127,8 @@ fn round(
     Ok(changed)
 }
 
-/// Spreads the marks of a level in rounds until no word changes, in at most as many rounds as the part has nets.
+/// Spreads the marks of a level in rounds, forward and backward by turns, until no word changes, in at most as many rounds
+/// as the part has nets.
 pub(crate) fn settle(
     store: &mut Store,
     circuit: &Circuit,
@@ -147,14 +147,16 @@ pub(crate) fn settle(
     ensures few { (u : ℕ) → IsSpanWithin u store.old gates → IsSpanWithin u store.old out → Spends u (length part.now.nets * (length part.now.devices * 4)) out store.old store.new result }
 {
     store.sound();
+    let mut forward = true;
     'rounds: for _count in 0..part.nets.len() {
-        let changed = match round(store, circuit, part, rising, gates, out, level) {
+        let changed = match round(store, circuit, part, rising, gates, out, level, forward) {
             Ok(changed) => changed,
             Err(spent) => return Err(spent),
         };
         if !changed {
             return Ok(());
         }
+        forward = !forward;
     }
     Ok(())
 }

@@ -3,7 +3,7 @@
 ghost use Rattle.std.specs.Prelude.{IsTrue, ◌≡◌, ◌≢◌, ℕ, ◌+◌, ◌-◌, ◌*◌, ◌^◌, ◌<◌, ◌≤◌, ◌⊎◌, ◌||◌, Bool, true, false, cond, eqb, length, IfOk, IfSome, IsNone, option_map};
 ghost use Rattle.bdd_core.specs.Diagram.{Valuation, IsReduced, IsWithin, meaning};
 ghost use Rattle.bdd_core.specs.Store.{IsLive, IsSpan, Makes, function_of};
-ghost use Rattle.path_fixpoint.specs.Parts.{IsPlace, Rises};
+ghost use Rattle.path_fixpoint.specs.Parts.{IsPart, IsPlace, IsVisited, Rises, turned};
 ghost use Rattle.path_fixpoint.specs.Strengths.{strong_end, word_of, net_words};
 ghost use Rattle.bdd_core.specs.Words.{IsFilled, Writes, shows, word_at};
 ghost use Rattle.path_fixpoint.specs.Passed.{blocking, gated, IsWider};
@@ -15,7 +15,7 @@ use crate::words::net_words;
 use bdd_core::{H, ONE, Spent, Store, ZERO};
 use bdd_ops::{and, or};
 use node_pool::Span;
-use vrt_model::{Kind, Net};
+use vrt_model::{Circuit, Device, Kind, Net};
 
 /// Where a net stands in a part whose nets rise, found by halves.
 fn search(part: &Part, net: Net) -> Option<usize>
@@ -54,6 +54,34 @@ pub(crate) fn place(part: &Part, rising: bool, net: Net) -> Option<usize>
         .as_slice()
         .iter()
         .position(|other| other.0 == net.0)
+}
+
+/// The place to which a round over so many places comes at a step: from the first one on, or back from the last one.
+fn turned(forward: bool, count: usize, step: usize) -> usize
+    requires { step < count }
+    ensures is { result ≡ turned forward count step }
+    ensures inside { result < count }
+{
+    if forward { step } else { count - 1 - step }
+}
+
+/// The device of a part that a round visits at a step.
+pub(crate) fn visited<'a>(
+    circuit: &'a Circuit,
+    part: &Part,
+    forward: bool,
+    step: usize,
+) -> &'a Device
+    requires part { IsPart circuit.now part.now }
+    requires step { step < length part.now.devices }
+    ensures { IsVisited circuit.now part.now forward step result.now }
+{
+    let devices = part.devices.as_slice();
+    let dev = devices[turned(forward, devices.len(), step)];
+    let Some(device) = circuit.devices.get(dev.0 as usize) else {
+        unreachable!();
+    };
+    device
 }
 
 /// The word of a net for a level.

@@ -1,56 +1,44 @@
-use Rattle.std.proofs.Common.{◌≡◌, ◌+◌, ◌*◌, ◌≤◌, Ok, Err, List, length, get_or, slice_get, arith, ap, sym, subst, ◌∙◌}
+use Rattle.std.proofs.Common.{◌≡◌, ◌+◌, ◌*◌, ◌≤◌, Ok, Err, length, arith, ◌∙◌}
 use Rattle.bdd_ops.proofs.CountingLaws.{counted_more, counted_then, counts_more, counts_ok}
 use Rattle.path_fixpoint.proofs.SpendingLaws.{span_beside, spends_behind, spends_err, spends_more}
-use Rattle.std.proofs.lemmas.Option.{slice_get-get_or}
-use Rattle.vrt_model.proofs.Lists.{filter_map_among}
-use Rattle.vrt_model.specs.Lists.{At, Among}
+use Rattle.vrt_model.specs.Lists.{Among}
 use Rattle.vrt_model.specs.declared.circuit.Device.{Device}
-use Rattle.vrt_model.specs.declared.ids.Dev.{Dev}
 use Rattle.path_fixpoint.specs.Parts.{part_devices}
 use Rattle.bdd_core.proofs.Frames.{writes_then}
 use Rattle.path_fixpoint.proofs.ReachLaws.{root_words_kept}
 use Rattle.path_fixpoint.proofs.ReachSpreading.{spreads_value_less, spreads_value_then}
-use Rattle.path_fixpoint.proofs.Spreading.{Visited, all_visited, visited_more}
+use Rattle.path_fixpoint.proofs.Spreading.{Visited, all_visited, visited_among, visited_more}
 use Rattle.path_fixpoint.proofs.reach.round.Goals as goal
 
 pub visit-requires-clause-device : goal.visit-requires-clause-device
-visit-requires-clause-device c =
-    let devices = c.args.part.now.devices in
-    let at = c.loop-dev.dev-index in
-    let blank : Dev = record { 0 = 0 } in
-    let dev : Dev = get_or c.as_slice-dev-items.result.now at blank in
-    let there : At devices at dev = subst (λ (xs : List Dev). At xs at dev) c.as_slice-dev-items.ensures (slice_get-get_or c.as_slice-dev-items.result.now at blank c.loop-dev-test.true) in
-    filter_map_among (λ (x : Dev). slice_get c.args.circuit.now.devices x.0) devices at dev c.in-Some.device.now there (sym c.in-Some.ensures)
+visit-requires-clause-device c = visited_among c.args.circuit.now c.args.part.now c.args.forward c.loop-step.step c.visited-device.result.now c.visited-device.ensures
 
 pub visit-requires-clause-words : goal.visit-requires-clause-words
 visit-requires-clause-words c =
-    root_words_kept c.args.circuit.now c.args.part.now c.requires.part.1 c.requires.part.0 c.args.gates c.args.roots c.args.out c.args.value c.args.store.now c.loop-dev.store c.requires.words c.loop-dev.invariant.writes
+    root_words_kept c.args.circuit.now c.args.part.now c.requires.part.1 c.requires.part.0 c.args.gates c.args.roots c.args.out c.args.value c.args.store.now c.loop-step.store c.requires.words c.loop-step.invariant.writes
 
 pub returns-in-Err-clause-writes : goal.returns-in-Err-clause-writes
-returns-in-Err-clause-writes c = writes_then c.args.out c.args.store.now c.loop-dev.store c.visit.new.store c.loop-dev.invariant.writes c.in-Err.ensures.writes
+returns-in-Err-clause-writes c = writes_then c.args.out c.args.store.now c.loop-step.store c.visit.new.store c.loop-step.invariant.writes c.in-Err.ensures.writes
 
 pub returns-in-Err-clause-apart : goal.returns-in-Err-clause-apart
-returns-in-Err-clause-apart c k away = c.in-Err.ensures.apart k away ∙ c.loop-dev.invariant.apart k away
+returns-in-Err-clause-apart c k away = c.in-Err.ensures.apart k away ∙ c.loop-step.invariant.apart k away
 
-pub loop-dev-preserved : goal.loop-dev-preserved
-loop-dev-preserved c =
+pub loop-step-preserved : goal.loop-step-preserved
+loop-step-preserved c =
     let out = c.args.out in
     let circuit = c.args.circuit.now in
     let part = c.args.part.now in
-    let at = c.loop-dev.dev-index in
+    let at = c.loop-step.step in
     let first = c.args.store.now in
-    let old = c.loop-dev.store in
+    let old = c.loop-step.store in
     let new = c.visit.new.store in
-    let i = c.loop-dev.invariant in
-    let blank : Dev = record { 0 = 0 } in
-    let dev : Dev = get_or c.as_slice-dev-items.result.now at blank in
-    let device : Device = c.in-Some.device.now in
-    let there : At part.devices at dev = subst (λ (xs : List Dev). At xs at dev) c.as_slice-dev-items.ensures (slice_get-get_or c.as_slice-dev-items.result.now at blank c.loop-dev-test.true) in
+    let i = c.loop-step.invariant in
+    let device : Device = c.visited-device.result.now in
     record {
       writes = writes_then out first old new i.writes c.in-Ok.ensures.writes;
       apart = λ k away. c.in-Ok.ensures.apart k away ∙ i.apart k away;
-      spreads = spreads_value_then circuit part c.requires.part.1 c.requires.part.0 c.args.gates c.args.roots out c.args.value (Visited circuit part at) (λ d. d ≡ device) (Visited circuit part (at + 1))
-          c.loop-dev.changed c.in-Ok.grew first old new c.requires.words i.writes i.apart (visited_more circuit part at dev device there (sym c.in-Some.ensures)) i.spreads c.in-Ok.ensures.spreads;
+      spreads = spreads_value_then circuit part c.requires.part.1 c.requires.part.0 c.args.gates c.args.roots out c.args.value (Visited circuit part c.args.forward at) (λ d. d ≡ device) (Visited circuit part c.args.forward (at + 1))
+          c.loop-step.changed c.in-Ok.grew first old new c.requires.words i.writes i.apart (visited_more circuit part c.args.forward at device c.visited-device.ensures) i.spreads c.in-Ok.ensures.spreads;
       few = λ u gates roots all.
           let q = i.few u gates roots all in
           let f = c.in-Ok.ensures.few u (span_beside u out c.args.gates first old i.writes c.requires.words.words.apart c.requires.words.words.gates_live gates) (span_beside u out c.args.roots first old i.writes c.requires.words.roots_apart c.requires.words.roots_live roots) q.1 in
@@ -61,33 +49,30 @@ pub returns-clause-spreads : goal.returns-clause-spreads
 returns-clause-spreads c =
     let circuit = c.args.circuit.now in
     let part = c.args.part.now in
-    let shown : length c.as_slice-dev-items.result.now ≡ length part.devices = ap (λ (xs : List Dev). length xs) c.as_slice-dev-items.ensures in
-    spreads_value_less circuit part c.requires.part.1 c.requires.part.0 c.args.gates c.args.roots c.args.out c.args.value (Visited circuit part c.loop-dev.dev-index) (Among (part_devices circuit part))
-    c.loop-dev.changed c.args.store.now c.loop-dev.store (all_visited circuit part c.loop-dev.dev-index (omega (arith, shown, c.loop-dev-test.false))) c.loop-dev.invariant.spreads
+    spreads_value_less circuit part c.requires.part.1 c.requires.part.0 c.args.gates c.args.roots c.args.out c.args.value (Visited circuit part c.args.forward c.loop-step.step) (Among (part_devices circuit part))
+    c.loop-step.changed c.args.store.now c.loop-step.store (all_visited circuit part c.args.forward c.loop-step.step (omega (arith, c.len-step-end.ensures, c.loop-step-test.false))) c.loop-step.invariant.spreads
 
 pub returns-in-Err-clause-few : goal.returns-in-Err-clause-few
 returns-in-Err-clause-few c u gates roots all =
     let out = c.args.out in
     let part = c.args.part.now in
-    let at = c.loop-dev.dev-index in
+    let at = c.loop-step.step in
     let first = c.args.store.now in
-    let old = c.loop-dev.store in
+    let old = c.loop-step.store in
     let new = c.visit.new.store in
-    let i = c.loop-dev.invariant in
-    let shown : length c.as_slice-dev-items.result.now ≡ length part.devices = ap (λ (xs : List Dev). length xs) c.as_slice-dev-items.ensures in
+    let i = c.loop-step.invariant in
     let q = i.few u gates roots all in
     let f = c.in-Err.ensures.few u (span_beside u out c.args.gates first old i.writes c.requires.words.words.apart c.requires.words.words.gates_live gates) (span_beside u out c.args.roots first old i.writes c.requires.words.roots_apart c.requires.words.roots_live roots) q.1 in
-    spends_more u out (at * 38 + 38) (length part.devices * 38) first new (Err c.in-Err.spent) (omega (arith, shown, c.loop-dev-test.true))
+    spends_more u out (at * 38 + 38) (length part.devices * 38) first new (Err c.in-Err.spent) (omega (arith, c.len-step-end.ensures, c.loop-step-test.true))
     (spends_err u out (at * 38 + 38) first new c.in-Err.spent (spends_behind u out (at * 38) 38 first old new (Err c.in-Err.spent) q.0 f))
 
 pub returns-clause-few : goal.returns-clause-few
 returns-clause-few c u gates roots all =
     let out = c.args.out in
     let part = c.args.part.now in
-    let at = c.loop-dev.dev-index in
+    let at = c.loop-step.step in
     let first = c.args.store.now in
-    let new = c.loop-dev.store in
-    let shown : length c.as_slice-dev-items.result.now ≡ length part.devices = ap (λ (xs : List Dev). length xs) c.as_slice-dev-items.ensures in
-    let q = c.loop-dev.invariant.few u gates roots all in
-    let enough : at * 38 ≤ length part.devices * 38 = omega (arith, shown, c.loop-dev.auto.dev-index-end) in
-    record { counts = counts_more u (at * 38) (length part.devices * 38) first new (Ok c.loop-dev.changed) enough (counts_ok u (at * 38) first new c.loop-dev.changed q.0); within = q.1 }
+    let new = c.loop-step.store in
+    let q = c.loop-step.invariant.few u gates roots all in
+    let enough : at * 38 ≤ length part.devices * 38 = omega (arith, c.len-step-end.ensures, c.loop-step.auto.step-end) in
+    record { counts = counts_more u (at * 38) (length part.devices * 38) first new (Ok c.loop-step.changed) enough (counts_ok u (at * 38) first new c.loop-step.changed q.0); within = q.1 }
