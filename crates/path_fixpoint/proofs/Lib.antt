@@ -14,3 +14,4 @@ pub mod SolveLaws
 pub mod SourceLaws
 pub mod SpendingLaws
 pub mod Spreading
+pub mod Unused

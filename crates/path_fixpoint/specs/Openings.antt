@@ -1,12 +1,13 @@
 -- Where the marks of a level begin: at the marks of the level above, and at the roots.
-use Rattle.std.specs.Prelude.{◌≡◌, ℕ, ◌+◌, ◌<◌, ◌≤◌, ◌⊎◌}
+use Rattle.std.specs.Prelude.{◌≡◌, ◌≢◌, ℕ, ◌+◌, ◌<◌, ◌≤◌, ◌⊎◌}
 use Rattle.node_pool.specs.declared.region.Span.{Span}
 use Rattle.bdd_core.specs.Store.{Diagrams}
-use Rattle.vrt_model.specs.Lists.{At}
+use Rattle.vrt_model.specs.Lists.{At, Among}
 use Rattle.vrt_model.specs.declared.circuit.Circuit.{Circuit}
+use Rattle.vrt_model.specs.declared.circuit.Device.{Device}
 use Rattle.vrt_model.specs.declared.circuit.Hold.{Hold}
 use Rattle.channel_parts.specs.declared.part.Part.{Part}
-use Rattle.path_fixpoint.specs.Parts.{IsGiven, IsPlace}
+use Rattle.path_fixpoint.specs.Parts.{IsGiven, IsPlace, part_devices}
 use Rattle.path_fixpoint.specs.Strengths.{word_of}
 use Rattle.bdd_core.specs.Words.{word_at}
 
@@ -29,3 +30,15 @@ IsHoldAt c part level i = (at : ℕ) × (hold : Hold) × At c.holds at hold × (
 -- a net with a given value at place i
 abbrev pub IsGivenAt : Circuit → Part → ℕ → Type 0
 IsGivenAt c part i = (n : ℕ) × IsPlace part i n × IsGiven c n
+
+-- no device of the part has exactly this level
+abbrev pub NoDeviceHas : Circuit → Part → ℕ → Type 0
+NoDeviceHas c part level = (d : Device) → Among (part_devices c part) d → d.level ≢ level
+
+-- no hold has exactly this level
+abbrev pub NoHoldHas : Circuit → ℕ → Type 0
+NoHoldHas c level = (at : ℕ) (hold : Hold) → At c.holds at hold → hold.size ≢ level
+
+-- a level below the greatest that no device of the part and no hold has
+abbrev pub IsUnused : Circuit → Part → ℕ → Type 0
+IsUnused c part level = (level < 8) × NoDeviceHas c part level × NoHoldHas c level

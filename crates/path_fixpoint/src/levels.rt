@@ -1,21 +1,23 @@
 //! The strengths of the nets of a part, level by level.
 
-ghost use Rattle.std.specs.Prelude.{◌≡◌, ℕ, ◌*◌, ◌^◌, ◌<◌, ◌≤◌, length, IfOk};
+ghost use Rattle.std.specs.Prelude.{◌≡◌, ℕ, ◌+◌, ◌*◌, ◌^◌, ◌<◌, ◌≤◌, true, false, length, IfOk};
 ghost use Rattle.bdd_core.specs.Diagram.{Valuation};
 ghost use Rattle.bdd_core.specs.Store.{IsSpan};
 ghost use Rattle.vrt_model.specs.Circuits.{IsFlat};
 ghost use Rattle.vrt_model.specs.Levels.{source_level};
 ghost use Rattle.vrt_model.specs.Path.{Network};
+ghost use Rattle.path_fixpoint.specs.Openings.{IsUnused, NoDeviceHas, NoHoldHas};
 ghost use Rattle.path_fixpoint.specs.Parts.{IsPart, IsPartOf};
-ghost use Rattle.path_fixpoint.specs.Strengths.{HasLevel, HasSpans, HasWords, StandsAt, TellsStrengths};
+ghost use Rattle.path_fixpoint.specs.Strengths.{ChangesLevel, HasLevel, HasSpans, HasWords, StandsAt, TellsStrengths};
 ghost use Rattle.bdd_core.specs.Words.{IsFilled, Writes};
 ghost use Rattle.bdd_ops.specs.Counting.{IsSpanWithin};
 ghost use Rattle.path_fixpoint.specs.Spending.{Rewrites, Spends};
 
 use crate::Part;
-use crate::opening::open;
+use crate::opening::{open, take_above};
 use crate::ranges::rises;
 use crate::rounds::settle;
+use crate::steps::visited;
 use bdd_core::{Spent, Store};
 use node_pool::Span;
 use vrt_model::Circuit;
@@ -30,6 +32,73 @@ fn clear(store: &mut Store, out: Span)
     for at in 0..out.len {
         store.write(out, at, 0);
     }
+}
+
+/// Whether no device of the part has exactly the level.
+fn no_device_has(circuit: &Circuit, part: &Part, level: u32) -> bool
+    requires { IsPart circuit.now part.now }
+    ensures { result ≡ true → NoDeviceHas circuit.now part.now level }
+{
+    for step in 0..part.devices.len() {
+        let device = visited(circuit, part, true, step);
+        if device.level as u32 == level {
+            return false;
+        }
+    }
+    true
+}
+
+/// Whether no hold has exactly the level.
+fn no_hold_has(circuit: &Circuit, level: u32) -> bool
+    ensures { result ≡ true → NoHoldHas circuit.now level }
+{
+    for hold in circuit.holds.as_slice() {
+        if hold.size as u32 == level {
+            return false;
+        }
+    }
+    true
+}
+
+/// Whether a level is below the greatest, and no device of the part and no root has exactly it.
+fn is_unused(circuit: &Circuit, part: &Part, level: u32) -> bool
+    requires { IsPart circuit.now part.now }
+    ensures { result ≡ true → IsUnused circuit.now part.now level }
+{
+    if level >= 8 {
+        return false;
+    }
+    if no_device_has(circuit, part, level) {
+        return no_hold_has(circuit, level);
+    }
+    false
+}
+
+/// Writes for each net of the part whether its strength is at least a level, where it is written for the level above. A
+/// level that nothing has takes no rounds: its words are those of the level above.
+fn make_level(
+    store: &mut Store,
+    circuit: &Circuit,
+    part: &Part,
+    rising: bool,
+    gates: Span,
+    out: Span,
+    level: u32,
+) -> Result<(), Spent>
+    requires part { IsPartOf circuit.now part.now rising }
+    requires words { HasWords circuit.now part.now gates out store.old }
+    requires level { (1 ≤ level) × (level ≤ 8) }
+    ensures writes { Writes out store.old store.new }
+    ensures apart { ChangesLevel out level store.old store.new }
+    ensures level { IfOk result (λ _. (v : Valuation) (w : Network) → StandsAt circuit.now part.now gates store.old v w → (level < 8 → HasLevel part.now out (level + 1) store.old v w) → HasLevel part.now out level store.new v w) }
+    ensures few { (u : ℕ) → IsSpanWithin u store.old gates → IsSpanWithin u store.old out → Spends u (length part.now.nets * (length part.now.devices * 4)) out store.old store.new result }
+{
+    if is_unused(circuit, part, level) {
+        take_above(store, part, out, level);
+        return Ok(());
+    }
+    open(store, circuit, part, rising, gates, out, level);
+    settle(store, circuit, part, rising, gates, out, level)
 }
 
 /// Writes for each net of the part whether its strength is at least each level, from the source level down to 1.
@@ -49,9 +118,7 @@ fn levels(
 {
     store.sound();
     for done in 0..8u32 {
-        let level = 8 - done;
-        open(store, circuit, part, rising, gates, out, level);
-        match settle(store, circuit, part, rising, gates, out, level) {
+        match make_level(store, circuit, part, rising, gates, out, 8 - done) {
             Ok(()) => {}
             Err(spent) => return Err(spent),
         }

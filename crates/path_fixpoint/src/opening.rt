@@ -52,7 +52,7 @@ fn above(store: &Store, out: Span, place: usize, level: u32) -> H
 }
 
 /// Takes the marks of the level above.
-fn take_above(store: &mut Store, part: &Part, out: Span, level: u32)
+pub(crate) fn take_above(store: &mut Store, part: &Part, out: Span, level: u32)
     requires out { HasMarks part.now out store.old }
     requires level { (1 ≤ level) × (level ≤ 8) }
     ensures writes { Writes out store.old store.new }

@@ -3,7 +3,7 @@ use Rattle.std.proofs.Math.Nat.{mul-le-mul_right}
 use Rattle.bdd_ops.proofs.CountingLaws.{counted_more, counted_then, counts_more, counts_ok}
 use Rattle.path_fixpoint.proofs.SpendingLaws.{one_more, span_beside, spends_behind, spends_more, times_most}
 use Rattle.std.proofs.lemmas.Bool.{cases_eq}
-use Rattle.path_fixpoint.specs.Strengths.{HasLevel, HasWords, StandsAt}
+use Rattle.path_fixpoint.specs.Strengths.{HasLevel, HasWords}
 use Rattle.bdd_core.proofs.Frames.{writes_then}
 use Rattle.path_fixpoint.proofs.RoundLaws.{level_stays, stands_kept, words_kept}
 use Rattle.path_fixpoint.proofs.levels.levels.Goals as goal
@@ -17,37 +17,28 @@ loop-done-preserved c =
     let done = c.loop-done.done in
     let first = c.args.store.now in
     let old = c.loop-done.store in
-    let mid = c.open.new.store in
-    let new = c.settle.new.store in
+    let new = c.make_level.new.store in
     let i = c.loop-done.invariant in
     let level : ℕ = 8 - done in
     let low : 1 ≤ level = omega (arith, c.loop-done-test.true) in
     let high : level ≤ 8 = omega arith in
     let words : HasWords circuit part gates out old = words_kept circuit part gates out first old c.requires.words i.writes in
-    let words' : HasWords circuit part gates out mid = words_kept circuit part gates out old mid words c.open.ensures.writes in
     record {
-      writes = writes_then out first mid new (writes_then out first old mid i.writes c.open.ensures.writes) c.settle.ensures.writes;
+      writes = writes_then out first old new i.writes c.make_level.ensures.writes;
       levels = λ v w st l gt le.
-          let stands : StandsAt circuit part gates old v w = stands_kept circuit part gates out first old v w c.requires.words i.writes st in
           elim (cases_eq l level) [
             | inl here ↦ subst (λ (x : ℕ). HasLevel part out x new v w) (sym here)
-                (c.in-Ok.ensures.level v w (stands_kept circuit part gates out old mid v w words c.open.ensures.writes stands) (c.open.ensures.roots v w stands)
-                (c.open.ensures.paths v w stands (λ lt. i.levels v w st (level + 1) (omega (arith, c.loop-done-test.true)) (omega (arith, lt)))))
+                (c.in-Ok.ensures.level v w (stands_kept circuit part gates out first old v w c.requires.words i.writes st)
+                (λ lt. i.levels v w st (level + 1) (omega (arith, c.loop-done-test.true)) (omega (arith, lt))))
             | inr ne ↦
-                level_stays circuit part gates out l level mid new v w (omega (arith, gt, c.loop-done-test.true)) le low (omega (arith, high)) ne words' c.settle.ensures.writes c.settle.ensures.apart
-                (level_stays circuit part gates out l level old mid v w (omega (arith, gt, c.loop-done-test.true)) le low (omega (arith, high)) ne words c.open.ensures.writes c.open.ensures.apart
-                (i.levels v w st l (omega (arith, gt, ne, c.loop-done-test.true)) le))
+                level_stays circuit part gates out l level old new v w (omega (arith, gt, c.loop-done-test.true)) le low (omega (arith, high)) ne words c.make_level.ensures.writes c.make_level.ensures.apart
+                (i.levels v w st l (omega (arith, gt, ne, c.loop-done-test.true)) le)
           ];
       few = λ u gates_in all.
           let size = length part.nets * (length part.devices * 4) in
           let q = i.few u gates_in all in
-          let o = c.open.ensures.few u q.1 in
-          let held = span_beside u out gates old mid c.open.ensures.writes words.apart words.gates_live (span_beside u out gates first old i.writes c.requires.words.apart c.requires.words.gates_live gates_in) in
-          let f = c.in-Ok.ensures.few u held o.within in (
-            counted_more u (done * size + size) ((done + 1) * size) first new (one_more done size)
-                (counted_then u (done * size) size first mid new (counted_more u (done * size + 0) (done * size) first mid (omega arith) (counted_then u (done * size) 0 first old mid q.0 o.counted)) f.counts.added),
-            f.within,
-          );
+          let f = c.in-Ok.ensures.few u (span_beside u out gates first old i.writes c.requires.words.apart c.requires.words.gates_live gates_in) q.1 in
+          (counted_more u (done * size + size) ((done + 1) * size) first new (one_more done size) (counted_then u (done * size) size first old new q.0 f.counts.added), f.within);
     }
 
 pub returns-clause-levels : goal.returns-clause-levels
@@ -55,24 +46,19 @@ returns-clause-levels c v w st level low high = c.loop-done.invariant.levels v w
 
 pub returns-in-Err-clause-few : goal.returns-in-Err-clause-few
 returns-in-Err-clause-few c u gates_in all =
-    let circuit = c.args.circuit.now in
     let part = c.args.part.now in
     let gates = c.args.gates in
     let out = c.args.out in
     let done = c.loop-done.done in
     let first = c.args.store.now in
     let old = c.loop-done.store in
-    let mid = c.open.new.store in
-    let new = c.settle.new.store in
+    let new = c.make_level.new.store in
     let i = c.loop-done.invariant in
-    let words : HasWords circuit part gates out old = words_kept circuit part gates out first old c.requires.words i.writes in
     let size = length part.nets * (length part.devices * 4) in
     let q = i.few u gates_in all in
-    let o = c.open.ensures.few u q.1 in
-    let held = span_beside u out gates old mid c.open.ensures.writes words.apart words.gates_live (span_beside u out gates first old i.writes c.requires.words.apart c.requires.words.gates_live gates_in) in
+    let f = c.in-Err.ensures.few u (span_beside u out gates first old i.writes c.requires.words.apart c.requires.words.gates_live gates_in) q.1 in
     spends_more u out (done * size + size) (8 * size) first new (Err c.in-Err.spent) (times_most done 8 size (omega (arith, c.loop-done-test.true)))
-    (spends_behind u out (done * size) size first mid new (Err c.in-Err.spent)
-    (counted_more u (done * size + 0) (done * size) first mid (omega arith) (counted_then u (done * size) 0 first old mid q.0 o.counted)) (c.in-Err.ensures.few u held o.within))
+    (spends_behind u out (done * size) size first old new (Err c.in-Err.spent) q.0 f)
 
 pub returns-clause-few : goal.returns-clause-few
 returns-clause-few c u gates_in all =
