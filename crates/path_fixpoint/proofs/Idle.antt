@@ -20,7 +20,7 @@ use Rattle.channel_parts.specs.declared.part.Part.{Part}
 use Rattle.path_fixpoint.specs.Parts.{part_devices}
 use Rattle.path_fixpoint.specs.Passed.{blocking}
 use Rattle.path_fixpoint.specs.Reaching.{PassesSignal, SpreadsValue, slot_of}
-use Rattle.path_fixpoint.specs.Strengths.{Passes, Spreads, StandsAt, strong, word_of}
+use Rattle.path_fixpoint.specs.Strengths.{Passes, Spreads, StandsAt, strong, strong_end, word_of}
 use Rattle.path_fixpoint.proofs.Spreading.{device_ranges}
 
 -- at the constant that blocks it no device conducts
@@ -63,6 +63,17 @@ module _ (out : Span) (level : ℕ) (d : Diagrams) (i : ℕ) (full : word_at d o
   passes_full kind gate from = record {
     grown = λ j lt v e. e;
     passed = λ j is v on seen. subst (λ (x : ℕ). strong d out level x v ≡ true) (same_Some i j is) (full_strong v);
+    only = λ j lt v e. inl e;
+    same = λ e. refl;
+  }
+
+module _ (out : Span) (level : ℕ) (d : Diagrams) (i : ℕ) where
+  -- nothing is passed on of the constant 0
+  pub passes_none : (kind : Kind) (gate signal : ℕ) (from : Option ℕ) → ((v : Valuation) → meaning d.nodes signal v ≡ strong_end d out level from v) → signal ≡ 0
+      → Passes out level kind gate from (Some i) false d d
+  passes_none kind gate signal from shown none = record {
+    grown = λ j lt v e. e;
+    passed = λ j is v on seen. absurd (false≢true (sym (meaning_zero d.nodes v) ∙ sym (ap (λ (h : ℕ). meaning d.nodes h v) none) ∙ shown v ∙ seen));
     only = λ j lt v e. inl e;
     same = λ e. refl;
   }

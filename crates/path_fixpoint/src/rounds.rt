@@ -47,6 +47,9 @@ fn pass(
         return Ok(false);
     }
     let signal = strength(store, out, from, level);
+    if signal.0 == 0 {
+        return Ok(false);
+    }
     let passed = match through(store, kind, gate, signal) {
         Ok(passed) => passed,
         Err(spent) => return Err(spent),

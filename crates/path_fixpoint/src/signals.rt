@@ -1,10 +1,11 @@
 //! Signals of one value: what stands at the end of a channel, and where the strengths let it pass.
 
-ghost use Rattle.std.specs.Prelude.{◌≡◌, ◌≢◌, ℕ, ◌+◌, ◌*◌, ◌^◌, ◌<◌, ◌≤◌, ◌⊎◌, ◌↔◌, true, false, cond, length, IfOk, IfSome};
-ghost use Rattle.bdd_core.specs.Diagram.{IsWithin, Valuation};
+ghost use Rattle.std.specs.Prelude.{◌≡◌, ◌≢◌, ℕ, ◌+◌, ◌*◌, ◌^◌, ◌<◌, ◌≤◌, ◌⊎◌, ◌↔◌, true, false, cond, length, List, IfOk, IfSome};
+ghost use Rattle.bdd_core.specs.Diagram.{IsWithin, Valuation, meaning};
 ghost use Rattle.bdd_core.specs.Store.{IsLive, IsSpan, Makes, function_of};
 ghost use Rattle.path_fixpoint.specs.Reaching.{FitsAt, bit_is, reached_end, slot_of};
 ghost use Rattle.path_fixpoint.specs.Strengths.{strong, strong_end, word_of, net_words};
+ghost use Rattle.node_pool.specs.declared.region.Node.{Node as NodeValue};
 ghost use Rattle.node_pool.specs.declared.region.Span.{Span as SpanValue};
 ghost use Rattle.bdd_core.specs.Words.{IsFilled, Writes, shows, word_at};
 ghost use Rattle.bdd_ops.specs.Counting.{IsSpanWithin};
@@ -78,6 +79,30 @@ fn prefix(store: &Store, out: Span, from: Option<usize>, device: u8, level: u32)
     ZERO
 }
 
+/// Whether a handle is the constant 1.
+fn is_one(handle: H) -> bool
+    ensures { result ≡ true → handle.0 ≡ 1 }
+{
+    handle.0 == 1
+}
+
+/// Whether it is seen at once that a signal fits: it is 0, or the bound on the net where it arrives is no tighter than
+/// that net.
+fn is_free(signal: H, other: H, here: H) -> bool
+    ensures { result ≡ true → (nodes : List NodeValue) (v : Valuation) → meaning nodes signal.0 v ≡ true → meaning nodes here.0 v ≡ true → meaning nodes other.0 v ≡ true }
+{
+    if signal.0 == 0 {
+        return true;
+    }
+    if here.0 == 0 {
+        return true;
+    }
+    if here.0 == other.0 {
+        return true;
+    }
+    is_one(other)
+}
+
 /// A signal where the other end's strength is no more than what the one end and the device give at a level.
 fn limit(store: &mut Store, signal: H, other: H, here: H) -> Result<H, Spent>
     requires { IsLive store.old signal × IsLive store.old other × IsLive store.old here }
@@ -88,6 +113,9 @@ fn limit(store: &mut Store, signal: H, other: H, here: H) -> Result<H, Spent>
     ensures few { (u : ℕ) → IsWithin u (function_of store.old signal) → IsWithin u (function_of store.old other) → IsWithin u (function_of store.old here) → Finds u 2 store.old store.new result }
 {
     store.sound();
+    if is_free(signal, other, here) {
+        return Ok(signal);
+    }
     let allowed = match implies(store, here, other) {
         Ok(allowed) => allowed,
         Err(spent) => return Err(spent),

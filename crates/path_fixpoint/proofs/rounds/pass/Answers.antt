@@ -9,7 +9,7 @@ use Rattle.path_fixpoint.specs.Strengths.{Passes, word_of}
 use Rattle.bdd_core.proofs.Frames.{writes_then, adds_words, writes_added}
 use Rattle.path_fixpoint.proofs.Passing.{passes_from}
 use Rattle.path_fixpoint.proofs.SpendingLaws.{finds_made, span_still, spends_behind, spends_refused, within_gated}
-use Rattle.path_fixpoint.proofs.Idle.{passes_full}
+use Rattle.path_fixpoint.proofs.Idle.{passes_full, passes_none}
 use Rattle.path_fixpoint.proofs.rounds.pass.Goals as goal
 
 pub returns-in-Err-clause-writes : goal.returns-in-Err-clause-writes
@@ -82,3 +82,9 @@ returns-then-is_full-clause-passes c =
     let full : word_at d out (word_of level c.in-Some.to) ≡ 1 = ap (λ (x : ℕ). word_at d out x) (sym c.word-at.ensures) ∙ c.is_full.ensures c.if-is_full.true in
     subst (λ (o : Option ℕ). Passes out level c.args.kind c.args.gate.0 c.args.from o false d d) (sym c.in-Some.is)
     (passes_full out level d c.in-Some.to full c.args.kind c.args.gate.0 c.args.from)
+
+pub returns-then-signal-eq0-clause-passes : goal.returns-then-signal-eq0-clause-passes
+returns-then-signal-eq0-clause-passes c =
+    let d = c.args.store.now in
+    subst (λ (o : Option ℕ). Passes c.args.out c.args.level c.args.kind c.args.gate.0 c.args.from o false d d) (sym c.in-Some.is)
+    (passes_none c.args.out c.args.level d c.in-Some.to c.args.kind c.args.gate.0 c.strength-signal.result.0 c.args.from c.strength-signal.ensures.is (omega (arith, c.if-signal-eq0.true)))

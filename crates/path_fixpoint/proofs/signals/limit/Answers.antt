@@ -8,7 +8,8 @@ use Rattle.bdd_ops.specs.Ops.{and_of, implies_of}
 use Rattle.bdd_ops.proofs.WithinLaws.{within_and, within_implies, within_same}
 use Rattle.path_fixpoint.proofs.SpendingLaws.{finds_made, finds_more, finds_then}
 use Rattle.path_fixpoint.proofs.Fitting.{limit_bits}
-use Rattle.bdd_core.proofs.Frames.{writes_then, writes_added}
+use Rattle.bdd_core.proofs.Frames.{writes_none, writes_then, writes_added}
+use Rattle.bdd_ops.proofs.CountingLaws.{counts_more, counts_none}
 use Rattle.path_fixpoint.proofs.signals.limit.Goals as goal
 
 pub returns-in-Err-clause-writes : goal.returns-in-Err-clause-writes
@@ -55,3 +56,15 @@ returns-clause-few c u signal other here =
     within_same u (meaning old.nodes c.args.signal.0) (meaning mid.nodes c.args.signal.0) (grows_keeps old.nodes mid.nodes f c.in-Ok.ensures.makes.grows c.args.signal.0 c.requires.0) signal in
     finds_then u 1 1 old mid new c.and.result made.counts.added
     (finds_made u mid new g c.and.result c.in-Ok.ensures.makes.adds.sound.ends c.and.ensures.makes (within_and u (meaning mid.nodes c.args.signal.0) (meaning mid.nodes c.in-Ok.allowed.0) later made.within))
+
+pub returns-then-is_free-clause-writes : goal.returns-then-is_free-clause-writes
+returns-then-is_free-clause-writes c out live = writes_none out c.args.store.now c.sound.ensures.sound c.sound.ensures.within live
+
+pub returns-then-is_free-clause-is : goal.returns-then-is_free-clause-is
+returns-then-is_free-clause-is c v = (λ e. (e, λ h. c.is_free.ensures c.if-is_free.true c.args.store.now.nodes v e h), λ q. q.0)
+
+pub returns-then-is_free-clause-few : goal.returns-then-is_free-clause-few
+returns-then-is_free-clause-few c u signal other here = record {
+  counts = counts_more u 0 2 c.args.store.now c.args.store.now (Ok c.args.signal) (omega arith) (counts_none u c.args.store.now c.args.signal);
+  within = signal;
+}
