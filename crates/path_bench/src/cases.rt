@@ -21,15 +21,25 @@ pub enum Case {
     /// The complement of a sum of products of two inputs by static devices. The inputs of each product are side by
     /// side.
     AndOr,
+    /// A static NAND gate: devices side by side from the high supply to the output, and in a row from there to the low
+    /// supply.
+    Nand,
+    /// Conducting devices in a row from a supply on.
+    Row,
+    /// The same, with the devices listed from the far end on.
+    RowBackwards,
 }
 
 /// All of them.
-pub const ALL: [Case; 5] = [
+pub const ALL: [Case; 8] = [
     Case::Chain,
     Case::ChainBackwards,
     Case::Ladder,
     Case::Multiplexer,
     Case::AndOr,
+    Case::Nand,
+    Case::Row,
+    Case::RowBackwards,
 ];
 
 /// The name of a case.
@@ -40,16 +50,20 @@ pub(crate) fn name(case: Case) -> &'static str {
         Case::Ladder => "ladder",
         Case::Multiplexer => "multiplexer",
         Case::AndOr => "andor",
+        Case::Nand => "nand",
+        Case::Row => "row",
+        Case::RowBackwards => "row-backwards",
     }
 }
 
-/// The size where none is given: devices of a chain, rungs, selecting inputs, products.
+/// The size where none is given: devices of a chain or a row, rungs, selecting inputs, products, inputs.
 pub(crate) fn usual_size(case: Case) -> u32 {
     match case {
-        Case::Chain | Case::ChainBackwards => 60,
+        Case::Chain | Case::ChainBackwards | Case::Nand => 60,
         Case::Ladder => 50,
         Case::Multiplexer => 6,
         Case::AndOr => 17,
+        Case::Row | Case::RowBackwards => 1000,
     }
 }
 
@@ -57,11 +71,14 @@ pub(crate) fn usual_size(case: Case) -> u32 {
 pub(crate) fn circuit(alloc: Global, case: Case, size: u32) -> Result<Circuit, NoMemory> {
     let mut draft = Draft::new(alloc)?;
     match case {
-        Case::Chain => chain(&mut draft, size)?,
-        Case::ChainBackwards => chain_backwards(&mut draft, size)?,
+        Case::Chain => chain(&mut draft, size, true)?,
+        Case::ChainBackwards => chain_backwards(&mut draft, size, true)?,
         Case::Ladder => ladder(&mut draft, size)?,
         Case::Multiplexer => multiplexer(&mut draft, size.min(8))?,
         Case::AndOr => and_or(&mut draft, size)?,
+        Case::Nand => nand(&mut draft, size)?,
+        Case::Row => chain(&mut draft, size, false)?,
+        Case::RowBackwards => chain_backwards(&mut draft, size, false)?,
     }
     Ok(draft.circuit)
 }
@@ -72,24 +89,32 @@ fn pass(draft: &mut Draft, left: Net, right: Net) -> Result<(), NoMemory> {
     draft.device(Kind::N, 6, gate, left, right)
 }
 
-fn chain(draft: &mut Draft, devices: u32) -> Result<(), NoMemory> {
+/// Adds a device that is gated, by an input of its own, or conducts.
+fn link(draft: &mut Draft, gated: bool, left: Net, right: Net) -> Result<(), NoMemory> {
+    if gated {
+        return pass(draft, left, right);
+    }
+    draft.device(Kind::N, 6, HIGH, left, right)
+}
+
+fn chain(draft: &mut Draft, devices: u32, gated: bool) -> Result<(), NoMemory> {
     let mut end = HIGH;
     for _ in 0..devices {
         let next = draft.net(NetKind::Plain)?;
-        pass(draft, end, next)?;
+        link(draft, gated, end, next)?;
         end = next;
     }
     Ok(())
 }
 
-fn chain_backwards(draft: &mut Draft, devices: u32) -> Result<(), NoMemory> {
+fn chain_backwards(draft: &mut Draft, devices: u32, gated: bool) -> Result<(), NoMemory> {
     let mut end = draft.net(NetKind::Plain)?;
     for _ in 1..devices {
         let next = draft.net(NetKind::Plain)?;
-        pass(draft, next, end)?;
+        link(draft, gated, next, end)?;
         end = next;
     }
-    pass(draft, HIGH, end)
+    link(draft, gated, HIGH, end)
 }
 
 fn ladder(draft: &mut Draft, rungs: u32) -> Result<(), NoMemory> {
@@ -163,4 +188,27 @@ fn and_or(draft: &mut Draft, products: u32) -> Result<(), NoMemory> {
         above = below;
     }
     product(draft, output, above, output)
+}
+
+/// Adds a p-device from the high supply to a net for each of so many inputs.
+fn side_by_side(draft: &mut Draft, first: Net, count: u32, output: Net) -> Result<(), NoMemory> {
+    let mut gate = first;
+    for _ in 0..count {
+        draft.device(Kind::P, 6, gate, HIGH, output)?;
+        gate = Net(gate.0.saturating_add(1));
+    }
+    Ok(())
+}
+
+fn nand(draft: &mut Draft, size: u32) -> Result<(), NoMemory> {
+    let mut gate = inputs(draft, size)?;
+    let mut above = draft.net(NetKind::Plain)?;
+    side_by_side(draft, gate, size, above)?;
+    for _ in 1..size {
+        let below = draft.net(NetKind::Plain)?;
+        draft.device(Kind::N, 6, gate, above, below)?;
+        gate = Net(gate.0.saturating_add(1));
+        above = below;
+    }
+    draft.device(Kind::N, 6, gate, above, LOW)
 }

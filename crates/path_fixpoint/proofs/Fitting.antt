@@ -1,5 +1,5 @@
 -- A signal that is let pass level by level, where it fits the strengths.
-use Rattle.std.proofs.Common.{◌≡◌, ℕ, ◌+◌, ◌*◌, ◌<◌, ◌≤◌, Bool, true, false, not, ◌||◌, ◌&&◌, List, Option, Some, None, get_or, arith, ap, refl, sym, subst, ◌∙◌, inl, inr}
+use Rattle.std.proofs.Common.{◌≡◌, ℕ, ◌+◌, ◌*◌, ◌<◌, ◌≤◌, Bool, true, false, cond, ◌&&◌, List, Option, Some, None, get_or, arith, ap, refl, sym, subst, ◌∙◌, inl, inr}
 use Rattle.std.specs.Prelude.{IfSome, ◌↔◌}
 use Rattle.std.proofs.lemmas.Bool.{cases_lt, false≢true}
 use Rattle.node_pool.specs.declared.region.Span.{Span}
@@ -9,11 +9,12 @@ use Rattle.path_fixpoint.specs.Strengths.{strong, strong_end, word_of}
 use Rattle.bdd_core.specs.Words.{IsFilled, Writes}
 use Rattle.bdd_core.proofs.Frames.{shows_kept}
 
--- a bit and an implication
-pub limit_bits : (x h o : Bool) → ((x && (not h || o)) ≡ true) ↔ ((x ≡ true) × (h ≡ true → o ≡ true))
+-- a bit that is held back by another where a third is set
+pub limit_bits : (x h o : Bool) → (cond h (x && o) x ≡ true) ↔ ((x ≡ true) × (h ≡ true → o ≡ true))
 limit_bits true true o = (λ e. (refl, λ t. e), λ q. q.1 refl)
 limit_bits true false o = (λ e. (refl, λ t. absurd (false≢true t)), λ q. refl)
-limit_bits false h o = (λ e. absurd (false≢true e), λ q. absurd (false≢true q.0))
+limit_bits false true o = (λ e. absurd (false≢true e), λ q. absurd (false≢true q.0))
+limit_bits false false o = (λ e. absurd (false≢true e), λ q. absurd (false≢true q.0))
 
 module _ (first old : Diagrams) (out : Span) (v : Valuation) (writes : Writes out first old) (words : old.words ≡ first.words) (live : IsFilled first out) where
   pub strong_old : (level i : ℕ) → 1 ≤ level → level ≤ 8 → 10 * i + 10 ≤ out.len → strong old out level i v ≡ strong first out level i v

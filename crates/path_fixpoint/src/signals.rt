@@ -14,7 +14,7 @@ ghost use Rattle.path_fixpoint.specs.Spending.{Finds};
 use crate::steps::{strength, word};
 use crate::words::net_words;
 use bdd_core::{H, Spent, Store, ZERO};
-use bdd_ops::{and, implies, not};
+use bdd_ops::{and, not};
 use node_pool::Span;
 use vrt_model::Net;
 
@@ -116,11 +116,11 @@ fn limit(store: &mut Store, signal: H, other: H, here: H) -> Result<H, Spent>
     if is_free(signal, other, here) {
         return Ok(signal);
     }
-    let allowed = match implies(store, here, other) {
-        Ok(allowed) => allowed,
+    let held = match and(store, signal, other) {
+        Ok(held) => held,
         Err(spent) => return Err(spent),
     };
-    and(store, signal, allowed)
+    store.ite(here, held, signal)
 }
 
 /// A signal where it fits the strengths: the strength of the net at place `to` is no more than the device's level and
