@@ -1,29 +1,14 @@
 //! The cells of cards.
 
-ghost use Rattle.std.specs.Prelude.{◌≡◌, ◌++◌, ◌∷◌, [], map, drop, OnOk, IfOk, codes};
-ghost use Rattle.text_lines.specs.Groups.{groups, through, up_to};
-ghost use Rattle.spice_reader.specs.Cards.{has_first};
+ghost use Rattle.std.specs.Prelude.{◌≡◌, ◌++◌, ◌∷◌, [], map, drop, OnOk, IfOk};
+ghost use Rattle.text_lines.specs.Groups.{groups, up_to};
 ghost use Rattle.spice_reader.specs.Netlist.{begins_cell, ends_cell, cell_of};
 
 use crate::card::Card;
 use crate::elements::{copies, devices, instances};
-use crate::words::{is_first, name_of, opens, ports_of, shuts};
+use crate::words::{name_of, opens, ports_of, shuts};
 use std::alloc::Global;
 use vrt_model::{Cell, NoMemory, Seq, Text};
-
-/// The cards through `.end`, behind which nothing is read.
-pub fn through_end(cards: &[Card]) -> &[Card]
-    ensures { result.now ≡ through (has_first (codes ".end")) cards.now }
-{
-    let mut at = 0;
-    'cards: while at < cards.len() {
-        if is_first(&cards[at], b".end".as_slice()) {
-            return &cards[..at + 1];
-        }
-        at += 1;
-    }
-    cards
-}
 
 /// The cards before `.ends`.
 fn before_ends(cards: &[Card]) -> &[Card]

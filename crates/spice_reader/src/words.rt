@@ -59,6 +59,13 @@ pub fn shuts(card: &Card) -> bool
     is_first(card, b".ends".as_slice())
 }
 
+/// Whether the card is `.end`, behind which nothing is read.
+pub fn is_end_card(card: &Card) -> bool
+    ensures { result ≡ has_first (codes ".end") card.now }
+{
+    is_first(card, b".end".as_slice())
+}
+
 /// Whether the card is a device model.
 pub fn is_model_card(card: &Card) -> bool
     ensures { result ≡ is_model card.now }

@@ -1,8 +1,8 @@
 -- Cards that are judged from the front, each by what those before it tell, which is learned card by card.
-use Rattle.std.proofs.Common.{◌≡◌, ◌<◌, ◌≤◌, ◌+◌, ◌++◌, ◌∷◌, [], ℕ, List, Option, Some, None, length, take, ap, sym, ◌∙◌, below_more}
+use Rattle.std.proofs.Common.{◌≡◌, ◌<◌, ◌≤◌, ◌+◌, ◌++◌, ◌∷◌, [], ℕ, List, Option, Some, None, length, take, drop, length-drop, arith, refl, ap, sym, ◌∙◌, below_more}
 use Rattle.std.specs.Prelude.{slice_get}
-use Rattle.std.proofs.lemmas.List.{take_all, take_more}
-use Rattle.std.proofs.lemmas.Option.{get_or_from_slice_get}
+use Rattle.std.proofs.lemmas.List.{drop_more, take_all, take_more}
+use Rattle.std.proofs.lemmas.Option.{get_or_from_slice_get, slice_get_read}
 use Rattle.text_lines.specs.Faults.{IsClean, IsFirst, fault_at}
 use Rattle.text_lines.proofs.FaultLaws.{clean_to_end, fault_here}
 
@@ -30,3 +30,20 @@ module _ {C K F : Type 0} (known_by : List C → K) (fault_of : List C → C →
   -- and what is known is what all cards tell
   pub all_known : (known : K) → length cards ≤ i → ReadsBy known_by fault_of i cards known → known ≡ known_by cards
   all_known known past r = r.0 ∙ ap known_by (take_all i cards past)
+
+same_first : {X : Type 0} (x y : X) (xs ys : List X) → x ∷ xs ≡ y ∷ ys → x ≡ y
+same_first x y xs ys e = cc
+
+same_rest : {X : Type 0} (x y : X) (xs ys : List X) → x ∷ xs ≡ y ∷ ys → xs ≡ ys
+same_rest x y xs ys e = cc
+
+-- the first of what is left stands at its place
+pub first_left : {X : Type 0} (i : ℕ) (all more : List X) (x : X) → x ∷ more ≡ drop i all → (i < length all) × (slice_get all i ≡ Some x) × (more ≡ drop (i + 1) all)
+first_left i all more x e =
+    let lt : i < length all = omega (arith, ap length e, length-drop i all) in
+    let same : x ∷ more ≡ _ = e ∙ drop_more all i x lt in
+    (lt, slice_get_read all (length all) i x refl lt (same_first _ _ _ _ same), same_rest _ _ _ _ same)
+
+-- nothing is left at the end alone
+pub none_left : {X : Type 0} (i : ℕ) (all : List X) → [] ≡ drop i all → length all ≤ i
+none_left i all e = omega (arith, ap length e, length-drop i all)
