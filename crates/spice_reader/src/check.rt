@@ -6,7 +6,7 @@ ghost use Rattle.spice_reader.specs.Netlist.{design_of};
 ghost use Rattle.spice_reader.specs.Opened.{cards_left};
 ghost use Rattle.spice_reader.specs.Refused.{IsNetlist, IsFaultOf, fault_by, known_by};
 ghost use Rattle.text_lines.specs.Faults.{Judges};
-ghost use Rattle.spice_reader.specs.Learned.{is_told, learned, with_card, IsReading};
+ghost use Rattle.spice_reader.specs.Learned.{is_told, learned, with_card, Reads};
 
 use crate::SpiceFault;
 use crate::card::Card;
@@ -73,7 +73,7 @@ fn take_all(
     requires room { reading.old.number + length reading.old.bytes.now < 2 ^ 32 }
     requires known { known.old ≡ known_by [] }
     requires kept { kept.old ≡ [] }
-    ensures ok { OnOk result (IsReading (cards_left reading.old.number reading.old.bytes.now reading.old.opened) [] known.new kept.new) }
+    ensures ok { OnOk result (Reads (cards_left reading.old.number reading.old.bytes.now reading.old.opened) [] known.new kept.new) }
     ensures err { IfErr result (λ fault. (fault ≡ SpiceFault.NoMemory) ⊎ IsFaultOf (cards_left reading.old.number reading.old.bytes.now reading.old.opened) fault) }
 {
     'cards: loop {

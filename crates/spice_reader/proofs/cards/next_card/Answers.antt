@@ -1,5 +1,6 @@
 use Rattle.std.proofs.Common.{ap, sym, ◌∙◌, ◌∷◌}
-use Rattle.spice_reader.proofs.CardLaws.{first_through, none_first, none_through, some_first}
+use Rattle.text_lines.proofs.ReadLaws.{none_first, some_first}
+use Rattle.spice_reader.proofs.CardLaws.{first_through, none_through}
 use Rattle.spice_reader.proofs.cards.next_card.Goals as goal
 
 pub returns-in-None-clause-card : goal.returns-in-None-clause-card

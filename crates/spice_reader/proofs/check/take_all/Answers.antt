@@ -1,6 +1,6 @@
 use Rattle.std.proofs.Common.{arith, inl, inr}
 use Rattle.std.proofs.lemmas.Result.{err_from_is_err_and}
-use Rattle.spice_reader.proofs.CardLaws.{some_first}
+use Rattle.text_lines.proofs.ReadLaws.{some_first}
 use Rattle.spice_reader.proofs.CheckLaws.{reads_card, reads_fault}
 use Rattle.spice_reader.proofs.check.take_all.Goals as goal
 
