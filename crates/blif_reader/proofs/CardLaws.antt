@@ -1,12 +1,12 @@
 -- A line before others, with and without lines that are to be joined with it.
-use Rattle.std.proofs.Common.{◌≡◌, ◌+◌, ◌<◌, ◌≤◌, ◌==◌, length, get_or, drop, ◌++◌, ◌∷◌, [], ℕ, List, Bool, true, false, cond, map, Option, Some, None, refl, ap, ap₂, sym, ◌∙◌, append_assoc}
-use Rattle.std.proofs.lemmas.List.{drop_all, drop_more}
-use Rattle.std.specs.Prelude.{filter}
+use Rattle.std.proofs.Common.{◌≡◌, ◌+◌, ◌==◌, ◌++◌, ◌∷◌, [], ℕ, List, Bool, true, false, cond, map, Option, Some, None, refl, ap, sym, ◌∙◌, append_assoc}
+use Rattle.std.specs.Prelude.{filter, option_to_list}
 use Rattle.std.specs.List.{enumerate_from}
 use Rattle.text_lines.specs.Lines.{text_lines}
+use Rattle.text_lines.specs.Reading.{ComesFirst}
 use Rattle.text_lines.specs.Words.{but_last}
 use Rattle.blif_reader.specs.Cards.{card_of, cards_of, ends_with_backslash, has_words, joined, onto_next, uncommented}
-use Rattle.blif_reader.specs.Opened.{cards_behind, joined_behind, numbered, with_line}
+use Rattle.blif_reader.specs.Opened.{cards_behind, cards_left, joined_behind, numbered, with_line}
 use Rattle.blif_reader.specs.declared.cards.Card.{Card}
 use Rattle.blif_reader.specs.declared.cards.Open.{Open}
 
@@ -61,28 +61,31 @@ last_on old new opened number line bytes h is e rest =
     ∙ ap (λ cards. old ++ cards) (filter_one has_words card behind)
     ∙ ap (λ ls. old ++ filter has_words (map card_of ls)) (sym (ends opened number line rest h))
 
--- the first line
-pub init_on : (new : List Card) (lines : List (List ℕ)) (text : List ℕ) → new ≡ [] → lines ≡ text_lines text
-    → new ++ cards_behind None (enumerate_from 1 lines) ≡ cards_of text
-unfolding cards_behind cards_of
-init_on new lines text none are = ap₂ (λ cards ls. cards ++ cards_behind None (enumerate_from 1 ls)) none are
-
 -- one line more
-pub turn_on : (i n : ℕ) (lines : List (List ℕ)) (line : List ℕ) (old new all : List Card) (opened now : Option Open) → i < length lines → n ≡ i → get_or lines i [] ≡ line
-    → old ++ cards_behind opened (enumerate_from (i + 1) (drop i lines)) ≡ all
-    → ((rest : List (ℕ × List ℕ)) → new ++ cards_behind now rest ≡ old ++ cards_behind opened ((n + 1, line) ∷ rest))
-    → (n + 1 ≡ i + 1) × (new ++ cards_behind now (enumerate_from (i + 1 + 1) (drop (i + 1) lines)) ≡ all)
-turn_on i n lines line old new all opened now lt same here so_far turn =
-    let rest = enumerate_from (i + 1 + 1) (drop (i + 1) lines) in (
-      ap (λ m. m + 1) same,
-      turn rest
-          ∙ ap₂ (λ m l. old ++ cards_behind opened ((m + 1, l) ∷ rest)) same (sym here)
-          ∙ ap (λ ls. old ++ cards_behind opened (enumerate_from (i + 1) ls)) (sym (drop_more lines i [] lt))
-          ∙ so_far,
-    )
+pub turn_on : (n : ℕ) (bytes line behind : List ℕ) (opened now : Option Open) (card : Option Card) (all : List Card) → text_lines bytes ≡ line ∷ text_lines behind
+    → cards_left n bytes opened ≡ all
+    → ((rest : List (ℕ × List ℕ)) → option_to_list card ++ cards_behind now rest ≡ cards_behind opened ((n, line) ∷ rest))
+    → option_to_list card ++ cards_left (n + 1) behind now ≡ all
+unfolding cards_left
+turn_on n bytes line behind opened now card all is so_far turn =
+    turn (enumerate_from (n + 1) (text_lines behind)) ∙ ap (λ ls. cards_behind opened (enumerate_from n ls)) (sym is) ∙ so_far
 
--- the last line
-pub exit_on : (i : ℕ) (lines : List (List ℕ)) (cards new all : List Card) (opened : Option Open) → length lines ≤ i
-    → cards ++ cards_behind opened (enumerate_from (i + 1) (drop i lines)) ≡ all → new ≡ cards ++ cards_behind opened [] → new ≡ all
-exit_on i lines cards new all opened past so_far e =
-    e ∙ ap (λ ls. cards ++ cards_behind opened (enumerate_from (i + 1) ls)) (sym (drop_all i lines past)) ∙ so_far
+no_lines_left : (n : ℕ) (bytes : List ℕ) (opened : Option Open) → text_lines bytes ≡ [] → cards_left n bytes opened ≡ cards_behind opened []
+unfolding cards_left
+no_lines_left n bytes opened is = ap (λ ls. cards_behind opened (enumerate_from n ls)) is
+
+nothing_behind : cards_behind None [] ≡ []
+unfolding cards_behind
+nothing_behind = refl
+
+-- behind the last line
+pub ends_on : (n : ℕ) (bytes : List ℕ) (opened now : Option Open) (card : Option Card) (all : List Card) → text_lines bytes ≡ [] → cards_left n bytes opened ≡ all
+    → option_to_list card ≡ cards_behind opened [] → now ≡ None → ComesFirst card all (cards_left n bytes now)
+ends_on n bytes opened now None all is so_far e none = sym so_far ∙ no_lines_left n bytes opened is ∙ sym e
+ends_on n bytes opened now (Some card) all is so_far e none =
+    sym so_far ∙ no_lines_left n bytes opened is ∙ sym e ∙ ap (λ cards. card ∷ cards) (sym (no_lines_left n bytes now is ∙ ap (λ o. cards_behind o []) none ∙ nothing_behind))
+
+-- at first all cards are left
+pub all_left : (text : List ℕ) → cards_left 1 text None ≡ cards_of text
+unfolding cards_left cards_behind cards_of
+all_left text = refl

@@ -1,18 +1,18 @@
 -- Cards without a fault are models as later calls ask for them.
-use Rattle.std.proofs.Common.{◌≡◌, ◌++◌, ◌∷◌, ◌<◌, ◌≤◌, ◌+◌, ◌==◌, ◌&&◌, ◌||◌, not, nat_le, nat_lt, [], ℕ, suc, List, Bool, true, false, cond, map, length, length-append, take, unwrap_or, codes, bytes_eq, Option, Some, None, option_map, refl, ap, ap₂, sym, ◌∙◌, append-nil, append_assoc, arith, inl, inr, subst, ◌⊎◌, ◌-◌, drop, flat_map}
-use Rattle.std.specs.Prelude.{All, filter, slice_get, option_and_then, option_to_list}
+use Rattle.std.proofs.Common.{◌≡◌, ◌++◌, ◌∷◌, ◌<◌, ◌≤◌, ◌+◌, ◌==◌, ◌&&◌, ◌||◌, not, nat_le, nat_lt, [], ℕ, List, Bool, true, false, cond, map, length, length-append, unwrap_or, codes, Option, Some, None, option_map, refl, ap, ap₂, sym, ◌∙◌, arith, inl, inr, subst, ◌⊎◌, ◌-◌, drop, flat_map}
+use Rattle.std.specs.Prelude.{All, filter, option_to_list}
 use Rattle.std.specs.List.{list_all}
 use Rattle.std.proofs.lemmas.List.{length-map}
 use Rattle.std.proofs.lemmas.List.Elements.{All-append, All-cons, All-nil}
 use Rattle.std.proofs.lemmas.Bool.{eqb-true, leb-false, le-leb, ltb-false, and_parts, or_parts}
-use Rattle.text_lines.specs.Faults.{IsClean, fault_at}
+use Rattle.text_lines.specs.Faults.{IsClean}
 use Rattle.text_lines.specs.Groups.{groups, up_to}
 use Rattle.text_lines.specs.Words.{but_last, word_at}
 use Rattle.vrt_model.specs.Lists.{has_name}
 use Rattle.names.specs.Names.{with_name}
 use Rattle.text_lines.proofs.FaultLaws.{CleanFrom, clean_from, clean_up_to, none_at, when_no}
 use Rattle.vrt_model.specs.FlatModels.{IsRow}
-use Rattle.vrt_model.specs.Inputs.{AllApart, IsBlif, IsCoverLine, IsModel}
+use Rattle.vrt_model.specs.Inputs.{IsBlif, IsCoverLine, IsModel}
 use Rattle.vrt_model.specs.declared.blif.BlifModel.{BlifModel}
 use Rattle.vrt_model.specs.declared.blif.LatchKind.{LatchKind}
 use Rattle.vrt_model.specs.declared.blif.LatchLine.{LatchLine}

@@ -1,5 +1,5 @@
 -- What one card more changes of what is known.
-use Rattle.std.proofs.Common.{sym, ◌||◌, codes, is_some, length, unwrap_or, ◌≡◌, ◌++◌, ◌∷◌, [], ℕ, List, Bool, true, false, cond, map, Option, Some, None, option_map, refl, ap, ap₂, ◌∙◌, append-nil, append_assoc}
+use Rattle.std.proofs.Common.{sym, ◌||◌, codes, is_some, length, unwrap_or, ◌≡◌, ◌++◌, ◌∷◌, [], ℕ, List, Bool, true, false, cond, map, Option, Some, None, option_map, refl, ap, ap₂, ◌∙◌, append-nil}
 use Rattle.std.specs.Prelude.{filter}
 use Rattle.std.proofs.lemmas.Slice.Eq.{bytes_eq-Decides}
 use Rattle.text_lines.specs.Bytes.{starts}

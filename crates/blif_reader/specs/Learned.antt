@@ -1,6 +1,8 @@
 -- What is known behind one card more.
-use Rattle.std.specs.Prelude.{List, ℕ, Bool, true, false, if◌then◌else◌, length, Option, Some, None, option_map, unwrap_or}
+use Rattle.std.specs.Prelude.{◌≡◌, List, ℕ, Bool, true, false, if◌then◌else◌, length, Option, Some, None, option_map, unwrap_or}
 use Rattle.names.specs.Names.{with_name}
+use Rattle.text_lines.specs.Reading.{IsReading}
+use Rattle.blif_reader.specs.Refused.{fault_of, known_by}
 use Rattle.blif_reader.specs.Models.{begins_model, cover_inputs, ends_model, is_cover, is_dotted, is_on, model_name}
 use Rattle.blif_reader.specs.declared.cards.Card.{Card}
 use Rattle.blif_reader.specs.declared.known.Known.{Known}
@@ -27,3 +29,7 @@ learned known card = record {
   is_inside = inside_behind known.is_inside card;
   cover = cover_behind known.cover card;
 }
+
+-- these cards are left, and those before them are read and listed
+abbrev pub Reads : List Card → List Card → Known → List Card → Type 0
+Reads cards left known listed = IsReading known_by fault_of (λ read. listed ≡ read) cards left known

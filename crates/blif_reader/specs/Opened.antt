@@ -1,5 +1,7 @@
 -- The cards as they are read from the front.
 use Rattle.std.specs.Prelude.{ℕ, List, ◌++◌, map, filter, Option, Some, None}
+use Rattle.std.specs.List.{enumerate_from}
+use Rattle.text_lines.specs.Lines.{text_lines}
 use Rattle.blif_reader.specs.Cards.{card_of, has_words, joined, onto_next}
 use Rattle.blif_reader.specs.declared.cards.Card.{Card}
 use Rattle.blif_reader.specs.declared.cards.Open.{Open}
@@ -19,3 +21,7 @@ joined_behind (Some first) rest = onto_next (numbered first) (joined rest)
 
 unfoldable pub cards_behind : Option Open → List (ℕ × List ℕ) → List Card
 cards_behind opened rest = filter has_words (map card_of (joined_behind opened rest))
+
+-- the cards of these lines and of the lines of these bytes, the first of which has this number
+unfoldable pub cards_left : ℕ → List ℕ → Option Open → List Card
+cards_left number bytes opened = cards_behind opened (enumerate_from number (text_lines bytes))

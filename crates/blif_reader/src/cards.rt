@@ -1,13 +1,14 @@
-//! The cards of a text.
+//! The cards of a text, one by one.
 
-ghost use Rattle.std.specs.Prelude.{ℕ, List, Some, None, ◌≡◌, ◌≤◌, ◌++◌, ◌∷◌, [], length, map, filter, IfOk, IfSome, IfNone, OnOk, ◌==◌, false, true};
+ghost use Rattle.std.specs.Prelude.{ℕ, List, Some, None, ◌≡◌, ◌≤◌, ◌<◌, ◌+◌, ◌^◌, ◌++◌, ◌∷◌, [], length, map, filter, option_to_list, IfOk, IfSome, IfNone, ◌==◌, false, true};
 ghost use Rattle.text_lines.specs.Groups.{up_to};
+ghost use Rattle.text_lines.specs.Reading.{ComesFirst};
 ghost use Rattle.text_lines.specs.Words.{but_last};
-ghost use Rattle.blif_reader.specs.Cards.{card_of, cards_of, ends_with_backslash, has_words, is_hash, uncommented};
-ghost use Rattle.blif_reader.specs.Opened.{cards_behind, numbered, with_line};
+ghost use Rattle.blif_reader.specs.Cards.{card_of, ends_with_backslash, has_words, is_hash, uncommented};
+ghost use Rattle.blif_reader.specs.Opened.{cards_behind, cards_left, numbered, with_line};
 
 use std::alloc::Global;
-use text_lines::{cut_lines, is_text_line, line_words};
+use text_lines::{first_line, is_text_line, line_words};
 use vrt_model::{NoMemory, Seq, Text};
 
 /// A card: the number of its first line, from 1, whether all its bytes are text, and its words.
@@ -65,29 +66,19 @@ fn before_backslash(bytes: &[u8]) -> Option<&[u8]>
     }
 }
 
-/// The card of a line, or of several that are joined.
-fn card_of_bytes(alloc: Global, line: u32, bytes: &[u8]) -> Result<Card, NoMemory>
-    ensures { IfOk result (λ card. card ≡ card_of (line, bytes.now)) }
+/// The card of a line, or of several that are joined, none where it is blank.
+fn worded(alloc: Global, line: u32, bytes: &[u8]) -> Result<Option<Card>, NoMemory>
+    ensures { IfOk result (λ card. option_to_list card ≡ filter has_words (card_of (line, bytes.now) ∷ [])) }
 {
-    Ok(Card {
+    let words = line_words(alloc, bytes)?;
+    if words.is_empty() {
+        return Ok(None);
+    }
+    Ok(Some(Card {
         line,
         is_all_text: is_text_line(bytes),
-        words: line_words(alloc, bytes)?,
-    })
-}
-
-/// Adds a card, unless it is blank.
-fn add_card(alloc: Global, cards: &mut Seq<Card>, line: u32, bytes: &[u8]) -> Result<(), NoMemory>
-    ensures { OnOk result (cards.new ≡ cards.old ++ filter has_words (card_of (line, bytes.now) ∷ [])) }
-{
-    let card = card_of_bytes(alloc, line, bytes)?;
-    if card.words.is_empty() {
-        return Ok(());
-    }
-    match cards.push(card) {
-        Ok(()) => Ok(()),
-        Err(_) => Err(NoMemory),
-    }
+        words,
+    }))
 }
 
 /// The lines so far, with a line more.
@@ -117,72 +108,88 @@ fn go_on(first: u32, so_far: Text, line: &[u8]) -> Result<Open, NoMemory>
     Ok(Open { line: first, bytes })
 }
 
-/// Takes a line that ends a card.
+/// The card that a line ends, none where it is blank.
 fn take_last(
     alloc: Global,
     number: u32,
     bytes: &[u8],
-    cards: &mut Seq<Card>,
     opened: Option<Open>,
-) -> Result<(), NoMemory>
-    ensures { OnOk result (cards.new ≡ cards.old ++ filter has_words (card_of (numbered (with_line opened number bytes.now)) ∷ [])) }
+) -> Result<Option<Card>, NoMemory>
+    ensures { IfOk result (λ card. option_to_list card ≡ filter has_words (card_of (numbered (with_line opened number bytes.now)) ∷ [])) }
 {
     match opened {
-        None => add_card(alloc, cards, number, bytes),
+        None => worded(alloc, number, bytes),
         Some(first) => {
             let all = go_on(first.line, first.bytes, bytes)?;
-            add_card(alloc, cards, all.line, all.bytes.as_bytes())
+            worded(alloc, all.line, all.bytes.as_bytes())
         }
     }
 }
 
-/// Takes a line.
+/// Takes a line, and answers the card that it ends, if it ends one that is not blank.
 fn take_line(
     alloc: Global,
     number: u32,
     line: &[u8],
-    cards: &mut Seq<Card>,
-    opened: Option<Open>,
-) -> Result<Option<Open>, NoMemory>
-    ensures { IfOk result (λ now. (rest : List (ℕ × List ℕ)) → cards.new ++ cards_behind now rest ≡ cards.old ++ cards_behind opened ((number, line.now) ∷ rest)) }
+    opened: &mut Option<Open>,
+) -> Result<Option<Card>, NoMemory>
+    ensures { IfOk result (λ card. (rest : List (ℕ × List ℕ)) → option_to_list card ++ cards_behind opened.new rest ≡ cards_behind opened.old ((number, line.now) ∷ rest)) }
 {
     let bytes = without_comment(line);
+    let so_far = opened.take();
     match before_backslash(bytes) {
         Some(front) => {
-            let now = add_line(alloc, number, front, opened)?;
-            Ok(Some(now))
-        }
-        None => {
-            take_last(alloc, number, bytes, cards, opened)?;
+            let now = add_line(alloc, number, front, so_far)?;
+            *opened = Some(now);
             Ok(None)
         }
+        None => {
+            let card = take_last(alloc, number, bytes, so_far)?;
+            Ok(card)
+        }
     }
 }
 
-/// Ends the card whose last line ends in `\`, if there is one.
+/// The card whose last line ends in `\`, if there is one that is not blank.
 #[tactic(auto, unfolding(crate::specs::Opened::cards_behind))]
-fn end_last(alloc: Global, cards: &mut Seq<Card>, opened: Option<Open>) -> Result<(), NoMemory>
-    ensures { OnOk result (cards.new ≡ cards.old ++ cards_behind opened []) }
+fn end_last(alloc: Global, opened: Option<Open>) -> Result<Option<Card>, NoMemory>
+    ensures { IfOk result (λ card. option_to_list card ≡ cards_behind opened []) }
 {
     match opened {
-        None => Ok(()),
-        Some(first) => add_card(alloc, cards, first.line, first.bytes.as_bytes()),
+        None => Ok(None),
+        Some(first) => worded(alloc, first.line, first.bytes.as_bytes()),
     }
 }
 
-/// The cards of a text, blank ones left out.
-pub fn read_cards(alloc: Global, text: &[u8]) -> Result<Seq<Card>, NoMemory>
-    requires { length text.now ≤ 16777216 }
-    ensures { IfOk result (λ cards. cards ≡ cards_of text.now) }
+/// A text as it is read from the front. No more than the lines that are to be joined with the next are kept of what is
+/// read.
+#[derive(Drop)]
+pub struct Reading<'a> {
+    /// The number of the next line, from 1.
+    pub number: u32,
+    /// The lines that are not read yet.
+    pub bytes: &'a [u8],
+    /// The lines that are to be joined with the next.
+    pub opened: Option<Open>,
+}
+
+/// The next card that is not blank, none behind the last.
+pub fn next_card(alloc: Global, reading: &mut Reading) -> Result<Option<Card>, NoMemory>
+    requires { reading.old.number + length reading.old.bytes.now < 2 ^ 32 }
+    ensures card { IfOk result (λ card. ComesFirst card (cards_left reading.old.number reading.old.bytes.now reading.old.opened) (cards_left reading.new.number reading.new.bytes.now reading.new.opened)) }
+    ensures room { reading.new.number + length reading.new.bytes.now ≤ reading.old.number + length reading.old.bytes.now }
 {
-    let lines = cut_lines(alloc, text)?;
-    let mut cards = Seq::new(alloc);
-    let mut opened = None;
-    let mut number = 0u32;
-    for line in &lines {
-        number += 1;
-        opened = take_line(alloc, number, line, &mut cards, opened)?;
+    'lines: while let Some((line, behind)) = first_line(reading.bytes) {
+        let number = reading.number;
+        reading.number = number + 1;
+        reading.bytes = behind;
+        let card = take_line(alloc, number, line, &mut reading.opened)?;
+        match card {
+            Some(card) => return Ok(Some(card)),
+            None => {}
+        }
     }
-    end_last(alloc, &mut cards, opened)?;
-    Ok(cards)
+    let opened = reading.opened.take();
+    let card = end_last(alloc, opened)?;
+    Ok(card)
 }

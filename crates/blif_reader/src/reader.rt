@@ -9,8 +9,7 @@ ghost use Rattle.blif_reader.specs.Refused.{fault_of};
 
 use crate::BlifFault;
 use crate::build::build;
-use crate::cards::read_cards;
-use crate::check::check_cards;
+use crate::check::read_cards;
 use std::alloc::Global;
 use vrt_model::Blif;
 
@@ -25,10 +24,7 @@ pub fn read_blif(alloc: Global, text: &[u8]) -> Result<Blif, BlifFault>
     // Refused only with the first fault, or for want of memory.
     ensures err { IfErr result (λ fault. (fault ≡ BlifFault.NoMemory) ⊎ IsFirst fault_of (cards_of text.now) fault) }
 {
-    let Ok(cards) = read_cards(alloc, text) else {
-        return Err(BlifFault::NoMemory);
-    };
-    check_cards(alloc, cards.as_slice())?;
+    let cards = read_cards(alloc, text)?;
     match build(alloc, cards.as_slice()) {
         Ok(blif) => Ok(blif),
         Err(_) => Err(BlifFault::NoMemory),
