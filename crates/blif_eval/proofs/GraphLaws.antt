@@ -79,17 +79,17 @@ shuts_not (Some false) false v e is = sym (same_Some false v is)
 
 -- ---- the graph
 
-map_at : (f : Driver → List ℕ) (drivers : List Driver) (n : ℕ) (d : Driver) → At drivers n d → sources_at (map f drivers) n ≡ f d
+pub map_at : (f : Driver → List ℕ) (drivers : List Driver) (n : ℕ) (d : Driver) → At drivers n d → sources_at (map f drivers) n ≡ f d
 map_at f [] n d e = absurd (none-some d e)
 map_at f (x ∷ drivers) zero d e = ap f (same_Some x d e)
 map_at f (x ∷ drivers) (suc n) d e = map_at f drivers n d e
 
-driver_from : (f : Driver → List ℕ) (drivers : List Driver) (n from : ℕ) → Among (sources_at (map f drivers) n) from → (d : Driver) × At drivers n d
+pub driver_from : (f : Driver → List ℕ) (drivers : List Driver) (n from : ℕ) → Among (sources_at (map f drivers) n) from → (d : Driver) × At drivers n d
 driver_from f [] n from m = absurd (none-some from m.1)
 driver_from f (x ∷ drivers) zero from m = (x, refl)
 driver_from f (x ∷ drivers) (suc n) from m = driver_from f drivers n from m
 
-map_size : (f : Driver → List ℕ) (drivers : List Driver) → length (map f drivers) ≡ length drivers
+pub map_size : (f : Driver → List ℕ) (drivers : List Driver) → length (map f drivers) ≡ length drivers
 map_size f [] = refl
 map_size f (x ∷ drivers) = ap suc (map_size f drivers)
 

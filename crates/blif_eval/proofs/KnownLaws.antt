@@ -1,19 +1,17 @@
 -- A table of known bits that grows cover by cover, until it has all.
-use Rattle.std.proofs.Common.{◌≡◌, ℕ, zero, suc, ◌+◌, ◌<◌, ◌≤◌, ◌++◌, ◌∷◌, [], Bool, true, false, List, Option, Some, None, length, get_or, set, arith, ap, subst, sym, refl, ◌∙◌, inl, inr}
+use Rattle.std.proofs.Common.{◌≡◌, ℕ, zero, suc, ◌+◌, ◌<◌, ◌++◌, ◌∷◌, [], Bool, true, false, List, Option, Some, None, length, set, arith, ap, subst, sym, refl, ◌∙◌, inl, inr}
 use Rattle.std.specs.Prelude.{is_none, is_some, unwrap_or}
-use Rattle.std.proofs.lemmas.Bool.{and_from, and_parts, cases_eq, cases_lt, true≢false}
+use Rattle.std.proofs.lemmas.Bool.{and_from, and_parts, cases_eq, true≢false}
 use Rattle.std.proofs.lemmas.List.{get_or-set_other, get_or-set_same, length-set}
-use Rattle.std.proofs.lemmas.List.Sums.{sum_by-set}
-use Rattle.std.proofs.lemmas.Option.{none-some, same_Some, slice_get_within, unwrap_or-slice_get}
+use Rattle.std.proofs.lemmas.Option.{none-some, same_Some, unwrap_or-slice_get}
 use Rattle.blif_eval.proofs.Drivers.{apart, covered_below, input_below, one_cover}
-use Rattle.blif_eval.specs.KnownBits.{AreKnown, HasLearned, IsDone, IsLearned, IsSpread, all_entries, bit_in, is_entry, missing, teaches, unknown}
+use Rattle.blif_eval.specs.KnownBits.{AreKnown, IsLearned, IsSpread, all_entries, bit_in, is_entry, teaches}
 use Rattle.blif_eval.specs.Plans.{entry_of}
 use Rattle.vrt_model.proofs.Assignments.{cover_same}
-use Rattle.vrt_model.proofs.Lists.{one_at}
 use Rattle.vrt_model.proofs.Members.{among_later}
 use Rattle.vrt_model.specs.Covers.{cover_bit}
 use Rattle.vrt_model.specs.FlatModels.{IsFlatModel}
-use Rattle.vrt_model.specs.Lists.{At, Among}
+use Rattle.vrt_model.specs.Lists.{Among}
 use Rattle.vrt_model.specs.ModelArcs.{IsKnownSignal, carries, covered}
 use Rattle.vrt_model.specs.declared.flat_model.Cover.{Cover}
 use Rattle.vrt_model.specs.declared.flat_model.FlatModel.{FlatModel}
@@ -21,7 +19,7 @@ use Rattle.vrt_model.specs.declared.flat_model.FlatModel.{FlatModel}
 -- ---- entries
 
 -- a known entry has the bit of the table
-entry_bit : (bits : List (Option Bool)) (s : ℕ) → is_entry bits s ≡ true → entry_of bits s ≡ Some (bit_in bits s)
+pub entry_bit : (bits : List (Option Bool)) (s : ℕ) → is_entry bits s ≡ true → entry_of bits s ≡ Some (bit_in bits s)
 entry_bit bits s e = by_entry (entry_of bits s) e
   where
     by_entry : (o : Option Bool) → is_some o ≡ true → o ≡ Some (unwrap_or o false)
@@ -31,15 +29,15 @@ entry_bit bits s e = by_entry (entry_of bits s) e
 bit_of : (bits : List (Option Bool)) (s : ℕ) (v : Bool) → entry_of bits s ≡ Some v → bit_in bits s ≡ v
 bit_of bits s v e = ap (λ (o : Option Bool). unwrap_or o false) e
 
-is_entry_of : (bits : List (Option Bool)) (s : ℕ) (v : Bool) → entry_of bits s ≡ Some v → is_entry bits s ≡ true
+pub is_entry_of : (bits : List (Option Bool)) (s : ℕ) (v : Bool) → entry_of bits s ≡ Some v → is_entry bits s ≡ true
 is_entry_of bits s v e = ap (λ (o : Option Bool). is_some o) e
 
-each_entry : (bits : List (Option Bool)) (xs : List ℕ) → all_entries bits xs ≡ true → (i : ℕ) → Among xs i → is_entry bits i ≡ true
+pub each_entry : (bits : List (Option Bool)) (xs : List ℕ) → all_entries bits xs ≡ true → (i : ℕ) → Among xs i → is_entry bits i ≡ true
 each_entry bits [] e i m = absurd (none-some i m.1)
 each_entry bits (x ∷ xs) e i (zero, at) = subst (λ (n : ℕ). is_entry bits n ≡ true) (same_Some x i at) (and_parts (is_entry bits x) (all_entries bits xs) e).0
 each_entry bits (x ∷ xs) e i (suc k, at) = each_entry bits xs (and_parts (is_entry bits x) (all_entries bits xs) e).1 i (k, at)
 
-entries_from : (bits : List (Option Bool)) (xs : List ℕ) → ((i : ℕ) → Among xs i → is_entry bits i ≡ true) → all_entries bits xs ≡ true
+pub entries_from : (bits : List (Option Bool)) (xs : List ℕ) → ((i : ℕ) → Among xs i → is_entry bits i ≡ true) → all_entries bits xs ≡ true
 entries_from bits [] each = refl
 entries_from bits (x ∷ xs) each = and_from (is_entry bits x) (all_entries bits xs) (each x (0, refl)) (entries_from bits xs (λ i m. each i (among_later x xs i m)))
 
@@ -73,7 +71,7 @@ module _ (flat : FlatModel) (model : IsFlatModel flat) (known bits new : List (O
   unfolding bit
   here = ap (λ (t : List (Option Bool)). entry_of t cover.output) learned.list ∙ entry_set bits cover.output (Some (cover_bit (bit_in bits) cover)) low
 
-  other : (k : ℕ) → (k ≡ cover.output → ⊥) → entry_of new k ≡ entry_of bits k
+  pub other : (k : ℕ) → (k ≡ cover.output → ⊥) → entry_of new k ≡ entry_of bits k
   other k ne = ap (λ (t : List (Option Bool)). entry_of t k) learned.list ∙ entry_other bits cover.output k (Some (cover_bit (bit_in bits) cover)) ne
 
   not_before : ¬ (is_entry bits cover.output ≡ true)
@@ -82,11 +80,15 @@ module _ (flat : FlatModel) (model : IsFlatModel flat) (known bits new : List (O
   stays : (k : ℕ) → is_entry bits k ≡ true → entry_of new k ≡ entry_of bits k
   stays k e = other k (λ is. not_before (subst (λ (n : ℕ). is_entry bits n ≡ true) is e))
 
-  stays_entry : (k : ℕ) → is_entry bits k ≡ true → is_entry new k ≡ true
+  pub stays_entry : (k : ℕ) → is_entry bits k ≡ true → is_entry new k ≡ true
   stays_entry k e = ap (λ (o : Option Bool). is_some o) (stays k e) ∙ e
 
   stays_bit : (k : ℕ) → is_entry bits k ≡ true → bit_in new k ≡ bit_in bits k
   stays_bit k e = ap (λ (o : Option Bool). unwrap_or o false) (stays k e)
+
+  -- what was learned is known
+  pub taught : is_entry new cover.output ≡ true
+  taught = is_entry_of new cover.output (cover_bit (bit_in bits) cover) (ap (λ (t : List (Option Bool)). entry_of t cover.output) learned.list ∙ entry_set bits cover.output (Some (cover_bit (bit_in bits) cover)) low)
 
   -- a cover that was known by what it reads still is
   still : (c : Cover) (v : Bool) → all_entries bits c.inputs ≡ true → v ≡ cover_bit (bit_in bits) c → (all_entries new c.inputs ≡ true) × (v ≡ cover_bit (bit_in new) c)
@@ -114,21 +116,6 @@ module _ (flat : FlatModel) (model : IsFlatModel flat) (known bits new : List (O
       | inr ne ↦ let old = spread.right c v m none (sym (other c.output ne) ∙ e) in still c v old.0 old.1
     ];
   }
-
--- what is learned is one entry more
-pub unknown_falls : (bits new : List (Option Bool)) (cover : Cover) → cover.output < length bits → IsLearned cover bits new → unknown new < unknown bits
-unknown_falls bits new cover low learned =
-    let v : Bool = cover_bit (bit_in bits) cover in
-    let sum = sum_by-set missing bits cover.output (Some v) None low in
-    let is : unknown new ≡ unknown (set bits cover.output (Some v)) = ap unknown learned.list in
-    let before : missing (get_or bits cover.output None) ≡ 1 =
-    ap missing (sym (unwrap_or-slice_get bits cover.output None) ∙ none_of (entry_of bits cover.output) learned.open_before) in
-    let after : missing (Some v) ≡ 0 = refl in
-    omega (arith, sum, is, before, after)
-  where
-    none_of : (o : Option Bool) → is_some o ≡ false → o ≡ None
-    none_of None e = refl
-    none_of (Some v) e = absurd (true≢false e)
 
 -- ---- the table at last
 
@@ -180,56 +167,3 @@ learned_of bits new cover v e is list =
     by_entry : (o : Option Bool) → is_none o ≡ true → is_some o ≡ false
     by_entry None e = refl
     by_entry (Some v) e = absurd (true≢false (sym e))
-
-module _ (flat : FlatModel) (model : IsFlatModel flat) (first old new : List (Option Bool)) (at : ℕ) (cover : Cover) (there : At flat.covers at cover) (before after : Bool)
-    (has : HasLearned cover old new before after) (size : length old ≡ length flat.signals + 1) where
-  output_low : cover.output < length old
-  output_low = let low = covered_below flat model cover (at, there) in omega (arith, low, size)
-
-  pub next_size : length new ≡ length flat.signals + 1
-  next_size = elim has [
-    | inl same ↦ ap (λ (t : List (Option Bool)). length t) same.1 ∙ size
-    | inr l ↦ ap (λ (t : List (Option Bool)). length t) l.1.list ∙ (length-set old cover.output (Some (cover_bit (bit_in old) cover)) ∙ size)
-  ]
-
-  pub next_spread : (known : List (Option Bool)) → IsSpread flat known old → IsSpread flat known new
-  next_spread known spread = elim has [
-    | inl same ↦ subst (IsSpread flat known) (sym same.1) spread
-    | inr l ↦ spread_more flat model known old new cover (at, there) spread l.1
-  ]
-
-  pub next_quiet : (before ≡ false → (old ≡ first) × ((i : ℕ) (c : Cover) → i < at → At flat.covers i c → IsDone first c))
-      → after ≡ false → (new ≡ first) × ((i : ℕ) (c : Cover) → i < at + 1 → At flat.covers i c → IsDone first c)
-  next_quiet quiet e = elim has [
-    | inl same ↦
-        let q = quiet (sym same.0 ∙ e) in (
-          same.1 ∙ q.0,
-          λ i c lt here. elim (cases_lt i at) [
-            | inl less ↦ q.1 i c less here
-            | inr le ↦
-                let place : i ≡ at = omega (arith, lt, le) in
-                let is : c ≡ cover = one_at flat.covers at c cover (subst (λ (n : ℕ). At flat.covers n c) place here) there in
-                subst (IsDone first) (sym is) (subst (λ (t : List (Option Bool)). IsDone t cover) q.0 same.2)
-          ],
-        )
-    | inr l ↦ absurd (true≢false (sym l.0 ∙ e))
-  ]
-
-  pub next_most : unknown old ≤ unknown first → unknown new ≤ unknown first
-  next_most most = elim has [
-    | inl same ↦ (let is : unknown new ≡ unknown old = ap unknown same.1 in omega (arith, is, most))
-    | inr l ↦ (let falls = unknown_falls old new cover output_low l.1 in omega (arith, falls, most))
-  ]
-
-  pub next_fewer : unknown old ≤ unknown first → (before ≡ true → unknown old < unknown first) → after ≡ true → unknown new < unknown first
-  next_fewer most fewer e = elim has [
-    | inl same ↦ (let is : unknown new ≡ unknown old = ap unknown same.1 in let less = fewer (sym same.0 ∙ e) in omega (arith, is, less))
-    | inr l ↦ (let falls = unknown_falls old new cover output_low l.1 in omega (arith, falls, most))
-  ]
-
--- a round in which nothing was learned
-pub round_done : (covers : List Cover) (first new : List (Option Bool)) (upto : ℕ) → length covers ≤ upto
-    → (new ≡ first) × ((i : ℕ) (c : Cover) → i < upto → At covers i c → IsDone first c) → (c : Cover) → Among covers c → IsDone new c
-round_done covers first new upto le q c m =
-    let within = slice_get_within covers m.0 c m.1 in
-    subst (λ (t : List (Option Bool)). IsDone t c) (sym q.0) (q.1 m.0 c (omega (arith, within, le)) m.1)

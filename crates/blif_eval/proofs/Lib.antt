@@ -8,6 +8,7 @@ pub mod FixedLaws
 pub mod LocalLaws
 pub mod OneAssignment
 pub mod GraphLaws
+pub mod LearningLaws
 pub mod EvalLaws
 pub mod OperationLaws
 pub mod RowLaws

@@ -1,5 +1,5 @@
 -- Bits that are known before a model is evaluated: those of clocks, and those of covers that read known bits alone.
-use Rattle.std.specs.Prelude.{◌≡◌, ℕ, ◌+◌, ◌&&◌, ◌⊎◌, Bool, true, false, List, length, set, sum_by, Option, Some, None, is_none, is_some, unwrap_or}
+use Rattle.std.specs.Prelude.{◌≡◌, ℕ, ◌+◌, ◌&&◌, ◌⊎◌, Bool, true, false, List, length, set, Option, Some, None, is_none, is_some, unwrap_or}
 use Rattle.std.specs.List.{list_all}
 use Rattle.blif_eval.specs.Plans.{entry_of}
 use Rattle.vrt_model.specs.Covers.{cover_bit}
@@ -41,19 +41,11 @@ pub record IsLearned (cover : Cover) (old new : List (Option Bool)) : Type 0 whe
   pub reads : all_entries old cover.inputs ≡ true
   pub list : new ≡ set old cover.output (Some (cover_bit (bit_in old) cover))
 
--- nothing was to be learned, and the mark stays; or the output became known, and the mark is set
-abbrev pub HasLearned : Cover → List (Option Bool) → List (Option Bool) → Bool → Bool → Type 0
-HasLearned cover old new before after = ((after ≡ before) × (new ≡ old) × IsDone old cover) ⊎ ((after ≡ true) × IsLearned cover old new)
+-- nothing was to be learned, or the output became known
+abbrev pub HasLearned : Cover → List (Option Bool) → List (Option Bool) → Type 0
+HasLearned cover old new = ((new ≡ old) × IsDone old cover) ⊎ IsLearned cover old new
 
 -- a table with all that is known
 pub record AreKnown (flat : FlatModel) (known bits : List (Option Bool)) : Type 0 where
   pub spread : IsSpread flat known bits
   pub done : (cover : Cover) → Among flat.covers cover → IsDone bits cover
-
--- how many entries are not known
-abbrev pub missing : Option Bool → ℕ
-missing None = 1
-missing (Some v) = 0
-
-abbrev pub unknown : List (Option Bool) → ℕ
-unknown bits = sum_by missing bits

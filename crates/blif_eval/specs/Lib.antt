@@ -1,6 +1,7 @@
 pub mod Drivers
 pub mod Evaluated
 pub mod KnownBits
+pub mod Learning
 pub mod OneAssignment
 pub mod Operations
 pub mod Plans

@@ -35,6 +35,14 @@ pub enum Driver {
     Element(Storage),
 }
 
+/// What gives a number its bit.
+pub(crate) fn driver_at(drivers: &[Driver], number: u32) -> Driver
+    requires { number < length drivers.now }
+    ensures { slice_get drivers.now number ≡ Some result }
+{
+    drivers[number as usize]
+}
+
 /// No signal has a driver yet.
 fn no_drivers(alloc: Global, signals: usize) -> Result<Vec<Driver>, NoMemory>
     ensures { IfOk result (λ drivers. drivers.items ≡ replicate signals Given) }

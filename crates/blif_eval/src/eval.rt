@@ -15,7 +15,7 @@ ghost use Rattle.vrt_model.specs.FlatModels.{IsControl, IsFlatModel};
 
 use crate::ModelPlan;
 use crate::cover::cover_diagram;
-use crate::driver_table::{Driver, Storage};
+use crate::driver_table::{Driver, Storage, driver_at};
 use bdd_core::{H, Spent, Store, ZERO};
 use node_pool::Span;
 use vrt_model::FlatModel;
@@ -123,14 +123,6 @@ fn value_by(
         Driver::Stored(last) => Ok(H(store.read(out, last))),
         Driver::Element(storage) => element(store, flat, storage, inputs, held, out),
     }
-}
-
-/// What gives a number its bit.
-fn driver_at(drivers: &[Driver], number: u32) -> Driver
-    requires { number < length drivers.now }
-    ensures { slice_get drivers.now number ≡ Some result }
-{
-    drivers[number as usize]
 }
 
 /// Writes the value of a number.

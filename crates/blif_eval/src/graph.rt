@@ -21,7 +21,7 @@ fn inputs_at(covers: &[Cover], place: usize) -> &[u32]
 }
 
 /// A copy of some numbers.
-fn copied(alloc: Global, numbers: &[u32]) -> Result<Seq<u32>, NoMemory>
+pub(crate) fn copied(alloc: Global, numbers: &[u32]) -> Result<Seq<u32>, NoMemory>
     ensures { IfOk result (λ copy. copy ≡ numbers.now) }
 {
     let mut copy = Seq::new(alloc);

@@ -1,17 +1,13 @@
-//! Which signals of a model have a known bit: those that are given one, and the outputs of covers that read known bits
-//! alone.
+//! What is known of the bits of a model's signals, and the output of a cover that reads known bits alone.
 
-ghost use Rattle.std.specs.Prelude.{All, ◌≡◌, ◌+◌, ◌<◌, ◌≤◌, ◌&&◌, ◌||◌, Bool, List, Option, Some, true, false, length, set, IfOk};
-ghost use Rattle.blif_eval.specs.KnownBits.{AreKnown, HasLearned, IsDone, IsLearned, IsSpread, all_entries, bit_in, is_entry, teaches, unknown};
+ghost use Rattle.std.specs.Prelude.{All, ◌≡◌, ◌+◌, ◌<◌, ◌&&◌, Option, Some, true, false, length, set};
+ghost use Rattle.blif_eval.specs.KnownBits.{HasLearned, all_entries, bit_in, is_entry, teaches};
 ghost use Rattle.blif_eval.specs.Plans.{entry_of};
 ghost use Rattle.vrt_model.specs.Covers.{byte_fits, cover_bit, row_fits, some_row_fits};
-ghost use Rattle.vrt_model.specs.FlatModels.{IsFlatModel, IsRow};
-ghost use Rattle.vrt_model.specs.Lists.{Among, is_empty};
-ghost use Rattle.vrt_model.specs.declared.flat_model.Cover.{Cover as CoverValue};
+ghost use Rattle.vrt_model.specs.FlatModels.{IsRow};
 
 use crate::cover::is_of_rows;
-use std::alloc::Global;
-use vrt_model::{Cover, FlatModel, NoMemory};
+use vrt_model::Cover;
 
 /// What a table of bits has at a place, and nothing past its end.
 pub(crate) fn entry(bits: &[Option<bool>], at: usize) -> Option<bool>
@@ -24,7 +20,7 @@ pub(crate) fn entry(bits: &[Option<bool>], at: usize) -> Option<bool>
 }
 
 /// Whether a signal has a bit.
-fn is_known(bits: &[Option<bool>], signal: u32) -> bool
+pub(crate) fn is_known(bits: &[Option<bool>], signal: u32) -> bool
     ensures { result ≡ is_entry bits.now signal }
 {
     entry(bits, signal as usize).is_some()
@@ -118,72 +114,15 @@ fn set_bit(bits: &mut Vec<Option<bool>>, signal: u32, bit: bool)
     bits[signal as usize] = Some(bit);
 }
 
-/// Learns the output of a cover, if all inputs are known and it is not, and sets the mark then.
-fn learn(bits: &mut Vec<Option<bool>>, cover: &Cover, mark: bool) -> bool
+/// Learns the output of a cover, if all inputs are known and it is not.
+pub(crate) fn learn(bits: &mut Vec<Option<bool>>, cover: &Cover)
     requires output { cover.now.output < length bits.old.items }
     requires rows { All (IsRow (length cover.now.inputs)) cover.now.rows }
-    ensures { HasLearned cover.now bits.old.items bits.new.items mark result }
+    ensures { HasLearned cover.now bits.old.items bits.new.items }
 {
     if !teaches(bits.as_slice(), cover) {
-        return mark;
+        return;
     }
     let bit = cover_bit(bits.as_slice(), cover);
     set_bit(bits, cover.output, bit);
-    true
-}
-
-/// Looks at each cover once, and tells whether something was learned.
-fn round(bits: &mut Vec<Option<bool>>, flat: &FlatModel) -> bool
-    requires model { IsFlatModel flat.now }
-    requires size { length bits.old.items ≡ length flat.now.signals + 1 }
-    ensures size { length bits.new.items ≡ length flat.now.signals + 1 }
-    ensures spread { (known : List (Option Bool)) → IsSpread flat.now known bits.old.items → IsSpread flat.now known bits.new.items }
-    ensures done { result ≡ false → (cover : CoverValue) → Among flat.now.covers cover → IsDone bits.new.items cover }
-    ensures fewer { result ≡ true → unknown bits.new.items < unknown bits.old.items }
-{
-    let mut mark = false;
-    for cover in flat.covers.as_slice() {
-        mark = learn(bits, cover, mark);
-    }
-    mark
-}
-
-/// Learns from the covers until no more is learned.
-fn spread(bits: &mut Vec<Option<bool>>, flat: &FlatModel)
-    requires model { IsFlatModel flat.now }
-    requires size { length bits.old.items ≡ length flat.now.signals + 1 }
-    ensures { (known : List (Option Bool)) → IsSpread flat.now known bits.old.items → AreKnown flat.now known bits.new.items }
-{
-    'rounds: loop {
-        let more = round(bits, flat);
-        if !more {
-            return;
-        }
-    }
-}
-
-/// A copy of a table of bits.
-fn copied(alloc: Global, bits: &[Option<bool>]) -> Result<Vec<Option<bool>>, NoMemory>
-    ensures { IfOk result (λ copy. copy.items ≡ bits.now) }
-{
-    match Vec::from_slice(alloc, bits) {
-        Ok(copy) => Ok(copy),
-        Err(_) => Err(NoMemory),
-    }
-}
-
-/// The bits of the signals that are known where some are given, and behind the signals that of the default clock, if it
-/// is given.
-pub(crate) fn known_bits(
-    alloc: Global,
-    flat: &FlatModel,
-    known: &[Option<bool>],
-) -> Result<Vec<Option<bool>>, NoMemory>
-    requires model { IsFlatModel flat.now }
-    requires size { length known.now ≡ length flat.now.signals + 1 }
-    ensures { IfOk result (λ bits. AreKnown flat.now known.now bits.items) }
-{
-    let mut bits = copied(alloc, known)?;
-    spread(&mut bits, flat);
-    Ok(bits)
 }

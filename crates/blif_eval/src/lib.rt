@@ -7,6 +7,7 @@ mod driver_table;
 mod eval;
 mod graph;
 mod known;
+mod learning;
 mod plan;
 
 pub use cover::cover_diagram;

@@ -7,7 +7,7 @@ ghost use Rattle.vrt_model.specs.FlatModels.{IsFlatModel};
 
 use crate::driver_table::{Driver, drivers_of};
 use crate::graph::graph_of;
-use crate::known::known_bits;
+use crate::learning::known_bits;
 use graphs::{Order, order_of};
 use std::alloc::Global;
 use vrt_model::{FlatModel, NoMemory, Seq};
@@ -53,7 +53,7 @@ fn planned(
     requires drivers { AreDrivers flat.now drivers.now }
     ensures { IfOk result (λ o. PlanGives flat.now known.now (plan_by drivers.now o)) }
 {
-    let bits = known_bits(alloc, flat, known)?;
+    let bits = known_bits(alloc, flat, known, drivers)?;
     let graph = graph_of(alloc, flat, bits.as_slice(), drivers)?;
     order_of(alloc, graph.as_slice())
 }

@@ -24,11 +24,11 @@ pub(crate) struct Waiter {
 
 /// The levels of a graph, and the order in which its numbers got them.
 #[derive(Drop)]
-pub(crate) struct Placing {
+pub struct Placing {
     /// The level of each number, 0 where it has none.
-    pub(crate) levels: Vec<usize>,
-    /// The numbers that have a level, each behind its sources.
-    pub(crate) steps: Seq<u32>,
+    pub levels: Vec<usize>,
+    /// The numbers that have a level, each once and behind its sources.
+    pub steps: Seq<u32>,
 }
 
 /// The level of a number, 0 where it has none.
@@ -289,8 +289,10 @@ fn all_listed(alloc: Global, count: usize) -> Result<Seq<Waiter>, NoMemory>
     Ok(queue)
 }
 
-/// Gives levels to the numbers of a graph, each after its sources.
-pub(crate) fn placing_of(alloc: Global, sources: &[Seq<u32>]) -> Result<Placing, NoMemory>
+/// The levels of a graph, by number, and an order of the numbers that have one, in which each stands behind its sources. A
+/// number on a cycle of arcs, or behind one, has none. Nothing but want of memory refuses, which a graph of more than 2^32
+/// numbers is too. Each arc is looked at twice.
+pub fn placing_of(alloc: Global, sources: &[Seq<u32>]) -> Result<Placing, NoMemory>
     requires { AreInside sources.now }
     ensures size { IfOk result (λ p. length p.levels.items ≡ length sources.now) }
     ensures levels { IfOk result (λ p. AreLevels sources.now p.levels.items) }

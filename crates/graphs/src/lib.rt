@@ -11,5 +11,5 @@ mod order;
 mod trail;
 
 pub use cycle::first_cycle;
-pub use levels::{all_levelled, levels_of};
+pub use levels::{Placing, all_levelled, levels_of, placing_of};
 pub use order::{Order, order_of};

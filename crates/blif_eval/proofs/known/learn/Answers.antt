@@ -1,4 +1,4 @@
-use Rattle.std.proofs.Common.{◌≡◌, Bool, Option, List, true, refl, subst, sym, ◌∙◌, inr}
+use Rattle.std.proofs.Common.{◌≡◌, Bool, Option, List, true, subst, sym, ◌∙◌, inr}
 use Rattle.blif_eval.proofs.KnownLaws.{learned_of}
 use Rattle.blif_eval.specs.KnownBits.{bit_in, teaches}
 use Rattle.vrt_model.specs.Covers.{cover_bit}
@@ -12,4 +12,4 @@ returns c =
     subst (λ (t : List (Option Bool)). teaches t cover ≡ true) c.as_slice.ensures.value (sym c.teaches.ensures ∙ c.if-not-teaches.false) in
     let is : c.cover_bit-bit.result ≡ cover_bit (bit_in bits) cover =
     subst (λ (t : List (Option Bool)). c.cover_bit-bit.result ≡ cover_bit (bit_in t) cover) c.as_slice-2.ensures.value c.cover_bit-bit.ensures in
-    inr (refl, learned_of bits c.set_bit.new.bits.items cover c.cover_bit-bit.result teaches_it is c.set_bit.ensures)
+    inr (learned_of bits c.set_bit.new.bits.items cover c.cover_bit-bit.result teaches_it is c.set_bit.ensures)
