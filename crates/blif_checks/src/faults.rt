@@ -1,5 +1,8 @@
 //! Why models are refused.
 
+ghost use Rattle.std.specs.Prelude.{◌≡◌, Some};
+ghost use Rattle.blif_checks.specs.Shown.{cause_of, fault_text, line_of};
+
 use std::fmt;
 use thiserror::Error;
 use vrt_model::Text;
@@ -26,7 +29,10 @@ pub enum ModelFault {
 
 impl ModelFault {
     /// Its line, if it has one, and what is wrong there.
-    fn said(&self) -> (Option<u32>, &'static str) {
+    fn said(&self) -> (Option<u32>, &'static str)
+        ensures line { result.0 ≡ line_of self.now }
+        ensures cause { result.1.now ≡ cause_of self.now }
+    {
         match self {
             ModelFault::UnknownModel { line, .. } => (Some(*line), "no such model"),
             ModelFault::Formals { line, .. } => (Some(*line), "tie does not fit"),
@@ -41,6 +47,8 @@ impl ModelFault {
 
 /// Shows the line and what is wrong there.
 impl fmt::Display for ModelFault {
+    ghost output = { λ fault. Some (fault_text fault) };
+
     fn fmt<W: fmt::Write>(&self, f: &mut fmt::Formatter<W>) -> fmt::Result {
         let (line, what) = self.said();
         match line {
@@ -52,6 +60,8 @@ impl fmt::Display for ModelFault {
 
 /// Shows what it says.
 impl fmt::Debug for ModelFault {
+    ghost debug_output = { λ fault. Some (fault_text fault) };
+
     fn fmt<W: fmt::Write>(&self, f: &mut fmt::Formatter<W>) -> fmt::Result {
         fmt::Display::fmt(self, f)
     }

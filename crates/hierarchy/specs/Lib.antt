@@ -1,3 +1,4 @@
+pub mod Shown
 pub mod Cards
 pub mod Chains
 pub mod Held

@@ -1,5 +1,9 @@
 //! Why cells have no order.
 
+ghost use Rattle.std.specs.Prelude.{Some};
+ghost use Rattle.std.specs.Fmt.{WritesOnOk};
+ghost use Rattle.hierarchy.specs.Shown.{behind_line, fault_text};
+
 use std::fmt;
 use thiserror::Error;
 use vrt_model::{Seq, Text};
@@ -23,12 +27,16 @@ pub enum HierFault {
 }
 
 /// Shows a line and what is wrong there.
-fn show<W: fmt::Write>(f: &mut fmt::Formatter<W>, line: u32, what: &str) -> fmt::Result {
+fn show<W: fmt::Write>(f: &mut fmt::Formatter<W>, line: u32, what: &str) -> fmt::Result
+    ensures { WritesOnOk W.write_str_gives f.old result (behind_line line what.now) f.new }
+{
     write!(f, "line {line}: {what}")
 }
 
 /// Shows the line and what is wrong there.
 impl fmt::Display for HierFault {
+    ghost output = { λ fault. Some (fault_text fault) };
+
     fn fmt<W: fmt::Write>(&self, f: &mut fmt::Formatter<W>) -> fmt::Result {
         match self {
             HierFault::UnknownCell { line, .. } => show(f, *line, "no such cell"),
@@ -45,6 +53,8 @@ impl fmt::Display for HierFault {
 
 /// Shows what it says.
 impl fmt::Debug for HierFault {
+    ghost debug_output = { λ fault. Some (fault_text fault) };
+
     fn fmt<W: fmt::Write>(&self, f: &mut fmt::Formatter<W>) -> fmt::Result {
         fmt::Display::fmt(self, f)
     }
