@@ -1,0 +1,144 @@
+-- What a shut set of nets shows depends on the gates of its devices alone, so known nets stand.
+use Rattle.std.proofs.Common.{◌≡◌, ℕ, Bool, true, arith, subst, sym, refl, ◌∙◌, ap, inl, inr}
+use Rattle.vrt_model.proofs.Bounded.{response_inside}
+use Rattle.vrt_model.proofs.Laws.{turned}
+use Rattle.vrt_model.proofs.Lists.{at_map}
+use Rattle.vrt_model.proofs.Locality.{fixed_given}
+use Rattle.vrt_model.proofs.Members.{all_among}
+use Rattle.vrt_model.proofs.Networks.{given_source, network_levels}
+use Rattle.vrt_model.proofs.Ranked.{plain_not_given}
+use Rattle.vrt_model.specs.Circuits.{IsHold}
+use Rattle.vrt_model.specs.Known.{HasFixedBit, IsFixed, IsPlain, IsShut, fixed, settled}
+use Rattle.vrt_model.specs.Lists.{Among}
+use Rattle.vrt_model.specs.Networks.{Covers, HasRanges}
+use Rattle.vrt_model.specs.Path.{IsHoldRoot, IsOutputRoot, IsRoot, Joins, Network, Root}
+use Rattle.vrt_model.specs.Reading.{HasGivenBit, IsReading, conducts_at, devices_of}
+use Rattle.vrt_model.specs.Response.{IsResponse, Shows}
+use Rattle.vrt_model.specs.State.{OutputPin, State, network_of, output_pins}
+use Rattle.vrt_model.specs.declared.circuit.Circuit.{Circuit}
+use Rattle.vrt_model.specs.declared.circuit.Device.{Device}
+use Rattle.vrt_model.specs.declared.circuit.NetKind.{NetKind}
+use Rattle.vrt_model.specs.declared.circuit.NetKind.TheVariants.{Supply, Clock, Input, Plain}
+use Rattle.vrt_model.specs.declared.rules.Phase.{Phase}
+use Rattle.vrt_model.specs.declared.whole.WholePin.{WholePin}
+use Rattle.whole_ranks.proofs.OutputPins.{pin_of_whole}
+use Rattle.whole_ranks.proofs.SourceLaws.{source_shows}
+use Rattle.whole_ranks.specs.KnownNets.{AreOutputsPlain, KnownNetsAreSolved, KnownNetsShow}
+
+fixed_bit : (phase : Phase) (inputs : ℕ → Bool) (n : ℕ) (kind : NetKind) (v bit : Bool) → HasFixedBit phase kind v → HasGivenBit phase inputs kind n bit → bit ≡ v
+fixed_bit phase inputs n (Supply value) v bit h g = g ∙ sym h
+fixed_bit phase inputs n (Clock clock) v bit h g = g ∙ sym h
+fixed_bit phase inputs n Input v bit h g = absurd h
+fixed_bit phase inputs n Plain v bit h g = absurd h
+
+-- a fixed net has its bit in each reading
+fixed_reads : (c : Circuit) (phase : Phase) (inputs reading : ℕ → Bool) → IsReading c phase inputs reading → (n : ℕ) (v : Bool) → IsFixed c phase n v → reading n ≡ v
+fixed_reads c phase inputs reading is n v f = fixed_bit phase inputs n f.0.kind v (reading n) f.2 (is n f.0 f.1)
+
+-- a supply or a clock port is no plain net
+pub fixed_not_plain : (c : Circuit) (phase : Phase) (n : ℕ) (v : Bool) → IsFixed c phase n v → IsPlain c n → ⊥
+fixed_not_plain c phase n v f plain = plain_not_given c n plain (f.0, f.1, fixed_given phase f.0.kind v f.2)
+
+module _ (c : Circuit) (phase : Phase) (ranges : HasRanges c) (plain_outputs : AreOutputsPlain c) where
+  abbrev view : (ℕ → Bool) → State → Network
+  view held s = network_of c true held s
+
+  -- the net of a root at an output pin is plain
+  output_plain : (held : ℕ → Bool) (s : State) (root : Root) → IsOutputRoot (view held s) root → IsPlain c root.net
+  output_plain held s root o =
+      let out = at_map (λ (x : OutputPin). x.pin) (output_pins c) o.0 o.1 o.2 in
+      let from = pin_of_whole c out.0 (o.0, out.1) in
+      subst (IsPlain c) (ap (λ (p : WholePin). p.net.0) out.2 ∙ sym o.3) (plain_outputs out.0.whole out.0.pin from.0 from.1)
+
+  -- no hold has the level of sources
+  hold_below : (held : ℕ → Bool) (s : State) (root : Root) → IsHoldRoot (view held s) root → root.level ≡ 8 → ⊥
+  hold_below held s root h top = let same = h.4 in let le = (all_among (IsHold c) c.holds h.1 ranges.holds (h.0, h.2)).size.1 in omega (arith, top, same, le)
+
+  -- a root of the source level at a fixed net has the net's bit
+  fixed_root : (inputs held : ℕ → Bool) (s : State) → IsReading c phase inputs s.reading → (n : ℕ) (v : Bool) → IsFixed c phase n v
+      → (root : Root) → IsRoot (view held s) root → root.net ≡ n → root.level ≡ 8 → root.value ≡ v
+  fixed_root inputs held s is n v f root r e top =
+      elim r [
+        | inl g ↦ g.4 ∙ ap s.reading e ∙ fixed_reads c phase inputs s.reading is n v f
+        | inr other ↦ elim other [
+          | inl h ↦ absurd (hold_below held s root h top)
+          | inr o ↦ absurd (fixed_not_plain c phase n v f (subst (IsPlain c) e (output_plain held s root o)))
+        ]
+      ]
+
+  -- a supply or a clock port shows its bit
+  fixed_shows : (inputs held : ℕ → Bool) (s : State) → IsReading c phase inputs s.reading → (n : ℕ) (v : Bool) → IsFixed c phase n v → IsResponse (view held s) n (Shows v)
+  fixed_shows inputs held s is n v f =
+      source_shows (view held s) (network_levels c true held s ranges) n v (given_source c true held s ranges n f.0 f.1 (fixed_given phase f.0.kind v f.2))
+      (fixed_root inputs held s is n v f)
+
+  -- a shut set, and two networks of the circuit with the same bits at the gates of its devices
+  module _ (inside : ℕ → Bool) where
+    abbrev IsInside : ℕ → Type 0
+    IsInside n = inside n ≡ true
+
+    abbrev IsEdge : ℕ → Type 0
+    IsEdge n = (v : Bool) × IsFixed c phase n v
+
+    abbrev SameGates : (ℕ → Bool) → (ℕ → Bool) → Type 0
+    SameGates r q = (m l : ℕ) (d : Device) → inside m ≡ true → Among (devices_of true c) d → Joins d m l → r d.gate.0 ≡ q d.gate.0
+
+    no_root_inside : (reading held : ℕ → Bool) (s : State) → IsShut c phase inside reading → (root : Root) → IsRoot (view held s) root → inside root.net ≡ true → ⊥
+    no_root_inside reading held s shut root r ins =
+        let at = shut.plain root.net ins in
+        elim r [
+          | inl g ↦ plain_not_given c root.net at.0 (g.0, g.1, g.2)
+          | inr other ↦ elim other [
+            | inl h ↦ at.1 (h.1, (h.0, h.2), sym h.3)
+            | inr o ↦
+                let out = at_map (λ (x : OutputPin). x.pin) (output_pins c) o.0 o.1 o.2 in
+                let from = pin_of_whole c out.0 (o.0, out.1) in
+                at.2 (out.0.whole, out.0.pin, from.0, from.1, ap (λ (p : WholePin). p.net.0) out.2 ∙ sym o.3)
+          ]
+        ]
+
+    covers : (held kept inputs others : ℕ → Bool) (s t : State) → IsShut c phase inside s.reading → IsReading c phase inputs s.reading → IsReading c phase others t.reading
+        → SameGates s.reading t.reading → Covers (view held s) (view kept t) IsInside IsEdge
+    covers held kept inputs others s t shut is it same = record {
+      source = refl;
+      roots = λ root r at. elim at [
+        | inl ins ↦ absurd (no_root_inside s.reading held s shut root r ins)
+        | inr e ↦
+            let net = e.0.1.0 in
+            let value : t.reading root.net ≡ e.0.0 = fixed_reads c phase others t.reading it root.net e.0.0 e.0.1 in
+            inl (net, e.0.1.1, fixed_given phase net.kind e.0.0 e.0.1.2, e.1, fixed_root inputs held s is root.net e.0.0 e.0.1 root r refl e.1 ∙ sym value)
+      ];
+      devices = λ m n d on j ins. (on.0, subst (λ (b : Bool). conducts_at d.kind b ≡ true) (same n m d ins on.0 (turned d m n j)) on.1);
+      bounded = λ m n d on j ins. shut.joined n m d ins on.0 (turned d m n j) on.1;
+      edge = λ n e. given_source c true held s ranges n e.1.0 e.1.1 (fixed_given phase e.1.0.kind e.0 e.1.2);
+    }
+
+    closed : (r q : ℕ → Bool) → IsShut c phase inside r → SameGates r q → IsShut c phase inside q
+    closed r q shut same = record {
+      plain = shut.plain;
+      joined = λ n m d ins a j on. shut.joined n m d ins a j (subst (λ (b : Bool). conducts_at d.kind b ≡ true) (sym (same n m d ins a j)) on);
+    }
+
+    -- a net of the set shows the same in both
+    shows_there : (held kept inputs others : ℕ → Bool) (s t : State) → IsShut c phase inside s.reading → IsReading c phase inputs s.reading → IsReading c phase others t.reading
+        → SameGates s.reading t.reading → (n : ℕ) (v : Bool) → inside n ≡ true → IsResponse (view held s) n (Shows v) → IsResponse (view kept t) n (Shows v)
+    shows_there held kept inputs others s t shut is it same n v ins h =
+        let back : SameGates t.reading s.reading = λ m l d i a j. sym (same m l d i a j) in
+        response_inside (view held s) (view kept t) IsInside IsEdge (network_levels c true held s ranges) (network_levels c true kept t ranges)
+        (covers held kept inputs others s t shut is it same)
+        (covers kept held others inputs t s (closed s.reading t.reading shut same) it is back) n (Shows v) ins h
+
+pub known_nets_show : KnownNetsShow
+known_nets_show c phase setting s ranges plain_outputs is gates_known n v (fixed f) = fixed_shows c phase ranges plain_outputs setting.inputs setting.held s is.reading n v f
+known_nets_show c phase setting s ranges plain_outputs is gates_known n v (settled inside r held driven shut ins own gates shows) =
+    shows_there c phase ranges plain_outputs inside held setting.held r setting.inputs (record { reading = r; driven = driven }) s shut own is.reading
+    (λ m l d i a j. sym (gates_known d (r d.gate.0) a (gates m l d i a j))) n v ins shows
+
+pub known_nets_are_solved : KnownNetsAreSolved
+known_nets_are_solved c phase observed setting a ranges plain_outputs seen_gates solves n v (fixed f) seen =
+    (solves n v seen).1 (λ s is agrees. fixed_shows c phase ranges plain_outputs setting.inputs setting.held s is.reading n v f)
+known_nets_are_solved c phase observed setting a ranges plain_outputs seen_gates solves n v (settled inside r held driven shut ins own gates shows) seen =
+    (solves n v seen).1 (λ s is agrees.
+    shows_there c phase ranges plain_outputs inside held setting.held r setting.inputs (record { reading = r; driven = driven }) s shut own is.reading
+    (λ m l d i at j. sym (agrees d.gate.0 (r d.gate.0) (seen_gates d at)
+    (known_nets_are_solved c phase observed setting a ranges plain_outputs seen_gates solves d.gate.0 (r d.gate.0) (gates m l d i at j) (seen_gates d at)))) n v ins shows)

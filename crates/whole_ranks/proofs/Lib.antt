@@ -1,0 +1,4 @@
+pub mod ArcsToKnown
+pub mod KnownLaws
+pub mod OutputPins
+pub mod SourceLaws

@@ -1,0 +1,7 @@
+//! Laws of circuits with whole instances, in which the models of checked cells stand for the cells: which nets are known,
+//! whose arcs have ranks, and that there is one solution. Laws alone, each the contract of a function that does nothing.
+#![tactic(auto)]
+
+mod known;
+
+pub use known::{known_nets_are_solved, known_nets_show, no_arcs_to_known_nets};
