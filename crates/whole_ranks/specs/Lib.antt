@@ -1,1 +1,2 @@
 pub mod KnownNets
+pub mod Ranks

@@ -1,7 +1,9 @@
 //! Laws of circuits with whole instances, in which the models of checked cells stand for the cells: which nets are known,
-//! whose arcs have ranks, and that there is one solution. Laws alone, each the contract of a function that does nothing.
+//! when nets have ranks, and that there is one solution. Laws alone, each the contract of a function that does nothing.
 #![tactic(auto)]
 
 mod known;
+mod ranks;
 
 pub use known::{known_nets_are_solved, known_nets_show, no_arcs_to_known_nets};
+pub use ranks::{acyclic_nets_have_ranks, ranked_nets_are_acyclic};
