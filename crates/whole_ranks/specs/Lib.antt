@@ -1,2 +1,3 @@
 pub mod KnownNets
 pub mod Ranks
+pub mod Solved

@@ -4,6 +4,10 @@
 
 mod known;
 mod ranks;
+mod solved;
 
-pub use known::{known_nets_are_solved, known_nets_show, no_arcs_to_known_nets};
+pub use known::{known_nets_are_solved, known_nets_show, known_nets_stand, no_arcs_to_known_nets};
 pub use ranks::{acyclic_nets_have_ranks, ranked_nets_are_acyclic};
+pub use solved::{
+    acyclic_nets_have_one_solution, ranked_nets_have_drives, ranked_nets_have_one_solution,
+};
