@@ -1,7 +1,10 @@
 pub mod ArcsToKnown
 pub mod ChainRanks
+pub mod CoverLaws
 pub mod DriveLaws
+pub mod IdleLaws
 pub mod KnownLaws
+pub mod LogicLaws
 pub mod OutputPins
 pub mod RankLaws
 pub mod SolvedLaws

@@ -1,3 +1,5 @@
+pub mod Idle
 pub mod KnownNets
+pub mod Logic
 pub mod Ranks
 pub mod Solved
