@@ -3,3 +3,4 @@ pub mod KnownNets
 pub mod Logic
 pub mod Ranks
 pub mod Solved
+pub mod WholeCells

@@ -8,6 +8,7 @@ mod known;
 mod logic;
 mod ranks;
 mod solved;
+mod whole_cells;
 
 pub use idle::idle_inputs_change_nothing;
 pub use known::{known_nets_are_solved, known_nets_show, known_nets_stand, no_arcs_to_known_nets};
@@ -16,3 +17,4 @@ pub use ranks::{acyclic_nets_have_ranks, ranked_nets_are_acyclic};
 pub use solved::{
     acyclic_nets_have_one_solution, ranked_nets_have_drives, ranked_nets_have_one_solution,
 };
+pub use whole_cells::whole_cells_are_determined;
