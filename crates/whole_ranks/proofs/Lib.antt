@@ -7,6 +7,7 @@ pub mod IdleLaws
 pub mod KnownLaws
 pub mod LogicLaws
 pub mod OutputPins
+pub mod PlaceLaws
 pub mod RankLaws
 pub mod SolvedLaws
 pub mod SourceLaws

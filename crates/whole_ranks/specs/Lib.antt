@@ -4,3 +4,4 @@ pub mod Logic
 pub mod Ranks
 pub mod Solved
 pub mod WholeCells
+pub mod WholePlaces

@@ -17,4 +17,4 @@ pub use ranks::{acyclic_nets_have_ranks, ranked_nets_are_acyclic};
 pub use solved::{
     acyclic_nets_have_one_solution, ranked_nets_have_drives, ranked_nets_have_one_solution,
 };
-pub use whole_cells::whole_cells_are_determined;
+pub use whole_cells::{whole_cells_are_determined, whole_places_stand_for_cells};
