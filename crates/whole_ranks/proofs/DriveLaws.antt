@@ -14,7 +14,7 @@ use Rattle.whole_ranks.proofs.OutputPins.{pin_of_whole}
 use Rattle.whole_ranks.specs.Solved.{AreDetermined, RankedNetsHaveDrives}
 
 -- two bits that are not different are the same
-same_bits : (u v : Bool) → ((u ≡ v → ⊥) → ⊥) → u ≡ v
+pub same_bits : (u v : Bool) → ((u ≡ v → ⊥) → ⊥) → u ≡ v
 same_bits true true h = refl
 same_bits true false h = absurd (h (λ e. cc))
 same_bits false true h = absurd (h (λ e. cc))

@@ -1,6 +1,7 @@
 -- What a shut set of nets shows depends on the gates of its devices alone, so known nets stand.
 use Rattle.std.proofs.Common.{◌≡◌, ℕ, Bool, true, arith, subst, sym, refl, ◌∙◌, ap, inl, inr}
 use Rattle.vrt_model.proofs.Bounded.{response_inside}
+use Rattle.vrt_model.proofs.GatesGiven.{IsGiven}
 use Rattle.vrt_model.proofs.Laws.{turned}
 use Rattle.vrt_model.proofs.Lists.{at_map}
 use Rattle.vrt_model.proofs.Locality.{fixed_given}
@@ -54,23 +55,26 @@ module _ (c : Circuit) (phase : Phase) (ranges : HasRanges c) (plain_outputs : A
   hold_below : (held : ℕ → Bool) (s : State) (root : Root) → IsHoldRoot (view held s) root → root.level ≡ 8 → ⊥
   hold_below held s root h top = let same = h.4 in let le = (all_among (IsHold c) c.holds h.1 ranges.holds (h.0, h.2)).size.1 in omega (arith, top, same, le)
 
-  -- a root of the source level at a fixed net has the net's bit
-  fixed_root : (inputs held : ℕ → Bool) (s : State) → IsReading c phase inputs s.reading → (n : ℕ) (v : Bool) → IsFixed c phase n v
-      → (root : Root) → IsRoot (view held s) root → root.net ≡ n → root.level ≡ 8 → root.value ≡ v
-  fixed_root inputs held s is n v f root r e top =
+  -- a root of the source level at a net with a given value has the net's bit
+  given_root : (held : ℕ → Bool) (s : State) (n : ℕ) → IsGiven c n → (root : Root) → IsRoot (view held s) root → root.net ≡ n → root.level ≡ 8 → root.value ≡ s.reading n
+  given_root held s n given root r e top =
       elim r [
-        | inl g ↦ g.4 ∙ ap s.reading e ∙ fixed_reads c phase inputs s.reading is n v f
+        | inl g ↦ g.4 ∙ ap s.reading e
         | inr other ↦ elim other [
           | inl h ↦ absurd (hold_below held s root h top)
-          | inr o ↦ absurd (fixed_not_plain c phase n v f (subst (IsPlain c) e (output_plain held s root o)))
+          | inr o ↦ absurd (plain_not_given c n (subst (IsPlain c) e (output_plain held s root o)) given)
         ]
       ]
 
-  -- a supply or a clock port shows its bit
+  -- a net with a given value shows it
+  pub given_shows : (held : ℕ → Bool) (s : State) (n : ℕ) → IsGiven c n → IsResponse (view held s) n (Shows (s.reading n))
+  given_shows held s n given =
+      source_shows (view held s) (network_levels c true held s ranges) n (s.reading n) (given_source c true held s ranges n given.0 given.1 given.2) (given_root held s n given)
+
+  -- and so does a supply or a clock port
   fixed_shows : (inputs held : ℕ → Bool) (s : State) → IsReading c phase inputs s.reading → (n : ℕ) (v : Bool) → IsFixed c phase n v → IsResponse (view held s) n (Shows v)
   fixed_shows inputs held s is n v f =
-      source_shows (view held s) (network_levels c true held s ranges) n v (given_source c true held s ranges n f.0 f.1 (fixed_given phase f.0.kind v f.2))
-      (fixed_root inputs held s is n v f)
+      subst (λ (b : Bool). IsResponse (view held s) n (Shows b)) (fixed_reads c phase inputs s.reading is n v f) (given_shows held s n (f.0, f.1, fixed_given phase f.0.kind v f.2))
 
   -- a shut set, and two networks of the circuit with the same bits at the gates of its devices
   module _ (inside : ℕ → Bool) where
@@ -104,9 +108,10 @@ module _ (c : Circuit) (phase : Phase) (ranges : HasRanges c) (plain_outputs : A
       roots = λ root r at. elim at [
         | inl ins ↦ absurd (no_root_inside s.reading held s shut root r ins)
         | inr e ↦
-            let net = e.0.1.0 in
-            let value : t.reading root.net ≡ e.0.0 = fixed_reads c phase others t.reading it root.net e.0.0 e.0.1 in
-            inl (net, e.0.1.1, fixed_given phase net.kind e.0.0 e.0.1.2, e.1, fixed_root inputs held s is root.net e.0.0 e.0.1 root r refl e.1 ∙ sym value)
+            let given : IsGiven c root.net = (e.0.1.0, e.0.1.1, fixed_given phase e.0.1.0.kind e.0.0 e.0.1.2) in
+            let here = fixed_reads c phase inputs s.reading is root.net e.0.0 e.0.1 in
+            let value = fixed_reads c phase others t.reading it root.net e.0.0 e.0.1 in
+            inl (given.0, given.1, given.2, e.1, given_root held s root.net given root r refl e.1 ∙ here ∙ sym value)
       ];
       devices = λ m n d on j ins. (on.0, subst (λ (b : Bool). conducts_at d.kind b ≡ true) (same n m d ins on.0 (turned d m n j)) on.1);
       bounded = λ m n d on j ins. shut.joined n m d ins on.0 (turned d m n j) on.1;

@@ -1,6 +1,7 @@
 pub mod ArcsToKnown
 pub mod ChainRanks
 pub mod CoverLaws
+pub mod DefinedLaws
 pub mod DeterminedLaws
 pub mod DriveLaws
 pub mod IdleLaws

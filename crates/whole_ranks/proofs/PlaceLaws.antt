@@ -158,15 +158,27 @@ module _ (cut : Cut) (blif : Blif) (facts : List CellFacts) (p : NumberedPlace) 
   outputs_are : outputs_of_place cut.top blif facts p ≡ outputs_by cut blif facts p (Model m)
   outputs_are = ap (outputs_by cut blif facts p) paired
 
+  abbrev settled : OutputAt → WholePin
+  settled o = settled_drive (checked_devices cut) (all_outputs cut blif facts) o
+
   -- an output of the instance is an output of the cell
+  pin_of_output : (o : OutputAt) → Among (outputs_of_place cut.top blif facts p) o → IsOutputOf (pins_of k p.at) o.pin
+  pin_of_output o n =
+      from (among_map (λ (q : ℕ × WholePin). let one : OutputAt = record { instance = p.number; output = q.0; pin = q.1 } in one)
+      (enumerate_from 0 (driven_pins facts k p.at)) o (subst (λ (os : List OutputAt). Among os o) outputs_are n))
+    where
+      from : (q : ℕ × WholePin) × Among (enumerate_from 0 (driven_pins facts k p.at)) q × ((let one : OutputAt = record { instance = p.number; output = q.0; pin = q.1 } in one) ≡ o)
+          → IsOutputOf (pins_of k p.at) o.pin
+      from (q, m, e) =
+          subst (λ (x : OutputAt). IsOutputOf (pins_of k p.at) x.pin) e
+          (output_of_port facts p.at.cell 0 (pins_of k p.at) q.1 (among_enumerated 0 (driven_pins facts k p.at) q m))
+
   output_pin : (pin : WholePin) → Among w.outputs pin → IsOutputOf (pins_of k p.at) pin
   output_pin pin n =
-      let there = subst (λ (ps : List WholePin). Among ps pin) (sym (ap (λ (x : Whole). x.outputs) made_is)) n in
-      let settled = among_map (settled_drive (checked_devices cut) (all_outputs cut blif facts)) (outputs_of_place cut.top blif facts p) pin there in
-      let place = among_map (λ (q : ℕ × WholePin). let one : OutputAt = record { instance = p.number; output = q.0; pin = q.1 } in one)
-      (enumerate_from 0 (driven_pins facts k p.at)) settled.0 (subst (λ (os : List OutputAt). Among os settled.0) outputs_are settled.1) in
-      let found = output_of_port facts p.at.cell 0 (pins_of k p.at) place.0.1 (among_enumerated 0 (driven_pins facts k p.at) place.0 place.1) in
-      (found.0, found.1, found.2 ∙ ap (λ (o : OutputAt). Some o.pin.signal) place.2 ∙ ap (λ (x : WholePin). Some x.signal) settled.2)
+      from (among_map settled (outputs_of_place cut.top blif facts p) pin (subst (λ (ps : List WholePin). Among ps pin) (sym (ap (λ (x : Whole). x.outputs) made_is)) n))
+    where
+      from : (o : OutputAt) × Among (outputs_of_place cut.top blif facts p) o × (settled o ≡ pin) → IsOutputOf (pins_of k p.at) pin
+      from (o, m, e) = subst (IsOutputOf (pins_of k p.at)) e (pin_of_output o m)
 
   input_pin_of : (pin : WholePin) → Among w.inputs pin → (q : Pin) × Among (pins_of k p.at) q × (q.net ≡ pin.net) × (input_signal q.port.role ≡ Some pin.signal)
   input_pin_of pin n =

@@ -1,3 +1,4 @@
+pub mod Defined
 pub mod Idle
 pub mod KnownNets
 pub mod Logic

@@ -3,6 +3,7 @@
 //! contract of a function that does nothing.
 #![tactic(auto)]
 
+mod defined;
 mod idle;
 mod known;
 mod logic;
@@ -10,6 +11,7 @@ mod ranks;
 mod solved;
 mod whole_cells;
 
+pub use defined::{settled_nets_respond, solutions_are_defined};
 pub use idle::idle_inputs_change_nothing;
 pub use known::{known_nets_are_solved, known_nets_show, known_nets_stand, no_arcs_to_known_nets};
 pub use logic::{logic_has_assignments, signals_follow_covers};
