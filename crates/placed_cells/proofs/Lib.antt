@@ -1,1 +1,2 @@
 pub mod DepthLaws
+pub mod RowLaws

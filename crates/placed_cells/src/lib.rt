@@ -3,5 +3,7 @@
 #![tactic(auto)]
 
 mod depths;
+mod rows;
 
 pub use depths::ordered_is_within_depth;
+pub use rows::{own_nets_are_apart, own_nets_are_listed, places_are_in_row};
