@@ -22,13 +22,13 @@ use Rattle.vrt_model.specs.declared.pairing.PortRole.{PortRole}
 -- ---- names
 
 -- a name that has a place in a list is in the list
-place_among : (names : List (List ℕ)) (name : List ℕ) (k : ℕ) → place_of names name ≡ Some k → Among names name
+pub place_among : (names : List (List ℕ)) (name : List ℕ) (k : ℕ) → place_of names name ≡ Some k → Among names name
 place_among names name k e =
     let h = position-Some (bytes_eq name) names k [] e in
     let there = slice_get-get_or names k [] h.0 in
     (k, there ∙ ap (λ (x : List ℕ). Some x) (sym ((bytes_eq-Decides name _).0 h.1)))
 
-among_name : (names : List (List ℕ)) (name : List ℕ) → Among names name → has_name names name ≡ true
+pub among_name : (names : List (List ℕ)) (name : List ℕ) → Among names name → has_name names name ≡ true
 among_name names name m = among_any (bytes_eq name) names name m ((bytes_eq-Decides name name).1 refl)
 
 -- the place of a name that is in a list
@@ -44,7 +44,7 @@ prefix_below {X} p (x ∷ xs) h = by_test (p x) refl (λ more. prefix_below p xs
         let next : 1 + position_or_len p xs < suc (length xs) = omega (arith, lt) in
         subst (λ (c : Bool). cond (not c) (1 + position_or_len p xs) 0 < suc (length xs)) (sym e) next
 
-name_placed : (names : List (List ℕ)) (name : List ℕ) → has_name names name ≡ true → (k : ℕ) × (place_of names name ≡ Some k)
+pub name_placed : (names : List (List ℕ)) (name : List ℕ) → has_name names name ≡ true → (k : ℕ) × (place_of names name ≡ Some k)
 name_placed names name h = within (position_or_len (bytes_eq name) names) (length names) (prefix_below (bytes_eq name) names h)
   where
     within : (n count : ℕ) → n < count → (k : ℕ) × (cond (nat_lt n count) (Some n) None ≡ Some k)

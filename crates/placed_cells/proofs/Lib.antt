@@ -1,2 +1,4 @@
+pub mod AwayLaws
 pub mod DepthLaws
 pub mod RowLaws
+pub mod SplitLaws

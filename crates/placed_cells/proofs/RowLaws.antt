@@ -61,7 +61,7 @@ module _ (t : Top) where
 
   -- ---- the places in a place
 
-  abbrev cards_size : ℕ → List InstanceCard → ℕ
+  abbrev pub cards_size : ℕ → List InstanceCard → ℕ
   cards_size depth cards = sum_by (λ (i : InstanceCard). size_inside t depth (cell_named t.design i.cell)) cards
 
   -- those of some instances

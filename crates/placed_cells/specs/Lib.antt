@@ -1,2 +1,3 @@
 pub mod Depths
 pub mod Rows
+pub mod Splits

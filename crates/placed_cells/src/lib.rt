@@ -4,6 +4,8 @@
 
 mod depths;
 mod rows;
+mod splits;
 
 pub use depths::ordered_is_within_depth;
 pub use rows::{own_nets_are_apart, own_nets_are_listed, places_are_in_row};
+pub use splits::places_in_stand_together;

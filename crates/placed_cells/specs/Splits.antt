@@ -1,0 +1,36 @@
+-- The places in a place stand together among all places, and no other place names their own nets.
+use Rattle.std.specs.Prelude.{◌≡◌, ℕ, ◌+◌, ◌<◌, ◌≤◌, ◌⊎◌, Bool, true, ◌||◌, List, ◌++◌, length}
+use Rattle.cell_inside.specs.Shifted.{IsWithinDepth}
+use Rattle.placed_cells.specs.Rows.{size_inside}
+use Rattle.vrt_model.specs.Comparison.{cell_at}
+use Rattle.vrt_model.specs.Lists.{Among, At, has_name}
+use Rattle.vrt_model.specs.Unrolled.{Place, Top, all_places, deepest, mentions, net_at, places_in}
+use Rattle.vrt_model.specs.declared.design.Cell.{Cell}
+
+-- a net of a cell is a port, or a card names it
+abbrev pub is_net_in : Cell → List ℕ → Bool
+is_net_in cell name = has_name cell.ports name || has_name (mentions cell) name
+
+-- the net is no own net of a place, or of a place in it at most so deep
+abbrev pub IsOutsideOf : Top → ℕ → Place → ℕ → Type 0
+IsOutsideOf t depth p n = (n < p.base) ⊎ (p.base + size_inside t depth p.cell ≤ n)
+
+-- among all places of an unrolled cell, a place of a number is followed by those in it, at most so deep; others stand before them
+-- and behind them
+pub record IsSplit (t : Top) (number : ℕ) (p : Place) (depth : ℕ) (before behind : List Place) : Type 0 where
+  pub number_is : length before ≡ number
+  pub whole : all_places t ≡ before ++ (places_in t depth p ++ behind)
+  -- so deep is left below it
+  pub depth_is : depth + length p.path ≡ deepest
+  pub within : IsWithinDepth t deepest t.cell → IsWithinDepth t depth p.cell
+  -- it is tied to nets outside, and no name in any other place is an own net inside
+  pub ports : (n : ℕ) → Among p.ports n → IsOutsideOf t depth p n
+  pub names :
+      (r : Place) (name : List ℕ) → Among (before ++ behind) r → is_net_in (cell_at t.design r.cell) name ≡ true
+      → IsOutsideOf t depth p (net_at t r name)
+
+-- The law: it is so with each place.
+abbrev pub PlacesInStandTogether : Type 0
+PlacesInStandTogether =
+    (t : Top) (number : ℕ) (p : Place) → At (all_places t) number p
+    → (depth : ℕ) × (before : List Place) × (behind : List Place) × IsSplit t number p depth before behind
