@@ -20,7 +20,7 @@ use Rattle.vrt_model.specs.declared.rules.Rules.{Rules}
 
 -- ---- the ports of the checked cell
 
-port_below : (rules : Rules) (next : ℕ) (names : List (List ℕ)) (n : ℕ) → 2 ≤ next → Among (port_nets_from rules next names) n → n < next + length (filter (λ (name : List ℕ). is_none (supply_of rules name)) names)
+pub port_below : (rules : Rules) (next : ℕ) (names : List (List ℕ)) (n : ℕ) → 2 ≤ next → Among (port_nets_from rules next names) n → n < next + length (filter (λ (name : List ℕ). is_none (supply_of rules name)) names)
 port_below rules next [] n le m = absurd (none-some n m.1)
 port_below rules next (x ∷ xs) n le m = by_test (supply_of rules x) (λ k more on. port_below rules k xs n more on) m
   where
@@ -268,6 +268,7 @@ module _ (t : Top) where
           whole = split.whole;
           depth_is = omega (arith, deep);
           within = split.within;
+          first = shared;
           ports = o.0;
           names = λ r name m is. o.1 r m name is;
         },

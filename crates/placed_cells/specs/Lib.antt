@@ -1,3 +1,4 @@
+pub mod Above
 pub mod Depths
 pub mod Rows
 pub mod Splits

@@ -4,7 +4,7 @@ use Rattle.cell_inside.specs.Shifted.{IsWithinDepth}
 use Rattle.placed_cells.specs.Rows.{size_inside}
 use Rattle.vrt_model.specs.Comparison.{cell_at}
 use Rattle.vrt_model.specs.Lists.{Among, At, has_name}
-use Rattle.vrt_model.specs.Unrolled.{Place, Top, all_places, deepest, mentions, net_at, places_in}
+use Rattle.vrt_model.specs.Unrolled.{Place, Top, all_places, deepest, mentions, net_at, places_in, top_place}
 use Rattle.vrt_model.specs.declared.design.Cell.{Cell}
 
 -- a net of a cell is a port, or a card names it
@@ -23,6 +23,8 @@ pub record IsSplit (t : Top) (number : ℕ) (p : Place) (depth : ℕ) (before be
   -- so deep is left below it
   pub depth_is : depth + length p.path ≡ deepest
   pub within : IsWithinDepth t deepest t.cell → IsWithinDepth t depth p.cell
+  -- its own nets are behind those that all places share
+  pub first : (top_place t).base ≤ p.base
   -- it is tied to nets outside, and no name in any other place is an own net inside
   pub ports : (n : ℕ) → Among p.ports n → IsOutsideOf t depth p n
   pub names :
