@@ -1,6 +1,8 @@
 pub mod AboveLaws
-pub mod AwayLaws
 pub mod DepthLaws
+pub mod FlatNetLaws
+pub mod InstanceLaws
+pub mod NameLaws
 pub mod RowLaws
 pub mod SplitLaws
 pub mod TieLaws

@@ -111,7 +111,7 @@ module _ (t : Top) where
       )
 
   -- how many ports are no supplies
-  port_count : (names : List (List ℕ)) (roles : List PortRole) → length (port_nets_of t.rules names roles) ≡ length (filter (λ name. is_none (supply_of t.rules name)) names)
+  pub port_count : (names : List (List ℕ)) (roles : List PortRole) → length (port_nets_of t.rules names roles) ≡ length (filter (λ name. is_none (supply_of t.rules name)) names)
   port_count [] roles = refl
   port_count (name ∷ names) roles = by_supply (supply_of t.rules name) (port_count names (drop 1 roles))
     where

@@ -4,13 +4,13 @@ use Rattle.std.specs.Prelude.{filter, is_none}
 use Rattle.std.proofs.lemmas.Option.{none-some, same_Some}
 use Rattle.cell_inside.proofs.ShiftedPlaces.{among_name}
 use Rattle.cell_inside.specs.Shifted.{IsWithinDepth}
-use Rattle.placed_cells.proofs.AwayLaws.{Avoids, HasGlobals, IsAway, NamesAvoid, all_away, card_named, cards_away, inner_globals, name_among, net_avoids}
+use Rattle.placed_cells.proofs.NameLaws.{HasGlobals, NamesHave, NetsHave, all_have, cards_have, inner_globals, name_among, net_has, tied_have}
 use Rattle.placed_cells.proofs.RowLaws.{all_in_row, cards_in_row, cards_size, in_row, row_ends, row_grows, row_split}
 use Rattle.placed_cells.specs.Rows.{AreInRow, own_size, size_inside}
-use Rattle.placed_cells.specs.Splits.{IsSplit, PlacesInStandTogether}
+use Rattle.placed_cells.specs.Splits.{IsOutsideOf, IsSplit, PlacesInStandTogether}
 use Rattle.vrt_model.proofs.Filtered.{among_kept}
 use Rattle.vrt_model.proofs.Lists.{at_either}
-use Rattle.vrt_model.proofs.Members.{among_either, among_later, among_left, among_map, among_right}
+use Rattle.vrt_model.proofs.Members.{among_either, among_later, among_left, among_right}
 use Rattle.vrt_model.specs.CellRules.{supply_of}
 use Rattle.vrt_model.specs.Comparison.{cell_at, port_nets_from}
 use Rattle.vrt_model.specs.Lists.{Among, At}
@@ -59,11 +59,14 @@ module _ (t : Top) where
 
   module _ (inner : ℕ) (p : Place) where
     -- no net of a list, and no name in a place, is an own net of the place or of those in it
-    abbrev NetsOutside : (top_place t).base ≤ p.base → List ℕ → Type 0
-    NetsOutside shared nets = (n : ℕ) → Among nets n → Avoids t p.base (p.base + size_inside t inner p.cell) shared n
+    abbrev NetsOutside : List ℕ → Type 0
+    NetsOutside nets = (n : ℕ) → Among nets n → IsOutsideOf t inner p n
+
+    shared_outside : (top_place t).base ≤ p.base → (n : ℕ) → n < (top_place t).base → IsOutsideOf t inner p n
+    shared_outside shared n lt = inl (omega (arith, shared, lt))
 
     abbrev NamesOutside : (top_place t).base ≤ p.base → Place → Type 0
-    NamesOutside shared r = NamesAvoid t p.base (p.base + size_inside t inner p.cell) shared r
+    NamesOutside shared r = NamesHave t (IsOutsideOf t inner p) (shared_outside shared) r
 
   record PlaceSplit (depth : ℕ) (q : Place) (number : ℕ) (p : Place) (inner : ℕ) (before behind : List Place) : Type 0 where
     pub number_is : length before ≡ number
@@ -71,8 +74,8 @@ module _ (t : Top) where
     pub depth_is : inner + length p.path ≡ depth + length q.path
     pub within : IsWithinDepth t depth q.cell → IsWithinDepth t inner p.cell
     pub outside :
-        (shared : (top_place t).base ≤ p.base) → HasGlobals t depth q.cell → NetsOutside inner p shared q.ports
-        → NetsOutside inner p shared p.ports × ((r : Place) → Among (before ++ behind) r → NamesOutside inner p shared r)
+        (shared : (top_place t).base ≤ p.base) → HasGlobals t depth q.cell → NetsOutside inner p q.ports
+        → NetsOutside inner p p.ports × ((r : Place) → Among (before ++ behind) r → NamesOutside inner p shared r)
 
   -- the same in some instances of a place
   record CardsSplit (depth : ℕ) (q : Place) (base : ℕ) (cards : List InstanceCard) (number : ℕ) (p : Place) (inner : ℕ) (before behind : List Place) : Type 0 where
@@ -83,20 +86,13 @@ module _ (t : Top) where
     pub outside :
         (shared : (top_place t).base ≤ p.base) → HasGlobals t (suc depth) q.cell → NamesOutside inner p shared q
         → ((i : InstanceCard) → Among cards i → Among (cell_at t.design q.cell).instances i)
-        → NetsOutside inner p shared p.ports × ((r : Place) → Among (before ++ behind) r → NamesOutside inner p shared r)
+        → NetsOutside inner p p.ports × ((r : Place) → Among (before ++ behind) r → NamesOutside inner p shared r)
 
   abbrev SplitsPlace : ℕ → Place → ℕ → Place → Type 0
   SplitsPlace depth q number p = (inner : ℕ) × (before : List Place) × (behind : List Place) × PlaceSplit depth q number p inner before behind
 
   abbrev SplitsCards : ℕ → Place → ℕ → List InstanceCard → ℕ → Place → Type 0
   SplitsCards depth q base cards number p = (inner : ℕ) × (before : List Place) × (behind : List Place) × CardsSplit depth q base cards number p inner before behind
-
-  -- the ports of an instance are names of the place around it
-  tied : (inner : ℕ) (p : Place) (shared : (top_place t).base ≤ p.base) (q : Place) (card : InstanceCard) → Among (cell_at t.design q.cell).instances card → NamesOutside inner p shared q
-      → NetsOutside inner p shared (map (net_at t q) card.nets)
-  tied inner p shared q card there names n on =
-      let name = among_map (net_at t q) card.nets n on in
-      subst (Avoids t p.base (p.base + size_inside t inner p.cell) shared) name.2 (names name.0 (card_named (cell_at t.design q.cell) card name.0 there name.1))
 
   -- one of three lists
   which : {X : Type 0} (xs ys zs : List X) (x : X) → Among (xs ++ (ys ++ zs)) x → Among (xs ++ ys) x ⊎ Among zs x
@@ -133,14 +129,14 @@ module _ (t : Top) where
               within = λ h. split.within (h i (0, refl));
               outside = λ shared globals names all.
                   let ends = (bounds s.1 s.2 s.0 p base next (subst (λ (ps : List Place). AreInRow t ps base next) split.whole (in_row t depth first))).1 in
-                  let o = split.outside shared (inner_globals t depth q.cell globals i (all i (0, refl))) (tied s.0 p shared q i (all i (0, refl)) names) in (
+                  let o = split.outside shared (inner_globals t depth q.cell globals i (all i (0, refl))) (tied_have t (IsOutsideOf t s.0 p) (shared_outside s.0 p shared) q i (all i (0, refl)) names) in (
                     o.0,
                     λ r m.
                         elim (which s.1 s.2 rest r m) [
                           | inl near ↦ o.1 r near
                           | inr far ↦
-                              cards_away t p.base (p.base + size_inside t s.0 p.cell) shared depth (λ a b away on. all_away t p.base (p.base + size_inside t s.0 p.cell) shared depth a b away on)
-                              q names globals next cards (λ j on. all j (among_later i cards j on)) (inr ends) r far
+                              cards_have t (IsOutsideOf t s.0 p) (shared_outside s.0 p shared) depth (λ a b nets on. all_have t (IsOutsideOf t s.0 p) (shared_outside s.0 p shared) depth a b nets on)
+                              q names globals next cards (λ j on. all j (among_later i cards j on)) (λ n low high. inr (omega (arith, ends, low))) r far
                         ],
                   );
             },
@@ -162,16 +158,16 @@ module _ (t : Top) where
               outside = λ shared globals names all.
                   let begins = (bounds s.1 s.2 s.0 p next (next + cards_size t depth cards) (subst (λ (ps : List Place). AreInRow t ps next (next + cards_size t depth cards)) split.whole (cards_in_row t depth (λ a. in_row t depth a) q next cards))).0 in
                   let o = split.outside shared globals names (λ c m. all c (among_later i cards c m)) in
-                  let away : IsAway t p.base (p.base + size_inside t s.0 p.cell) shared depth first = record {
-                    ports = tied s.0 p shared q i (all i (0, refl)) names;
-                    own = inl begins;
+                  let nets : NetsHave t (IsOutsideOf t s.0 p) (shared_outside s.0 p shared) depth first = record {
+                    ports = tied_have t (IsOutsideOf t s.0 p) (shared_outside s.0 p shared) q i (all i (0, refl)) names;
+                    own = λ n low high. inl (omega (arith, high, begins));
                     globals = inner_globals t depth q.cell globals i (all i (0, refl));
                   } in (
                     o.0,
                     λ r m.
                         elim (among_either before s.2 r m) [
                           | inl near ↦ elim (among_either (places_in t depth first) s.1 r near) [
-                            | inl here ↦ all_away t p.base (p.base + size_inside t s.0 p.cell) shared depth first r away here
+                            | inl here ↦ all_have t (IsOutsideOf t s.0 p) (shared_outside s.0 p shared) depth first r nets here
                             | inr there ↦ o.1 r (among_left s.1 s.2 r there)
                           ]
                           | inr far ↦ o.1 r (among_right s.1 s.2 r far)
@@ -224,7 +220,7 @@ module _ (t : Top) where
           within = λ h. split.within h;
           outside = λ shared globals ports.
               let begins = (bounds s.1 s.2 s.0 p from (from + cards_size t depth cards) (subst (λ (ps : List Place). AreInRow t ps from (from + cards_size t depth cards)) split.whole (cards_in_row t depth (λ a. in_row t depth a) q from cards))).0 in
-              let names : NamesOutside s.0 p shared q = λ name is. net_avoids t p.base (p.base + size_inside t s.0 p.cell) shared (suc depth) q name globals ports (inl begins) is in
+              let names : NamesOutside s.0 p shared q = λ name is. net_has t (IsOutsideOf t s.0 p) (shared_outside s.0 p shared) (suc depth) q name globals ports (λ n low high. inl (omega (arith, high, begins))) is in
               let o = split.outside shared globals names (λ i m. m) in (
                 o.0,
                 λ r m.
@@ -242,7 +238,7 @@ module _ (t : Top) where
 
   -- ---- the whole
 
-  top_globals : HasGlobals t deepest t.cell
+  pub top_globals : HasGlobals t deepest t.cell
   unfolding global_nets
   top_globals = record {
     listed = λ name global named.

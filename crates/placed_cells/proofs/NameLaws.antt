@@ -1,4 +1,4 @@
--- Where the ports and the own nets of a place keep away from a range of nets, so does each name in it and in all places in it.
+-- Where the ports and the own nets of a place have a property, so has the net of each name in it and in all places in it.
 use Rattle.std.proofs.Common.{◌≡◌, ◌<◌, ◌≤◌, ◌+◌, ◌∷◌, ◌&&◌, ◌||◌, ◌⊎◌, [], ℕ, zero, suc, not, List, Bool, true, false, map, flat_map, length, Option, Some, None, refl, ap, ap₂, sym, ◌∙◌, subst, arith, inl, inr}
 use Rattle.std.specs.Prelude.{bytes_eq, filter, is_some, option_map, slice_get, unwrap_or}
 use Rattle.std.specs.List.{list_any}
@@ -69,21 +69,17 @@ module _ (t : Top) where
   own_inside zero k = omega arith
   own_inside (suc depth) k = omega arith
 
-  -- ---- a range of nets behind those that all places share
+  -- ---- a property that the nets have that all places share
 
-  module _ (low high : ℕ) (shared : (top_place t).base ≤ low) where
-    -- the net is not in the range
-    abbrev pub Avoids : ℕ → Type 0
-    Avoids n = (n < low) ⊎ (high ≤ n)
+  module _ (P : ℕ → Type 0) (shared : (n : ℕ) → n < (top_place t).base → P n) where
+    -- the net of each name in the place has it
+    abbrev pub NamesHave : Place → Type 0
+    NamesHave r = (name : List ℕ) → is_net_in (cell_at t.design r.cell) name ≡ true → P (net_at t r name)
 
-    -- no name in the place is in it
-    abbrev pub NamesAvoid : Place → Type 0
-    NamesAvoid r = (name : List ℕ) → is_net_in (cell_at t.design r.cell) name ≡ true → Avoids (net_at t r name)
-
-    -- nor are the place's ports, or its own nets, with those of places in it at most so deep
-    pub record IsAway (depth : ℕ) (r : Place) : Type 0 where
-      pub ports : (n : ℕ) → Among r.ports n → Avoids n
-      pub own : (r.base + size_inside t depth r.cell ≤ low) ⊎ (high ≤ r.base)
+    -- so have the place's ports and its own nets, with those of places in it at most so deep
+    pub record NetsHave (depth : ℕ) (r : Place) : Type 0 where
+      pub ports : (n : ℕ) → Among r.ports n → P n
+      pub own : (n : ℕ) → r.base ≤ n → n < r.base + size_inside t depth r.cell → P n
       pub globals : HasGlobals depth r.cell
 
     -- ---- one name
@@ -132,71 +128,67 @@ module _ (t : Top) where
               (among_name (distinct (filter (is_own t.design t.rules cell) (mentions cell))) name
               (distinct_among (filter (is_own t.design t.rules cell) (mentions cell)) name (among_kept (is_own t.design t.rules cell) (mentions cell) name (name_among (mentions cell) name on_card) own)))
 
-      pub net_avoids : ((n : ℕ) → Among r.ports n → Avoids n) → (r.base + own_size t r.cell ≤ low) ⊎ (high ≤ r.base) → is_net_in cell name ≡ true → Avoids (net_at t r name)
+      pub net_has : ((n : ℕ) → Among r.ports n → P n) → ((n : ℕ) → r.base ≤ n → n < r.base + own_size t r.cell → P n) → is_net_in cell name ≡ true → P (net_at t r name)
       unfolding net_at
-      net_avoids ports own is = by_tests (supply_of t.rules name) (place_of cell.ports name) (place_of (globals_of t) name) refl refl refl
+      net_has ports own is = by_tests (supply_of t.rules name) (place_of cell.ports name) (place_of (globals_of t) name) refl refl refl
         where
-          low_supply : (value : Bool) → supply_net value < low
-          low_supply true = omega (arith, shared)
-          low_supply false = omega (arith, shared)
+          at_supply : (value : Bool) → P (supply_net value)
+          at_supply true = shared 1 (omega arith)
+          at_supply false = shared 0 (omega arith)
 
-          at_port : (o : Option ℕ) (k : ℕ) → slice_get r.ports k ≡ o → Avoids (unwrap_or o 0)
-          at_port None k e = inl (omega (arith, shared))
+          at_port : (o : Option ℕ) (k : ℕ) → slice_get r.ports k ≡ o → P (unwrap_or o 0)
+          at_port None k e = shared 0 (omega arith)
           at_port (Some n) k e = ports n (k, e)
 
-          at_own : (k : ℕ) → k < own_size t r.cell → Avoids (r.base + k)
-          at_own k lt = elim own [ inl le ↦ inl (omega (arith, le, lt)) | inr le ↦ inr (omega (arith, le)) ]
-
-          by_own : (k : ℕ) → place_of (own_nets t.design t.rules cell) name ≡ Some k → Avoids (own_net t cell r name)
-          by_own k e = subst (λ (o : Option ℕ). Avoids (r.base + unwrap_or o 0)) (sym e) (at_own k (placed_below (own_nets t.design t.rules cell) name k e))
+          by_own : (k : ℕ) → place_of (own_nets t.design t.rules cell) name ≡ Some k → P (own_net t cell r name)
+          by_own k e =
+              let lt = placed_below (own_nets t.design t.rules cell) name k e in
+              subst (λ (o : Option ℕ). P (r.base + unwrap_or o 0)) (sym e) (own (r.base + k) (omega arith) (omega (arith, lt)))
 
           by_tests : (s : Option Bool) (p g : Option ℕ) → supply_of t.rules name ≡ s → place_of cell.ports name ≡ p → place_of (globals_of t) name ≡ g
-              → Avoids (unwrap_or (option_or (option_map supply_net s) (option_or (option_map (λ (k : ℕ). unwrap_or (slice_get r.ports k) 0) p) (option_map (λ (k : ℕ). first_global t + k) g))) (own_net t cell r name))
-          by_tests (Some value) p g es ep eg = inl (low_supply value)
+              → P (unwrap_or (option_or (option_map supply_net s) (option_or (option_map (λ (k : ℕ). unwrap_or (slice_get r.ports k) 0) p) (option_map (λ (k : ℕ). first_global t + k) g))) (own_net t cell r name))
+          by_tests (Some value) p g es ep eg = at_supply value
           by_tests None (Some k) g es ep eg = at_port (slice_get r.ports k) k refl
-          by_tests None None (Some k) es ep eg = let lt = placed_below (globals_of t) name k eg in inl (omega (arith, shared, lt))
+          by_tests None None (Some k) es ep eg = let lt = placed_below (globals_of t) name k eg in shared (first_global t + k) (omega (arith, lt))
           by_tests None None None es ep eg = let k = own_placed is es ep eg in by_own k.0 k.1
 
     -- ---- all places in a place
 
-    names_away : (depth : ℕ) (r : Place) → IsAway depth r → NamesAvoid r
-    names_away depth r away name is =
+    names_have : (depth : ℕ) (r : Place) → NetsHave depth r → NamesHave r
+    names_have depth r nets name is =
         let size = own_inside depth r.cell in
-        let own : (r.base + own_size t r.cell ≤ low) ⊎ (high ≤ r.base) = elim away.own [ inl le ↦ inl (omega (arith, le, size)) | inr le ↦ inr le ] in
-        net_avoids depth r name away.globals away.ports own is
+        net_has depth r name nets.globals nets.ports (λ n low high. nets.own n low (omega (arith, high, size))) is
 
-    pub cards_away : (depth : ℕ) → ((p r : Place) → IsAway depth p → Among (places_in t depth p) r → NamesAvoid r)
-        → (q : Place) → NamesAvoid q → HasGlobals (suc depth) q.cell → (base : ℕ) (cards : List InstanceCard) → ((i : InstanceCard) → Among cards i → Among (cell_at t.design q.cell).instances i)
-        → (base + cards_size t depth cards ≤ low) ⊎ (high ≤ base) → (r : Place) → Among (flat_map (places_in t depth) (instances_from t q depth base cards)) r → NamesAvoid r
-    cards_away depth inner q names globals base [] all range r m = absurd (none-some r m.1)
-    cards_away depth inner q names globals base (i ∷ cards) all range r m =
+    -- the ports of an instance are names of the place around it
+    pub tied_have : (q : Place) (card : InstanceCard) → Among (cell_at t.design q.cell).instances card → NamesHave q → (n : ℕ) → Among (map (net_at t q) card.nets) n → P n
+    tied_have q card there names n on =
+        let name = among_map (net_at t q) card.nets n on in
+        subst P name.2 (names name.0 (card_named (cell_at t.design q.cell) card name.0 there name.1))
+
+    pub cards_have : (depth : ℕ) → ((p r : Place) → NetsHave depth p → Among (places_in t depth p) r → NamesHave r)
+        → (q : Place) → NamesHave q → HasGlobals (suc depth) q.cell → (base : ℕ) (cards : List InstanceCard) → ((i : InstanceCard) → Among cards i → Among (cell_at t.design q.cell).instances i)
+        → ((n : ℕ) → base ≤ n → n < base + cards_size t depth cards → P n) → (r : Place) → Among (flat_map (places_in t depth) (instances_from t q depth base cards)) r → NamesHave r
+    cards_have depth inner q names globals base [] all range r m = absurd (none-some r m.1)
+    cards_have depth inner q names globals base (i ∷ cards) all range r m =
         let k = cell_named t.design i.cell in
         let place : Place = record { cell = k; path = record { instance = i.name; within = (cell_at t.design q.cell).name } ∷ q.path; ports = map (net_at t q) i.nets; base = base } in
         let next : ℕ = base + size_inside t depth k in
         let sum = sum_by-cons (λ (j : InstanceCard). size_inside t depth (cell_named t.design j.cell)) i cards in
-        let own : (base + size_inside t depth k ≤ low) ⊎ (high ≤ base) = elim range [ inl le ↦ inl (omega (arith, le, sum)) | inr le ↦ inr le ] in
-        let later : (next + cards_size t depth cards ≤ low) ⊎ (high ≤ next) = elim range [ inl le ↦ inl (omega (arith, le, sum)) | inr le ↦ inr (omega (arith, le)) ] in
-        let away : IsAway depth place = record {
-          ports = λ n on. tied i (all i (0, refl)) n on;
-          own = own;
+        let nets : NetsHave depth place = record {
+          ports = tied_have q i (all i (0, refl)) names;
+          own = λ n low high. range n low (omega (arith, high, sum));
           globals = inner_globals depth q.cell globals i (all i (0, refl));
         } in
         elim (among_either (places_in t depth place) (flat_map (places_in t depth) (instances_from t q depth next cards)) r m) [
-          | inl here ↦ inner place r away here
-          | inr rest ↦ cards_away depth inner q names globals next cards (λ j on. all j (among_later i cards j on)) later r rest
+          | inl here ↦ inner place r nets here
+          | inr rest ↦
+              cards_have depth inner q names globals next cards (λ j on. all j (among_later i cards j on)) (λ n low high. range n (omega (arith, low)) (omega (arith, high, sum))) r rest
         ]
-      where
-        tied : (card : InstanceCard) → Among (cell_at t.design q.cell).instances card → (n : ℕ) → Among (map (net_at t q) card.nets) n → Avoids n
-        tied card there n on =
-            let name = among_map (net_at t q) card.nets n on in
-            subst (λ (k : ℕ). Avoids k) name.2 (names name.0 (card_named (cell_at t.design q.cell) card name.0 there name.1))
 
-    pub all_away : (depth : ℕ) (p r : Place) → IsAway depth p → Among (places_in t depth p) r → NamesAvoid r
-    all_away zero p r away (zero, e) = subst NamesAvoid (same_Some p r e) (names_away zero p away)
-    all_away zero p r away (suc i, e) = absurd (none-some r e)
-    all_away (suc depth) p r away (zero, e) = subst NamesAvoid (same_Some p r e) (names_away (suc depth) p away)
-    all_away (suc depth) p r away (suc i, e) =
-        let cards = (cell_at t.design p.cell).instances in
-        let range : (p.base + own_size t p.cell + cards_size t depth cards ≤ low) ⊎ (high ≤ p.base + own_size t p.cell) =
-        elim away.own [ inl le ↦ inl (omega (arith, le)) | inr le ↦ inr (omega (arith, le)) ] in
-        cards_away depth (λ q s a m. all_away depth q s a m) p (names_away (suc depth) p away) away.globals (p.base + own_size t p.cell) cards (λ j on. on) range r (i, e)
+    pub all_have : (depth : ℕ) (p r : Place) → NetsHave depth p → Among (places_in t depth p) r → NamesHave r
+    all_have zero p r nets (zero, e) = subst NamesHave (same_Some p r e) (names_have zero p nets)
+    all_have zero p r nets (suc i, e) = absurd (none-some r e)
+    all_have (suc depth) p r nets (zero, e) = subst NamesHave (same_Some p r e) (names_have (suc depth) p nets)
+    all_have (suc depth) p r nets (suc i, e) =
+        cards_have depth (λ q s a m. all_have depth q s a m) p (names_have (suc depth) p nets) nets.globals (p.base + own_size t p.cell) (cell_at t.design p.cell).instances (λ j on. on)
+        (λ n low high. nets.own n (omega (arith, low)) (omega (arith, high))) r (i, e)

@@ -1,0 +1,295 @@
+-- The flat circuit of an instance's cell stands in the flat circuit around it.
+use Rattle.std.proofs.Common.{◌≡◌, ◌<◌, ◌≤◌, ◌+◌, ◌++◌, ◌∷◌, ◌&&◌, [], ℕ, zero, suc, cond, List, Bool, true, false, map, flat_map, length, refl, ap, sym, ◌∙◌, subst, arith, inl, inr}
+use Rattle.std.specs.List.{AllZip, list_any}
+use Rattle.std.proofs.lemmas.Bool.{cases_Bool, cases_lt, false≢true, or_cases, or_left, or_right}
+use Rattle.std.proofs.lemmas.Option.{none-some, same_Some, slice_get_within}
+use Rattle.cell_inside.proofs.DepthLaws.{deeper}
+use Rattle.cell_inside.proofs.ShiftedPlaces.{among_name, places_shifted}
+use Rattle.cell_inside.specs.Inside.{Touches}
+use Rattle.cell_inside.specs.Placed.{IsImage, IsPlaced, IsSupply}
+use Rattle.cell_inside.specs.Shifted.{IsShiftedWithNets, IsWithinDepth, NamesNoGlobal, top_alone}
+use Rattle.placed_cells.proofs.AboveLaws.{instances_are_shifted, net_high, nets_apart, supply_above}
+use Rattle.placed_cells.proofs.DepthLaws.{ordered_is_within_depth}
+use Rattle.placed_cells.proofs.FlatNetLaws.{NamedSupplies, name_inside, net_count, plain_behind, supply_low, supply_there}
+use Rattle.placed_cells.proofs.RowLaws.{all_in_row, in_row, row_ends}
+use Rattle.placed_cells.proofs.SplitLaws.{all_split, bounds}
+use Rattle.placed_cells.proofs.TieLaws.{instances_are_tied}
+use Rattle.placed_cells.specs.Above.{IsTied, net_above, place_alone}
+use Rattle.placed_cells.specs.Instances.{HasPlacedPorts, InstanceIsPlaced}
+use Rattle.placed_cells.specs.Rows.{AreInRow, size_inside}
+use Rattle.placed_cells.specs.Splits.{IsSplit, is_net_in}
+use Rattle.vrt_model.proofs.Lists.{map_among}
+use Rattle.vrt_model.proofs.Members.{among_any, among_either, among_flat_map, among_later, among_left, among_map, among_right, any_among, flat_map_among}
+use Rattle.vrt_model.specs.Comparison.{cell_at}
+use Rattle.vrt_model.specs.FlatCircuit.{flat_circuit_of, flat_device, flat_devices, flat_nets, is_keeper, level_of}
+use Rattle.vrt_model.specs.Known.{IsPlain}
+use Rattle.vrt_model.specs.Lists.{Among, has_name}
+use Rattle.vrt_model.specs.Unrolled.{Place, Top, all_places, cell_named, deepest, is_global_in, mentions, names_global, net_at, places_in, top_place}
+use Rattle.vrt_model.specs.declared.circuit.Device.{Device}
+use Rattle.vrt_model.specs.declared.design.Cell.{Cell}
+use Rattle.vrt_model.specs.declared.design.DeviceCard.{DeviceCard}
+use Rattle.vrt_model.specs.declared.design.InstanceCard.{InstanceCard}
+use Rattle.vrt_model.specs.declared.pairing.PortRole.{PortRole}
+
+-- ---- lists of which the items fit one for one
+
+zip_left : {X Y : Type 0} (R : X → Y → Type 0) (xs : List X) (ys : List Y) (x : X) → AllZip R xs ys → Among xs x → (y : Y) × Among ys y × R x y
+zip_left R [] ys x h m = absurd (none-some x m.1)
+zip_left R (z ∷ xs) [] x h m = absurd h
+zip_left {X} {Y} R (z ∷ xs) (y ∷ ys) x h (zero, e) = (y, (0, refl), subst (λ (w : X). R w y) (same_Some z x e) h.0)
+zip_left R (z ∷ xs) (y ∷ ys) x h (suc i, e) = let rest = zip_left R xs ys x h.1 (i, e) in (rest.0, among_later y ys rest.0 rest.1, rest.2)
+
+zip_right : {X Y : Type 0} (R : X → Y → Type 0) (xs : List X) (ys : List Y) (y : Y) → AllZip R xs ys → Among ys y → (x : X) × Among xs x × R x y
+zip_right R xs [] y h m = absurd (none-some y m.1)
+zip_right R [] (z ∷ ys) y h m = absurd h
+zip_right {X} {Y} R (x ∷ xs) (z ∷ ys) y h (zero, e) = (x, (0, refl), subst (λ (w : Y). R x w) (same_Some z y e) h.0)
+zip_right R (x ∷ xs) (z ∷ ys) y h (suc i, e) = let rest = zip_right R xs ys y h.1 (i, e) in (rest.0, among_later x xs rest.0 rest.1, rest.2)
+
+-- a net on a device card is mentioned
+device_mentioned : (cell : Cell) (card : DeviceCard) (name : List ℕ) → Among cell.devices card → Among (card.drain ∷ card.gate ∷ card.source ∷ []) name → has_name (mentions cell) name ≡ true
+device_mentioned cell card name m on =
+    among_name (mentions cell) name
+    (among_left (flat_map (λ (d : DeviceCard). d.drain ∷ d.gate ∷ d.source ∷ []) cell.devices) (flat_map (λ (i : InstanceCard). i.nets) cell.instances) name
+    (flat_map_among (λ (d : DeviceCard). d.drain ∷ d.gate ∷ d.source ∷ []) cell.devices card name m on))
+
+device_named : (cell : Cell) (card : DeviceCard) (name : List ℕ) → Among cell.devices card → Among (card.drain ∷ card.gate ∷ card.source ∷ []) name → is_net_in cell name ≡ true
+device_named cell card name m on = or_right (has_name cell.ports name) (has_name (mentions cell) name) (device_mentioned cell card name m on)
+
+-- ---- depth
+
+module _ (t : Top) where
+  -- what a cell and those in it name at some depth they name at each depth below
+  global_deeper : (depth k : ℕ) (name : List ℕ) → names_global t.design t.rules depth (cell_at t.design k) name ≡ true → names_global t.design t.rules (suc depth) (cell_at t.design k) name ≡ true
+  global_deeper zero k name e =
+      or_left (is_global_in t.design t.rules (cell_at t.design k) name && has_name (mentions (cell_at t.design k)) name)
+      (list_any (λ (i : InstanceCard). names_global t.design t.rules 0 (cell_at t.design (cell_named t.design i.cell)) name) (cell_at t.design k).instances) e
+  global_deeper (suc depth) k name e =
+      let here = is_global_in t.design t.rules (cell_at t.design k) name && has_name (mentions (cell_at t.design k)) name in
+      let cards = (cell_at t.design k).instances in
+      elim (or_cases here (list_any (λ (i : InstanceCard). names_global t.design t.rules depth (cell_at t.design (cell_named t.design i.cell)) name) cards) e) [
+        | inl own ↦ or_left here (list_any (λ (i : InstanceCard). names_global t.design t.rules (suc depth) (cell_at t.design (cell_named t.design i.cell)) name) cards) own
+        | inr inner ↦
+            or_right here (list_any (λ (i : InstanceCard). names_global t.design t.rules (suc depth) (cell_at t.design (cell_named t.design i.cell)) name) cards)
+            (let found = any_among (λ (i : InstanceCard). names_global t.design t.rules depth (cell_at t.design (cell_named t.design i.cell)) name) cards inner in
+            among_any (λ (i : InstanceCard). names_global t.design t.rules (suc depth) (cell_at t.design (cell_named t.design i.cell)) name) cards found.0 found.1 (global_deeper depth (cell_named t.design found.0.cell) name found.2))
+      ]
+
+  none_shallow : (depth more k : ℕ) → NamesNoGlobal t (depth + more) k → NamesNoGlobal t depth k
+  none_shallow depth zero k none = let e : depth + 0 ≡ depth = omega arith in subst (λ (n : ℕ). NamesNoGlobal t n k) e none
+  none_shallow depth (suc more) k none =
+      let e : depth + suc more ≡ suc (depth + more) = omega arith in
+      none_shallow depth more k (one_less (depth + more) (subst (λ (n : ℕ). NamesNoGlobal t n k) e none))
+    where
+      one_less : (d : ℕ) → NamesNoGlobal t (suc d) k → NamesNoGlobal t d k
+      one_less d h name global =
+          elim (cases_Bool (names_global t.design t.rules d (cell_at t.design k) name)) [
+            | inr f ↦ f
+            | inl named ↦ absurd (false≢true (sym (h name global) ∙ global_deeper d k name named))
+          ]
+
+  within_alone : (cell : ℕ) (roles : List PortRole) (depth k : ℕ) → IsWithinDepth t depth k → IsWithinDepth (top_alone t cell roles) depth k
+  within_alone cell roles zero k h = h
+  within_alone cell roles (suc depth) k h = λ i m. within_alone cell roles depth (cell_named t.design i.cell) (h i m)
+
+  -- deeper there are no more own nets
+  size_deeper : (depth more : ℕ) (q : Place) → IsWithinDepth t depth q.cell → size_inside t depth q.cell ≡ size_inside t (depth + more) q.cell
+  size_deeper depth more q h =
+      let ends = row_ends t (places_in t depth q) q.base (q.base + size_inside t depth q.cell) (q.base + size_inside t (depth + more) q.cell) (in_row t depth q)
+      (subst (λ (ps : List Place). AreInRow t ps q.base (q.base + size_inside t (depth + more) q.cell)) (sym (deeper t depth more q h)) (in_row t (depth + more) q)) in
+      omega (arith, ends)
+
+  all_deeper : (depth more : ℕ) → depth + more ≡ deepest → IsWithinDepth t depth t.cell → places_in t depth (top_place t) ≡ all_places t
+  unfolding all_places
+  all_deeper depth more sum h = deeper t depth more (top_place t) h ∙ ap (λ (n : ℕ). places_in t n (top_place t)) sum
+
+-- ---- an instance
+
+module _ (t : Top) (roles : List PortRole) (number : ℕ) (p : Place) (depth : ℕ) (before behind : List Place) (split : IsSplit t number p depth before behind) (tied : IsTied t p)
+    (none : NamesNoGlobal t deepest p.cell) (within : IsWithinDepth t depth p.cell) where
+  abbrev own : Top
+  own = top_alone t p.cell roles
+
+  abbrev at : ℕ → ℕ
+  at n = net_above t p n
+
+  abbrev base : ℕ
+  base = (place_alone t p).base
+
+  rest_is : (more : ℕ) × (depth + more ≡ deepest)
+  rest_is = let deep = split.depth_is in (length p.path, omega (arith, deep))
+
+  -- its places are those of its cell alone, shifted
+  abbrev FitsPlace : Place → Place → Type 0
+  FitsPlace q r = IsShiftedWithNets t own at p.path q r
+
+  shifted : AllZip FitsPlace (all_places own) (places_in t depth p)
+  shifted =
+      let law = instances_are_shifted t roles p tied in
+      subst (λ (ps : List Place). AllZip FitsPlace ps (places_in t depth p)) (all_deeper own depth rest_is.0 rest_is.1 (within_alone t p.cell roles depth p.cell within))
+      (places_shifted t p.cell roles at p.path law.1 law.2 depth (top_place own) p (none_shallow t depth rest_is.0 p.cell (subst (λ (n : ℕ). NamesNoGlobal t n p.cell) (sym rest_is.1) none)) law.0)
+
+  -- and are among all places
+  inside_among : (r : Place) → Among (places_in t depth p) r → Among (all_places t) r
+  inside_among r m = subst (λ (ps : List Place). Among ps r) (sym split.whole) (among_right before (places_in t depth p ++ behind) r (among_left (places_in t depth p) behind r m))
+
+  image : (q r : Place) (card : DeviceCard) → FitsPlace q r → Among (cell_at t.design r.cell).devices card → IsImage at (flat_device own q card) (flat_device t r card)
+  image q r card fits m = record {
+    kind = refl;
+    gate = fits.nets card.gate (device_mentioned (cell_at t.design r.cell) card card.gate m (1, refl));
+    left = fits.nets card.drain (device_mentioned (cell_at t.design r.cell) card card.drain m (0, refl));
+    right = fits.nets card.source (device_mentioned (cell_at t.design r.cell) card card.source m (2, refl));
+    level = ap (λ (k : ℕ). level_of t.rules (cell_at t.design k).name card.name card.model) fits.place.cell;
+    keeper = ap (λ (k : ℕ). is_keeper t.rules (cell_at t.design k).name card.name) fits.place.cell;
+  }
+
+  abbrev devices_at : Top → Place → List Device
+  devices_at u q = map (flat_device u q) (cell_at u.design q.cell).devices
+
+  there : (d : Device) → Among (flat_devices own) d → (e : Device) × Among (flat_devices t) e × IsImage at d e
+  there d m =
+      let place = among_flat_map (devices_at own) (all_places own) d m in
+      let card = among_map (flat_device own place.0) (cell_at t.design place.0.cell).devices d place.2 in
+      let r = zip_left FitsPlace (all_places own) (places_in t depth p) place.0 shifted place.1 in
+      let on : Among (cell_at t.design r.0.cell).devices card.0 = subst (λ (k : ℕ). Among (cell_at t.design k).devices card.0) (sym r.2.place.cell) card.1 in (
+        flat_device t r.0 card.0,
+        flat_map_among (devices_at t) (all_places t) r.0 (flat_device t r.0 card.0) (inside_among r.0 r.1) (map_among (flat_device t r.0) (cell_at t.design r.0.cell).devices card.0 on),
+        subst (λ (x : Device). IsImage at x (flat_device t r.0 card.0)) card.2 (image place.0 r.0 card.0 r.2 on),
+      )
+
+  -- a device of a place in it is an image
+  inside_image : (r : Place) (card : DeviceCard) → Among (places_in t depth p) r → Among (cell_at t.design r.cell).devices card → (d : Device) × Among (flat_devices own) d × IsImage at d (flat_device t r card)
+  inside_image r card m on =
+      let q = zip_right FitsPlace (all_places own) (places_in t depth p) r shifted m in
+      let there_on : Among (cell_at t.design q.0.cell).devices card = subst (λ (k : ℕ). Among (cell_at t.design k).devices card) q.2.place.cell on in (
+        flat_device own q.0 card,
+        flat_map_among (devices_at own) (all_places own) q.0 (flat_device own q.0 card) q.1 (map_among (flat_device own q.0) (cell_at t.design q.0.cell).devices card there_on),
+        image q.0 r card q.2 on,
+      )
+
+  -- no name in any other place is an own net
+  not_outside : (r : Place) (name : List ℕ) (n : ℕ) → Among (before ++ behind) r → is_net_in (cell_at t.design r.cell) name ≡ true → base ≤ n → n < base + size_inside t depth p.cell → net_at t r name ≡ at n → ⊥
+  not_outside r name n m is low high same =
+      let far = net_high t p n low in
+      elim (split.names r name m is) [
+        | inl less ↦ absurd (omega (arith, less, same, far))
+        | inr more ↦ absurd (omega (arith, more, same, far, low, high))
+      ]
+
+  -- so a device at an own net is an image
+  own_image : (e : Device) (n : ℕ) → Among (flat_devices t) e → base ≤ n → n < base + size_inside t depth p.cell → Touches e (at n) → (d : Device) × Among (flat_devices own) d × IsImage at d e
+  own_image e n m low high touch =
+      let place = among_flat_map (devices_at t) (all_places t) e m in
+      let card = among_map (flat_device t place.0) (cell_at t.design place.0.cell).devices e place.2 in
+      let r = place.0 in
+      let cell = cell_at t.design r.cell in
+      let one = card.0 in
+      let inside : Among (places_in t depth p) r → (d : Device) × Among (flat_devices own) d × IsImage at d e =
+      λ on. let found = inside_image r one on card.1 in (found.0, found.1, subst (λ (x : Device). IsImage at found.0 x) card.2 found.2) in
+      let outside : Among (before ++ behind) r → ⊥ =
+      λ on.
+      elim touch [
+        | inl left ↦ not_outside r one.drain n on (device_named cell one one.drain card.1 (0, refl)) low high (ap (λ (x : Device). x.left.0) card.2 ∙ left)
+        | inr right ↦ not_outside r one.source n on (device_named cell one one.source card.1 (2, refl)) low high (ap (λ (x : Device). x.right.0) card.2 ∙ right)
+      ] in
+      elim (among_either before (places_in t depth p ++ behind) r (subst (λ (ps : List Place). Among ps r) split.whole place.1)) [
+        | inl early ↦ absurd (outside (among_left before behind r early))
+        | inr rest ↦ elim (among_either (places_in t depth p) behind r rest) [
+          | inl on ↦ inside on
+          | inr late ↦ absurd (outside (among_right before behind r late))
+        ]
+      ]
+
+  -- ---- nets
+
+  size_all : size_inside t depth p.cell ≡ size_inside t deepest p.cell
+  size_all = size_deeper t depth rest_is.0 p within ∙ ap (λ (n : ℕ). size_inside t n p.cell) rest_is.1
+
+  -- a plain net behind the ports is an own net
+  plain_inside : (n : ℕ) → n < base + size_inside t deepest p.cell → base ≤ n → IsPlain (flat_circuit_of t) (at n)
+  plain_inside n lt le =
+      let far = net_high t p n le in
+      let same = size_all in
+      let last : ℕ = (top_place t).base + size_inside t deepest t.cell in
+      let range = bounds t before behind depth p (top_place t).base last (subst (λ (ps : List Place). AreInRow t ps (top_place t).base last) split.whole (all_in_row t)) in
+      let low = range.0 in
+      let high = range.1 in
+      plain_behind t (at n) (omega (arith, far, low)) (omega (arith, far, high, lt, same, le))
+
+  -- a net of the cell alone is in range
+  net_inside : (n : ℕ) → IsPlain (flat_circuit_of own) n → n < base + size_inside t depth p.cell
+  unfolding flat_circuit_of
+  net_inside n plain =
+      let less = slice_get_within (flat_nets own) n plain.0 plain.1 in
+      let count = net_count own in
+      let same = size_all in
+      omega (arith, less, count, same)
+
+  -- a channel of the cell alone behind the ports is at an own net
+  own_channel : (d : Device) (n : ℕ) → Among (flat_devices own) d → Touches d n → base ≤ n → IsPlain (flat_circuit_of own) n
+  own_channel d n m touch le =
+      let place = among_flat_map (devices_at own) (all_places own) d m in
+      let card = among_map (flat_device own place.0) (cell_at t.design place.0.cell).devices d place.2 in
+      let q = place.0 in
+      let cell = cell_at t.design q.cell in
+      let one = card.0 in
+      let named : (name : List ℕ) → Among (one.drain ∷ one.gate ∷ one.source ∷ []) name → net_at own q name ≡ n → IsPlain (flat_circuit_of own) n =
+      λ name on is.
+      let lt = name_inside own q name place.1 (device_named cell one name card.1 on) in
+      plain_behind own n le (subst (λ (k : ℕ). k < base + size_inside t deepest p.cell) is lt) in
+      elim touch [
+        | inl left ↦ named one.drain (0, refl) (ap (λ (x : Device). x.left.0) card.2 ∙ left)
+        | inr right ↦ named one.source (2, refl) (ap (λ (x : Device). x.right.0) card.2 ∙ right)
+      ]
+
+  -- ---- the whole
+
+  module _ (exposed : ℕ → Bool) (drive : ℕ → ℕ) (named : NamedSupplies t.rules (cell_at t.design p.cell).ports roles) (holds : (flat_circuit_of own).holds ≡ [])
+      (ports : HasPlacedPorts (flat_circuit_of own) (flat_circuit_of t) at base exposed drive) where
+    supplies : (n : ℕ) (value : Bool) → IsSupply (flat_circuit_of own) n value → IsSupply (flat_circuit_of t) (at n) value
+    supplies n value s =
+        let low = supply_low own named n value s in
+        let is : at n ≡ cond value 1 0 = supply_above t p tied n (subst (λ (k : ℕ). k < 2) (sym low) (small value)) ∙ low in
+        subst (λ (k : ℕ). IsSupply (flat_circuit_of t) k value) (sym is) (supply_there t value)
+      where
+        small : (v : Bool) → cond v 1 0 < 2
+        small true = omega arith
+        small false = omega arith
+
+    pub placed : IsPlaced (flat_circuit_of own) (flat_circuit_of t) at exposed drive
+    unfolding flat_circuit_of
+    placed = record {
+      no_holds = holds;
+      no_wholes = refl;
+      channels = λ d n m touch.
+          elim (cases_lt n base) [
+            | inl low ↦ ports.channels d n m touch low
+            | inr high ↦ inl (own_channel d n m touch high)
+          ];
+      supplies = supplies;
+      plain = λ n plain.
+          elim (cases_lt n base) [
+            | inl low ↦ ports.plain n low plain
+            | inr high ↦ plain_inside n (let lt = net_inside n plain in let same = size_all in omega (arith, lt, same)) high
+          ];
+      exposed_plain = ports.exposed_plain;
+      there = there;
+      others = λ e n m plain touch.
+          elim (cases_lt n base) [
+            | inl low ↦ ports.others e n low m plain touch
+            | inr high ↦ inl (own_image e n m high (net_inside n plain) touch)
+          ];
+      unheld = ports.unheld;
+      pins = λ out n m plain is. absurd (none-some out m.1);
+      pins_plain = λ out m. absurd (none-some out m.1);
+      apart = λ m n first second same.
+          elim (nets_apart t p number depth before behind split tied none m n (net_inside m first) (net_inside n second) same) [
+            | inl equal ↦ inl equal
+            | inr low ↦ ports.apart m n low.0 low.1 first second same
+          ];
+    }
+
+pub instance_is_placed : InstanceIsPlaced
+instance_is_placed t pairing i p exposed drive ordered there ties e none roles holds ports =
+    let s = all_split t (suc i) p e in
+    placed t pairing.ports (suc i) p s.0 s.1 s.2 s.3 (instances_are_tied t i p ordered.cards ties e) none (s.3.within (ordered_is_within_depth t t.cell ordered there)) exposed drive
+    (λ at name role value a b same. (roles.supplies at name role value a b).0 same) holds ports

@@ -1,0 +1,47 @@
+-- The flat circuit of an instance's cell, in the flat circuit of the cell around it.
+use Rattle.std.specs.Prelude.{◌≡◌, ℕ, suc, ◌<◌, ◌≤◌, ◌⊎◌, Bool, true, [], None, length}
+use Rattle.cell_inside.specs.Inside.{Touches}
+use Rattle.cell_inside.specs.Placed.{IsImage, IsPlaced, IsSupply}
+use Rattle.cell_inside.specs.Shifted.{NamesNoGlobal}
+use Rattle.placed_cells.specs.Above.{net_above, place_alone}
+use Rattle.vrt_model.specs.Comparison.{cell_at}
+use Rattle.vrt_model.specs.FlatCircuit.{flat_circuit, flat_circuit_of}
+use Rattle.vrt_model.specs.Hierarchy.{IsOrdered}
+use Rattle.vrt_model.specs.Known.{IsHeld, IsPlain}
+use Rattle.vrt_model.specs.Lists.{Among, At}
+use Rattle.vrt_model.specs.PairedPorts.{HasRoles}
+use Rattle.vrt_model.specs.Unrolled.{Place, Top, all_places, deepest}
+use Rattle.vrt_model.specs.Unsupported.{supply_tie}
+use Rattle.vrt_model.specs.declared.circuit.Circuit.{Circuit}
+use Rattle.vrt_model.specs.declared.circuit.Device.{Device}
+use Rattle.vrt_model.specs.declared.pairing.Pairing.{Pairing}
+
+-- what is asked of a cell in a circuit, its net n at `at n`, at its supplies and ports, which are its nets below a number
+pub record HasPlacedPorts (cell c : Circuit) (at : ℕ → ℕ) (base : ℕ) (exposed : ℕ → Bool) (drive : ℕ → ℕ) : Type 0 where
+  -- only ports that are plain nets are exposed
+  pub exposed_plain : (n : ℕ) → exposed n ≡ true → IsPlain cell n
+  -- no channel of the cell is at an input or a clock port
+  pub channels : (d : Device) (n : ℕ) → Among cell.devices d → Touches d n → n < base → IsPlain cell n ⊎ ((value : Bool) × IsSupply cell n value)
+  -- the other ports are tied to plain nets
+  pub plain : (n : ℕ) → n < base → IsPlain cell n → IsPlain c (at n)
+  -- another device whose channel is at such a net is at an exposed one, and not above its drive
+  pub others :
+      (e : Device) (n : ℕ) → n < base → Among c.devices e → IsPlain cell n → Touches e (at n)
+      → ((d : Device) × Among cell.devices d × IsImage at d e) ⊎ ((exposed n ≡ true) × (e.level ≤ drive n))
+  -- no hold is at a plain net of the cell
+  pub unheld : (n : ℕ) → IsPlain cell n → ¬ (IsHeld c (at n))
+  -- two of them are one net above only where both are exposed, with the same drive
+  pub apart :
+      (m n : ℕ) → m < base → n < base → IsPlain cell m → IsPlain cell n → at m ≡ at n
+      → (m ≡ n) ⊎ ((exposed m ≡ true) × (exposed n ≡ true) × (drive m ≡ drive n))
+
+-- The law: the flat circuit of an instance's cell stands in the flat circuit around it, where the cell has no hold and names no
+-- global net, and its ports are as asked. Of its own nets nothing is asked but that none of them is held.
+abbrev pub InstanceIsPlaced : Type 0
+InstanceIsPlaced =
+    (t : Top) (pairing : Pairing) (i : ℕ) (p : Place) (exposed : ℕ → Bool) (drive : ℕ → ℕ)
+    → IsOrdered t.design t.rules → t.cell < length t.design.cells → supply_tie t ≡ None → At (all_places t) (suc i) p
+    → NamesNoGlobal t deepest p.cell → HasRoles t.rules (cell_at t.design p.cell) pairing
+    → (flat_circuit t.design t.rules p.cell pairing).holds ≡ []
+    → HasPlacedPorts (flat_circuit t.design t.rules p.cell pairing) (flat_circuit_of t) (net_above t p) (place_alone t p).base exposed drive
+    → IsPlaced (flat_circuit t.design t.rules p.cell pairing) (flat_circuit_of t) (net_above t p) exposed drive
