@@ -170,9 +170,9 @@ module _ (t : Top) where
   pub name_inside : (r : Place) (name : List ℕ) → Among (all_places t) r → is_net_in (cell_at t.design r.cell) name ≡ true → net_at t r name < (top_place t).base + size_inside t deepest t.cell
   unfolding all_places
   name_inside r name m is =
-      all_have t (λ n. n < (top_place t).base + size_inside t deepest t.cell) (λ n lt. omega (arith, lt)) deepest (top_place t) r
+      (all_have t (λ n. n < (top_place t).base + size_inside t deepest t.cell) (λ n lt. omega (arith, lt)) deepest (top_place t) r
       (record {
         ports = λ n on. let lt = port_below t.rules 2 (top_cell t).ports n (omega arith) on in omega (arith, lt);
         own = λ n low high. high;
         globals = top_globals t;
-      }) m name is
+      }) m).1 name is

@@ -12,20 +12,23 @@ use Rattle.placed_cells.proofs.AboveLaws.{instances_are_shifted, net_high, nets_
 use Rattle.placed_cells.proofs.DepthLaws.{ordered_is_within_depth}
 use Rattle.placed_cells.proofs.FlatNetLaws.{NamedSupplies, name_inside, net_count, plain_behind, supply_low, supply_there}
 use Rattle.placed_cells.proofs.RowLaws.{all_in_row, in_row, row_ends}
-use Rattle.placed_cells.proofs.SplitLaws.{all_split, bounds}
+use Rattle.placed_cells.proofs.SplitLaws.{bounds}
 use Rattle.placed_cells.proofs.TieLaws.{instances_are_tied}
 use Rattle.placed_cells.specs.Above.{IsTied, net_above, place_alone}
-use Rattle.placed_cells.specs.Instances.{HasPlacedPorts, InstanceIsPlaced}
+use Rattle.placed_cells.specs.Instances.{FlatCircuitShowsInside, HasPlacedPorts, InstanceIsPlaced, ShowsInside}
 use Rattle.placed_cells.specs.Rows.{AreInRow, size_inside}
 use Rattle.placed_cells.specs.Splits.{IsSplit, is_net_in}
-use Rattle.vrt_model.proofs.Lists.{map_among}
+use Rattle.vrt_model.proofs.Lists.{at_back, map_among}
 use Rattle.vrt_model.proofs.Members.{among_any, among_either, among_flat_map, among_later, among_left, among_map, among_right, any_among, flat_map_among}
 use Rattle.vrt_model.specs.Comparison.{cell_at}
 use Rattle.vrt_model.specs.FlatCircuit.{flat_circuit_of, flat_device, flat_devices, flat_nets, is_keeper, level_of}
 use Rattle.vrt_model.specs.Known.{IsPlain}
-use Rattle.vrt_model.specs.Lists.{Among, has_name}
+use Rattle.vrt_model.specs.Lists.{Among, At, has_name}
+use Rattle.vrt_model.specs.State.{OutputPin, output_pins}
 use Rattle.vrt_model.specs.Unrolled.{Place, Top, all_places, cell_named, deepest, is_global_in, mentions, names_global, net_at, places_in, top_place}
+use Rattle.vrt_model.specs.declared.circuit.Circuit.{Circuit}
 use Rattle.vrt_model.specs.declared.circuit.Device.{Device}
+use Rattle.vrt_model.specs.declared.circuit.FlatNet.{FlatNet}
 use Rattle.vrt_model.specs.declared.design.Cell.{Cell}
 use Rattle.vrt_model.specs.declared.design.DeviceCard.{DeviceCard}
 use Rattle.vrt_model.specs.declared.design.InstanceCard.{InstanceCard}
@@ -129,7 +132,7 @@ module _ (t : Top) (roles : List PortRole) (number : ℕ) (p : Place) (depth : �
       (places_shifted t p.cell roles at p.path law.1 law.2 depth (top_place own) p (none_shallow t depth rest_is.0 p.cell (subst (λ (n : ℕ). NamesNoGlobal t n p.cell) (sym rest_is.1) none)) law.0)
 
   -- and are among all places
-  inside_among : (r : Place) → Among (places_in t depth p) r → Among (all_places t) r
+  pub inside_among : (r : Place) → Among (places_in t depth p) r → Among (all_places t) r
   inside_among r m = subst (λ (ps : List Place). Among ps r) (sym split.whole) (among_right before (places_in t depth p ++ behind) r (among_left (places_in t depth p) behind r m))
 
   image : (q r : Place) (card : DeviceCard) → FitsPlace q r → Among (cell_at t.design r.cell).devices card → IsImage at (flat_device own q card) (flat_device t r card)
@@ -144,17 +147,6 @@ module _ (t : Top) (roles : List PortRole) (number : ℕ) (p : Place) (depth : �
 
   abbrev devices_at : Top → Place → List Device
   devices_at u q = map (flat_device u q) (cell_at u.design q.cell).devices
-
-  there : (d : Device) → Among (flat_devices own) d → (e : Device) × Among (flat_devices t) e × IsImage at d e
-  there d m =
-      let place = among_flat_map (devices_at own) (all_places own) d m in
-      let card = among_map (flat_device own place.0) (cell_at t.design place.0.cell).devices d place.2 in
-      let r = zip_left FitsPlace (all_places own) (places_in t depth p) place.0 shifted place.1 in
-      let on : Among (cell_at t.design r.0.cell).devices card.0 = subst (λ (k : ℕ). Among (cell_at t.design k).devices card.0) (sym r.2.place.cell) card.1 in (
-        flat_device t r.0 card.0,
-        flat_map_among (devices_at t) (all_places t) r.0 (flat_device t r.0 card.0) (inside_among r.0 r.1) (map_among (flat_device t r.0) (cell_at t.design r.0.cell).devices card.0 on),
-        subst (λ (x : Device). IsImage at x (flat_device t r.0 card.0)) card.2 (image place.0 r.0 card.0 r.2 on),
-      )
 
   -- a device of a place in it is an image
   inside_image : (r : Place) (card : DeviceCard) → Among (places_in t depth p) r → Among (cell_at t.design r.cell).devices card → (d : Device) × Among (flat_devices own) d × IsImage at d (flat_device t r card)
@@ -243,53 +235,112 @@ module _ (t : Top) (roles : List PortRole) (number : ℕ) (p : Place) (depth : �
 
   -- ---- the whole
 
-  module _ (exposed : ℕ → Bool) (drive : ℕ → ℕ) (named : NamedSupplies t.rules (cell_at t.design p.cell).ports roles) (holds : (flat_circuit_of own).holds ≡ [])
-      (ports : HasPlacedPorts (flat_circuit_of own) (flat_circuit_of t) at base exposed drive) where
-    supplies : (n : ℕ) (value : Bool) → IsSupply (flat_circuit_of own) n value → IsSupply (flat_circuit_of t) (at n) value
-    supplies n value s =
-        let low = supply_low own named n value s in
-        let is : at n ≡ cond value 1 0 = supply_above t p tied n (subst (λ (k : ℕ). k < 2) (sym low) (small value)) ∙ low in
-        subst (λ (k : ℕ). IsSupply (flat_circuit_of t) k value) (sym is) (supply_there t value)
-      where
-        small : (v : Bool) → cond v 1 0 < 2
-        small true = omega arith
-        small false = omega arith
-
-    pub placed : IsPlaced (flat_circuit_of own) (flat_circuit_of t) at exposed drive
+  module _ (c : Circuit) (shows : ShowsInside t p depth before behind c) where
+    -- what has the same nets has the same plain nets and supplies
+    same_plain : (n : ℕ) → IsPlain (flat_circuit_of t) n → IsPlain c n
     unfolding flat_circuit_of
-    placed = record {
-      no_holds = holds;
-      no_wholes = refl;
-      channels = λ d n m touch.
-          elim (cases_lt n base) [
-            | inl low ↦ ports.channels d n m touch low
-            | inr high ↦ inl (own_channel d n m touch high)
-          ];
-      supplies = supplies;
-      plain = λ n plain.
-          elim (cases_lt n base) [
-            | inl low ↦ ports.plain n low plain
-            | inr high ↦ plain_inside n (let lt = net_inside n plain in let same = size_all in omega (arith, lt, same)) high
-          ];
-      exposed_plain = ports.exposed_plain;
-      there = there;
-      others = λ e n m plain touch.
-          elim (cases_lt n base) [
-            | inl low ↦ ports.others e n low m plain touch
-            | inr high ↦ inl (own_image e n m high (net_inside n plain) touch)
-          ];
-      unheld = ports.unheld;
-      pins = λ out n m plain is. absurd (none-some out m.1);
-      pins_plain = λ out m. absurd (none-some out m.1);
-      apart = λ m n first second same.
-          elim (nets_apart t p number depth before behind split tied none m n (net_inside m first) (net_inside n second) same) [
-            | inl equal ↦ inl equal
-            | inr low ↦ ports.apart m n low.0 low.1 first second same
-          ];
-    }
+    same_plain n plain = (plain.0, subst (λ (nets : List FlatNet). At nets n plain.0) (sym shows.nets) plain.1, plain.2)
+
+    same_supply : (n : ℕ) (value : Bool) → IsSupply (flat_circuit_of t) n value → IsSupply c n value
+    unfolding flat_circuit_of
+    same_supply n value s = (s.0, subst (λ (nets : List FlatNet). At nets n s.0) (sym shows.nets) s.1, s.2)
+
+    there : (d : Device) → Among (flat_devices own) d → (e : Device) × Among c.devices e × IsImage at d e
+    there d m =
+        let place = among_flat_map (devices_at own) (all_places own) d m in
+        let card = among_map (flat_device own place.0) (cell_at t.design place.0.cell).devices d place.2 in
+        let r = zip_left FitsPlace (all_places own) (places_in t depth p) place.0 shifted place.1 in
+        let on : Among (cell_at t.design r.0.cell).devices card.0 = subst (λ (k : ℕ). Among (cell_at t.design k).devices card.0) (sym r.2.place.cell) card.1 in (
+          flat_device t r.0 card.0,
+          shows.there r.0 card.0 r.1 on,
+          subst (λ (x : Device). IsImage at x (flat_device t r.0 card.0)) card.2 (image place.0 r.0 card.0 r.2 on),
+        )
+
+    -- no output pin is at an own net
+    no_pin : (out : OutputPin) (n : ℕ) → Among (output_pins c) out → base ≤ n → n < base + size_inside t depth p.cell → out.pin.net.0 ≡ at n → ⊥
+    no_pin out n m low high same =
+        let r = shows.pins out m in
+        let far = net_high t p n low in
+        elim (split.tied r.0 out.pin.net.0 r.1 r.2) [
+          | inl less ↦ absurd (omega (arith, less, same, far))
+          | inr more ↦ absurd (omega (arith, more, same, far, low, high))
+        ]
+
+    module _ (exposed : ℕ → Bool) (drive : ℕ → ℕ) (named : NamedSupplies t.rules (cell_at t.design p.cell).ports roles) (holds : (flat_circuit_of own).holds ≡ [])
+        (ports : HasPlacedPorts (flat_circuit_of own) c at base exposed drive) where
+      supplies : (n : ℕ) (value : Bool) → IsSupply (flat_circuit_of own) n value → IsSupply c (at n) value
+      supplies n value s =
+          let low = supply_low own named n value s in
+          let is : at n ≡ cond value 1 0 = supply_above t p tied n (subst (λ (k : ℕ). k < 2) (sym low) (small value)) ∙ low in
+          subst (λ (k : ℕ). IsSupply c k value) (sym is) (same_supply (cond value 1 0) value (supply_there t value))
+        where
+          small : (v : Bool) → cond v 1 0 < 2
+          small true = omega arith
+          small false = omega arith
+
+      pub placed : IsPlaced (flat_circuit_of own) c at exposed drive
+      unfolding flat_circuit_of
+      placed = record {
+        no_holds = holds;
+        no_wholes = refl;
+        channels = λ d n m touch.
+            elim (cases_lt n base) [
+              | inl low ↦ ports.channels d n m touch low
+              | inr high ↦ inl (own_channel d n m touch high)
+            ];
+        supplies = supplies;
+        plain = λ n plain.
+            elim (cases_lt n base) [
+              | inl low ↦ ports.plain n low plain
+              | inr high ↦ same_plain (at n) (plain_inside n (let lt = net_inside n plain in let same = size_all in omega (arith, lt, same)) high)
+            ];
+        exposed_plain = ports.exposed_plain;
+        there = there;
+        others = λ e n m plain touch.
+            elim (cases_lt n base) [
+              | inl low ↦ ports.others e n low m plain touch
+              | inr high ↦ inl (own_image e n (shows.devices e m) high (net_inside n plain) touch)
+            ];
+        unheld = ports.unheld;
+        pins = λ out n m plain is.
+            elim (cases_lt n base) [
+              | inl low ↦ ports.pins out n low m plain is
+              | inr high ↦ absurd (no_pin out n m high (net_inside n plain) is)
+            ];
+        pins_plain = ports.pins_plain;
+        apart = λ m n first second same.
+            elim (nets_apart t p number depth before behind split tied none m n (net_inside m first) (net_inside n second) same) [
+              | inl equal ↦ inl equal
+              | inr low ↦ ports.apart m n low.0 low.1 first second same
+            ];
+      }
+
+-- ---- the laws
+
+-- a place stands at its number
+split_at : (t : Top) (number : ℕ) (p : Place) (depth : ℕ) (before behind : List Place) → IsSplit t number p depth before behind → At (all_places t) number p
+split_at t number p depth before behind split =
+    let e : length before + 0 ≡ number = let is = split.number_is in omega (arith, is) in
+    subst (λ (ps : List Place). At ps number p) (sym split.whole)
+    (subst (λ (n : ℕ). At (before ++ (places_in t depth p ++ behind)) n p) e (at_back before (places_in t depth p ++ behind) 0 p (first depth)))
+  where
+    first : (d : ℕ) → At (places_in t d p ++ behind) 0 p
+    first zero = refl
+    first (suc d) = refl
 
 pub instance_is_placed : InstanceIsPlaced
-instance_is_placed t pairing i p exposed drive ordered there ties e none roles holds ports =
-    let s = all_split t (suc i) p e in
-    placed t pairing.ports (suc i) p s.0 s.1 s.2 s.3 (instances_are_tied t i p ordered.cards ties e) none (s.3.within (ordered_is_within_depth t t.cell ordered there)) exposed drive
-    (λ at name role value a b same. (roles.supplies at name role value a b).0 same) holds ports
+instance_is_placed t pairing i p depth before behind c exposed drive ordered there ties split none roles holds shows ports =
+    placed t pairing.ports (suc i) p depth before behind split (instances_are_tied t i p ordered.cards ties (split_at t (suc i) p depth before behind split)) none
+    (split.within (ordered_is_within_depth t t.cell ordered there)) c shows exposed drive (λ at name role value a b same. (roles.supplies at name role value a b).0 same) holds ports
+
+pub flat_circuit_shows_inside : FlatCircuitShowsInside
+unfolding flat_circuit_of
+flat_circuit_shows_inside t number p depth before behind split = record {
+  nets = refl;
+  there = λ r card m on.
+      flat_map_among (λ (at : Place). map (flat_device t at) (cell_at t.design at.cell).devices) (all_places t) r (flat_device t r card)
+      (subst (λ (ps : List Place). Among ps r) (sym split.whole) (among_right before (places_in t depth p ++ behind) r (among_left (places_in t depth p) behind r m)))
+      (map_among (flat_device t r) (cell_at t.design r.cell).devices card on);
+  devices = λ e m. m;
+  pins = λ out m. absurd (none-some out m.1);
+}

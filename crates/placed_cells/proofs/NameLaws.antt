@@ -154,10 +154,17 @@ module _ (t : Top) where
 
     -- ---- all places in a place
 
-    names_have : (depth : ℕ) (r : Place) → NetsHave depth r → NamesHave r
-    names_have depth r nets name is =
-        let size = own_inside depth r.cell in
-        net_has depth r name nets.globals nets.ports (λ n low high. nets.own n low (omega (arith, high, size))) is
+    -- each port of a place and each name in it has it
+    abbrev pub PlaceHas : Place → Type 0
+    PlaceHas r = ((n : ℕ) → Among r.ports n → P n) × NamesHave r
+
+    place_has : (depth : ℕ) (r : Place) → NetsHave depth r → PlaceHas r
+    place_has depth r nets = (
+      nets.ports,
+      λ name is.
+          let size = own_inside depth r.cell in
+          net_has depth r name nets.globals nets.ports (λ n low high. nets.own n low (omega (arith, high, size))) is,
+    )
 
     -- the ports of an instance are names of the place around it
     pub tied_have : (q : Place) (card : InstanceCard) → Among (cell_at t.design q.cell).instances card → NamesHave q → (n : ℕ) → Among (map (net_at t q) card.nets) n → P n
@@ -165,9 +172,9 @@ module _ (t : Top) where
         let name = among_map (net_at t q) card.nets n on in
         subst P name.2 (names name.0 (card_named (cell_at t.design q.cell) card name.0 there name.1))
 
-    pub cards_have : (depth : ℕ) → ((p r : Place) → NetsHave depth p → Among (places_in t depth p) r → NamesHave r)
+    pub cards_have : (depth : ℕ) → ((p r : Place) → NetsHave depth p → Among (places_in t depth p) r → PlaceHas r)
         → (q : Place) → NamesHave q → HasGlobals (suc depth) q.cell → (base : ℕ) (cards : List InstanceCard) → ((i : InstanceCard) → Among cards i → Among (cell_at t.design q.cell).instances i)
-        → ((n : ℕ) → base ≤ n → n < base + cards_size t depth cards → P n) → (r : Place) → Among (flat_map (places_in t depth) (instances_from t q depth base cards)) r → NamesHave r
+        → ((n : ℕ) → base ≤ n → n < base + cards_size t depth cards → P n) → (r : Place) → Among (flat_map (places_in t depth) (instances_from t q depth base cards)) r → PlaceHas r
     cards_have depth inner q names globals base [] all range r m = absurd (none-some r m.1)
     cards_have depth inner q names globals base (i ∷ cards) all range r m =
         let k = cell_named t.design i.cell in
@@ -185,10 +192,10 @@ module _ (t : Top) where
               cards_have depth inner q names globals next cards (λ j on. all j (among_later i cards j on)) (λ n low high. range n (omega (arith, low)) (omega (arith, high, sum))) r rest
         ]
 
-    pub all_have : (depth : ℕ) (p r : Place) → NetsHave depth p → Among (places_in t depth p) r → NamesHave r
-    all_have zero p r nets (zero, e) = subst NamesHave (same_Some p r e) (names_have zero p nets)
+    pub all_have : (depth : ℕ) (p r : Place) → NetsHave depth p → Among (places_in t depth p) r → PlaceHas r
+    all_have zero p r nets (zero, e) = subst PlaceHas (same_Some p r e) (place_has zero p nets)
     all_have zero p r nets (suc i, e) = absurd (none-some r e)
-    all_have (suc depth) p r nets (zero, e) = subst NamesHave (same_Some p r e) (names_have (suc depth) p nets)
+    all_have (suc depth) p r nets (zero, e) = subst PlaceHas (same_Some p r e) (place_has (suc depth) p nets)
     all_have (suc depth) p r nets (suc i, e) =
-        cards_have depth (λ q s a m. all_have depth q s a m) p (names_have (suc depth) p nets) nets.globals (p.base + own_size t p.cell) (cell_at t.design p.cell).instances (λ j on. on)
+        cards_have depth (λ q s a m. all_have depth q s a m) p (place_has (suc depth) p nets).1 nets.globals (p.base + own_size t p.cell) (cell_at t.design p.cell).instances (λ j on. on)
         (λ n low high. nets.own n (omega (arith, low)) (omega (arith, high))) r (i, e)

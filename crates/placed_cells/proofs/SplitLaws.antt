@@ -75,7 +75,7 @@ module _ (t : Top) where
     pub within : IsWithinDepth t depth q.cell → IsWithinDepth t inner p.cell
     pub outside :
         (shared : (top_place t).base ≤ p.base) → HasGlobals t depth q.cell → NetsOutside inner p q.ports
-        → NetsOutside inner p p.ports × ((r : Place) → Among (before ++ behind) r → NamesOutside inner p shared r)
+        → NetsOutside inner p p.ports × ((r : Place) → Among (before ++ behind) r → NetsOutside inner p r.ports × NamesOutside inner p shared r)
 
   -- the same in some instances of a place
   record CardsSplit (depth : ℕ) (q : Place) (base : ℕ) (cards : List InstanceCard) (number : ℕ) (p : Place) (inner : ℕ) (before behind : List Place) : Type 0 where
@@ -86,7 +86,7 @@ module _ (t : Top) where
     pub outside :
         (shared : (top_place t).base ≤ p.base) → HasGlobals t (suc depth) q.cell → NamesOutside inner p shared q
         → ((i : InstanceCard) → Among cards i → Among (cell_at t.design q.cell).instances i)
-        → NetsOutside inner p p.ports × ((r : Place) → Among (before ++ behind) r → NamesOutside inner p shared r)
+        → NetsOutside inner p p.ports × ((r : Place) → Among (before ++ behind) r → NetsOutside inner p r.ports × NamesOutside inner p shared r)
 
   abbrev SplitsPlace : ℕ → Place → ℕ → Place → Type 0
   SplitsPlace depth q number p = (inner : ℕ) × (before : List Place) × (behind : List Place) × PlaceSplit depth q number p inner before behind
@@ -225,7 +225,7 @@ module _ (t : Top) where
                 o.0,
                 λ r m.
                     elim (among_either (q ∷ []) (s.1 ++ s.2) r m) [
-                      | inl here ↦ subst (NamesOutside s.0 p shared) (only q r here) names
+                      | inl here ↦ subst (λ (a : Place). NetsOutside s.0 p a.ports × NamesOutside s.0 p shared a) (only q r here) (ports, names)
                       | inr far ↦ o.1 r far
                     ],
               );
@@ -266,7 +266,8 @@ module _ (t : Top) where
           within = split.within;
           first = shared;
           ports = o.0;
-          names = λ r name m is. o.1 r m name is;
+          tied = λ r n m on. (o.1 r m).0 n on;
+          names = λ r name m is. (o.1 r m).1 name is;
         },
       )
 

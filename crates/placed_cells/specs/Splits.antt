@@ -25,8 +25,9 @@ pub record IsSplit (t : Top) (number : ℕ) (p : Place) (depth : ℕ) (before be
   pub within : IsWithinDepth t deepest t.cell → IsWithinDepth t depth p.cell
   -- its own nets are behind those that all places share
   pub first : (top_place t).base ≤ p.base
-  -- it is tied to nets outside, and no name in any other place is an own net inside
+  -- it is tied to nets outside; so is any other place, and no name there is an own net inside
   pub ports : (n : ℕ) → Among p.ports n → IsOutsideOf t depth p n
+  pub tied : (r : Place) (n : ℕ) → Among (before ++ behind) r → Among r.ports n → IsOutsideOf t depth p n
   pub names :
       (r : Place) (name : List ℕ) → Among (before ++ behind) r → is_net_in (cell_at t.design r.cell) name ≡ true
       → IsOutsideOf t depth p (net_at t r name)

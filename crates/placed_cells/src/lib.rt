@@ -10,6 +10,6 @@ mod splits;
 
 pub use above::{instances_are_shifted, instances_are_tied, nets_above_are_apart};
 pub use depths::ordered_is_within_depth;
-pub use instances::instance_is_placed;
+pub use instances::{flat_circuit_shows_inside, instance_is_placed};
 pub use rows::{own_nets_are_apart, own_nets_are_listed, places_are_in_row};
 pub use splits::places_in_stand_together;
