@@ -3,6 +3,7 @@ pub mod DepthLaws
 pub mod FlatNetLaws
 pub mod InstanceLaws
 pub mod NameLaws
+pub mod PathLaws
 pub mod RowLaws
 pub mod SplitLaws
 pub mod TieLaws

@@ -5,16 +5,18 @@ use Rattle.std.proofs.lemmas.Option.{none-some, same_Some}
 use Rattle.cell_inside.proofs.ShiftedPlaces.{among_name}
 use Rattle.cell_inside.specs.Shifted.{IsWithinDepth}
 use Rattle.placed_cells.proofs.NameLaws.{HasGlobals, NamesHave, NetsHave, all_have, cards_have, inner_globals, name_among, net_has, tied_have}
+use Rattle.placed_cells.proofs.PathLaws.{cards_apart, leads, leads_not_past, leads_not_short, path_on, path_over, same_card, step_at}
 use Rattle.placed_cells.proofs.RowLaws.{all_in_row, cards_in_row, cards_size, in_row, row_ends, row_grows, row_split}
 use Rattle.placed_cells.specs.Rows.{AreInRow, own_size, size_inside}
-use Rattle.placed_cells.specs.Splits.{IsOutsideOf, IsSplit, PlacesInStandTogether}
+use Rattle.placed_cells.specs.Splits.{IsOutsideOf, IsSplit, PlacesInStandTogether, leads_through}
 use Rattle.vrt_model.proofs.Filtered.{among_kept}
 use Rattle.vrt_model.proofs.Lists.{at_either}
 use Rattle.vrt_model.proofs.Members.{among_either, among_later, among_left, among_right}
 use Rattle.vrt_model.specs.CellRules.{supply_of}
 use Rattle.vrt_model.specs.Comparison.{cell_at, port_nets_from}
+use Rattle.vrt_model.specs.Inputs.{AllApart, IsDesign}
 use Rattle.vrt_model.specs.Lists.{Among, At}
-use Rattle.vrt_model.specs.Unrolled.{Place, Top, all_places, cell_named, deepest, global_nets, globals_of, instances_from, names_global, net_at, places_in, top_cell, top_place}
+use Rattle.vrt_model.specs.Unrolled.{Place, Step, Top, all_places, cell_named, deepest, global_nets, globals_of, instances_from, names_global, net_at, places_in, top_cell, top_place}
 use Rattle.vrt_model.specs.declared.design.InstanceCard.{InstanceCard}
 use Rattle.vrt_model.specs.declared.rules.Rules.{Rules}
 
@@ -73,6 +75,8 @@ module _ (t : Top) where
     pub whole : places_in t depth q ≡ before ++ (places_in t inner p ++ behind)
     pub depth_is : inner + length p.path ≡ depth + length q.path
     pub within : IsWithinDepth t depth q.cell → IsWithinDepth t inner p.cell
+    pub path_is : (steps : List Step) × (p.path ≡ steps ++ q.path)
+    pub past : IsDesign t.design → (r : Place) → Among (before ++ behind) r → leads_through r p ≡ false
     pub outside :
         (shared : (top_place t).base ≤ p.base) → HasGlobals t depth q.cell → NetsOutside inner p q.ports
         → NetsOutside inner p p.ports × ((r : Place) → Among (before ++ behind) r → NetsOutside inner p r.ports × NamesOutside inner p shared r)
@@ -83,6 +87,8 @@ module _ (t : Top) where
     pub whole : flat_map (places_in t depth) (instances_from t q depth base cards) ≡ before ++ (places_in t inner p ++ behind)
     pub depth_is : inner + length p.path ≡ depth + suc (length q.path)
     pub within : ((i : InstanceCard) → Among cards i → IsWithinDepth t depth (cell_named t.design i.cell)) → IsWithinDepth t inner p.cell
+    pub path_is : (c : InstanceCard) × Among cards c × (steps : List Step) × (p.path ≡ steps ++ step_at t q c ∷ q.path)
+    pub past : IsDesign t.design → AllApart same_card cards → (r : Place) → Among (before ++ behind) r → leads_through r p ≡ false
     pub outside :
         (shared : (top_place t).base ≤ p.base) → HasGlobals t (suc depth) q.cell → NamesOutside inner p shared q
         → ((i : InstanceCard) → Among cards i → Among (cell_at t.design q.cell).instances i)
@@ -127,6 +133,15 @@ module _ (t : Top) where
               whole = ap (λ (ps : List Place). ps ++ rest) split.whole ∙ append_assoc s.1 (sub ++ s.2) rest ∙ ap (λ (ps : List Place). s.1 ++ ps) (append_assoc sub s.2 rest);
               depth_is = split.depth_is;
               within = λ h. split.within (h i (0, refl));
+              path_is = (i, (0, refl), split.path_is.0, split.path_is.1);
+              past = λ is apart r m.
+                  elim (which s.1 s.2 rest r m) [
+                    | inl near ↦ split.past is r near
+                    | inr far ↦
+                        let other = path_over t depth q next cards r far in
+                        leads_not_past r p other.2 split.path_is.0 (step_at t q other.0) (step_at t q i) q.path other.3 split.path_is.1
+                        (λ same. let e = apart (suc other.1.0) 0 other.0 i other.1.1 refl same in absurd (omega (arith, e)))
+                  ];
               outside = λ shared globals names all.
                   let ends = (bounds s.1 s.2 s.0 p base next (subst (λ (ps : List Place). AreInRow t ps base next) split.whole (in_row t depth first))).1 in
                   let o = split.outside shared (inner_globals t depth q.cell globals i (all i (0, refl))) (tied_have t (IsOutsideOf t s.0 p) (shared_outside s.0 p shared) q i (all i (0, refl)) names) in (
@@ -155,6 +170,19 @@ module _ (t : Top) where
               whole = ap (λ (ps : List Place). places_in t depth first ++ ps) split.whole ∙ sym (append_assoc (places_in t depth first) s.1 (sub ++ s.2));
               depth_is = split.depth_is;
               within = λ h. split.within (λ c m. h c (among_later i cards c m));
+              path_is = (split.path_is.0, among_later i cards split.path_is.0 split.path_is.1, split.path_is.2, split.path_is.3);
+              past = λ is apart r m.
+                  let later : AllApart same_card cards = λ a b x y here there same. let e = apart (suc a) (suc b) x y here there same in omega (arith, e) in
+                  elim (among_either before s.2 r m) [
+                    | inl near ↦ elim (among_either (places_in t depth first) s.1 r near) [
+                      | inl here ↦
+                          let on = path_on t depth first r here in
+                          leads_not_past r p on.0 split.path_is.2 (step_at t q i) (step_at t q split.path_is.0) q.path on.1 split.path_is.3
+                          (λ same. let e = apart 0 (suc split.path_is.1.0) i split.path_is.0 refl split.path_is.1.1 same in absurd (omega (arith, e)))
+                      | inr there ↦ split.past is later r (among_left s.1 s.2 r there)
+                    ]
+                    | inr far ↦ split.past is later r (among_right s.1 s.2 r far)
+                  ];
               outside = λ shared globals names all.
                   let begins = (bounds s.1 s.2 s.0 p next (next + cards_size t depth cards) (subst (λ (ps : List Place). AreInRow t ps next (next + cards_size t depth cards)) split.whole (cards_in_row t depth (λ a. in_row t depth a) q next cards))).0 in
                   let o = split.outside shared globals names (λ c m. all c (among_later i cards c m)) in
@@ -196,6 +224,8 @@ module _ (t : Top) where
       whole = sym (append-nil (places_in t depth q));
       depth_is = refl;
       within = λ h. h;
+      path_is = ([], refl);
+      past = λ is r m. absurd (none-some r m.1);
       outside = λ shared globals ports. (ports, λ r m. absurd (none-some r m.1));
     },
   )
@@ -218,6 +248,19 @@ module _ (t : Top) where
           whole = ap (λ (ps : List Place). q ∷ ps) split.whole;
           depth_is = omega (arith, deep);
           within = λ h. split.within h;
+          path_is = (
+            split.path_is.2 ++ step_at t q split.path_is.0 ∷ [],
+            split.path_is.3 ∙ sym (append_assoc split.path_is.2 (step_at t q split.path_is.0 ∷ []) q.path),
+          );
+          past = λ is r m.
+              elim (among_either (q ∷ []) (s.1 ++ s.2) r m) [
+                | inl here ↦
+                    leads_not_short r p
+                    (let same = ap (λ (a : Place). length a.path) (only q r here) in
+                    let count = ap (λ (a : List Step). length a) split.path_is.3 ∙ length-append split.path_is.2 (step_at t q split.path_is.0 ∷ q.path) in
+                    omega (arith, same, count))
+                | inr far ↦ split.past is (cards_apart t.design is q.cell) r far
+              ];
           outside = λ shared globals ports.
               let begins = (bounds s.1 s.2 s.0 p from (from + cards_size t depth cards) (subst (λ (ps : List Place). AreInRow t ps from (from + cards_size t depth cards)) split.whole (cards_in_row t depth (λ a. in_row t depth a) q from cards))).0 in
               let names : NamesOutside s.0 p shared q = λ name is. net_has t (IsOutsideOf t s.0 p) (shared_outside s.0 p shared) (suc depth) q name globals ports (λ n low high. inl (omega (arith, high, begins))) is in
@@ -264,6 +307,8 @@ module _ (t : Top) where
           whole = split.whole;
           depth_is = omega (arith, deep);
           within = split.within;
+          through = λ r m. let on = path_on t s.0 p r m in leads r p on.0 on.1;
+          past = split.past;
           first = shared;
           ports = o.0;
           tied = λ r n m on. (o.1 r m).0 n on;
