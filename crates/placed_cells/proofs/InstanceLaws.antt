@@ -42,7 +42,7 @@ zip_left R (z ∷ xs) [] x h m = absurd h
 zip_left {X} {Y} R (z ∷ xs) (y ∷ ys) x h (zero, e) = (y, (0, refl), subst (λ (w : X). R w y) (same_Some z x e) h.0)
 zip_left R (z ∷ xs) (y ∷ ys) x h (suc i, e) = let rest = zip_left R xs ys x h.1 (i, e) in (rest.0, among_later y ys rest.0 rest.1, rest.2)
 
-zip_right : {X Y : Type 0} (R : X → Y → Type 0) (xs : List X) (ys : List Y) (y : Y) → AllZip R xs ys → Among ys y → (x : X) × Among xs x × R x y
+pub zip_right : {X Y : Type 0} (R : X → Y → Type 0) (xs : List X) (ys : List Y) (y : Y) → AllZip R xs ys → Among ys y → (x : X) × Among xs x × R x y
 zip_right R xs [] y h m = absurd (none-some y m.1)
 zip_right R [] (z ∷ ys) y h m = absurd h
 zip_right {X} {Y} R (x ∷ xs) (z ∷ ys) y h (zero, e) = (x, (0, refl), subst (λ (w : Y). R x w) (same_Some z y e) h.0)

@@ -1,4 +1,5 @@
 pub mod AboveLaws
+pub mod CutLaws
 pub mod DepthLaws
 pub mod FlatNetLaws
 pub mod InstanceLaws

@@ -58,7 +58,7 @@ same_behind (suc n) [] b x y rest e =
     absurd (omega (arith, count, both, few))
 same_behind (suc n) (z ∷ a) b x y rest e = same_behind n a b x y rest e
 
-drop_front : (xs ys : List Step) → drop (length xs) (xs ++ ys) ≡ ys
+pub drop_front : (xs ys : List Step) → drop (length xs) (xs ++ ys) ≡ ys
 drop_front [] ys = refl
 drop_front (x ∷ xs) ys = drop_front xs ys
 
@@ -73,7 +73,7 @@ leads r p steps e =
     and_from (nat_le (length p.path) (length r.path)) (same_path (drop (length r.path - length p.path) r.path) p.path) (le-leb (length p.path) (length r.path) (omega (arith, count)))
     (ap (λ (s : List Step). same_path s p.path) behind ∙ same_self p.path)
 
-not_so : (b : Bool) → (b ≡ true → ⊥) → b ≡ false
+pub not_so : (b : Bool) → (b ≡ true → ⊥) → b ≡ false
 not_so b never = elim (cases_Bool b) [ inl t ↦ absurd (never t) | inr f ↦ f ]
 
 -- a shorter path does not

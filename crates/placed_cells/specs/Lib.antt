@@ -1,4 +1,5 @@
 pub mod Above
+pub mod Cuts
 pub mod Depths
 pub mod Instances
 pub mod Rows

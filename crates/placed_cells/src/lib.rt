@@ -3,12 +3,14 @@
 #![tactic(auto)]
 
 mod above;
+mod cuts;
 mod depths;
 mod instances;
 mod rows;
 mod splits;
 
 pub use above::{instances_are_shifted, instances_are_tied, nets_above_are_apart};
+pub use cuts::cut_shows_inside;
 pub use depths::ordered_is_within_depth;
 pub use instances::{flat_circuit_shows_inside, instance_is_placed};
 pub use rows::{own_nets_are_apart, own_nets_are_listed, places_are_in_row};
