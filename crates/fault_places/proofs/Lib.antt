@@ -1,7 +1,7 @@
 pub mod CountedSites
 mod Floats
 pub mod ListedSpots
-mod PartRanks
+pub mod PartRanks
 pub mod PhaseOrder
 pub mod SearchLaws
 mod SortedLists

@@ -1,0 +1,4 @@
+pub mod GivenShow
+pub mod PinWholes
+pub mod RankedBits
+pub mod RankedRegions
