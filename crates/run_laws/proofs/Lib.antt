@@ -3,7 +3,7 @@ mod EqualGives
 mod GroupFacts
 mod HeldBits
 mod Listed
-mod MemoryBits
+pub mod MemoryBits
 mod RunsFromEqual
 mod SameSettings
 pub mod WellFormed

@@ -1,4 +1,5 @@
 pub mod GivenShow
+pub mod InstanceLaws
 pub mod PinWholes
 pub mod RankedBits
 pub mod RankedRegions
