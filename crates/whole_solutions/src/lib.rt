@@ -1,9 +1,12 @@
-//! Solutions of circuits in which whole instances may stand: which nets their ranks settle, where a solution has bits, and which
-//! valuation of its cell an instance has. Laws alone, each the contract of a function that does nothing.
+//! Solutions of circuits in which whole instances may stand: which nets their ranks settle, where a solution has bits, which
+//! valuation of its cell an instance has, and which nets are observed. Laws alone, each the contract of a function that does
+//! nothing.
 #![tactic(auto)]
 
 mod instances;
+mod observed;
 mod ranked;
 
 pub use instances::instance_gives_valuation;
+pub use observed::{observed_nets_are_there, whole_observes_no_more};
 pub use ranked::{ranked_solutions_have_bits, ranks_give_regions};
