@@ -25,7 +25,7 @@ module _ (c : Circuit) (ranges : HasRanges c) (pins_plain : ArePinsPlain c) (bar
   levels = network_levels c bare held s ranges
 
   -- a root of the source level at a given net has the net's bit
-  root_value : (n : ℕ) → IsGiven c n → (root : Root) → IsRoot view root → root.net ≡ n → root.level ≡ 8 → root.value ≡ s.reading n
+  pub root_value : (n : ℕ) → IsGiven c n → (root : Root) → IsRoot view root → root.net ≡ n → root.level ≡ 8 → root.value ≡ s.reading n
   root_value n g root r e top =
       elim r [
         | inl h ↦ h.4 ∙ ap s.reading e

@@ -1,7 +1,9 @@
 pub mod GivenShow
 pub mod InstanceLaws
+pub mod KnownInsideLaws
 pub mod ObservedCases
 pub mod ObservedLaws
 pub mod PinWholes
 pub mod RankedBits
 pub mod RankedRegions
+pub mod SettledSets

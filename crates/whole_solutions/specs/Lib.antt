@@ -1,3 +1,4 @@
 pub mod Instances
+pub mod KnownInside
 pub mod Observed
 pub mod Ranked
