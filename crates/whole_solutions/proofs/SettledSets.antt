@@ -1,26 +1,28 @@
 -- What a settled set of a cell shows in the circuit around it.
 use Rattle.std.proofs.Common.{◌≡◌, ◌⊎◌, ℕ, ◌||◌, Bool, true, false, List, filter, length, ap, subst, sym, refl, ◌∙◌, inl, inr}
+use Rattle.std.specs.Prelude.{◌↔◌}
 use Rattle.std.proofs.lemmas.Bool.{false≢true, or_cases, or_left, or_right}
 use Rattle.cell_inside.proofs.Copies.{touched}
 use Rattle.cell_inside.proofs.Images.{image_conducts, image_in}
-use Rattle.cell_inside.proofs.NetKinds.{plain_not_given, supply_given}
+use Rattle.cell_inside.proofs.NetKinds.{plain_is, plain_not_given, supply_given}
 use Rattle.cell_inside.proofs.OutputPins.{pin_found}
 use Rattle.cell_inside.proofs.OutsideLaws.{outside_changes_nothing}
 use Rattle.cell_inside.proofs.SolutionLaws.{shows_by}
 use Rattle.cell_inside.specs.Inside.{IsCopy, IsInside, IsOutside, IsShared, Touches}
-use Rattle.cell_inside.specs.Placed.{IsPlaced, IsSupply}
+use Rattle.cell_inside.specs.Placed.{IsPlaced, IsSupply, alone}
+use Rattle.cell_inside.specs.Replaced.{IsJoined, itself, onward}
 use Rattle.vrt_model.proofs.Bounded.{response_inside}
 use Rattle.vrt_model.proofs.Filtered.{among_devices, among_kept, device_among, filter_among}
 use Rattle.vrt_model.proofs.Laws.{turned}
 use Rattle.vrt_model.proofs.Locality.{fixed_given}
 use Rattle.vrt_model.proofs.Members.{at_none}
 use Rattle.vrt_model.proofs.Networks.{given_source, network_finite, network_levels}
-use Rattle.vrt_model.specs.Known.{IsPlain}
+use Rattle.vrt_model.specs.Known.{IsPlain, is_plain_at}
 use Rattle.vrt_model.specs.Lists.{Among, At}
 use Rattle.vrt_model.specs.Networks.{Covers, HasLevels, HasRanges, IsFinite}
 use Rattle.vrt_model.specs.Path.{IsOn, IsRoot, Joins, Network, Root}
 use Rattle.vrt_model.specs.Reading.{HasGivenBit, IsReading, conducts, conducts_at, devices_of}
-use Rattle.vrt_model.specs.Response.{IsResponse, Shows}
+use Rattle.vrt_model.specs.Response.{Fight, Float, IsResponse, Reaches, Response, Shows}
 use Rattle.vrt_model.specs.State.{OutputPin, State, network_of, output_pins}
 use Rattle.vrt_model.specs.declared.circuit.Circuit.{Circuit}
 use Rattle.vrt_model.specs.declared.circuit.Device.{Device}
@@ -36,8 +38,14 @@ use Rattle.whole_solutions.specs.KnownInside.{IsSettledSet}
 pub supply_bit : (c : Circuit) (phase : Phase) (inputs reading : ℕ → Bool) → IsReading c phase inputs reading → (n : ℕ) (value : Bool) → IsSupply c n value → reading n ≡ value
 supply_bit c phase inputs reading is n value supply = subst (λ (kind : NetKind). HasGivenBit phase inputs kind n (reading n)) supply.2 (is n supply.0 supply.1)
 
-module _ (cell c : Circuit) (at : ℕ → ℕ) (exposed : ℕ → Bool) (drive : ℕ → ℕ) (phase : Phase) (inputs above : ℕ → Bool) (s : State)
-    (ranges : HasRanges cell) (all_ranges : HasRanges c) (placed : IsPlaced cell c at exposed drive) (is : IsReading c phase inputs s.reading)
+-- a net that the same values reach responds the same
+responds_by : (w x : Network) (m n : ℕ) → ((v : Bool) → Reaches w m v ↔ Reaches x n v) → (r : Response) → IsResponse w m r → IsResponse x n r
+responds_by w x m n same Fight h = ((same true).0 h.0, (same false).0 h.1)
+responds_by w x m n same Float h = (λ q. h.0 ((same true).1 q), λ q. h.1 ((same false).1 q))
+responds_by w x m n same (Shows v) h = shows_by w x m n same v h
+
+module _ (cell c : Circuit) (at : ℕ → ℕ) (exposed : ℕ → Bool) (drive : ℕ → ℕ) (phase : Phase) (above : ℕ → Bool) (s : State)
+    (ranges : HasRanges cell) (all_ranges : HasRanges c) (placed : IsPlaced cell c at exposed drive) (supplies : (n : ℕ) (value : Bool) → IsSupply c n value → s.reading n ≡ value)
     (inside reading held driven : ℕ → Bool) (set : IsSettledSet cell phase inside reading) (hidden : (n : ℕ) → inside n ≡ true → exposed n ≡ true → ⊥)
     (same : (m l : ℕ) (d : Device) → inside m ≡ true → Among (devices_of true cell) d → Joins d m l → reading d.gate.0 ≡ s.reading (at d.gate.0)) where
   abbrev set_state : State
@@ -112,7 +120,7 @@ module _ (cell c : Circuit) (at : ℕ → ℕ) (exposed : ℕ → Bool) (drive :
 
   edge_same : (n : ℕ) → IsEdge n → reading n ≡ s.reading (at n)
   edge_same n e =
-      supply_bit cell phase reading reading set.reads n e.0 e.1 ∙ sym (supply_bit c phase inputs s.reading is (at n) e.0 (placed.supplies n e.0 e.1))
+      supply_bit cell phase reading reading set.reads n e.0 e.1 ∙ sym (supplies (at n) e.0 (placed.supplies n e.0 e.1))
 
   covers : Covers set_network part (λ n. inside n ≡ true) IsEdge
   covers = record {
@@ -254,15 +262,28 @@ module _ (cell c : Circuit) (at : ℕ → ℕ) (exposed : ℕ → Bool) (drive :
     not_above = λ root hops n path out e last. absurd (false≢true e);
   }
 
-  -- a net of the set shows in the circuit what it shows in the set
-  pub set_shows : (n : ℕ) (v : Bool) → inside n ≡ true → IsResponse set_network n (Shows v) → IsResponse circuit_network (at n) (Shows v)
-  set_shows n v ins shows =
+  -- a net of the set responds in the circuit as in the set
+  pub set_responds : (n : ℕ) (r : Response) → inside n ≡ true → IsResponse set_network n r → IsResponse circuit_network (at n) r
+  set_responds n r ins responds =
       let law =
       outside_changes_nothing part circuit_network at inside (λ m. false) drive (length cell.nets) (length c.nets) part_levels (network_levels c true above s all_ranges)
       part_finite (network_finite c true above s all_ranges) (λ m e. absurd (false≢true e)) part_inside in
       elim law.2 [
         | inl fight ↦ absurd (false≢true fight.1)
         | inr alike ↦
-            shows_by part circuit_network n (at n) (λ u. alike n u ins) v
-            (response_inside set_network part (λ m. inside m ≡ true) IsEdge (network_levels cell true held set_state ranges) part_levels covers covers_back n (Shows v) ins shows)
+            responds_by part circuit_network n (at n) (λ u. alike n u ins) r
+            (response_inside set_network part (λ m. inside m ≡ true) IsEdge (network_levels cell true held set_state ranges) part_levels covers covers_back n r ins responds)
       ]
+
+  -- what conducting devices of the cell join to the set is in it
+  pub joined_in : (m n : ℕ) → IsJoined (alone cell true at s) (is_plain_at cell) m n → inside n ≡ true → inside m ≡ true
+  joined_in m n (itself plain) ins = ins
+  joined_in m n (onward {l = l} d t on j plain) ins =
+      joined_in m l t (elim (joined n l d ins on.0 (turned d l n j) (on_reading n l d ins on.0 (turned d l n j) on.1)) [
+        | inl i ↦ i
+        | inr e ↦ absurd (plain_not_given cell l e.1.0 (plain_is cell l (last_plain m l t)) e.1.1 (supply_given cell l e.0 e.1))
+      ])
+    where
+      last_plain : (x y : ℕ) → IsJoined (alone cell true at s) (is_plain_at cell) x y → is_plain_at cell y ≡ true
+      last_plain x y (itself p) = p
+      last_plain x y (onward e u i k p) = p

@@ -1,8 +1,10 @@
 -- Nets of a cell that are known before anything is solved, in a circuit in which the cell stands.
-use Rattle.std.specs.Prelude.{◌≡◌, ℕ, Bool, true, Option, Some}
-use Rattle.cell_inside.specs.Placed.{IsPlaced}
+use Rattle.std.specs.Prelude.{◌≡◌, ◌⊎◌, ℕ, Bool, true, [], Option, Some}
+use Rattle.cell_inside.specs.Assured.{IsAssured}
+use Rattle.cell_inside.specs.Inside.{Touches}
+use Rattle.cell_inside.specs.Placed.{IsPlaced, IsSupply}
 use Rattle.cell_inside.specs.Unjoined.{HasKnownGates}
-use Rattle.vrt_model.specs.Known.{IsKnown, IsPlain, IsShut}
+use Rattle.vrt_model.specs.Known.{IsKnown, IsPlain, IsShut, IsUnknown}
 use Rattle.vrt_model.specs.Lists.{Among, At}
 use Rattle.vrt_model.specs.Networks.{HasRanges}
 use Rattle.vrt_model.specs.Path.{Joins}
@@ -46,3 +48,25 @@ KnownInsideIsSolved =
     → IsSolution c phase observed setting a
     → ((n : ℕ) (net : FlatNet) (clock : ClockRef) → At cell.nets n net → net.kind ≡ Clock clock → observed (at n) ≡ true → a (at n) ≡ Some (clock_bit phase clock))
     → (n : ℕ) (v : Bool) → IsKnown cell phase n v → observed (at n) ≡ true → a (at n) ≡ Some v
+
+-- The law: in the cell alone, with the bits that a state of the circuit gives its gates, a plain net that is known shows its bit,
+-- and conducting devices join it to no exposed net; so its bit is assured with the cell whole.
+abbrev pub KnownInsideIsAssured : Type 0
+KnownInsideIsAssured =
+    (cell c whole_circuit : Circuit) (at moved : ℕ → ℕ) (compared exposed : ℕ → Bool) (drive : ℕ → ℕ) (phase : Phase) (setting : Setting) (s r : State)
+    → HasRanges cell → IsPlaced cell c at exposed drive → AreExposedUnsettled cell phase exposed
+    → IsState c phase setting.inputs s → HasKnownGates cell phase bare at s
+    → (n : ℕ) (v : Bool) → IsKnown cell phase n v → IsPlain cell n → s.reading (at n) ≡ v
+    → IsAssured cell whole_circuit at moved compared exposed setting s r (at n)
+
+-- The law: where in one state of a cell without holds and whole instances, with the bits of known gates, each exposed net shows a
+-- bit, and none is known, no exposed net is in a shut set with known gates.
+abbrev pub UnknownOutputsAreUnsettled : Type 0
+UnknownOutputsAreUnsettled =
+    (cell : Circuit) (phase : Phase) (setting : Setting) (exposed : ℕ → Bool) (s : State)
+    → HasRanges cell → cell.holds ≡ [] → cell.wholes ≡ []
+    → ((d : Device) (n : ℕ) → Among cell.devices d → Touches d n → IsPlain cell n ⊎ ((value : Bool) × IsSupply cell n value))
+    → IsState cell phase setting.inputs s → HasKnownGates cell phase bare (λ n. n) s
+    → ((n : ℕ) → exposed n ≡ true → IsUnknown cell phase n)
+    → ((n : ℕ) → exposed n ≡ true → (v : Bool) × IsResponse (network_of cell bare setting.held s) n (Shows v))
+    → AreExposedUnsettled cell phase exposed

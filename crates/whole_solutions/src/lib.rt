@@ -9,6 +9,9 @@ mod observed;
 mod ranked;
 
 pub use instances::instance_gives_valuation;
-pub use known_inside::{known_inside_is_solved, known_inside_shows};
+pub use known_inside::{
+    known_inside_is_assured, known_inside_is_solved, known_inside_shows,
+    unknown_outputs_are_unsettled,
+};
 pub use observed::{observed_nets_are_there, whole_observes_no_more};
 pub use ranked::{ranked_solutions_have_bits, ranks_give_regions};
