@@ -11,7 +11,7 @@ mod HeldInput
 mod HeldValues
 mod LeftWhole
 mod NoPhase
-mod NoWhole
+pub mod NoWhole
 mod OneCell
 mod OneDevice
 mod PairedValues

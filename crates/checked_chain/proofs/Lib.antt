@@ -1,0 +1,5 @@
+pub mod ChoiceLaws
+pub mod EndLaws
+pub mod StepLaws
+pub mod ThereLaws
+pub mod WholeLaws

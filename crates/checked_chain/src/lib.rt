@@ -1,0 +1,10 @@
+//! Laws of the circuits between the flat circuit of a cell and its checked one: instance by instance, one more is left whole
+//! where it is chosen. Laws alone, each the contract of a function that does nothing.
+#![tactic(auto)]
+
+mod steps;
+
+pub use steps::{
+    chain_begins_flat, chain_ends_checked, chain_is_there, none_more_is_same, one_more_is_next,
+    places_alone_count,
+};
