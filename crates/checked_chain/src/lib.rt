@@ -2,8 +2,12 @@
 //! where it is chosen. Laws alone, each the contract of a function that does nothing.
 #![tactic(auto)]
 
+mod order;
 mod steps;
 
+pub use order::{
+    chosen_are_apart, nothing_is_left_out_inside, nothing_is_whole_inside, outer_comes_first,
+};
 pub use steps::{
     chain_begins_flat, chain_ends_checked, chain_is_there, none_more_is_same, one_more_is_next,
     places_alone_count,
