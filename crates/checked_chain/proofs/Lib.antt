@@ -1,5 +1,7 @@
 pub mod ChoiceLaws
 pub mod EndLaws
+pub mod InstanceLaws
+pub mod KeptPlaces
 pub mod OrderLaws
 pub mod PathOrder
 pub mod StepLaws

@@ -2,9 +2,11 @@
 //! where it is chosen. Laws alone, each the contract of a function that does nothing.
 #![tactic(auto)]
 
+mod instances;
 mod order;
 mod steps;
 
+pub use instances::{instances_are_shown, instances_move, instances_stay_apart};
 pub use order::{
     chosen_are_apart, nothing_is_left_out_inside, nothing_is_whole_inside, outer_comes_first,
 };
