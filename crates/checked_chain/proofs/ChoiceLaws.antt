@@ -22,7 +22,7 @@ use Rattle.vrt_model.specs.declared.whole.CellFacts.{CellFacts}
 
 -- ---- numbers of places
 
-at_enumerated : {X : Type 0} (n : ℕ) (xs : List X) (i : ℕ) (q : ℕ × X) → At (enumerate_from n xs) i q → (q.0 ≡ n + i) × At xs i q.1
+pub at_enumerated : {X : Type 0} (n : ℕ) (xs : List X) (i : ℕ) (q : ℕ × X) → At (enumerate_from n xs) i q → (q.0 ≡ n + i) × At xs i q.1
 at_enumerated n [] i q e = absurd (none-some q e)
 at_enumerated {X} n (x ∷ xs) zero q e =
     let same = same_Some (n, x) q e in

@@ -1,9 +1,11 @@
 pub mod ChoiceLaws
 pub mod EndLaws
+pub mod GroupLaws
 pub mod InstanceLaws
 pub mod KeptPlaces
 pub mod OrderLaws
 pub mod PathOrder
+pub mod SettingLaws
 pub mod StepLaws
 pub mod ThereLaws
 pub mod WholeLaws

@@ -2,10 +2,14 @@
 //! where it is chosen. Laws alone, each the contract of a function that does nothing.
 #![tactic(auto)]
 
+mod holds;
 mod instances;
 mod order;
 mod steps;
 
+pub use holds::{
+    chain_keeps_holds, constraints_are_same, groups_are_same, settings_are_same, variables_are_same,
+};
 pub use instances::{instances_are_shown, instances_move, instances_stay_apart};
 pub use order::{
     chosen_are_apart, nothing_is_left_out_inside, nothing_is_whole_inside, outer_comes_first,
