@@ -6,13 +6,13 @@ use Rattle.std.proofs.lemmas.Bool.{cases_Bool}
 use Rattle.std.proofs.lemmas.Bool.Decides.{nat_tests}
 use Rattle.checked_chain.proofs.InstanceLaws.{instances_stay_apart}
 use Rattle.checked_chain.proofs.ChoiceLaws.{at_enumerated}
-use Rattle.checked_chain.specs.Holds.{AreEndsShown, GroupsAreSame, IsEndShown}
+use Rattle.checked_chain.specs.Holds.{GroupsAreSame, IsEndShown}
 use Rattle.vrt_model.proofs.Filtered.{filter_among}
 use Rattle.vrt_model.proofs.Lists.{among_filter_map, filter_among_same}
 use Rattle.vrt_model.proofs.Members.{among_later, among_map, find_among}
 use Rattle.vrt_model.specs.CheckedParts.{moved_end}
 use Rattle.vrt_model.specs.Cut.{Cut, moved_instance}
-use Rattle.vrt_model.specs.FlatCircuit.{flat_circuit_of, flat_holds, flat_nets}
+use Rattle.vrt_model.specs.FlatCircuit.{flat_circuit_of}
 use Rattle.vrt_model.specs.Groups.{Placed, element_of, group_of, groups_of, holds_by_net, leaders, placed, same_end}
 use Rattle.vrt_model.specs.Lists.{Among}
 use Rattle.vrt_model.specs.declared.circuit.Circuit.{Circuit}

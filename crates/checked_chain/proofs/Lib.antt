@@ -1,5 +1,6 @@
 pub mod ChoiceLaws
 pub mod EndLaws
+pub mod FindingLaws
 pub mod GroupLaws
 pub mod InstanceLaws
 pub mod KeptPlaces

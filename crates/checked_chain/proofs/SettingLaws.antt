@@ -1,5 +1,5 @@
 -- What a valuation gives in two circuits with the same nets, the same groups, and holds that are the same but for their ends.
-use Rattle.std.proofs.Common.{◌≡◌, ℕ, suc, ◌+◌, ◌&&◌, Bool, true, cond, List, [], ◌∷◌, ◌++◌, length, map, Option, Some, None, arith, subst, sym, refl, ◌∙◌, ap, ap₂}
+use Rattle.std.proofs.Common.{◌≡◌, ℕ, suc, ◌+◌, ◌&&◌, Bool, cond, List, [], ◌∷◌, ◌++◌, length, map, Option, Some, None, arith, subst, sym, refl, ◌∙◌, ap, ap₂}
 use Rattle.std.specs.Prelude.{filter_map, find, is_none, option_map, slice_get, unwrap_or, ◌==◌}
 use Rattle.std.specs.List.{enumerate_from, list_all}
 use Rattle.std.proofs.lemmas.List.{length-map}
@@ -157,7 +157,7 @@ module _ (k : Comparison) (blif : Blif) (facts : List CellFacts) (cut : Cut) (c 
   pub holds_of_chain : HaveSameHolds c k.circuit
   holds_of_chain = subst (λ (d : Circuit). HaveSameHolds c d) (sym is.flat) (chain_keeps_holds cut blif facts c is.circuit)
 
-  groups_of_chain : groups_of c k.model ≡ k.groups
+  pub groups_of_chain : groups_of c k.model ≡ k.groups
   groups_of_chain =
       groups_are_same cut blif facts c k.model is.ends is.circuit ∙ ap (λ (d : Circuit). groups_of d k.model) (sym is.flat) ∙ sym is.groups
 

@@ -2,11 +2,15 @@
 //! where it is chosen. Laws alone, each the contract of a function that does nothing.
 #![tactic(auto)]
 
+mod findings;
 mod holds;
 mod instances;
 mod order;
 mod steps;
 
+pub use findings::{
+    broken_constraints_move, descriptions_move, place_names_are_same, wants_are_same,
+};
 pub use holds::{
     chain_keeps_holds, constraints_are_same, groups_are_same, settings_are_same, variables_are_same,
 };
