@@ -261,6 +261,9 @@ impl Store {
         if g == h {
             return Some(g);
         }
+        if g.0 == 1 && h.0 == 0 {
+            return Some(f);
+        }
         self.recalled(f, g, h)
     }
 
