@@ -1,40 +1,48 @@
 -- The loop over the lines.
-use Rattle.std.proofs.Common.{◌≡◌, ◌<◌, ◌≤◌, ◌+◌, [], ℕ, List, false, Some, None, length, take, refl, ap, ap₂, sym, ◌∙◌, arith}
-use Rattle.std.specs.Prelude.{slice_get}
-use Rattle.std.proofs.lemmas.List.{length-take-le}
+use Rattle.std.proofs.Common.{◌≡◌, ◌++◌, ◌∷◌, ◌⊎◌, [], ℕ, List, false, Some, None, length, take, refl, ap, ap₂, sym, subst, ◌∙◌}
 use Rattle.text_lines.specs.Faults.{IsClean, IsFirst}
 use Rattle.text_lines.proofs.FaultLaws.{clean, first}
-use Rattle.text_lines.proofs.ReadLaws.{ReadsBy, all_clean, all_known, first_here, reads_more}
-use Rattle.rules_reader.specs.Learned.{learned}
+use Rattle.text_lines.proofs.ReadLaws.{all_read, begins, card_fails, card_more}
+use Rattle.rules_reader.specs.Learned.{Reads, learned}
+use Rattle.rules_reader.specs.Entries.{cards_left, cards_of}
+use Rattle.rules_reader.proofs.CardLaws.{all_left}
 use Rattle.rules_reader.specs.Refused.{fault_by, fault_of, known_by, rules_fault}
 use Rattle.rules_reader.specs.Tables.{clocks_of, phase_names_of}
 use Rattle.rules_reader.proofs.KnownLaws.{known_more, same_known}
 use Rattle.rules_reader.specs.declared.cards.Card.{Card}
 use Rattle.rules_reader.specs.declared.known.Known.{Known}
 use Rattle.rules_reader.specs.declared.faults.RulesFault.{RulesFault}
-
--- no line so far has a fault, and what is known is what these lines tell
-abbrev pub Reads : ℕ → List Card → Known → Type 0
-Reads i cards known = ReadsBy known_by fault_of i cards known
+use Rattle.rules_reader.specs.declared.faults.RulesFault.TheVariants.{NoMemory}
 
 -- the fault by the count and what is known is that by the lines
-by_cards : (i : ℕ) (cards : List Card) (known : Known) (card : Card) → i < length cards → Reads i cards known → fault_of (take i cards) card ≡ fault_by i known card
-by_cards i cards known card lt r = ap₂ (λ n k. fault_by n k card) (length-take-le i cards (omega (arith, lt))) (sym r.0)
+by_cards : (cards left listed : List Card) (known : Known) (card : Card) (r : Reads cards left known listed) → fault_of (take r.place cards) card ≡ fault_by (length listed) known card
+by_cards cards left listed known card r = ap₂ (λ cs k. fault_by (length cs) k card) (sym r.holds) (sym r.tells)
 
-pub reads_on : (i : ℕ) (cards : List Card) (known next : Known) (card : Card) → i < length cards → Reads i cards known → slice_get cards i ≡ Some card → fault_by i known card ≡ None
-    → next ≡ learned known card → Reads (i + 1) cards next
-reads_on i cards known next card lt r here none e =
-    reads_more known_by fault_of i cards known next card lt r here (by_cards i cards known card lt r ∙ none) (e ∙ ap (λ k. learned k card) r.0 ∙ sym (known_more (take i cards) card))
+-- nothing is read at first
+pub begins_reading : (cards left listed : List Card) (known : Known) → left ≡ cards → known ≡ known_by [] → listed ≡ [] → Reads cards left known listed
+begins_reading cards left listed known all e none = begins known_by fault_of (λ read. listed ≡ read) cards left known all e none
 
-pub fails : (i : ℕ) (cards : List Card) (known : Known) (card : Card) (f : RulesFault) → i < length cards → Reads i cards known → slice_get cards i ≡ Some card
-    → fault_by i known card ≡ Some f → IsFirst fault_of cards f
-fails i cards known card f lt r here e = first_here known_by fault_of i cards known card f r here (by_cards i cards known card lt r ∙ e)
+-- one line more
+pub reads_card : (cards left rest listed new : List Card) (known next : Known) (card : Card) → Reads cards left known listed → left ≡ card ∷ rest → fault_by (length listed) known card ≡ None
+    → next ≡ learned known card → new ≡ listed ++ card ∷ [] → Reads cards rest next new
+reads_card cards left rest listed new known next card r is none e more =
+    card_more known_by fault_of (λ read. listed ≡ read) (λ read. new ≡ read) cards left rest known next card r is (by_cards cards left listed known card r ∙ none)
+    (e ∙ ap (λ k. learned k card) r.tells ∙ sym (known_more (take r.place cards) card)) (more ∙ ap (λ cs. cs ++ card ∷ []) r.holds)
 
-pub ends_well : (i : ℕ) (cards : List Card) (known : Known) → length cards ≤ i → Reads i cards known → IsClean fault_of cards
-ends_well i cards known past r = all_clean known_by fault_of i cards known past r
+-- a line with a fault
+pub reads_fault : (cards left rest listed : List Card) (known : Known) (card : Card) (f : RulesFault) → Reads cards left known listed → left ≡ card ∷ rest
+    → fault_by (length listed) known card ≡ Some f → IsFirst fault_of cards f
+reads_fault cards left rest listed known card f r is e =
+    card_fails known_by fault_of (λ read. listed ≡ read) cards left rest known card f r is (by_cards cards left listed known card r ∙ e)
 
-pub ends_known : (i : ℕ) (cards : List Card) (known : Known) → length cards ≤ i → Reads i cards known → known ≡ known_by cards
-ends_known i cards known past r = all_known known_by fault_of i cards known past r
+-- the lines that are left at first are those of the text
+pub reading_of_text : (text : List ℕ) (listed : List Card) (known : Known) → Reads (cards_left 1 text) [] known listed
+    → IsClean fault_of (cards_of text) × (known ≡ known_by (cards_of text)) × (listed ≡ cards_of text)
+reading_of_text text listed known r =
+    let P : List Card → Type 0 = λ cards. Reads cards [] known listed in all_read known_by fault_of (λ read. listed ≡ read) (cards_of text) known (subst P (all_left text) r)
+
+pub fault_of_text : (text : List ℕ) (f : RulesFault) → (f ≡ NoMemory) ⊎ IsFirst fault_of (cards_left 1 text) f → (f ≡ NoMemory) ⊎ IsFirst fault_of (cards_of text) f
+fault_of_text text f h = let P : List Card → Type 0 = λ cards. (f ≡ NoMemory) ⊎ IsFirst fault_of cards f in subst P (all_left text) h
 
 -- nothing is known at first
 pub starts : (clocks phases keys : List (List ℕ)) → clocks ≡ [] → phases ≡ [] → keys ≡ []

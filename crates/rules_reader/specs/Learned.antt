@@ -1,8 +1,9 @@
 -- What is known behind one line more.
-use Rattle.std.specs.Prelude.{not, ◌||◌, Option, Some, None}
+use Rattle.std.specs.Prelude.{◌≡◌, List, not, ◌||◌, Option, Some, None}
+use Rattle.text_lines.specs.Reading.{IsReading}
 use Rattle.vrt_model.specs.Lists.{is_empty}
 use Rattle.names.specs.Names.{with_names}
-use Rattle.rules_reader.specs.Refused.{key_texts, phases_named}
+use Rattle.rules_reader.specs.Refused.{fault_of, key_texts, known_by, phases_named}
 use Rattle.rules_reader.specs.Tables.{clocks_in, phase_names_in}
 use Rattle.rules_reader.specs.declared.cards.Card.{Card}
 use Rattle.rules_lines.specs.declared.entry.Entry.{Entry}
@@ -22,3 +23,7 @@ learned_from known (Some entry) = learned_by known entry
 
 abbrev pub learned : Known → Card → Known
 learned known card = learned_from known card.entry
+
+-- these cards are left, and those before them are read and listed
+abbrev pub Reads : List Card → List Card → Known → List Card → Type 0
+Reads cards left known listed = IsReading known_by fault_of (λ read. listed ≡ read) cards left known

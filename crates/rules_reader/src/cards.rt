@@ -1,14 +1,13 @@
-//! The lines of a text that are not passed over.
+//! The lines of a text that are not passed over, one by one.
 
-ghost use Rattle.std.specs.Prelude.{◌≡◌, ◌≤◌, ◌++◌, length, map, IfOk, OnOk};
-ghost use Rattle.text_lines.specs.Bytes.{is_blank_line};
-ghost use Rattle.rules_reader.specs.Entries.{card_of, cards_of, cards_on, is_passed_over};
+ghost use Rattle.std.specs.Prelude.{◌≡◌, ◌≤◌, ◌<◌, ◌+◌, ◌^◌, length, IfOk};
+ghost use Rattle.text_lines.specs.Reading.{ComesFirst};
+ghost use Rattle.rules_reader.specs.Entries.{card_of, cards_left, is_passed_over};
 
-use crate::texts::append;
 use rules_lines::{Entry, read_entry};
 use std::alloc::Global;
-use text_lines::{begins_with, is_blank_line, is_text_line, line_words, numbered_lines};
-use vrt_model::{NoMemory, Seq, Text};
+use text_lines::{begins_with, first_line, is_blank_line, is_text_line, line_words};
+use vrt_model::NoMemory;
 
 /// A line: its number, from 1, whether all its bytes are text, and what it says, none where it does not fit.
 pub struct Card {
@@ -51,26 +50,29 @@ fn read_card(alloc: Global, line: u32, bytes: &[u8]) -> Result<Card, NoMemory>
     })
 }
 
-/// Adds the card of a line, unless it is passed over.
-fn add_line(alloc: Global, cards: &mut Seq<Card>, line: u32, bytes: &[u8]) -> Result<(), NoMemory>
-    ensures { OnOk result (cards.new ≡ cards.old ++ cards_on (line, bytes.now)) }
-{
-    if is_passed(bytes) {
-        return Ok(());
-    }
-    let card = read_card(alloc, line, bytes)?;
-    append(cards, card)
+/// A text as it is read from the front. Nothing is kept of what is read.
+#[derive(Drop)]
+pub struct Reading<'a> {
+    /// The number of the next line, from 1.
+    pub number: u32,
+    /// The lines that are not read yet.
+    pub bytes: &'a [u8],
 }
 
-/// The lines of a text that are not passed over, with what they say.
-pub fn read_cards(alloc: Global, text: &[u8]) -> Result<Seq<Card>, NoMemory>
-    requires { length text.now ≤ 16777216 }
-    ensures { IfOk result (λ cards. cards ≡ cards_of text.now) }
+/// The card of the next line that is not passed over, none behind the last.
+pub fn next_card(alloc: Global, reading: &mut Reading) -> Result<Option<Card>, NoMemory>
+    requires { reading.old.number + length reading.old.bytes.now < 2 ^ 32 }
+    ensures card { IfOk result (λ card. ComesFirst card (cards_left reading.old.number reading.old.bytes.now) (cards_left reading.new.number reading.new.bytes.now)) }
+    ensures room { reading.new.number + length reading.new.bytes.now ≤ reading.old.number + length reading.old.bytes.now }
 {
-    let lines = numbered_lines(alloc, text)?;
-    let mut cards = Seq::new(alloc);
-    for line in &lines {
-        add_line(alloc, &mut cards, line.number, line.bytes)?;
+    'lines: while let Some((line, behind)) = first_line(reading.bytes) {
+        let number = reading.number;
+        reading.number = number + 1;
+        reading.bytes = behind;
+        if !is_passed(line) {
+            let card = read_card(alloc, number, line)?;
+            return Ok(Some(card));
+        }
     }
-    Ok(cards)
+    Ok(None)
 }

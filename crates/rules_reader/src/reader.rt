@@ -9,22 +9,11 @@ ghost use Rattle.rules_reader.specs.Tables.{AreRulesOf};
 
 use crate::RulesFault;
 use crate::build::build;
-use crate::cards::{Card, read_cards};
-use crate::check::check_cards;
+use crate::check::read_cards;
+use crate::known::Known;
+use names::Names;
 use std::alloc::Global;
-use vrt_model::Rules;
-
-/// The rules of lines, or their first fault.
-fn rules_of(alloc: Global, cards: &[Card]) -> Result<Rules, RulesFault>
-    ensures ok { IfOk result (λ rules. IsClean fault_of cards.now × AreRulesOf cards.now rules) }
-    ensures err { IfErr result (λ fault. (fault ≡ RulesFault.NoMemory) ⊎ IsFirst fault_of cards.now fault) }
-{
-    let known = check_cards(alloc, cards)?;
-    match build(alloc, &known, cards) {
-        Ok(rules) => Ok(rules),
-        Err(_) => Err(RulesFault::NoMemory),
-    }
-}
+use vrt_model::{Rules, Seq};
 
 /// Reads a rules file. The text has at most 16,777,216 bytes. It takes time and memory in proportion to them, but for
 /// lines of a `keeper` or a `phase` with a long name, which is copied for each word behind it.
@@ -37,8 +26,16 @@ pub fn read_rules(alloc: Global, text: &[u8]) -> Result<Rules, RulesFault>
     // Refused only with the first fault, or for want of memory.
     ensures err { IfErr result (λ fault. (fault ≡ RulesFault.NoMemory) ⊎ IsFirst fault_of (cards_of text.now) fault) }
 {
-    let Ok(cards) = read_cards(alloc, text) else {
-        return Err(RulesFault::NoMemory);
+    let mut known = Known {
+        clocks: Names::new(alloc),
+        phases: Names::new(alloc),
+        keys: Names::new(alloc),
+        is_phase_named: false,
     };
-    rules_of(alloc, cards.as_slice())
+    let mut cards = Seq::new(alloc);
+    read_cards(alloc, text, &mut known, &mut cards)?;
+    match build(alloc, &known, cards.as_slice()) {
+        Ok(rules) => Ok(rules),
+        Err(_) => Err(RulesFault::NoMemory),
+    }
 }

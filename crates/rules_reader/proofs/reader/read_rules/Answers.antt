@@ -1,12 +1,14 @@
-use Rattle.std.proofs.Common.{◌∙◌, subst}
-use Rattle.std.proofs.lemmas.Result.{IfOk-weaker}
-use Rattle.text_lines.specs.Faults.{IsClean}
-use Rattle.rules_reader.specs.Refused.{fault_of}
+use Rattle.std.proofs.Common.{List, subst, ◌∙◌}
 use Rattle.rules_reader.specs.Tables.{AreRulesOf}
+use Rattle.rules_reader.specs.declared.cards.Card.{Card}
+use Rattle.rules_reader.proofs.CheckLaws.{starts}
 use Rattle.rules_reader.proofs.Fits.{fits}
 use Rattle.rules_reader.proofs.reader.read_rules.Goals as goal
 
-pub returns-clause-fit : goal.returns-clause-fit
-returns-clause-fit c =
-    let are = c.as_slice.ensures ∙ c.in-Ok.ensures in
-    IfOk-weaker c.rules_of.result _ _ (λ rules h. fits c.args.text.now rules (subst (IsClean fault_of) are h.0) (subst (λ cards. AreRulesOf cards rules) are h.1)) c.rules_of.ensures.ok
+pub read_cards-requires-clause-known : goal.read_cards-requires-clause-known
+read_cards-requires-clause-known c = starts _ _ _ c.new.ensures c.new-2.ensures c.new-3.ensures
+
+pub returns-in-Ok-clause-fit : goal.returns-in-Ok-clause-fit
+returns-in-Ok-clause-fit c =
+    let P : List Card → Type 0 = λ cards. AreRulesOf cards c.in-Ok.rules in
+    fits c.args.text.now c.in-Ok.rules c.in_ok-read_cards.ensures.ok (subst P (c.as_slice.ensures ∙ c.in_ok-read_cards.ensures.cards) c.in-Ok.ensures)
