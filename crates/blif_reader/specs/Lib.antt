@@ -1,3 +1,4 @@
+pub mod Shown
 pub mod Cards
 pub mod Opened
 pub mod Models

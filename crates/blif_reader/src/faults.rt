@@ -1,5 +1,8 @@
 //! Why a BLIF text is refused.
 
+ghost use Rattle.std.specs.Prelude.{◌≡◌, Some};
+ghost use Rattle.blif_reader.specs.Shown.{cause_of, fault_text, line_of};
+
 use std::fmt;
 use thiserror::Error;
 use vrt_model::Text;
@@ -34,7 +37,10 @@ pub enum BlifFault {
 
 impl BlifFault {
     /// Its line, if it has one, and what is wrong there.
-    fn said(&self) -> (Option<u32>, &'static str) {
+    fn said(&self) -> (Option<u32>, &'static str)
+        ensures line { result.0 ≡ line_of self.now }
+        ensures cause { result.1.now ≡ cause_of self.now }
+    {
         match self {
             BlifFault::NotText { line } => (Some(*line), "byte that is not text"),
             BlifFault::Unsupported { line, .. } => (Some(*line), "card not supported"),
@@ -53,6 +59,8 @@ impl BlifFault {
 
 /// Shows the line and what is wrong there.
 impl fmt::Display for BlifFault {
+    ghost output = { λ fault. Some (fault_text fault) };
+
     fn fmt<W: fmt::Write>(&self, f: &mut fmt::Formatter<W>) -> fmt::Result {
         let (line, what) = self.said();
         match line {
@@ -64,6 +72,8 @@ impl fmt::Display for BlifFault {
 
 /// Shows what it says.
 impl fmt::Debug for BlifFault {
+    ghost debug_output = { λ fault. Some (fault_text fault) };
+
     fn fmt<W: fmt::Write>(&self, f: &mut fmt::Formatter<W>) -> fmt::Result {
         fmt::Display::fmt(self, f)
     }
