@@ -1,3 +1,4 @@
+pub mod Shown
 pub mod Entries
 pub mod Keys
 pub mod Tables

@@ -1,5 +1,8 @@
 //! Why a rules file is refused.
 
+ghost use Rattle.std.specs.Prelude.{◌≡◌, Some};
+ghost use Rattle.rules_reader.specs.Shown.{cause_of, fault_text, line_of};
+
 use std::fmt;
 use thiserror::Error;
 use vrt_model::Text;
@@ -30,7 +33,10 @@ pub enum RulesFault {
 
 impl RulesFault {
     /// Its line, if it has one, and what is wrong there.
-    fn said(&self) -> (Option<u32>, &'static str) {
+    fn said(&self) -> (Option<u32>, &'static str)
+        ensures line { result.0 ≡ line_of self.now }
+        ensures cause { result.1.now ≡ cause_of self.now }
+    {
         match self {
             RulesFault::NotText { line } => (Some(*line), "byte that is not text"),
             RulesFault::Word { line } => (Some(*line), "line does not fit"),
@@ -47,6 +53,8 @@ impl RulesFault {
 
 /// Shows the line and what is wrong there.
 impl fmt::Display for RulesFault {
+    ghost output = { λ fault. Some (fault_text fault) };
+
     fn fmt<W: fmt::Write>(&self, f: &mut fmt::Formatter<W>) -> fmt::Result {
         let (line, what) = self.said();
         match line {
@@ -58,6 +66,8 @@ impl fmt::Display for RulesFault {
 
 /// Shows what it says.
 impl fmt::Debug for RulesFault {
+    ghost debug_output = { λ fault. Some (fault_text fault) };
+
     fn fmt<W: fmt::Write>(&self, f: &mut fmt::Formatter<W>) -> fmt::Result {
         fmt::Display::fmt(self, f)
     }
