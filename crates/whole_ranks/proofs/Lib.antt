@@ -8,7 +8,9 @@ pub mod IdleLaws
 pub mod KnownLaws
 pub mod LogicLaws
 pub mod OutputPins
+pub mod PartRanks
 pub mod PlaceLaws
 pub mod RankLaws
 pub mod SolvedLaws
 pub mod SourceLaws
+pub mod UnlinkedLaws

@@ -4,5 +4,6 @@ pub mod KnownNets
 pub mod Logic
 pub mod Ranks
 pub mod Solved
+pub mod Unlinked
 pub mod WholeCells
 pub mod WholePlaces
