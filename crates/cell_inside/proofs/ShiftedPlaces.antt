@@ -32,7 +32,7 @@ pub among_name : (names : List (List ℕ)) (name : List ℕ) → Among names nam
 among_name names name m = among_any (bytes_eq name) names name m ((bytes_eq-Decides name name).1 refl)
 
 -- the place of a name that is in a list
-prefix_below : {X : Type 0} (p : X → Bool) (xs : List X) → list_any p xs ≡ true → position_or_len p xs < length xs
+pub prefix_below : {X : Type 0} (p : X → Bool) (xs : List X) → list_any p xs ≡ true → position_or_len p xs < length xs
 prefix_below p [] h = absurd (false≢true h)
 prefix_below {X} p (x ∷ xs) h = by_test (p x) refl (λ more. prefix_below p xs more)
   where
@@ -73,7 +73,7 @@ net_by at low high None None global other own there none e =
     ap (λ (o : Option ℕ). unwrap_or o there) h.1 ∙ e ∙ ap (λ (o : Option ℕ). at (unwrap_or o own)) (sym h.0)
 
 -- the nets of a port
-port_by : (at : ℕ → ℕ) → at 0 ≡ 0 → (ports : List ℕ) (o : Option ℕ)
+pub port_by : (at : ℕ → ℕ) → at 0 ≡ 0 → (ports : List ℕ) (o : Option ℕ)
     → option_map (λ (k : ℕ). unwrap_or (slice_get (map at ports) k) 0) o ≡ option_map at (option_map (λ (k : ℕ). unwrap_or (slice_get ports k) 0) o)
 port_by at low ports None = refl
 port_by at low ports (Some k) = ap (λ (n : ℕ). Some n) (ap (λ (o : Option ℕ). unwrap_or o 0) (slice_get-map at ports k) ∙ there (slice_get ports k))

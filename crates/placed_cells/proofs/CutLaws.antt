@@ -4,7 +4,7 @@ use Rattle.std.specs.Prelude.{bytes_eq, drop, nat_le, nat_lt}
 use Rattle.std.specs.List.{enumerate_from}
 use Rattle.std.proofs.lemmas.Bool.{and_from, and_parts, cases_lt, false≢true, le-leb, lt-ltb, ltb-true}
 use Rattle.std.proofs.lemmas.Option.{none-some, same_Some}
-use Rattle.placed_cells.proofs.InstanceLaws.{zip_right}
+use Rattle.placed_cells.proofs.ListLaws.{enumerated, in_enumerated, zip_right}
 use Rattle.placed_cells.proofs.PathLaws.{drop_front, not_so, path_on}
 use Rattle.placed_cells.specs.Cuts.{AreBefore, CutShowsInside}
 use Rattle.placed_cells.specs.Instances.{ShowsInside}
@@ -13,12 +13,13 @@ use Rattle.vrt_model.proofs.Filtered.{among_kept, filter_among}
 use Rattle.vrt_model.proofs.Lists.{at_back, at_front, at_left, map_among}
 use Rattle.vrt_model.proofs.Members.{among_any, among_flat_map, among_later, among_left, among_map, any_among, flat_map_among}
 use Rattle.vrt_model.proofs.Tests.{bytes_eq-sym}
-use Rattle.vrt_model.specs.CheckedParts.{checked_devices}
+use Rattle.vrt_model.specs.CheckedParts.{checked_devices, moved_end}
 use Rattle.vrt_model.specs.Checked.{IsCircuitWith}
 use Rattle.vrt_model.specs.Comparison.{Comparison, CellPort, cell_at, output_signal, ports_of}
 use Rattle.vrt_model.specs.Cut.{Cut, NumberedPlace, is_inside, is_inside_whole, is_left_out, is_whole, numbered_places, shown, whole_places}
-use Rattle.vrt_model.specs.FlatCircuit.{flat_device, flat_devices, same_path}
+use Rattle.vrt_model.specs.FlatCircuit.{flat_circuit_of, flat_holds, flat_device, flat_devices, same_path}
 use Rattle.vrt_model.specs.Inputs.{IsDesign}
+use Rattle.vrt_model.specs.Known.{IsHeld}
 use Rattle.vrt_model.specs.Lists.{Among, At}
 use Rattle.vrt_model.specs.PairedPorts.{Paired, Model, Skipped, Missing, paired_model}
 use Rattle.vrt_model.specs.State.{OutputPin, output_pins}
@@ -28,26 +29,12 @@ use Rattle.vrt_model.specs.WholeInstances.{IsWholeAt, OutputAt, Pin, all_outputs
 use Rattle.vrt_model.specs.declared.blif.Blif.{Blif}
 use Rattle.vrt_model.specs.declared.circuit.Circuit.{Circuit}
 use Rattle.vrt_model.specs.declared.circuit.Device.{Device}
+use Rattle.vrt_model.specs.declared.circuit.Hold.{Hold}
 use Rattle.vrt_model.specs.declared.design.DeviceCard.{DeviceCard}
 use Rattle.vrt_model.specs.declared.ids.Net.{Net}
 use Rattle.vrt_model.specs.declared.whole.CellFacts.{CellFacts}
 use Rattle.vrt_model.specs.declared.whole.Whole.{Whole}
 use Rattle.vrt_model.specs.declared.whole.WholePin.{WholePin}
-
--- ---- lists with their places
-
-enumerated : {X : Type 0} (k : ℕ) (xs : List X) (pair : ℕ × X) → Among (enumerate_from k xs) pair → (i : ℕ) × (pair.0 ≡ k + i) × At xs i pair.1
-enumerated k [] pair m = absurd (none-some pair m.1)
-enumerated {X} k (x ∷ xs) pair (zero, e) =
-    let same = same_Some (k, x) pair e in (0, sym (ap (λ (q : ℕ × X). q.0) same) ∙ omega arith, ap (λ (q : ℕ × X). Some q.1) same)
-enumerated k (x ∷ xs) pair (suc j, e) = let rest = enumerated (k + 1) xs pair (j, e) in (suc rest.0, (let next = rest.1 in omega (arith, next)), rest.2)
-
-in_enumerated : {X : Type 0} (k : ℕ) (xs : List X) (i : ℕ) (x : X) → At xs i x → Among (enumerate_from k xs) (k + i, x)
-in_enumerated k [] i x e = absurd (none-some x e)
-in_enumerated {X} k (y ∷ xs) zero x e = (0, ap₂ (λ (n : ℕ) (z : X). Some (n, z)) (omega arith) (same_Some y x e))
-in_enumerated {X} k (y ∷ xs) (suc i) x e =
-    let rest = in_enumerated (k + 1) xs i x e in
-    subst (λ (n : ℕ). Among ((k, y) ∷ enumerate_from (k + 1) xs) (n, x)) (omega arith) (suc rest.0, rest.1)
 
 -- ---- paths
 
@@ -257,11 +244,19 @@ module _ (cut : Cut) (i : ℕ) (p : Place) (depth : ℕ) (before behind : List P
           subst (λ (a : ℕ). Among o.0.at.ports a) (ap (λ (a : OutputPin). a.pin.net.0) pin.2) (whole_among cut blif facts o.0 w o.2.whole pin.0 pin.1),
         )
 
+    hold_flat : (n : ℕ) → IsHeld c n → IsHeld (flat_circuit_of t) n
+    unfolding flat_circuit_of
+    hold_flat n held =
+        let moved : Hold → Hold = λ h. record h { end = moved_end cut h.end } in
+        let found = among_map moved (flat_holds t) held.0 (subst (λ (hs : List Hold). Among hs held.0) circuit.holds held.1) in
+        (found.0, found.1, ap (λ (h : Hold). h.net.0) found.2 ∙ held.2)
+
     pub shows : ShowsInside t p depth before behind c
     shows = record {
       nets = circuit.nets;
       there = λ r card m on. subst (λ (ds : List Device). Among ds (flat_device t r card)) (sym circuit.devices) (device_shown r card m on);
       devices = λ e m. device_flat e (subst (λ (ds : List Device). Among ds e) circuit.devices m);
+      holds = hold_flat;
       pins = pin_before;
     }
 

@@ -128,7 +128,7 @@ module _ (children : ℕ → List ℕ) (count : ℕ) (inside : (n m : ℕ) → A
 -- ---- cells
 
 -- the cell of a name is there, where some cell is
-named_inside : (design : Design) (name : List ℕ) → 0 < length design.cells → cell_named design name < length design.cells
+pub named_inside : (design : Design) (name : List ℕ) → 0 < length design.cells → cell_named design name < length design.cells
 named_inside design name some = by_place (position (λ (c : Cell). bytes_eq c.name name) design.cells) refl
   where
     by_place : (o : Option ℕ) → position (λ (c : Cell). bytes_eq c.name name) design.cells ≡ o → unwrap_or o 0 < length design.cells

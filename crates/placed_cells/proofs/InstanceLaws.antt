@@ -1,16 +1,20 @@
 -- The flat circuit of an instance's cell stands in the flat circuit around it.
-use Rattle.std.proofs.Common.{◌≡◌, ◌<◌, ◌≤◌, ◌+◌, ◌++◌, ◌∷◌, ◌&&◌, [], ℕ, zero, suc, cond, List, Bool, true, false, map, flat_map, length, refl, ap, sym, ◌∙◌, subst, arith, inl, inr}
+use Rattle.std.proofs.Common.{◌≡◌, ◌<◌, ◌≤◌, ◌+◌, ◌++◌, ◌∷◌, ◌&&◌, [], ℕ, zero, suc, cond, List, Bool, true, false, map, flat_map, length, Option, Some, None, refl, ap, sym, ◌∙◌, subst, arith, inl, inr}
+use Rattle.std.specs.Prelude.{bytes_eq, option_map, slice_get, unwrap_or, ◌==◌}
 use Rattle.std.specs.List.{AllZip, list_any}
-use Rattle.std.proofs.lemmas.Bool.{cases_Bool, cases_lt, false≢true, or_cases, or_left, or_right}
+use Rattle.std.specs.Option.{option_or}
+use Rattle.std.proofs.lemmas.Bool.{and_from, and_parts, cases_Bool, cases_lt, eq-eqb, eqb-true, false≢true, or_cases, or_left, or_right}
 use Rattle.std.proofs.lemmas.Option.{none-some, same_Some, slice_get_within}
 use Rattle.cell_inside.proofs.DepthLaws.{deeper}
-use Rattle.cell_inside.proofs.ShiftedPlaces.{among_name, places_shifted}
+use Rattle.cell_inside.proofs.ShiftedPlaces.{among_name, name_placed, places_shifted, port_by}
 use Rattle.cell_inside.specs.Inside.{Touches}
 use Rattle.cell_inside.specs.Placed.{IsImage, IsPlaced, IsSupply}
 use Rattle.cell_inside.specs.Shifted.{IsShiftedWithNets, IsWithinDepth, NamesNoGlobal, top_alone}
 use Rattle.placed_cells.proofs.AboveLaws.{instances_are_shifted, net_high, nets_apart, supply_above}
 use Rattle.placed_cells.proofs.DepthLaws.{ordered_is_within_depth}
 use Rattle.placed_cells.proofs.FlatNetLaws.{NamedSupplies, name_inside, net_count, plain_behind, supply_low, supply_there}
+use Rattle.placed_cells.proofs.HoldLaws.{FallsThere, cells_there, held_by, hold_named, none_falls}
+use Rattle.placed_cells.proofs.ListLaws.{zip_left, zip_right}
 use Rattle.placed_cells.proofs.RowLaws.{all_in_row, in_row, row_ends}
 use Rattle.placed_cells.proofs.SplitLaws.{bounds}
 use Rattle.placed_cells.proofs.TieLaws.{instances_are_tied}
@@ -20,12 +24,15 @@ use Rattle.placed_cells.specs.Rows.{AreInRow, size_inside}
 use Rattle.placed_cells.specs.Splits.{IsSplit, is_net_in}
 use Rattle.vrt_model.proofs.Lists.{at_back, map_among}
 use Rattle.vrt_model.proofs.Members.{among_any, among_either, among_flat_map, among_later, among_left, among_map, among_right, any_among, flat_map_among}
+use Rattle.vrt_model.specs.CellRules.{supply_of}
 use Rattle.vrt_model.specs.Comparison.{cell_at}
 use Rattle.vrt_model.specs.FlatCircuit.{flat_circuit_of, flat_device, flat_devices, flat_nets, is_keeper, level_of}
-use Rattle.vrt_model.specs.Known.{IsPlain}
-use Rattle.vrt_model.specs.Lists.{Among, At, has_name}
+use Rattle.vrt_model.specs.Hierarchy.{AreHoldNets}
+use Rattle.vrt_model.specs.Inputs.{IsDesign}
+use Rattle.vrt_model.specs.Known.{IsHeld, IsPlain}
+use Rattle.vrt_model.specs.Lists.{Among, At, has_name, place_of}
 use Rattle.vrt_model.specs.State.{OutputPin, output_pins}
-use Rattle.vrt_model.specs.Unrolled.{Place, Top, all_places, cell_named, deepest, is_global_in, mentions, names_global, net_at, places_in, top_place}
+use Rattle.vrt_model.specs.Unrolled.{Place, Top, all_places, cell_named, deepest, global_net, is_global_in, mentions, names_global, net_at, own_net, places_in, port_net, supply_net, top_place}
 use Rattle.vrt_model.specs.declared.circuit.Circuit.{Circuit}
 use Rattle.vrt_model.specs.declared.circuit.Device.{Device}
 use Rattle.vrt_model.specs.declared.circuit.FlatNet.{FlatNet}
@@ -33,20 +40,9 @@ use Rattle.vrt_model.specs.declared.design.Cell.{Cell}
 use Rattle.vrt_model.specs.declared.design.DeviceCard.{DeviceCard}
 use Rattle.vrt_model.specs.declared.design.InstanceCard.{InstanceCard}
 use Rattle.vrt_model.specs.declared.pairing.PortRole.{PortRole}
+use Rattle.vrt_model.specs.declared.rules.HoldRule.{HoldRule}
 
--- ---- lists of which the items fit one for one
-
-zip_left : {X Y : Type 0} (R : X → Y → Type 0) (xs : List X) (ys : List Y) (x : X) → AllZip R xs ys → Among xs x → (y : Y) × Among ys y × R x y
-zip_left R [] ys x h m = absurd (none-some x m.1)
-zip_left R (z ∷ xs) [] x h m = absurd h
-zip_left {X} {Y} R (z ∷ xs) (y ∷ ys) x h (zero, e) = (y, (0, refl), subst (λ (w : X). R w y) (same_Some z x e) h.0)
-zip_left R (z ∷ xs) (y ∷ ys) x h (suc i, e) = let rest = zip_left R xs ys x h.1 (i, e) in (rest.0, among_later y ys rest.0 rest.1, rest.2)
-
-pub zip_right : {X Y : Type 0} (R : X → Y → Type 0) (xs : List X) (ys : List Y) (y : Y) → AllZip R xs ys → Among ys y → (x : X) × Among xs x × R x y
-zip_right R xs [] y h m = absurd (none-some y m.1)
-zip_right R [] (z ∷ ys) y h m = absurd h
-zip_right {X} {Y} R (x ∷ xs) (z ∷ ys) y h (zero, e) = (x, (0, refl), subst (λ (w : Y). R x w) (same_Some z y e) h.0)
-zip_right R (x ∷ xs) (z ∷ ys) y h (suc i, e) = let rest = zip_right R xs ys y h.1 (i, e) in (rest.0, among_later x xs rest.0 rest.1, rest.2)
+-- ---- cards
 
 -- a net on a device card is mentioned
 device_mentioned : (cell : Cell) (card : DeviceCard) (name : List ℕ) → Among cell.devices card → Among (card.drain ∷ card.gate ∷ card.source ∷ []) name → has_name (mentions cell) name ≡ true
@@ -233,6 +229,89 @@ module _ (t : Top) (roles : List PortRole) (number : ℕ) (p : Place) (depth : �
         | inr right ↦ named one.source (2, refl) (ap (λ (x : Device). x.right.0) card.2 ∙ right)
       ]
 
+  -- ---- holds
+
+  -- a name on no card, which is a port, is shifted too
+  port_fits : (q r : Place) → FitsPlace q r → (name : List ℕ) → has_name (cell_at t.design r.cell).ports name ≡ true → net_at t r name ≡ at (net_at own q name)
+  unfolding net_at
+  port_fits q r fits name h = by_place (name_placed (cell_at t.design r.cell).ports name h) (supply_of t.rules name)
+    where
+      at_supply : (value : Bool) → supply_net value ≡ at (supply_net value)
+      at_supply true = sym (supply_above t p tied 1 (omega arith))
+      at_supply false = sym (supply_above t p tied 0 (omega arith))
+
+      by_place : (k : ℕ) × (place_of (cell_at t.design r.cell).ports name ≡ Some k) → (s : Option Bool)
+          → unwrap_or (option_or (option_map supply_net s) (option_or (port_net (cell_at t.design r.cell) r name) (global_net t name))) (own_net t (cell_at t.design r.cell) r name)
+          ≡ at (unwrap_or (option_or (option_map supply_net s) (option_or (port_net (cell_at t.design q.cell) q name) (global_net own name))) (own_net own (cell_at t.design q.cell) q name))
+      by_place k (Some value) = at_supply value
+      by_place k None =
+          let there = subst (λ (n : ℕ). place_of (cell_at t.design n).ports name ≡ Some k.0) fits.place.cell k.1 in
+          let tie : ℕ → List ℕ → ℕ = λ n nets. unwrap_or (slice_get nets n) 0 in
+          let fitting = same_Some (tie k.0 (map at q.ports)) (at (tie k.0 q.ports)) (port_by at (supply_above t p tied 0 (omega arith)) q.ports (Some k.0)) in
+          ap (λ (o : Option ℕ). unwrap_or (option_or (option_map (λ (n : ℕ). tie n r.ports) o) (global_net t name)) (own_net t (cell_at t.design r.cell) r name)) k.1
+          ∙ ap (tie k.0) fits.place.ports
+          ∙ fitting
+          ∙ sym (ap (λ (o : Option ℕ). at (unwrap_or (option_or (option_map (λ (n : ℕ). tie n q.ports) o) (global_net own name)) (own_net own (cell_at t.design q.cell) q name))) there)
+
+  name_fits : (q r : Place) → FitsPlace q r → (name : List ℕ) → is_net_in (cell_at t.design r.cell) name ≡ true → net_at t r name ≡ at (net_at own q name)
+  name_fits q r fits name is =
+      elim (or_cases (has_name (cell_at t.design r.cell).ports name) (has_name (mentions (cell_at t.design r.cell)) name) is) [
+        | inl port ↦ port_fits q r fits name port
+        | inr mention ↦ fits.nets name mention
+      ]
+
+  -- a rule that falls on an own net falls on that net of the cell alone
+  falls_inside : (design : IsDesign t.design) (nets : AreHoldNets t.design t.rules) (some : t.cell < length t.design.cells) (n : ℕ) → base ≤ n → n < base + size_inside t depth p.cell → FallsThere t (at n) → FallsThere own n
+  falls_inside design nets some n low high falls =
+      elim (among_either before (places_in t depth p ++ behind) r (subst (λ (ps : List Place). Among ps r) split.whole falls.2)) [
+        | inl early ↦ absurd (outside (among_left before behind r early))
+        | inr rest ↦ elim (among_either (places_in t depth p) behind r rest) [
+          | inl on ↦ inside on
+          | inr late ↦ absurd (outside (among_right before behind r late))
+        ]
+      ]
+    where
+      r : Place
+      r = falls.0
+
+      rule : HoldRule
+      rule = falls.1
+
+      parts : (bytes_eq rule.cell (cell_at t.design r.cell).name ≡ true) × ((net_at t r rule.net == at n) ≡ true)
+      parts = and_parts (bytes_eq rule.cell (cell_at t.design r.cell).name) (net_at t r rule.net == at n) falls.4
+
+      is : is_net_in (cell_at t.design r.cell) rule.net ≡ true
+      is = hold_named t.design t.rules design nets r.cell (cells_there t some r falls.2) rule falls.3 parts.0
+
+      same : net_at t r rule.net ≡ at n
+      same = eqb-true (net_at t r rule.net) (at n) parts.1
+
+      outside : Among (before ++ behind) r → ⊥
+      outside on = not_outside r rule.net n on is low high same
+
+      inside : Among (places_in t depth p) r → FallsThere own n
+      inside on =
+          let q = zip_right FitsPlace (all_places own) (places_in t depth p) r shifted on in
+          let there : is_net_in (cell_at t.design q.0.cell) rule.net ≡ true = subst (λ (k : ℕ). is_net_in (cell_at t.design k) rule.net ≡ true) q.2.place.cell is in
+          let less = name_inside own q.0 rule.net q.1 there in
+          let sizes = size_all in
+          let equal = sym (name_fits q.0 r q.2 rule.net is) ∙ same in
+          let net : net_at own q.0 rule.net ≡ n = elim (nets_apart t p number depth before behind split tied none (net_at own q.0 rule.net) n (omega (arith, less, sizes)) high equal) [
+            | inl one ↦ one
+            | inr both ↦ absurd (let small = both.1 in omega (arith, small, low))
+          ] in (
+            q.0,
+            rule,
+            q.1,
+            falls.3,
+            and_from (bytes_eq rule.cell (cell_at t.design q.0.cell).name) (net_at own q.0 rule.net == n) (subst (λ (k : ℕ). bytes_eq rule.cell (cell_at t.design k).name ≡ true) q.2.place.cell parts.0) (eq-eqb (net_at own q.0 rule.net) n net),
+          )
+
+  pub own_unheld : (holds : (flat_circuit_of own).holds ≡ []) → IsDesign t.design → AreHoldNets t.design t.rules → t.cell < length t.design.cells → (n : ℕ) → base ≤ n → IsPlain (flat_circuit_of own) n → IsHeld (flat_circuit_of t) (at n) → ⊥
+  unfolding flat_circuit_of
+  own_unheld holds design nets some n low plain held =
+      none_falls own holds n (slice_get_within (flat_nets own) n plain.0 plain.1) (falls_inside design nets some n low (net_inside n plain) (held_by t (at n) held))
+
   -- ---- the whole
 
   module _ (c : Circuit) (shows : ShowsInside t p depth before behind c) where
@@ -267,6 +346,7 @@ module _ (t : Top) (roles : List PortRole) (number : ℕ) (p : Place) (depth : �
         ]
 
     module _ (exposed : ℕ → Bool) (drive : ℕ → ℕ) (named : NamedSupplies t.rules (cell_at t.design p.cell).ports roles) (holds : (flat_circuit_of own).holds ≡ [])
+        (design : IsDesign t.design) (nets : AreHoldNets t.design t.rules) (some : t.cell < length t.design.cells)
         (ports : HasPlacedPorts (flat_circuit_of own) c at base exposed drive) where
       supplies : (n : ℕ) (value : Bool) → IsSupply (flat_circuit_of own) n value → IsSupply c (at n) value
       supplies n value s =
@@ -301,7 +381,11 @@ module _ (t : Top) (roles : List PortRole) (number : ℕ) (p : Place) (depth : �
               | inl low ↦ ports.others e n low m plain touch
               | inr high ↦ inl (own_image e n (shows.devices e m) high (net_inside n plain) touch)
             ];
-        unheld = ports.unheld;
+        unheld = λ n plain held.
+            elim (cases_lt n base) [
+              | inl low ↦ ports.unheld n low plain held
+              | inr high ↦ own_unheld holds design nets some n high plain (shows.holds (at n) held)
+            ];
         pins = λ out n m plain is.
             elim (cases_lt n base) [
               | inl low ↦ ports.pins out n low m plain is
@@ -329,9 +413,9 @@ split_at t number p depth before behind split =
     first (suc d) = refl
 
 pub instance_is_placed : InstanceIsPlaced
-instance_is_placed t pairing i p depth before behind c exposed drive ordered there ties split none roles holds shows ports =
+instance_is_placed t pairing i p depth before behind c exposed drive design ordered nets there ties split none roles holds shows ports =
     placed t pairing.ports (suc i) p depth before behind split (instances_are_tied t i p ordered.cards ties (split_at t (suc i) p depth before behind split)) none
-    (split.within (ordered_is_within_depth t t.cell ordered there)) c shows exposed drive (λ at name role value a b same. (roles.supplies at name role value a b).0 same) holds ports
+    (split.within (ordered_is_within_depth t t.cell ordered there)) c shows exposed drive (λ at name role value a b same. (roles.supplies at name role value a b).0 same) holds design nets there ports
 
 pub flat_circuit_shows_inside : FlatCircuitShowsInside
 unfolding flat_circuit_of
@@ -342,5 +426,6 @@ flat_circuit_shows_inside t number p depth before behind split = record {
       (subst (λ (ps : List Place). Among ps r) (sym split.whole) (among_right before (places_in t depth p ++ behind) r (among_left (places_in t depth p) behind r m)))
       (map_among (flat_device t r) (cell_at t.design r.cell).devices card on);
   devices = λ e m. m;
+  holds = λ n held. held;
   pins = λ out m. absurd (none-some out m.1);
 }

@@ -2,7 +2,9 @@ pub mod AboveLaws
 pub mod CutLaws
 pub mod DepthLaws
 pub mod FlatNetLaws
+pub mod HoldLaws
 pub mod InstanceLaws
+pub mod ListLaws
 pub mod NameLaws
 pub mod PathLaws
 pub mod RowLaws

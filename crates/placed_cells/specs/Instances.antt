@@ -7,7 +7,8 @@ use Rattle.placed_cells.specs.Above.{net_above, place_alone}
 use Rattle.placed_cells.specs.Splits.{IsSplit}
 use Rattle.vrt_model.specs.Comparison.{cell_at}
 use Rattle.vrt_model.specs.FlatCircuit.{flat_circuit, flat_circuit_of, flat_device, flat_devices, flat_nets}
-use Rattle.vrt_model.specs.Hierarchy.{IsOrdered}
+use Rattle.vrt_model.specs.Hierarchy.{AreHoldNets, IsOrdered}
+use Rattle.vrt_model.specs.Inputs.{IsDesign}
 use Rattle.vrt_model.specs.Known.{IsHeld, IsPlain}
 use Rattle.vrt_model.specs.Lists.{Among}
 use Rattle.vrt_model.specs.PairedPorts.{HasRoles}
@@ -21,11 +22,12 @@ use Rattle.vrt_model.specs.declared.design.DeviceCard.{DeviceCard}
 use Rattle.vrt_model.specs.declared.pairing.Pairing.{Pairing}
 
 -- a circuit over the flat nets shows a place, and all places in it: their devices are there. It has none but those of the flat
--- circuit, and output pins of whole instances are at ports of other places, which stand before these or behind them.
+-- circuit, and no hold at another net; and output pins of whole instances are at ports of other places, which stand before these or behind them.
 pub record ShowsInside (t : Top) (p : Place) (depth : ℕ) (before behind : List Place) (c : Circuit) : Type 0 where
   pub nets : c.nets ≡ flat_nets t
   pub there : (r : Place) (card : DeviceCard) → Among (places_in t depth p) r → Among (cell_at t.design r.cell).devices card → Among c.devices (flat_device t r card)
   pub devices : (e : Device) → Among c.devices e → Among (flat_devices t) e
+  pub holds : (n : ℕ) → IsHeld c n → IsHeld (flat_circuit_of t) n
   pub pins : (out : OutputPin) → Among (output_pins c) out → (r : Place) × Among (before ++ behind) r × Among r.ports out.pin.net.0
 
 -- what is asked of a cell in a circuit, its net n at `at n`, at its supplies and ports, which are its nets below a number
@@ -45,19 +47,19 @@ pub record HasPlacedPorts (cell c : Circuit) (at : ℕ → ℕ) (base : ℕ) (ex
       (out : OutputPin) (n : ℕ) → n < base → Among (output_pins c) out → IsPlain cell n → out.pin.net.0 ≡ at n
       → (exposed n ≡ true) × (level_of_drive 8 out.pin.drive ≤ drive n)
   pub pins_plain : (out : OutputPin) → Among (output_pins c) out → IsPlain c out.pin.net.0
-  -- no hold is at a plain net of the cell
-  pub unheld : (n : ℕ) → IsPlain cell n → ¬ (IsHeld c (at n))
+  -- no hold is at one of them
+  pub unheld : (n : ℕ) → n < base → IsPlain cell n → ¬ (IsHeld c (at n))
   -- two of them are one net above only where both are exposed, with the same drive
   pub apart :
       (m n : ℕ) → m < base → n < base → IsPlain cell m → IsPlain cell n → at m ≡ at n
       → (m ≡ n) ⊎ ((exposed m ≡ true) × (exposed n ≡ true) × (drive m ≡ drive n))
 
 -- The law: the flat circuit of an instance's cell stands in a circuit that shows the instance, where the cell has no hold and
--- names no global net, and its ports are as asked. Of its own nets nothing is asked but that none of them is held.
+-- names no global net, and its ports are as asked. Of its own nets nothing is asked.
 abbrev pub InstanceIsPlaced : Type 0
 InstanceIsPlaced =
     (t : Top) (pairing : Pairing) (i : ℕ) (p : Place) (depth : ℕ) (before behind : List Place) (c : Circuit) (exposed : ℕ → Bool) (drive : ℕ → ℕ)
-    → IsOrdered t.design t.rules → t.cell < length t.design.cells → supply_tie t ≡ None → IsSplit t (suc i) p depth before behind
+    → IsDesign t.design → IsOrdered t.design t.rules → AreHoldNets t.design t.rules → t.cell < length t.design.cells → supply_tie t ≡ None → IsSplit t (suc i) p depth before behind
     → NamesNoGlobal t deepest p.cell → HasRoles t.rules (cell_at t.design p.cell) pairing
     → (flat_circuit t.design t.rules p.cell pairing).holds ≡ [] → ShowsInside t p depth before behind c
     → HasPlacedPorts (flat_circuit t.design t.rules p.cell pairing) c (net_above t p) (place_alone t p).base exposed drive
