@@ -3,7 +3,9 @@ pub mod InstanceLaws
 pub mod KnownInsideLaws
 pub mod ObservedCases
 pub mod ObservedLaws
+pub mod PairedPortLaws
 pub mod PinWholes
+pub mod PortNets
 pub mod RankedBits
 pub mod RankedRegions
 pub mod SettledSets

@@ -1,13 +1,12 @@
 -- What a settled set of a cell shows in the circuit around it.
 use Rattle.std.proofs.Common.{◌≡◌, ◌⊎◌, ℕ, ◌||◌, Bool, true, false, List, filter, length, ap, subst, sym, refl, ◌∙◌, inl, inr}
-use Rattle.std.specs.Prelude.{◌↔◌}
 use Rattle.std.proofs.lemmas.Bool.{false≢true, or_cases, or_left, or_right}
+use Rattle.cell_inside.proofs.AssuredLaws.{response_by}
 use Rattle.cell_inside.proofs.Copies.{touched}
 use Rattle.cell_inside.proofs.Images.{image_conducts, image_in}
 use Rattle.cell_inside.proofs.NetKinds.{plain_is, plain_not_given, supply_given}
 use Rattle.cell_inside.proofs.OutputPins.{pin_found}
 use Rattle.cell_inside.proofs.OutsideLaws.{outside_changes_nothing}
-use Rattle.cell_inside.proofs.SolutionLaws.{shows_by}
 use Rattle.cell_inside.specs.Inside.{IsCopy, IsInside, IsOutside, IsShared, Touches}
 use Rattle.cell_inside.specs.Placed.{IsPlaced, IsSupply, alone}
 use Rattle.cell_inside.specs.Replaced.{IsJoined, itself, onward}
@@ -22,7 +21,7 @@ use Rattle.vrt_model.specs.Lists.{Among, At}
 use Rattle.vrt_model.specs.Networks.{Covers, HasLevels, HasRanges, IsFinite}
 use Rattle.vrt_model.specs.Path.{IsOn, IsRoot, Joins, Network, Root}
 use Rattle.vrt_model.specs.Reading.{HasGivenBit, IsReading, conducts, conducts_at, devices_of}
-use Rattle.vrt_model.specs.Response.{Fight, Float, IsResponse, Reaches, Response, Shows}
+use Rattle.vrt_model.specs.Response.{IsResponse, Response}
 use Rattle.vrt_model.specs.State.{OutputPin, State, network_of, output_pins}
 use Rattle.vrt_model.specs.declared.circuit.Circuit.{Circuit}
 use Rattle.vrt_model.specs.declared.circuit.Device.{Device}
@@ -37,12 +36,6 @@ use Rattle.whole_solutions.specs.KnownInside.{IsSettledSet}
 -- a supply has its bit in each reading
 pub supply_bit : (c : Circuit) (phase : Phase) (inputs reading : ℕ → Bool) → IsReading c phase inputs reading → (n : ℕ) (value : Bool) → IsSupply c n value → reading n ≡ value
 supply_bit c phase inputs reading is n value supply = subst (λ (kind : NetKind). HasGivenBit phase inputs kind n (reading n)) supply.2 (is n supply.0 supply.1)
-
--- a net that the same values reach responds the same
-responds_by : (w x : Network) (m n : ℕ) → ((v : Bool) → Reaches w m v ↔ Reaches x n v) → (r : Response) → IsResponse w m r → IsResponse x n r
-responds_by w x m n same Fight h = ((same true).0 h.0, (same false).0 h.1)
-responds_by w x m n same Float h = (λ q. h.0 ((same true).1 q), λ q. h.1 ((same false).1 q))
-responds_by w x m n same (Shows v) h = shows_by w x m n same v h
 
 module _ (cell c : Circuit) (at : ℕ → ℕ) (exposed : ℕ → Bool) (drive : ℕ → ℕ) (phase : Phase) (above : ℕ → Bool) (s : State)
     (ranges : HasRanges cell) (all_ranges : HasRanges c) (placed : IsPlaced cell c at exposed drive) (supplies : (n : ℕ) (value : Bool) → IsSupply c n value → s.reading n ≡ value)
@@ -271,7 +264,7 @@ module _ (cell c : Circuit) (at : ℕ → ℕ) (exposed : ℕ → Bool) (drive :
       elim law.2 [
         | inl fight ↦ absurd (false≢true fight.1)
         | inr alike ↦
-            responds_by part circuit_network n (at n) (λ u. alike n u ins) r
+            response_by part circuit_network n (at n) (λ u. alike n u ins) r
             (response_inside set_network part (λ m. inside m ≡ true) IsEdge (network_levels cell true held set_state ranges) part_levels covers covers_back n r ins responds)
       ]
 

@@ -1,4 +1,5 @@
 pub mod Instances
 pub mod KnownInside
 pub mod Observed
+pub mod PairedPorts
 pub mod Ranked

@@ -8,7 +8,7 @@ mod known_inside;
 mod observed;
 mod ranked;
 
-pub use instances::instance_gives_valuation;
+pub use instances::{instance_gives_valuation, paired_ports_are_given};
 pub use known_inside::{
     known_inside_is_assured, known_inside_is_solved, known_inside_shows,
     unknown_outputs_are_unsettled,
