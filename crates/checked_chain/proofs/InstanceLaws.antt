@@ -12,7 +12,7 @@ use Rattle.vrt_model.specs.Lists.{At}
 use Rattle.vrt_model.specs.Unrolled.{Place, all_places}
 use Rattle.vrt_model.specs.declared.circuit.FlatInstance.{FlatInstance}
 
-behind_first : {X : Type 0} (xs : List X) (i : ℕ) → slice_get xs (suc i) ≡ slice_get (drop 1 xs) i
+pub behind_first : {X : Type 0} (xs : List X) (i : ℕ) → slice_get xs (suc i) ≡ slice_get (drop 1 xs) i
 behind_first [] i = refl
 behind_first (x ∷ xs) i = refl
 

@@ -1,9 +1,14 @@
+pub mod AcyclicLaws
 pub mod ChoiceLaws
+pub mod DriveLaws
 pub mod EndLaws
+pub mod EndPlaces
 pub mod FindingLaws
+pub mod GateArcs
 pub mod GroupLaws
 pub mod InstanceLaws
 pub mod KeptPlaces
+pub mod LinkLaws
 pub mod OrderLaws
 pub mod PathOrder
 pub mod SettingLaws

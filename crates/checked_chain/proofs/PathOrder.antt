@@ -29,7 +29,7 @@ abbrev pub path_names : List Step → Names
 path_names [] = []
 path_names (step ∷ steps) = step.instance ∷ path_names steps
 
-names_same : (xs ys : List Step) → same_path xs ys ≡ true → path_names xs ≡ path_names ys
+pub names_same : (xs ys : List Step) → same_path xs ys ≡ true → path_names xs ≡ path_names ys
 names_same [] [] e = refl
 names_same [] (y ∷ ys) e = absurd (false≢true e)
 names_same (x ∷ xs) [] e = absurd (false≢true e)

@@ -1,11 +1,11 @@
 -- The nets and holds of the circuits of a chain: the variables, what a valuation gives, and the constraints are those of the flat
 -- circuit.
-use Rattle.std.specs.Prelude.{◌≡◌, ◌↔◌, ℕ, Bool, true, List, map, Some, None}
+use Rattle.std.specs.Prelude.{◌≡◌, ◌↔◌, ℕ, Bool, true, false, List, map, Some, None}
 use Rattle.vrt_model.specs.Checked.{IsCircuitWith, top_of, with_circuit}
 use Rattle.vrt_model.specs.Comparison.{Comparison}
 use Rattle.vrt_model.specs.Constraints.{Meets}
-use Rattle.vrt_model.specs.Cut.{Cut, is_instance_shown}
-use Rattle.vrt_model.specs.FlatCircuit.{flat_circuit_of, flat_holds}
+use Rattle.vrt_model.specs.Cut.{Cut, is_inside_whole, is_instance_shown}
+use Rattle.vrt_model.specs.FlatCircuit.{Ruled, flat_circuit_of, flat_holds, rule_on}
 use Rattle.vrt_model.specs.Groups.{groups_of}
 use Rattle.vrt_model.specs.Held.{setting_of, sources_of, variable_names}
 use Rattle.vrt_model.specs.Lists.{Among}
@@ -28,6 +28,11 @@ IsEndShown cut (Latch (Some i) element) = is_instance_shown cut i ≡ true
 -- that of each hold is not
 abbrev pub AreEndsShown : Cut → Type 0
 AreEndsShown cut = (h : Hold) → Among (flat_holds cut.top) h → IsEndShown cut h.end
+
+-- The law: it is so where no hold is given by a rule for a cell inside a whole instance.
+abbrev pub EndsStayShown : Type 0
+EndsStayShown =
+    (cut : Cut) → ((n : ℕ) (one : Ruled) → rule_on cut.top n ≡ Some one → is_inside_whole cut one.at ≡ false) → AreEndsShown cut
 
 -- The law: then the groups of the holds are those of the flat circuit.
 abbrev pub GroupsAreSame : Type 0

@@ -2,17 +2,22 @@
 //! where it is chosen. Laws alone, each the contract of a function that does nothing.
 #![tactic(auto)]
 
+mod arcs;
+mod drives;
 mod findings;
 mod holds;
 mod instances;
 mod order;
 mod steps;
 
+pub use arcs::{arcs_are_of_choice, chain_is_acyclic, circuits_are_acyclic};
+pub use drives::drives_stay;
 pub use findings::{
     broken_constraints_move, descriptions_move, place_names_are_same, wants_are_same,
 };
 pub use holds::{
-    chain_keeps_holds, constraints_are_same, groups_are_same, settings_are_same, variables_are_same,
+    chain_keeps_holds, constraints_are_same, ends_stay_shown, groups_are_same, settings_are_same,
+    variables_are_same,
 };
 pub use instances::{instances_are_shown, instances_move, instances_stay_apart};
 pub use order::{
