@@ -77,15 +77,15 @@ impl Model for Memo {
     ghost invariant = { IsTable };
 }
 
-/// The place of what was asked, among `mask` and one more. What differs by one in the first number has the next place:
-/// answers that are asked one after another then lie near each other, which caches serve well.
+/// The place of what was asked, among `mask` and one more. What differs by one in the first number has the same place or
+/// the next one: answers that are asked one after another then lie near each other, which caches serve well.
 fn slot_at(mask: u32, f: u32, g: u32, h: u32) -> u32
     ensures { result ≤ mask }
 {
     let mixed = f
         .wrapping_add(g.wrapping_mul(0x9e37_79b1))
         .wrapping_add(h.wrapping_mul(12_582_917));
-    mixed & mask
+    (mixed >> 1) & mask
 }
 
 /// Appends empty pairs, for which there is room.
