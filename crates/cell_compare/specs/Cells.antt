@@ -1,6 +1,7 @@
 -- What is said of a cell beside its verdict.
 use Rattle.std.specs.Prelude.{◌≡◌, ℕ, ◌<◌, ◌≤◌, ◌⊎◌, ◌↔◌, true, false, All, [], length, Option, Some, None, option_map}
 use Rattle.cell_compare.specs.Compared.{IsFlattened}
+use Rattle.cell_compare.specs.Steps.{IsInTheWay}
 use Rattle.cell_compare.specs.declared.flattened.Flattened.{Flattened}
 use Rattle.vrt_model.specs.Budget.{enough_nodes}
 use Rattle.vrt_model.specs.Comparison.{Comparison, cell_at}
@@ -95,8 +96,18 @@ abbrev pub HasEarlyLine : Design → Blif → Rules → ℕ → Option Verdict �
 HasEarlyLine design blif rules cell None flattened = Unit {0}
 HasEarlyLine design blif rules cell (Some verdict) flattened = HasLine design blif rules cell verdict flattened
 
--- what was made of a cell that is compared
+-- a verdict with which nothing was made: the cell is skipped, or something stands in the way of its circuit or its model
+abbrev pub IsWithout : Verdict → Type 0
+IsWithout IsSkipped = Unit {0}
+IsWithout (Unsupported why) = IsInTheWay why
+IsWithout Equal = ⊥
+IsWithout (Fault fault) = ⊥
+IsWithout (Vacuous phase) = ⊥
+IsWithout (Budget nodes phase) = ⊥
+
+-- what was made of a cell by its verdict, none for one that is compared: its circuit and its model, with all that was tested before;
+-- nothing only where something stands in their way
 abbrev pub IsFlattenedTo : Design → Blif → Rules → ℕ → Option Verdict → Option Flattened → Type 0
+IsFlattenedTo design blif rules cell verdict (Some f) = (m : ℕ) × IsFlattened design blif rules cell m f
 IsFlattenedTo design blif rules cell None None = ⊥
-IsFlattenedTo design blif rules cell None (Some f) = (m : ℕ) × IsFlattened design blif rules cell m f
-IsFlattenedTo design blif rules cell (Some verdict) flattened = Unit {0}
+IsFlattenedTo design blif rules cell (Some verdict) None = IsWithout verdict

@@ -30,23 +30,23 @@ abbrev pub Stops : (Why → Type 0) → Hindrance → Type 0
 Stops P (Because why) = P why
 Stops P NoMemory = Unit {0}
 
--- a cause that is no cycle
-abbrev pub IsNoCycle : Why → Type 0
-IsNoCycle (Cycle phase nets) = ⊥
-IsNoCycle (ModelCycle phase signals) = ⊥
-IsNoCycle (Ports name) = Unit {0}
-IsNoCycle (Unmatched name) = Unit {0}
-IsNoCycle (DeviceModel model) = Unit {0}
-IsNoCycle (SupplyTie path) = Unit {0}
-IsNoCycle (OutputIsInput signal) = Unit {0}
-IsNoCycle (TooManyVars count) = Unit {0}
-IsNoCycle (TooLarge count) = Unit {0}
-IsNoCycle NoModel = Unit {0}
-IsNoCycle (NoClock latch) = Unit {0}
+-- a cause for which neither circuit nor model is made: no count of variables, and no cycle
+abbrev pub IsInTheWay : Why → Type 0
+IsInTheWay (Cycle phase nets) = ⊥
+IsInTheWay (ModelCycle phase signals) = ⊥
+IsInTheWay (Ports name) = Unit {0}
+IsInTheWay (Unmatched name) = Unit {0}
+IsInTheWay (DeviceModel model) = Unit {0}
+IsInTheWay (SupplyTie path) = Unit {0}
+IsInTheWay (OutputIsInput signal) = Unit {0}
+IsInTheWay (TooManyVars count) = ⊥
+IsInTheWay (TooLarge count) = Unit {0}
+IsInTheWay NoModel = Unit {0}
+IsInTheWay (NoClock latch) = Unit {0}
 
 -- what tests find
 abbrev pub IsFoundBy : Option Why → Why → Type 0
-IsFoundBy found why = (found ≡ Some why) × IsNoCycle why
+IsFoundBy found why = (found ≡ Some why) × IsInTheWay why
 
 -- the counts of a circuit; its devices and ties; the counts of a model; the ports of a cell and the outputs of a model; the
 -- clock of a latch; the elements without a hold
@@ -98,7 +98,7 @@ CircuitGrouped design rules cell pairing flat (Ok f) =
 CircuitGrouped design rules cell pairing flat (Err stop) =
     Stops (IsFoundBy (group_why design rules cell (flat_circuit design rules cell pairing) flat)) stop
 
--- the first cause of a cell, which is no cycle
+-- the first cause of a cell, of those that stand in the way of its circuit or its model
 abbrev pub IsEarlyWhy : Design → Blif → Rules → ℕ → Why → Type 0
 IsEarlyWhy design blif rules cell = IsFoundBy (why_early design blif rules cell (paired_model design blif rules cell))
 

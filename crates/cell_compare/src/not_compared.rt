@@ -24,7 +24,8 @@ use vrt_model::{Blif, Design, NoMemory, Rules, Verdict, Why};
 pub struct EarlyCell {
     /// `Skipped` or `Unsupported`; none for a cell that is compared.
     pub verdict: Option<Verdict>,
-    /// The flat circuit and the flat model; none for `Skipped` and where they were not made.
+    /// The flat circuit and the flat model; none for `Skipped` and where something stands in the way of either, which is neither
+    /// a cycle nor a count of variables.
     pub flattened: Option<Flattened>,
 }
 

@@ -1,7 +1,7 @@
 //! One cell compared with its model.
 
-ghost use Rattle.std.specs.Prelude.{◌≡◌, ◌≤◌, ◌<◌, [], None, false, length, IfOk};
-ghost use Rattle.cell_compare.specs.Cells.{HasFacts, HasLine, HasRuns, IsComplete};
+ghost use Rattle.std.specs.Prelude.{◌≡◌, ◌≤◌, ◌<◌, [], None, Some, false, length, IfOk};
+ghost use Rattle.cell_compare.specs.Cells.{HasFacts, HasLine, HasRuns, IsComplete, IsFlattenedTo};
 ghost use Rattle.cell_compare.specs.Compared.{AreInputs};
 ghost use Rattle.prepared_tables.specs.Prepared.{ArePrepared};
 ghost use Rattle.vrt_model.specs.Hierarchy.{IsOrdered};
@@ -27,7 +27,7 @@ pub struct Compared {
     pub verdict: Verdict,
     /// What cells above may use of this one.
     pub facts: CellFacts,
-    /// What was compared; none for `Skipped` and where no circuit and model were made.
+    /// What was compared; none for `Skipped` and where something stands in the way of circuit or model.
     pub flattened: Option<Flattened>,
 }
 
@@ -70,6 +70,7 @@ fn compare_with(
     requires paired { paired_model design.now blif.now rules.now cell ≡ Model model }
     ensures verdict { IfOk result (λ c. IsVerdict design.now blif.now rules.now budget cell c.verdict) }
     ensures line { IfOk result (λ c. HasLine design.now blif.now rules.now cell c.verdict c.flattened) }
+    ensures flattened { IfOk result (λ c. IsFlattenedTo design.now blif.now rules.now cell (Some c.verdict) c.flattened) }
     ensures facts { IfOk result (λ c. HasFacts design.now blif.now rules.now cell c.verdict c.facts) }
     ensures complete { IfOk result (λ c. IsComplete design.now blif.now rules.now budget cell c.verdict) }
     ensures runs { IfOk result (λ c. HasRuns design.now blif.now rules.now cell c.verdict) }
@@ -137,6 +138,7 @@ pub fn compare_prepared(
     requires ordered { IsOrdered design.now rules.now }
     ensures verdict { IfOk result (λ c. IsVerdict design.now blif.now rules.now budget cell c.verdict) }
     ensures line { IfOk result (λ c. HasLine design.now blif.now rules.now cell c.verdict c.flattened) }
+    ensures flattened { IfOk result (λ c. IsFlattenedTo design.now blif.now rules.now cell (Some c.verdict) c.flattened) }
     ensures facts { IfOk result (λ c. HasFacts design.now blif.now rules.now cell c.verdict c.facts) }
     ensures complete { IfOk result (λ c. IsComplete design.now blif.now rules.now budget cell c.verdict) }
     ensures runs { IfOk result (λ c. HasRuns design.now blif.now rules.now cell c.verdict) }
@@ -174,6 +176,7 @@ pub fn compare(
     requires ordered { IsOrdered design.now rules.now }
     ensures verdict { IfOk result (λ c. IsVerdict design.now blif.now rules.now budget cell c.verdict) }
     ensures line { IfOk result (λ c. HasLine design.now blif.now rules.now cell c.verdict c.flattened) }
+    ensures flattened { IfOk result (λ c. IsFlattenedTo design.now blif.now rules.now cell (Some c.verdict) c.flattened) }
     ensures facts { IfOk result (λ c. HasFacts design.now blif.now rules.now cell c.verdict c.facts) }
     ensures complete { IfOk result (λ c. IsComplete design.now blif.now rules.now budget cell c.verdict) }
     ensures runs { IfOk result (λ c. HasRuns design.now blif.now rules.now cell c.verdict) }

@@ -18,3 +18,6 @@ returns-clause-early c =
 pub returns-clause-line : goal.returns-clause-line
 returns-clause-line c =
     early_line c.args.design.now c.args.blif.now c.args.rules.now c.args.cell c.args.model c.in-Ok.flattened c.requires.inputs c.in-Ok.ensures c.in_ok-verdict.verdict
+
+pub returns-clause-flattened : goal.returns-clause-flattened
+returns-clause-flattened c = (c.args.model, c.in-Ok.ensures)

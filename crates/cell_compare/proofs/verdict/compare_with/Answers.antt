@@ -39,3 +39,6 @@ pub returns-clause-runs : goal.returns-clause-runs
 returns-clause-runs c =
     runs_with c.args.design.now c.args.blif.now c.args.rules.now c.args.cell c.args.model c.in-Ok.flattened c.requires.inputs c.in-Ok.ensures c.args.budget c.in_ok-verdict.verdict
     c.in_ok-verdict.ensures
+
+pub returns-clause-flattened : goal.returns-clause-flattened
+returns-clause-flattened c = (c.args.model, c.in-Ok.ensures)
