@@ -1,5 +1,6 @@
 pub mod ArcsToKnown
 pub mod ChainRanks
+pub mod CheckedArcLaws
 pub mod CoverLaws
 pub mod DefinedLaws
 pub mod DeterminedLaws

@@ -78,11 +78,11 @@ input_of_port seen pins pin m =
 
 -- ---- outputs
 
-abbrev IsOutputOf : List Pin → WholePin → Type 0
-IsOutputOf pins pin = (p : Pin) × Among pins p × (output_signal p.port.role ≡ Some pin.signal)
+abbrev pub IsOutputOf : List Pin → WholePin → Type 0
+IsOutputOf pins pin = (p : Pin) × Among pins p × (output_signal p.port.role ≡ Some pin.signal) × (p.net ≡ pin.net)
 
 later : (p : Pin) (pins : List Pin) (pin : WholePin) → IsOutputOf pins pin → IsOutputOf (p ∷ pins) pin
-later p pins pin found = (found.0, among_later p pins found.0 found.1, found.2)
+later p pins pin found = (found.0, among_later p pins found.0 found.1, found.2, found.3)
 
 -- an output pin is that of a port
 output_of_port : (facts : List CellFacts) (cell j : ℕ) (pins : List Pin) (pin : WholePin) → Among (driven_pins_from facts cell j pins) pin → IsOutputOf pins pin
@@ -99,7 +99,7 @@ output_of_port facts cell j (p ∷ pins) pin m =
     by_signal None e n rest = later p pins pin (rest j n)
     by_signal (Some s) e (zero, here) rest =
         let one : WholePin = record { net = p.net; signal = s; drive = drive_in facts cell j; observed = false } in
-        (p, (0, refl), e ∙ ap (λ (x : WholePin). Some x.signal) (same_Some one pin here))
+        (p, (0, refl), e ∙ ap (λ (x : WholePin). Some x.signal) (same_Some one pin here), ap (λ (x : WholePin). x.net) (same_Some one pin here))
     by_signal (Some s) e (suc i, there) rest = later p pins pin (rest (suc j) (i, there))
 
 among_enumerated : {X : Type 0} (n : ℕ) (xs : List X) (q : ℕ × X) → Among (enumerate_from n xs) q → Among xs q.1
@@ -119,7 +119,7 @@ outputs_by cut blif facts p q =
       | _ ↦ []
     ]
 
-abbrev whole_by : Cut → Blif → List CellFacts → NumberedPlace → Paired → Option Whole
+abbrev pub whole_by : Cut → Blif → List CellFacts → NumberedPlace → Paired → Option Whole
 whole_by cut blif facts p q =
     elim q [
       | Model m ↦
@@ -173,7 +173,7 @@ module _ (cut : Cut) (blif : Blif) (facts : List CellFacts) (p : NumberedPlace) 
           subst (λ (x : OutputAt). IsOutputOf (pins_of k p.at) x.pin) e
           (output_of_port facts p.at.cell 0 (pins_of k p.at) q.1 (among_enumerated 0 (driven_pins facts k p.at) q m))
 
-  output_pin : (pin : WholePin) → Among w.outputs pin → IsOutputOf (pins_of k p.at) pin
+  pub output_pin : (pin : WholePin) → Among w.outputs pin → IsOutputOf (pins_of k p.at) pin
   output_pin pin n =
       from (among_map settled (outputs_of_place cut.top blif facts p) pin (subst (λ (ps : List WholePin). Among ps pin) (sym (ap (λ (x : Whole). x.outputs) made_is)) n))
     where

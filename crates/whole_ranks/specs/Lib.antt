@@ -1,3 +1,4 @@
+pub mod CheckedArcs
 pub mod Defined
 pub mod Idle
 pub mod KnownNets

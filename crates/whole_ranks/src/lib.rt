@@ -3,6 +3,7 @@
 //! contract of a function that does nothing.
 #![tactic(auto)]
 
+mod checked_arcs;
 mod defined;
 mod idle;
 mod known;
@@ -12,6 +13,7 @@ mod solved;
 mod unlinked;
 mod whole_cells;
 
+pub use checked_arcs::{checked_arcs_are_acyclic, checked_arcs_are_link_arcs};
 pub use defined::{settled_nets_respond, solutions_are_defined};
 pub use idle::idle_inputs_change_nothing;
 pub use known::{known_nets_are_solved, known_nets_show, known_nets_stand, no_arcs_to_known_nets};
