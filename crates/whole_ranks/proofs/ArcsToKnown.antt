@@ -1,5 +1,6 @@
 -- No arc leads to a known net: its part is within its shut set, whose gates are known, and at which no output pin is.
 use Rattle.std.proofs.Common.{◌≡◌, ℕ, Bool, true, subst, refl, inl, inr}
+use Rattle.known_nets.proofs.KnownOnce.{fixed_not_plain}
 use Rattle.vrt_model.proofs.Ranked.{together_first}
 use Rattle.vrt_model.specs.Known.{HasArc, HasGateArc, HasWholeArc, IsKnown, IsPlain, IsShut, IsTogether, fixed, itself, onward, settled}
 use Rattle.vrt_model.specs.Lists.{Among}
@@ -8,7 +9,6 @@ use Rattle.vrt_model.specs.Reading.{devices_of}
 use Rattle.vrt_model.specs.declared.circuit.Circuit.{Circuit}
 use Rattle.vrt_model.specs.declared.circuit.Device.{Device}
 use Rattle.vrt_model.specs.declared.rules.Phase.{Phase}
-use Rattle.whole_ranks.proofs.KnownLaws.{fixed_not_plain}
 use Rattle.whole_ranks.specs.KnownNets.{NoArcsToKnownNets}
 
 -- a shut set whose gates are known

@@ -1,5 +1,6 @@
 -- What a shut set of nets shows depends on the gates of its devices alone, so known nets stand.
 use Rattle.std.proofs.Common.{◌≡◌, ℕ, Bool, true, arith, subst, sym, refl, ◌∙◌, ap, inl, inr}
+use Rattle.known_nets.proofs.KnownOnce.{fixed_read}
 use Rattle.vrt_model.proofs.Bounded.{response_inside}
 use Rattle.vrt_model.proofs.GatesGiven.{IsGiven}
 use Rattle.vrt_model.proofs.Laws.{turned}
@@ -9,36 +10,20 @@ use Rattle.vrt_model.proofs.Members.{all_among}
 use Rattle.vrt_model.proofs.Networks.{given_source, network_levels}
 use Rattle.vrt_model.proofs.Ranked.{plain_not_given}
 use Rattle.vrt_model.specs.Circuits.{IsHold}
-use Rattle.vrt_model.specs.Known.{HasFixedBit, IsFixed, IsPlain, IsShut, fixed, settled}
+use Rattle.vrt_model.specs.Known.{IsFixed, IsPlain, IsShut, fixed, settled}
 use Rattle.vrt_model.specs.Lists.{Among}
 use Rattle.vrt_model.specs.Networks.{Covers, HasRanges}
 use Rattle.vrt_model.specs.Path.{IsHoldRoot, IsOutputRoot, IsRoot, Joins, Network, Root}
-use Rattle.vrt_model.specs.Reading.{HasGivenBit, IsReading, conducts_at, devices_of}
+use Rattle.vrt_model.specs.Reading.{IsReading, conducts_at, devices_of}
 use Rattle.vrt_model.specs.Response.{IsResponse, Shows}
 use Rattle.vrt_model.specs.State.{OutputPin, State, network_of, output_pins}
 use Rattle.vrt_model.specs.declared.circuit.Circuit.{Circuit}
 use Rattle.vrt_model.specs.declared.circuit.Device.{Device}
-use Rattle.vrt_model.specs.declared.circuit.NetKind.{NetKind}
-use Rattle.vrt_model.specs.declared.circuit.NetKind.TheVariants.{Supply, Clock, Input, Plain}
 use Rattle.vrt_model.specs.declared.rules.Phase.{Phase}
 use Rattle.vrt_model.specs.declared.whole.WholePin.{WholePin}
 use Rattle.whole_ranks.proofs.OutputPins.{pin_of_whole}
 use Rattle.whole_ranks.proofs.SourceLaws.{source_shows}
 use Rattle.whole_ranks.specs.KnownNets.{AreOutputsPlain, KnownNetsAreSolved, KnownNetsShow}
-
-fixed_bit : (phase : Phase) (inputs : ℕ → Bool) (n : ℕ) (kind : NetKind) (v bit : Bool) → HasFixedBit phase kind v → HasGivenBit phase inputs kind n bit → bit ≡ v
-fixed_bit phase inputs n (Supply value) v bit h g = g ∙ sym h
-fixed_bit phase inputs n (Clock clock) v bit h g = g ∙ sym h
-fixed_bit phase inputs n Input v bit h g = absurd h
-fixed_bit phase inputs n Plain v bit h g = absurd h
-
--- a fixed net has its bit in each reading
-fixed_reads : (c : Circuit) (phase : Phase) (inputs reading : ℕ → Bool) → IsReading c phase inputs reading → (n : ℕ) (v : Bool) → IsFixed c phase n v → reading n ≡ v
-fixed_reads c phase inputs reading is n v f = fixed_bit phase inputs n f.0.kind v (reading n) f.2 (is n f.0 f.1)
-
--- a supply or a clock port is no plain net
-pub fixed_not_plain : (c : Circuit) (phase : Phase) (n : ℕ) (v : Bool) → IsFixed c phase n v → IsPlain c n → ⊥
-fixed_not_plain c phase n v f plain = plain_not_given c n plain (f.0, f.1, fixed_given phase f.0.kind v f.2)
 
 module _ (c : Circuit) (phase : Phase) (ranges : HasRanges c) (plain_outputs : AreOutputsPlain c) where
   abbrev view : (ℕ → Bool) → State → Network
@@ -74,7 +59,7 @@ module _ (c : Circuit) (phase : Phase) (ranges : HasRanges c) (plain_outputs : A
   -- and so does a supply or a clock port
   fixed_shows : (inputs held : ℕ → Bool) (s : State) → IsReading c phase inputs s.reading → (n : ℕ) (v : Bool) → IsFixed c phase n v → IsResponse (view held s) n (Shows v)
   fixed_shows inputs held s is n v f =
-      subst (λ (b : Bool). IsResponse (view held s) n (Shows b)) (fixed_reads c phase inputs s.reading is n v f) (given_shows held s n (f.0, f.1, fixed_given phase f.0.kind v f.2))
+      subst (λ (b : Bool). IsResponse (view held s) n (Shows b)) (fixed_read c phase inputs s.reading is n v f) (given_shows held s n (f.0, f.1, fixed_given phase f.0.kind v f.2))
 
   -- a shut set, and two networks of the circuit with the same bits at the gates of its devices
   module _ (inside : ℕ → Bool) where
@@ -109,8 +94,8 @@ module _ (c : Circuit) (phase : Phase) (ranges : HasRanges c) (plain_outputs : A
         | inl ins ↦ absurd (no_root_inside s.reading held s shut root r ins)
         | inr e ↦
             let given : IsGiven c root.net = (e.0.1.0, e.0.1.1, fixed_given phase e.0.1.0.kind e.0.0 e.0.1.2) in
-            let here = fixed_reads c phase inputs s.reading is root.net e.0.0 e.0.1 in
-            let value = fixed_reads c phase others t.reading it root.net e.0.0 e.0.1 in
+            let here = fixed_read c phase inputs s.reading is root.net e.0.0 e.0.1 in
+            let value = fixed_read c phase others t.reading it root.net e.0.0 e.0.1 in
             inl (given.0, given.1, given.2, e.1, given_root held s root.net given root r refl e.1 ∙ here ∙ sym value)
       ];
       devices = λ m n d on j ins. (on.0, subst (λ (b : Bool). conducts_at d.kind b ≡ true) (same n m d ins on.0 (turned d m n j)) on.1);
