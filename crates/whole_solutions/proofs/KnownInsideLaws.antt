@@ -37,7 +37,7 @@ known_inside_shows cell c at exposed drive phase setting s ranges all_ranges pla
     absurd (plain_not_given cell n f.0 plain f.1 (fixed_given phase f.0.kind v f.2))
 known_inside_shows cell c at exposed drive phase setting s ranges all_ranges placed unsettled is gates n v (settled inside reading held driven shut ins own known shows) plain =
     let set : IsSettledSet cell phase inside reading = record { shut = shut; reads = own; gates = known } in
-    set_responds cell c at exposed drive phase setting.held s ranges all_ranges placed (supply_bit c phase setting.inputs s.reading is.reading) inside reading held driven set (λ m i e. unsettled inside reading m set i e)
+    set_responds cell c at exposed drive phase setting.held s ranges all_ranges placed (supply_bit c phase setting.inputs s.reading is.reading) inside reading held driven set.shut set.reads (λ m i e. unsettled inside reading m set i e)
     (λ m l d i a j. sym (gates d (reading d.gate.0) a (known m l d i a j))) n (Shows v) ins shows
 
 module _ (cell c : Circuit) (at : ℕ → ℕ) (exposed : ℕ → Bool) (drive : ℕ → ℕ) (phase : Phase) (observed : ℕ → Bool) (setting : Setting) (a : ℕ → Option Bool)
@@ -72,7 +72,7 @@ known_inside_is_solved cell c at exposed drive phase observed setting a ranges a
 known_inside_is_solved cell c at exposed drive phase observed setting a ranges all_ranges placed unsettled gates solves clocks n v (settled inside reading held driven shut ins own known shows) seen =
     let set : IsSettledSet cell phase inside reading = record { shut = shut; reads = own; gates = known } in
     (solves (at n) v seen).1 (λ s is agrees.
-    set_responds cell c at exposed drive phase setting.held s ranges all_ranges placed (supply_bit c phase setting.inputs s.reading is.reading) inside reading held driven set (λ m i e. unsettled inside reading m set i e)
+    set_responds cell c at exposed drive phase setting.held s ranges all_ranges placed (supply_bit c phase setting.inputs s.reading is.reading) inside reading held driven set.shut set.reads (λ m i e. unsettled inside reading m set i e)
     (λ m l d i k j.
     let gate = gate_seen cell c at exposed drive phase observed setting a all_ranges placed solves clocks gates d k in
     sym (agrees (at d.gate.0) (reading d.gate.0) gate
@@ -113,7 +113,7 @@ unknown_outputs_are_unsettled cell phase setting exposed s ranges no_holds no_wh
     there : (r : Response) → IsResponse (network_of cell true (λ place. false) (record { reading = reading; driven = λ place. false })) n r → IsResponse (network_of cell true setting.held s) n r
     there r h =
         set_responds cell cell (λ m. m) (λ m. false) (λ m. 0) phase setting.held s ranges ranges (in_itself cell no_holds no_wholes channels)
-        (supply_bit cell phase setting.inputs s.reading is.reading) inside reading (λ place. false) (λ place. false) set (λ m i f. false≢true f)
+        (supply_bit cell phase setting.inputs s.reading is.reading) inside reading (λ place. false) (λ place. false) set.shut set.reads (λ m i f. false≢true f)
         (λ m l d i a j. sym (gates d (reading d.gate.0) a (set.gates m l d i a j))) n r ins h
 
     shows_no_fight : (v : Bool) → IsResponse (network_of cell true setting.held s) n (Shows v) → IsResponse (network_of cell true setting.held s) n Fight → ⊥
@@ -139,7 +139,7 @@ known_inside_is_assured cell c whole_circuit at moved compared exposed drive pha
     alone_shows m u (fixed f) p = absurd (plain_not_given cell m f.0 p f.1 (fixed_given phase f.0.kind u f.2))
     alone_shows m u (settled inside reading held driven shut ins reads known_gates shows) p =
         set_responds cell cell (λ x. x) (λ x. false) (λ x. 0) phase (λ place. false) (record { reading = λ x. s.reading (at x); driven = λ place. false }) ranges ranges own
-        supplies inside reading held driven (record { shut = shut; reads = reads; gates = known_gates }) (λ x i f. false≢true f)
+        supplies inside reading held driven shut reads (λ x i f. false≢true f)
         (λ x l d i a j. sym (gates d (reading d.gate.0) a (known_gates x l d i a j))) m (Shows u) ins shows
 
     beside_none : (m : ℕ) (u : Bool) → IsKnown cell phase m u → IsPlain cell m
@@ -149,5 +149,5 @@ known_inside_is_assured cell c whole_circuit at moved compared exposed drive pha
         let set : IsSettledSet cell phase inside reading = record { shut = shut; reads = reads; gates = known_gates } in
         unsettled inside reading beside.0 set
         (joined_in cell cell (λ x. x) (λ x. false) (λ x. 0) phase (λ place. false) (record { reading = λ x. s.reading (at x); driven = λ place. false }) ranges ranges own
-        supplies inside reading held driven set (λ x i f. false≢true f) (λ x l d i a j. sym (gates d (reading d.gate.0) a (known_gates x l d i a j))) beside.0 m beside.2 ins)
+        supplies inside reading held driven set.shut set.reads (λ x i f. false≢true f) (λ x l d i a j. sym (gates d (reading d.gate.0) a (known_gates x l d i a j))) beside.0 m beside.2 ins)
         beside.1

@@ -92,6 +92,10 @@ module _ (c : Circuit) (phase : Phase) (setting : Setting) (observed known : ℕ
   state_is : IsState c phase setting.inputs state
   state_is = record { reading = filled_reads; driven = λ at out e. drive_given at (slice_get (output_pins c) at) refl out e }
 
+  -- so some state agrees with the solution
+  pub agreeing_state : (s : State) × IsState c phase setting.inputs s × Agrees observed a s.reading
+  agreeing_state = (state, state_is, filled_agrees)
+
   -- ---- rank by rank
 
   regions : AreRegions c phase setting observed known (up_to c rank) (known_or_lower c observed known rank) filled

@@ -40,7 +40,7 @@ module _ (c : Circuit) (phase : Phase) (setting : Setting) (observed known : ℕ
   net_in_region most n plain le = and_from (is_plain_at c n) (leb (rank n) most) (is_plain_is c n plain) (le-leb (rank n) most le)
 
   -- what is in a base
-  in_base : (most n : ℕ) → observed n ≡ true → (known n ≡ true) ⊎ (IsPlain c n × (rank n < most)) → known_or_lower c observed known rank most n ≡ true
+  pub in_base : (most n : ℕ) → observed n ≡ true → (known n ≡ true) ⊎ (IsPlain c n × (rank n < most)) → known_or_lower c observed known rank most n ≡ true
   in_base most n seen h =
       and_from (observed n) (known n || (is_plain_at c n && ltb (rank n) most)) seen (elim h [
         | inl k ↦ or_left (known n) (is_plain_at c n && ltb (rank n) most) k
@@ -58,7 +58,7 @@ module _ (c : Circuit) (phase : Phase) (setting : Setting) (observed known : ℕ
       )
 
   -- an observed net is in the base, or it is given, if it is of lower rank wherever it is not known
-  seen_in_base : (most n : ℕ) → observed n ≡ true → (IsUnknown c phase n → rank n < most) → (known_or_lower c observed known rank most n ≡ true) ⊎ IsGiven c n
+  pub seen_in_base : (most n : ℕ) → observed n ≡ true → (IsUnknown c phase n → rank n < most) → (known_or_lower c observed known rank most n ≡ true) ⊎ IsGiven c n
   seen_in_base most n seen low =
       elim (cases_Bool (known n)) [
         | inl k ↦ inl (in_base most n seen (inl k))

@@ -1,4 +1,4 @@
--- What a settled set of a cell shows in the circuit around it.
+-- What a shut set of a cell shows in the circuit around it, where its gates have their bits.
 use Rattle.std.proofs.Common.{◌≡◌, ◌⊎◌, ℕ, ◌||◌, Bool, true, false, List, filter, length, ap, subst, sym, refl, ◌∙◌, inl, inr}
 use Rattle.std.proofs.lemmas.Bool.{false≢true, or_cases, or_left, or_right}
 use Rattle.cell_inside.proofs.AssuredLaws.{response_by}
@@ -16,7 +16,7 @@ use Rattle.vrt_model.proofs.Laws.{turned}
 use Rattle.vrt_model.proofs.Locality.{fixed_given}
 use Rattle.vrt_model.proofs.Members.{at_none}
 use Rattle.vrt_model.proofs.Networks.{given_source, network_finite, network_levels}
-use Rattle.vrt_model.specs.Known.{IsPlain, is_plain_at}
+use Rattle.vrt_model.specs.Known.{IsPlain, IsShut, is_plain_at}
 use Rattle.vrt_model.specs.Lists.{Among, At}
 use Rattle.vrt_model.specs.Networks.{Covers, HasLevels, HasRanges, IsFinite}
 use Rattle.vrt_model.specs.Path.{IsOn, IsRoot, Joins, Network, Root}
@@ -31,7 +31,6 @@ use Rattle.vrt_model.specs.declared.rules.Phase.{Phase}
 use Rattle.vrt_model.specs.declared.whole.Whole.{Whole}
 use Rattle.vrt_model.specs.declared.whole.WholePin.{WholePin}
 use Rattle.whole_solutions.proofs.GivenShow.{root_value}
-use Rattle.whole_solutions.specs.KnownInside.{IsSettledSet}
 
 -- a supply has its bit in each reading
 pub supply_bit : (c : Circuit) (phase : Phase) (inputs reading : ℕ → Bool) → IsReading c phase inputs reading → (n : ℕ) (value : Bool) → IsSupply c n value → reading n ≡ value
@@ -39,7 +38,7 @@ supply_bit c phase inputs reading is n value supply = subst (λ (kind : NetKind)
 
 module _ (cell c : Circuit) (at : ℕ → ℕ) (exposed : ℕ → Bool) (drive : ℕ → ℕ) (phase : Phase) (above : ℕ → Bool) (s : State)
     (ranges : HasRanges cell) (all_ranges : HasRanges c) (placed : IsPlaced cell c at exposed drive) (supplies : (n : ℕ) (value : Bool) → IsSupply c n value → s.reading n ≡ value)
-    (inside reading held driven : ℕ → Bool) (set : IsSettledSet cell phase inside reading) (hidden : (n : ℕ) → inside n ≡ true → exposed n ≡ true → ⊥)
+    (inside reading held driven : ℕ → Bool) (shut : IsShut cell phase inside reading) (reads : IsReading cell phase reading reading) (hidden : (n : ℕ) → inside n ≡ true → exposed n ≡ true → ⊥)
     (same : (m l : ℕ) (d : Device) → inside m ≡ true → Among (devices_of true cell) d → Joins d m l → reading d.gate.0 ≡ s.reading (at d.gate.0)) where
   abbrev set_state : State
   set_state = record { reading = reading; driven = driven }
@@ -71,7 +70,7 @@ module _ (cell c : Circuit) (at : ℕ → ℕ) (exposed : ℕ → Bool) (drive :
   -- ---- nets and devices at the set
 
   plain_in : (n : ℕ) → inside n ≡ true → IsPlain cell n
-  plain_in n ins = (set.shut.plain n ins).0
+  plain_in n ins = (shut.plain n ins).0
 
   no_hold : (place : ℕ) (hold : Hold) → At cell.holds place hold → ⊥
   no_hold place hold e = at_none place hold (subst (λ (hs : List Hold). At hs place hold) placed.no_holds e)
@@ -81,7 +80,7 @@ module _ (cell c : Circuit) (at : ℕ → ℕ) (exposed : ℕ → Bool) (drive :
 
   joined : (n m : ℕ) (d : Device) → inside n ≡ true → Among (devices_of true cell) d → Joins d n m → conducts reading d ≡ true → (inside m ≡ true) ⊎ IsEdge m
   joined n m d ins a j on =
-      elim (set.shut.joined n m d ins a j on) [
+      elim (shut.joined n m d ins a j on) [
         | inl i ↦ inl i
         | inr f ↦ elim (placed.channels d m (device_among true cell d a).0 (touched d n m j)) [
           | inl plain ↦ absurd (plain_not_given cell m f.1.0 plain f.1.1 (fixed_given phase f.1.0.kind f.0 f.1.2))
@@ -113,7 +112,7 @@ module _ (cell c : Circuit) (at : ℕ → ℕ) (exposed : ℕ → Bool) (drive :
 
   edge_same : (n : ℕ) → IsEdge n → reading n ≡ s.reading (at n)
   edge_same n e =
-      supply_bit cell phase reading reading set.reads n e.0 e.1 ∙ sym (supplies (at n) e.0 (placed.supplies n e.0 e.1))
+      supply_bit cell phase reading reading reads n e.0 e.1 ∙ sym (supplies (at n) e.0 (placed.supplies n e.0 e.1))
 
   covers : Covers set_network part (λ n. inside n ≡ true) IsEdge
   covers = record {
