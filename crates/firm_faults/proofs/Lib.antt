@@ -1,0 +1,4 @@
+pub mod FirstFirm
+pub mod RankOrder
+pub mod SettledLaws
+pub mod ShutRegions

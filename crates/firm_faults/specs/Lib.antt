@@ -1,0 +1,2 @@
+pub mod FirmGround
+pub mod Settled

@@ -1,0 +1,7 @@
+//! Faults that stand on firm ground: what they rest on is settled, whatever the rest of the circuit does. Laws alone, each the contract
+//! of a function that does nothing.
+#![tactic(auto)]
+
+mod ground;
+
+pub use ground::{firm_ground_stands, first_fault_is_firm, settled_nets_stand};
