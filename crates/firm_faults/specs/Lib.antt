@@ -1,2 +1,3 @@
 pub mod FirmGround
 pub mod Settled
+pub mod StepDown

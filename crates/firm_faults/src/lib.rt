@@ -3,5 +3,7 @@
 #![tactic(auto)]
 
 mod ground;
+mod step;
 
 pub use ground::{firm_ground_stands, first_fault_is_firm, settled_nets_stand};
+pub use step::firm_ground_goes_down;
