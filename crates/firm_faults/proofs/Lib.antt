@@ -4,5 +4,7 @@ pub mod InnerSettled
 pub mod RankOrder
 pub mod SettledLaws
 pub mod ShutRegions
+pub mod StepChainLaws
 pub mod StepLaws
+pub mod StepPartLaws
 pub mod StepStates

@@ -1,3 +1,5 @@
 pub mod FirmGround
 pub mod Settled
+pub mod StepChain
 pub mod StepDown
+pub mod StepParts
