@@ -116,7 +116,7 @@ module _ (k : Comparison) (phase : ℕ) (c : Circuit) (observed : ℕ → Bool) 
   some_assignment r = logic_has_assignments w.model (surroundings_of_whole now w r) logic
 
   -- an assignment of the instance is one of the cell
-  inside : (r : ℕ → Bool) (g : Assignment) (setting : Setting) → AssignsAt r g → ((n : ℕ) → IsInputNet k.circuit n → setting.inputs n ≡ r (at n)) → Assigns k phase setting g
+  pub inside : (r : ℕ → Bool) (g : Assignment) (setting : Setting) → AssignsAt r g → ((n : ℕ) → IsInputNet k.circuit n → setting.inputs n ≡ r (at n)) → Assigns k phase setting g
   inside r g setting is bits = record {
     clocks = λ s m. is.clocks s (subst (λ (cs : List ClockedSignal). Among cs s) (sym stands.clocked) m);
     inputs = λ t m.
@@ -132,7 +132,7 @@ module _ (k : Comparison) (phase : ℕ) (c : Circuit) (observed : ℕ → Bool) 
       no_latch l m = at_none m.0 l (subst (λ (ls : List FlatLatch). At (numbered_from 0 ls) m.0 l) cell.logic.latches m.1)
 
   -- a solution of the cell gives an output the bit of its signal
-  shows_signal : (bits : List Bool) (a : ℕ → Option Bool) (g : Assignment) → Meets k phase bits → Solves k phase (setting_of k phase bits) a → Assigns k phase (setting_of k phase bits) g
+  pub shows_signal : (bits : List Bool) (a : ℕ → Option Bool) (g : Assignment) → Meets k phase bits → Solves k phase (setting_of k phase bits) a → Assigns k phase (setting_of k phase bits) g
       → (place : ℕ) (port : CellPort) (s : ℕ) → IsOutputAt k place port s → a port.net ≡ Some (g.signal s)
   shows_signal bits a g meets solves assigns place port s out =
       same_options (a port.net) (Some (g.signal s)) (λ apart.

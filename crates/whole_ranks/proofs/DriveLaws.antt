@@ -33,15 +33,15 @@ module _ (c : Circuit) (phase : Phase) (observed : ℕ → Bool) (determined : A
       let g = (determined other.whole (pin_of_whole c other (at, e)).0).assigned r in
       subst (λ (x : OutputPin). ModelGives phase x r (g.0.signal other.pin.signal)) (same_Some other out is) (g.0, g.1, refl)
 
-  driven_by : (ℕ → Bool) → ℕ → Bool
+  pub driven_by : (ℕ → Bool) → ℕ → Bool
   driven_by r at = bit_of r at (slice_get (output_pins c) at) refl
 
-  driven_gives : (r : ℕ → Bool) (at : ℕ) (out : OutputPin) → At (output_pins c) at out → ModelGives phase out r (driven_by r at)
+  pub driven_gives : (r : ℕ → Bool) (at : ℕ) (out : OutputPin) → At (output_pins c) at out → ModelGives phase out r (driven_by r at)
   unfolding driven_by
   driven_gives r at out e = gives_bit r at out (slice_get (output_pins c) at) refl e
 
   -- two readings that are the same at the observed inputs that are linked to a pin give it the same bit
-  gives_same : (r q : ℕ → Bool) (out : OutputPin) (u v : Bool) (m : Among (output_pins c) out) → ModelGives phase out r u → ModelGives phase out q v
+  pub gives_same : (r q : ℕ → Bool) (out : OutputPin) (u v : Bool) (m : Among (output_pins c) out) → ModelGives phase out r u → ModelGives phase out q v
       → ((input : WholePin) → Among out.whole.inputs input → IsLinkedTo phase out.whole input (pin_of_whole c out m).1.0 → observed input.net.0 ≡ true → r input.net.0 ≡ q input.net.0) → u ≡ v
   gives_same r q out u v m g h same =
       let from = pin_of_whole c out m in

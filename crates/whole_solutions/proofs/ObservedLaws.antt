@@ -85,7 +85,7 @@ module _ (k q : Comparison) (phase : ℕ) (whole_circuit : Circuit) (at place fr
 
   module _ (hides : HidesItsNets k q phase whole_circuit at remaining compared) (within : (n : ℕ) → is_observed q phase n ≡ true → n < length q.circuit.nets) where
     -- what is observed with the cell whole remains
-    remains : (n : ℕ) → IsObservedFor there phase n → remaining n ≡ true
+    pub remains : (n : ℕ) → IsObservedFor there phase n → remaining n ≡ true
     remains n (inl (f, a, e)) =
         let d = left.devices_back f a in subst (λ (x : ℕ). remaining x ≡ true) (sym d.2.image.gate ∙ e) d.2.gate
     remains n (inr (inl (g, a, e))) =

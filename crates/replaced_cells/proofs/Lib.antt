@@ -1,0 +1,13 @@
+pub mod AgreementLaws
+pub mod BrokenLaws
+pub mod GoesDown
+pub mod GoesUp
+pub mod MissedLaws
+pub mod ObservedFaults
+pub mod Prepared
+pub mod PrintedLaws
+pub mod SameResponses
+pub mod SharedFaults
+pub mod ShownInside
+pub mod SolvedAlike
+pub mod States

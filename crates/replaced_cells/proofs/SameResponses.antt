@@ -1,0 +1,55 @@
+-- Responses of nets at which no channel stands, and output pins that states drive alike.
+use Rattle.std.proofs.Common.{◌≡◌, ℕ, ◌≤◌, Bool, true, false, List, [], ◌∷◌, subst, sym, refl, ◌∙◌, inl, inr}
+use Rattle.cell_inside.proofs.AssuredLaws.{response_by}
+use Rattle.cell_inside.specs.Inside.{Touches}
+use Rattle.vrt_model.proofs.Filtered.{device_among}
+use Rattle.vrt_model.specs.Lists.{Among, At}
+use Rattle.vrt_model.specs.Path.{Hop, IsPath, IsRoot, Network, Root, end_of, level_of}
+use Rattle.vrt_model.specs.Response.{IsClear, IsResponse, IsStrength, Reaches, Response, Shows}
+use Rattle.vrt_model.specs.State.{IsState, OutputPin, Setting, State, network_of, output_pins}
+use Rattle.vrt_model.specs.declared.circuit.Circuit.{Circuit}
+use Rattle.vrt_model.specs.declared.circuit.Device.{Device}
+use Rattle.vrt_model.specs.declared.rules.Phase.{Phase}
+use Rattle.whole_ranks.proofs.DriveLaws.{gives_same}
+use Rattle.whole_ranks.specs.Solved.{AreDetermined}
+
+-- the bit that a net shows reaches it
+pub shown_reaches : (w : Network) (n : ℕ) (v : Bool) → IsResponse w n (Shows v) → Reaches w n v
+shown_reaches w n true h = h.0
+shown_reaches w n false h = h.0
+
+-- ---- a net at which no channel stands
+
+module _ (c : Circuit) (held : ℕ → Bool) (s : State) (n : ℕ) (free : (d : Device) → Among c.devices d → Touches d n → ⊥) where
+  -- a path that ends there is a root alone
+  pub root_alone : (bare : Bool) (root : Root) (hops : List Hop) → IsPath (network_of c bare held s) root hops → end_of root hops ≡ n → hops ≡ []
+  root_alone bare root [] p e = refl
+  root_alone bare root (hop ∷ hops) p e =
+      absurd (free hop.device (device_among bare c hop.device p.1.0).0 (elim p.2 [ inl j ↦ inr (j.1 ∙ e) | inr j ↦ inl (j.0 ∙ e) ]))
+
+  -- so what reaches it bare reaches it in the kept circuit, and back
+  pub reaches_other : (bare other : Bool) (u : Bool) → Reaches (network_of c bare held s) n u → Reaches (network_of c other held s) n u
+  reaches_other bare other u (root, hops, p, clear, e, is) =
+      let alone = root_alone bare root hops p e in
+      let path : IsRoot (network_of c other held s) root = subst (λ (hs : List Hop). IsPath (network_of c bare held s) root hs) alone p in
+      let strong : IsStrength (network_of c bare held s) root.net root.level = subst (λ (hs : List Hop). IsClear (network_of c bare held s) root hs) alone clear in
+      let ends : root.net ≡ n = subst (λ (hs : List Hop). end_of root hs ≡ n) alone e in
+      let bound : (r : Root) (hs : List Hop) → IsPath (network_of c other held s) r hs → end_of r hs ≡ root.net → level_of r hs ≤ root.level
+      = λ r hs q t.
+      let none = root_alone other r hs q (t ∙ ends) in
+      subst (λ (xs : List Hop). level_of r xs ≤ root.level) (sym none)
+      (strong.0 r [] (subst (λ (xs : List Hop). IsPath (network_of c other held s) r xs) none q) (subst (λ (xs : List Hop). end_of r xs ≡ root.net) none t)) in
+      (root, [], path, (bound, inr (root, [], path, refl, refl)), ends, is)
+
+  pub response_other : (bare other : Bool) (r : Response) → IsResponse (network_of c bare held s) n r → IsResponse (network_of c other held s) n r
+  response_other bare other r h = response_by (network_of c bare held s) (network_of c other held s) n n (λ u. (reaches_other bare other u, reaches_other other bare u)) r h
+
+-- ---- output pins
+
+-- states that are the same at observed nets drive determined pins alike
+pub driven_same : (c : Circuit) (phase : Phase) (observed : ℕ → Bool) (setting : Setting) → AreDetermined c phase observed
+    → (s t : State) → IsState c phase setting.inputs s → IsState c phase setting.inputs t → ((n : ℕ) → observed n ≡ true → s.reading n ≡ t.reading n)
+    → (place : ℕ) (out : OutputPin) → At (output_pins c) place out → s.driven place ≡ t.driven place
+driven_same c phase observed setting determined s t is it same place out e =
+    gives_same c phase observed determined s.reading t.reading out (s.driven place) (t.driven place) (place, e) (is.driven place out e) (it.driven place out e)
+    (λ input m linked seen. same input.net.0 seen)

@@ -1,0 +1,24 @@
+//! Where nothing is wrong in the one circuit nothing is wrong in the other.
+
+ghost use Rattle.replaced_cells.specs.Agreement.{AgreementGoesDown, AgreementGoesUp, AgreementIsTransitive, OneMoreWholeAgrees};
+
+/// Where nothing is wrong with the instance whole, nothing is wrong with the cell in its place: there is a solution, it is defined, and
+/// no fault of any kind stands. It asks that the circuit has exactly one solution.
+pub fn agreement_goes_down()
+    ensures { AgreementGoesDown }
+{}
+
+/// The other way round: where nothing is wrong with the cell in the circuit, nothing is wrong with the instance whole.
+pub fn agreement_goes_up()
+    ensures { AgreementGoesUp }
+{}
+
+/// So the two comparisons agree in all phases, where both circuits always have exactly one solution and their valuations are the same.
+pub fn one_more_whole_agrees()
+    ensures { OneMoreWholeAgrees }
+{}
+
+/// And step by step along a chain of circuits.
+pub fn agreement_is_transitive()
+    ensures { AgreementIsTransitive }
+{}

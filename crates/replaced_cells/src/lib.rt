@@ -1,0 +1,16 @@
+//! A circuit with a cell in it, and the circuit in which this instance is whole too: the model of an equal cell stands for the cell.
+//! Where nothing is wrong in the one circuit nothing is wrong in the other, and both have the same bits at the nets that remain. The
+//! instance's outputs meet gates alone. Laws alone, each the contract of a function that does nothing.
+#![tactic(auto)]
+
+mod agreement;
+mod bits;
+mod faults;
+
+pub use agreement::{
+    agreement_goes_down, agreement_goes_up, agreement_is_transitive, one_more_whole_agrees,
+};
+pub use bits::{bits_go_down, bits_go_up};
+pub use faults::{
+    faults_are_shared, faults_stand_below, observed_bits_show_faults, printed_values_are_same,
+};
