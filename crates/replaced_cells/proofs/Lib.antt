@@ -1,5 +1,6 @@
 pub mod AgreementLaws
 pub mod BrokenLaws
+pub mod ChainLaws
 pub mod GoesDown
 pub mod GoesUp
 pub mod MissedLaws

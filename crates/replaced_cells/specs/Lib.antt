@@ -1,3 +1,4 @@
 pub mod Agreement
+pub mod Chain
 pub mod Faults
 pub mod OneMoreWhole

@@ -5,12 +5,14 @@
 
 mod agreement;
 mod bits;
+mod chain;
 mod faults;
 
 pub use agreement::{
     agreement_goes_down, agreement_goes_up, agreement_is_transitive, one_more_whole_agrees,
 };
 pub use bits::{bits_go_down, bits_go_up};
+pub use chain::{agreement_follows_chain, chain_keeps_valuations};
 pub use faults::{
     faults_are_shared, faults_stand_below, observed_bits_show_faults, printed_values_are_same,
 };
