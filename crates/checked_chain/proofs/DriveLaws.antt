@@ -28,11 +28,11 @@ use Rattle.vrt_model.specs.declared.whole.WholePin.{WholePin}
 
 -- ---- lists
 
-nothing_in : {X : Type 0} (xs : List X) (x : X) → is_empty xs ≡ true → Among xs x → ⊥
+pub nothing_in : {X : Type 0} (xs : List X) (x : X) → is_empty xs ≡ true → Among xs x → ⊥
 nothing_in [] x e m = at_none m.0 x m.1
 nothing_in (y ∷ ys) x e m = false≢true e
 
-is_nothing : {X : Type 0} (xs : List X) → ((x : X) → Among xs x → ⊥) → is_empty xs ≡ true
+pub is_nothing : {X : Type 0} (xs : List X) → ((x : X) → Among xs x → ⊥) → is_empty xs ≡ true
 is_nothing [] h = refl
 is_nothing (x ∷ xs) h = absurd (h x (0, refl))
 
@@ -63,7 +63,7 @@ module _ (cut : Cut) (blif : Blif) (facts : List CellFacts) (i : ℕ) (p : Numbe
 
   -- ---- what is whole
 
-  whole_more : (n : ℕ) → is_whole earlier.choice n ≡ true → is_whole later.choice n ≡ true
+  pub whole_more : (n : ℕ) → is_whole earlier.choice n ≡ true → is_whole later.choice n ≡ true
   whole_more zero e = e
   whole_more (suc k) e =
       let both = and_parts (cut.choice k) (nat_lt k i) e in
@@ -76,7 +76,7 @@ module _ (cut : Cut) (blif : Blif) (facts : List CellFacts) (i : ℕ) (p : Numbe
   whole_low zero e = omega arith
   whole_low (suc k) e = let low = (and_parts (cut.choice k) (nat_lt k i) e).1 in let lt : k < i = grind (arith, nat_tests, low) in omega (arith, lt)
 
-  whole_or_last : (n : ℕ) → is_whole later.choice n ≡ true → (is_whole earlier.choice n ≡ true) ⊎ (n ≡ suc i)
+  pub whole_or_last : (n : ℕ) → is_whole later.choice n ≡ true → (is_whole earlier.choice n ≡ true) ⊎ (n ≡ suc i)
   whole_or_last zero e = absurd (false≢true e)
   whole_or_last (suc k) e =
       let both = and_parts (cut.choice k) (nat_lt k (suc i)) e in
@@ -90,12 +90,12 @@ module _ (cut : Cut) (blif : Blif) (facts : List CellFacts) (i : ℕ) (p : Numbe
       let h = filter_among (λ (o : NumberedPlace). is_whole earlier.choice o.number) (numbered_places cut.top) q m in
       among_kept (λ (o : NumberedPlace). is_whole later.choice o.number) (numbered_places cut.top) q h.0 (whole_more q.number h.1)
 
-  outputs_more : (o : OutputAt) → Among (all_outputs earlier blif facts) o → Among (all_outputs later blif facts) o
+  pub outputs_more : (o : OutputAt) → Among (all_outputs earlier blif facts) o → Among (all_outputs later blif facts) o
   outputs_more o m =
       let h = among_flat_map (outputs_of_place cut.top blif facts) (whole_places earlier) o m in
       flat_map_among (outputs_of_place cut.top blif facts) (whole_places later) h.0 o (places_more h.0 h.1) h.2
 
-  outputs_or_last : (o : OutputAt) → Among (all_outputs later blif facts) o → Among (all_outputs earlier blif facts) o ⊎ Among (outputs_of_place cut.top blif facts p) o
+  pub outputs_or_last : (o : OutputAt) → Among (all_outputs later blif facts) o → Among (all_outputs earlier blif facts) o ⊎ Among (outputs_of_place cut.top blif facts p) o
   outputs_or_last o m =
       let h = among_flat_map (outputs_of_place cut.top blif facts) (whole_places later) o m in
       let q = filter_among (λ (x : NumberedPlace). is_whole later.choice x.number) (numbered_places cut.top) h.0 h.1 in
@@ -107,7 +107,7 @@ module _ (cut : Cut) (blif : Blif) (facts : List CellFacts) (i : ℕ) (p : Numbe
             subst (λ (x : NumberedPlace). Among (outputs_of_place cut.top blif facts x) o) same h.2)
       ]
 
-  last_there : (o : OutputAt) → Among (outputs_of_place cut.top blif facts p) o → Among (all_outputs later blif facts) o
+  pub last_there : (o : OutputAt) → Among (outputs_of_place cut.top blif facts p) o → Among (all_outputs later blif facts) o
   last_there o m =
       let number = (numbered_at cut.top (suc i) p here).0 in
       let low : nat_lt i (suc i) ≡ true = grind (arith, nat_tests) in
@@ -115,7 +115,7 @@ module _ (cut : Cut) (blif : Blif) (facts : List CellFacts) (i : ℕ) (p : Numbe
       flat_map_among (outputs_of_place cut.top blif facts) (whole_places later) p o (among_kept (λ (x : NumberedPlace). is_whole later.choice x.number) (numbered_places cut.top) p (suc i, here) whole) m
 
   -- an output of the last one is none of the others
-  other_instance : (o one : OutputAt) → Among (outputs_of_place cut.top blif facts p) o → Among (all_outputs earlier blif facts) one → (o.instance == one.instance) ≡ false
+  pub other_instance : (o one : OutputAt) → Among (outputs_of_place cut.top blif facts p) o → Among (all_outputs earlier blif facts) one → (o.instance == one.instance) ≡ false
   other_instance o one m n =
       let number = (numbered_at cut.top (suc i) p here).0 in
       let mine = instance_by cut.top blif facts p (paired_model cut.top.design blif cut.top.rules p.at.cell) o m in
@@ -129,7 +129,7 @@ module _ (cut : Cut) (blif : Blif) (facts : List CellFacts) (i : ℕ) (p : Numbe
 
   -- ---- what is shown
 
-  shown_less : (q : NumberedPlace) → is_left_out later q ≡ false → is_left_out earlier q ≡ false
+  pub shown_less : (q : NumberedPlace) → is_left_out later q ≡ false → is_left_out earlier q ≡ false
   shown_less q e =
       let parts = or_parts (is_whole later.choice q.number) (is_inside_whole later q.at) e in
       or_from (is_whole earlier.choice q.number) (is_inside_whole earlier q.at)
@@ -143,7 +143,7 @@ module _ (cut : Cut) (blif : Blif) (facts : List CellFacts) (i : ℕ) (p : Numbe
   abbrev cards : NumberedPlace → List Device
   cards q = map (flat_device cut.top q.at) (cell_at cut.top.design q.at.cell).devices
 
-  devices_less : (d : Device) → Among (checked_devices later) d → Among (checked_devices earlier) d
+  pub devices_less : (d : Device) → Among (checked_devices later) d → Among (checked_devices earlier) d
   devices_less d m =
       let h = among_flat_map cards (shown later) d m in
       let q = filter_among (λ x. not (is_left_out later x)) (numbered_places cut.top) h.0 h.1 in

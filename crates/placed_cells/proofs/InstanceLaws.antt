@@ -51,7 +51,7 @@ device_mentioned cell card name m on =
     (among_left (flat_map (λ (d : DeviceCard). d.drain ∷ d.gate ∷ d.source ∷ []) cell.devices) (flat_map (λ (i : InstanceCard). i.nets) cell.instances) name
     (flat_map_among (λ (d : DeviceCard). d.drain ∷ d.gate ∷ d.source ∷ []) cell.devices card name m on))
 
-device_named : (cell : Cell) (card : DeviceCard) (name : List ℕ) → Among cell.devices card → Among (card.drain ∷ card.gate ∷ card.source ∷ []) name → is_net_in cell name ≡ true
+pub device_named : (cell : Cell) (card : DeviceCard) (name : List ℕ) → Among cell.devices card → Among (card.drain ∷ card.gate ∷ card.source ∷ []) name → is_net_in cell name ≡ true
 device_named cell card name m on = or_right (has_name cell.ports name) (has_name (mentions cell) name) (device_mentioned cell card name m on)
 
 -- ---- depth
@@ -145,7 +145,7 @@ module _ (t : Top) (roles : List PortRole) (number : ℕ) (p : Place) (depth : �
   devices_at u q = map (flat_device u q) (cell_at u.design q.cell).devices
 
   -- a device of a place in it is an image
-  inside_image : (r : Place) (card : DeviceCard) → Among (places_in t depth p) r → Among (cell_at t.design r.cell).devices card → (d : Device) × Among (flat_devices own) d × IsImage at d (flat_device t r card)
+  pub inside_image : (r : Place) (card : DeviceCard) → Among (places_in t depth p) r → Among (cell_at t.design r.cell).devices card → (d : Device) × Among (flat_devices own) d × IsImage at d (flat_device t r card)
   inside_image r card m on =
       let q = zip_right FitsPlace (all_places own) (places_in t depth p) r shifted m in
       let there_on : Among (cell_at t.design q.0.cell).devices card = subst (λ (k : ℕ). Among (cell_at t.design k).devices card) q.2.place.cell on in (
@@ -155,7 +155,7 @@ module _ (t : Top) (roles : List PortRole) (number : ℕ) (p : Place) (depth : �
       )
 
   -- no name in any other place is an own net
-  not_outside : (r : Place) (name : List ℕ) (n : ℕ) → Among (before ++ behind) r → is_net_in (cell_at t.design r.cell) name ≡ true → base ≤ n → n < base + size_inside t depth p.cell → net_at t r name ≡ at n → ⊥
+  pub not_outside : (r : Place) (name : List ℕ) (n : ℕ) → Among (before ++ behind) r → is_net_in (cell_at t.design r.cell) name ≡ true → base ≤ n → n < base + size_inside t depth p.cell → net_at t r name ≡ at n → ⊥
   not_outside r name n m is low high same =
       let far = net_high t p n low in
       elim (split.names r name m is) [
@@ -189,11 +189,11 @@ module _ (t : Top) (roles : List PortRole) (number : ℕ) (p : Place) (depth : �
 
   -- ---- nets
 
-  size_all : size_inside t depth p.cell ≡ size_inside t deepest p.cell
+  pub size_all : size_inside t depth p.cell ≡ size_inside t deepest p.cell
   size_all = size_deeper t depth rest_is.0 p within ∙ ap (λ (n : ℕ). size_inside t n p.cell) rest_is.1
 
   -- a plain net behind the ports is an own net
-  plain_inside : (n : ℕ) → n < base + size_inside t deepest p.cell → base ≤ n → IsPlain (flat_circuit_of t) (at n)
+  pub plain_inside : (n : ℕ) → n < base + size_inside t deepest p.cell → base ≤ n → IsPlain (flat_circuit_of t) (at n)
   plain_inside n lt le =
       let far = net_high t p n le in
       let same = size_all in
@@ -204,7 +204,7 @@ module _ (t : Top) (roles : List PortRole) (number : ℕ) (p : Place) (depth : �
       plain_behind t (at n) (omega (arith, far, low)) (omega (arith, far, high, lt, same, le))
 
   -- a net of the cell alone is in range
-  net_inside : (n : ℕ) → IsPlain (flat_circuit_of own) n → n < base + size_inside t depth p.cell
+  pub net_inside : (n : ℕ) → IsPlain (flat_circuit_of own) n → n < base + size_inside t depth p.cell
   unfolding flat_circuit_of
   net_inside n plain =
       let less = slice_get_within (flat_nets own) n plain.0 plain.1 in

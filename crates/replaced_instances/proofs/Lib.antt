@@ -1,0 +1,7 @@
+pub mod OutputPorts
+pub mod PinOutputs
+pub mod StepLeft
+pub mod StepOutputs
+pub mod StepPlaced
+pub mod StepPlaces
+pub mod StepPorts

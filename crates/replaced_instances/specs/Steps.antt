@@ -1,0 +1,97 @@
+-- One further instance of a circuit is left whole, where its outputs then meet gates alone.
+use Rattle.std.specs.Prelude.{◌≡◌, ℕ, suc, ◌+◌, ◌<◌, ◌&&◌, ◌||◌, Bool, true, false, not, List, filter, length, None, nat_le, nat_lt, ◌==◌}
+use Rattle.std.specs.List.{list_any}
+use Rattle.cell_inside.specs.LeftWhole.{IsLeftWhole}
+use Rattle.cell_inside.specs.Placed.{IsPlaced}
+use Rattle.placed_cells.specs.Above.{net_above, place_alone}
+use Rattle.placed_cells.specs.Instances.{HasPlacedPorts}
+use Rattle.placed_cells.specs.Rows.{size_inside}
+use Rattle.placed_cells.specs.Splits.{IsSplit}
+use Rattle.vrt_model.specs.Checked.{IsChoice, IsCircuitWith, before}
+use Rattle.vrt_model.specs.CheckedParts.{checked_devices}
+use Rattle.vrt_model.specs.Comparison.{CellPort, Comparison, cell_at}
+use Rattle.vrt_model.specs.Cut.{Cut, NumberedPlace, numbered_places}
+use Rattle.vrt_model.specs.Facts.{IsTrueOf, output_ports}
+use Rattle.vrt_model.specs.Hierarchy.{AreHoldNets, IsOrdered}
+use Rattle.vrt_model.specs.Inputs.{IsDesign}
+use Rattle.vrt_model.specs.Known.{is_plain_at}
+use Rattle.vrt_model.specs.Lists.{Among, At}
+use Rattle.vrt_model.specs.PairedPorts.{HasRoles, Model, paired_model}
+use Rattle.vrt_model.specs.Unrolled.{Place, Top}
+use Rattle.vrt_model.specs.Unsupported.{comparison_of, supply_tie}
+use Rattle.vrt_model.specs.Variables.{places}
+use Rattle.vrt_model.specs.WholeInstances.{OutputAt, all_outputs, meets_gates_only, outputs_of_place}
+use Rattle.vrt_model.specs.declared.blif.Blif.{Blif}
+use Rattle.vrt_model.specs.declared.circuit.Circuit.{Circuit}
+use Rattle.vrt_model.specs.declared.whole.CellFacts.{CellFacts}
+
+-- ---- a step
+
+-- what is asked of a netlist: each of its instances has a place of its own, tied port by port
+pub record IsSoundNetlist (t : Top) : Type 0 where
+  pub design : IsDesign t.design
+  pub ordered : IsOrdered t.design t.rules
+  pub hold_nets : AreHoldNets t.design t.rules
+  pub there : t.cell < length t.design.cells
+  pub ties : supply_tie t ≡ None
+
+-- the comparison of the cell at a place with a model
+abbrev pub compared_at : Top → Blif → NumberedPlace → ℕ → Comparison
+compared_at t blif p m = comparison_of t.design blif t.rules p.at.cell m
+
+-- the instance at place i, whose cell pairs with model m, is among those that are left whole, which are tried one by one; what is told of
+-- cells is so; and where it and those before it are whole, each of its outputs meets gates alone
+pub record IsStepAtGates (cut : Cut) (blif : Blif) (facts : List CellFacts) (i : ℕ) (p : NumberedPlace) (m : ℕ) : Type 0 where
+  pub netlist : IsSoundNetlist cut.top
+  pub told : (cell : ℕ) (f : CellFacts) → At facts cell f → IsTrueOf cut.top.design blif cut.top.rules cell f
+  pub tried : IsChoice cut blif facts
+  pub chosen : cut.choice i ≡ true
+  pub place : At (numbered_places cut.top) (suc i) p
+  pub paired : paired_model cut.top.design blif cut.top.rules p.at.cell ≡ Model m
+  pub roles : HasRoles cut.top.rules (cell_at cut.top.design p.at.cell) (compared_at cut.top blif p m).pairing
+  pub gates :
+      (o : OutputAt) → Among (outputs_of_place cut.top blif facts p) o
+      → meets_gates_only (checked_devices (before cut (suc i))) (all_outputs (before cut (suc i)) blif facts) o ≡ true
+
+-- ---- the cell in the circuit before
+
+-- The law: in the circuit before the step the cell's ports are as they have to be, and none is exposed.
+abbrev pub PortsArePlaced : Type 0
+PortsArePlaced =
+    (cut : Cut) (blif : Blif) (facts : List CellFacts) (i : ℕ) (p : NumberedPlace) (m : ℕ) (c : Circuit) (drive : ℕ → ℕ)
+    → IsStepAtGates cut blif facts i p m → IsCircuitWith (before cut i) blif facts c
+    → HasPlacedPorts (compared_at cut.top blif p m).circuit c (net_above cut.top p.at) (place_alone cut.top p.at).base (λ n. false) drive
+
+-- The law: so the cell's flat circuit stands there.
+abbrev pub StepIsPlaced : Type 0
+StepIsPlaced =
+    (cut : Cut) (blif : Blif) (facts : List CellFacts) (i : ℕ) (p : NumberedPlace) (m : ℕ) (c : Circuit) (drive : ℕ → ℕ)
+    → IsStepAtGates cut blif facts i p m → IsCircuitWith (before cut i) blif facts c
+    → IsPlaced (compared_at cut.top blif p m).circuit c (net_above cut.top p.at) (λ n. false) drive
+
+-- ---- the circuit after the step
+
+-- the net is a plain net of the cell, where its net n is at `at n`
+abbrev pub is_inside_at : Circuit → (ℕ → ℕ) → ℕ → Bool
+is_inside_at cell at n = list_any (λ j. is_plain_at cell j && (at j == n)) (places 0 cell.nets)
+
+-- the net is no own net of the place or of those in it at most so deep
+abbrev pub is_outside_at : Top → ℕ → Place → ℕ → Bool
+is_outside_at t depth p n = nat_lt n p.base || nat_le (p.base + size_inside t depth p.cell) n
+
+-- where the pin of an output at a net of the cell stands among those of the circuit after the step: behind all pins that were there, and
+-- behind those of the outputs at lower nets
+abbrev pub fresh_place : Cut → Blif → List CellFacts → Comparison → ℕ → ℕ
+fresh_place cut blif facts k n =
+    length (all_outputs cut blif facts) + length (filter (λ (port : CellPort). nat_lt port.net n) (output_ports k))
+
+-- The law: what is left is the circuit after the step. All nets keep their numbers, and own nets of the instance are no more met; all
+-- but plain nets of the cell are compared. The pins that were there keep their places and drives.
+abbrev pub StepIsLeftWhole : Type 0
+StepIsLeftWhole =
+    (cut : Cut) (blif : Blif) (facts : List CellFacts) (i : ℕ) (p : NumberedPlace) (m depth : ℕ) (front back : List Place) (c whole_circuit : Circuit) (drive : ℕ → ℕ)
+    → IsStepAtGates cut blif facts i p m → IsSplit cut.top (suc i) p.at depth front back
+    → IsCircuitWith (before cut i) blif facts c → IsCircuitWith (before cut (suc i)) blif facts whole_circuit
+    → let k = compared_at cut.top blif p m in
+    IsLeftWhole k.circuit c whole_circuit (net_above cut.top p.at) (λ n. n) (λ j. j) (fresh_place (before cut i) blif facts k)
+    (is_outside_at cut.top depth p.at) (λ n. not (is_inside_at k.circuit (net_above cut.top p.at) n)) (λ n. false) drive

@@ -1,0 +1,7 @@
+//! Laws of one further instance of a circuit that is left whole, where its outputs then meet gates alone: it stood in the circuit
+//! before, and what is left is that circuit without its inside. Laws alone, each the contract of a function that does nothing.
+#![tactic(auto)]
+
+mod steps;
+
+pub use steps::{ports_are_placed, step_is_left_whole, step_is_placed};

@@ -1,0 +1,20 @@
+//! One further instance is left whole.
+
+ghost use Rattle.replaced_instances.specs.Steps.{PortsArePlaced, StepIsLeftWhole, StepIsPlaced};
+
+/// In the circuit before, the ports of its cell are as they have to be where it is to stand there, and none is exposed: each plain
+/// net there is that of an output, which no other device and no other output meets.
+pub fn ports_are_placed()
+    ensures { PortsArePlaced }
+{}
+
+/// So the flat circuit of its cell stands in the circuit before, and meets gates alone there.
+pub fn step_is_placed()
+    ensures { StepIsPlaced }
+{}
+
+/// What is left of that circuit is the circuit after: no other device goes, holds stay, and the pins that were there keep their
+/// places and drives.
+pub fn step_is_left_whole()
+    ensures { StepIsLeftWhole }
+{}
