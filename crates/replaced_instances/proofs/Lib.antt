@@ -1,5 +1,6 @@
 pub mod OutputPorts
 pub mod PinOutputs
+pub mod StepHides
 pub mod StepLeft
 pub mod StepOutputs
 pub mod StepPlaced

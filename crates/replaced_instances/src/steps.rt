@@ -1,5 +1,6 @@
 //! One further instance is left whole.
 
+ghost use Rattle.replaced_instances.specs.Shown.{StepHidesItsNets};
 ghost use Rattle.replaced_instances.specs.Steps.{PortsArePlaced, StepIsLeftWhole, StepIsPlaced};
 
 /// In the circuit before, the ports of its cell are as they have to be where it is to stand there, and none is exposed: each plain
@@ -17,4 +18,10 @@ pub fn step_is_placed()
 /// places and drives.
 pub fn step_is_left_whole()
     ensures { StepIsLeftWhole }
+{}
+
+/// Each net that is hidden is a plain net of the cell, those that remain of these are observed outputs, and all ports are at nets
+/// that remain.
+pub fn step_hides_its_nets()
+    ensures { StepHidesItsNets }
 {}
