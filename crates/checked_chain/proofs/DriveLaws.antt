@@ -85,7 +85,7 @@ module _ (cut : Cut) (blif : Blif) (facts : List CellFacts) (i : ℕ) (p : Numbe
         | inr ge ↦ inr (let low = both.1 in let lt : k < suc i = grind (arith, nat_tests, low) in omega (arith, lt, ge))
       ]
 
-  places_more : (q : NumberedPlace) → Among (whole_places earlier) q → Among (whole_places later) q
+  pub places_more : (q : NumberedPlace) → Among (whole_places earlier) q → Among (whole_places later) q
   places_more q m =
       let h = filter_among (λ (o : NumberedPlace). is_whole earlier.choice o.number) (numbered_places cut.top) q m in
       among_kept (λ (o : NumberedPlace). is_whole later.choice o.number) (numbered_places cut.top) q h.0 (whole_more q.number h.1)

@@ -121,7 +121,7 @@ module _ (t : Top) (roles : List PortRole) (number : ℕ) (p : Place) (depth : �
   abbrev FitsPlace : Place → Place → Type 0
   FitsPlace q r = IsShiftedWithNets t own at p.path q r
 
-  shifted : AllZip FitsPlace (all_places own) (places_in t depth p)
+  pub shifted : AllZip FitsPlace (all_places own) (places_in t depth p)
   shifted =
       let law = instances_are_shifted t roles p tied in
       subst (λ (ps : List Place). AllZip FitsPlace ps (places_in t depth p)) (all_deeper own depth rest_is.0 rest_is.1 (within_alone t p.cell roles depth p.cell within))

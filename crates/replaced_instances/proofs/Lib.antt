@@ -1,6 +1,7 @@
 pub mod OutputPorts
 pub mod PinOutputs
 pub mod StepHides
+pub mod StepInstances
 pub mod StepLeft
 pub mod StepOutputs
 pub mod StepPlaced

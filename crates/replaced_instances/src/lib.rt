@@ -4,4 +4,7 @@
 
 mod steps;
 
-pub use steps::{ports_are_placed, step_hides_its_nets, step_is_left_whole, step_is_placed};
+pub use steps::{
+    ports_are_placed, step_has_left_instances, step_hides_its_nets, step_is_left_whole,
+    step_is_placed,
+};

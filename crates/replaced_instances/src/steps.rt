@@ -1,6 +1,6 @@
 //! One further instance is left whole.
 
-ghost use Rattle.replaced_instances.specs.Shown.{StepHidesItsNets};
+ghost use Rattle.replaced_instances.specs.Shown.{StepHasLeftInstances, StepHidesItsNets};
 ghost use Rattle.replaced_instances.specs.Steps.{PortsArePlaced, StepIsLeftWhole, StepIsPlaced};
 
 /// In the circuit before, the ports of its cell are as they have to be where it is to stand there, and none is exposed: each plain
@@ -24,4 +24,10 @@ pub fn step_is_left_whole()
 /// that remain.
 pub fn step_hides_its_nets()
     ensures { StepHidesItsNets }
+{}
+
+/// Instances inside the cell are gone, and all others stay; whole instances stay, and the cell is one more, with an observed pin at
+/// each observed input.
+pub fn step_has_left_instances()
+    ensures { StepHasLeftInstances }
 {}

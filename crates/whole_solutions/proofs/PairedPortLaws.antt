@@ -47,7 +47,7 @@ clock_in (ClockNet clock) = Some clock
 clock_in InputNet = None
 clock_in Plain = None
 
-clock_role : (o : Option PortRole) (clock : ClockRef) → kind_by o ≡ ClockNet clock → o ≡ Some (Clock clock)
+pub clock_role : (o : Option PortRole) (clock : ClockRef) → kind_by o ≡ ClockNet clock → o ≡ Some (Clock clock)
 unfolding clock_in
 clock_role None clock e = absurd (none-some clock (ap clock_in e))
 clock_role (Some (Supply value)) clock e = absurd (none-some clock (ap clock_in e))
@@ -56,7 +56,7 @@ clock_role (Some (Input s)) clock e = absurd (none-some clock (ap clock_in e))
 clock_role (Some (Output s)) clock e = absurd (none-some clock (ap clock_in e))
 
 -- the role of a clock port comes from its rule, and that of an output from its signal
-of_clock : (flat : FlatModel) (supply : Option Bool) (rule : Option ClockRef) (signal : Option ℕ) (clock : ClockRef) → role_by flat supply rule signal ≡ Some (Clock clock) → rule ≡ Some clock
+pub of_clock : (flat : FlatModel) (supply : Option Bool) (rule : Option ClockRef) (signal : Option ℕ) (clock : ClockRef) → role_by flat supply rule signal ≡ Some (Clock clock) → rule ≡ Some clock
 of_clock flat (Some value) rule signal clock e = cc
 of_clock flat None (Some other) signal clock e = cc
 of_clock flat None None None clock e = cc
