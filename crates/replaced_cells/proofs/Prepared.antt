@@ -141,7 +141,7 @@ module _ (k q : Comparison) (phase : ℕ) (whole_circuit : Circuit) (at place fr
     constrained name named =
         let own : is_constrained q.rules (cell_at q.design q.cell).name ≡ true =
         elim named [
-          | inl (e, m, there) ↦ assumes_constrain q.rules (cell_at q.design q.cell).name phase e m
+          | inl (e, m, _) ↦ assumes_constrain q.rules (cell_at q.design q.cell).name phase e m
           | inr (clock, is) ↦ clocks_constrain q.rules (cell_at q.design q.cell).name name clock is
         ] in
         subst (λ (c : ℕ). is_constrained k.rules (cell_at k.design c).name ≡ true) (sym one.instance.2.cell)
