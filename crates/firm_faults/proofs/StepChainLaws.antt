@@ -18,7 +18,7 @@ use Rattle.vrt_model.specs.declared.verdict.FaultKind.{FaultKind}
 use Rattle.vrt_model.specs.declared.verdict.FaultKind.TheVariants.{Fight, FightKept, Float, Unsettled, Constraint, Differs, Next, Apart, Enter}
 
 -- a place that is found by rank, from one circuit to the next and on to a third
-same_on : (c d e : Circuit) (kind : FaultKind) (n m l : ℕ) → IsFoundByRank kind → IsSamePlaceIn c d kind n m → IsSamePlaceIn d e kind m l → IsSamePlaceIn c e kind n l
+pub same_on : (c d e : Circuit) (kind : FaultKind) (n m l : ℕ) → IsFoundByRank kind → IsSamePlaceIn c d kind n m → IsSamePlaceIn d e kind m l → IsSamePlaceIn c e kind n l
 same_on c d e Fight n m l ok one two = one ∙ two
 same_on c d e Float n m l ok one two = one ∙ two
 same_on c d e Constraint n m l ok one two =
@@ -35,7 +35,7 @@ module _ (k : Comparison) (phase : ℕ) (setting : Setting) (circuits : ℕ → 
   IsBelow c d n = (m : ℕ) × IsSamePlaceIn c d kind n m × IsOnFirmGround (with_circuit k d) phase setting kind m
 
   -- a fault on firm ground has its own place
-  own_place : (c : Circuit) (n : ℕ) → IsOnFirmGround (with_circuit k c) phase setting kind n → IsBelow c c n
+  pub own_place : (c : Circuit) (n : ℕ) → IsOnFirmGround (with_circuit k c) phase setting kind n → IsBelow c c n
   own_place c n ground = (n, by_kind kind ok ground, ground)
     where
       by_kind : (kind : FaultKind) → IsFoundByRank kind → IsOnFirmGround (with_circuit k c) phase setting kind n → IsSamePlaceIn c c kind n n

@@ -112,7 +112,7 @@ module _ (k q : Comparison) (phase : ℕ) (whole_circuit : Circuit) (at place fr
   -- ---- the cell at a valuation
 
   -- an input has the bit that a reading of the cell gives it
-  input_same : (bits : List Bool) (reading : ℕ → Bool) → IsReading q.circuit own_now (setting_of q phase bits).inputs (λ n. reading (at n))
+  pub input_same : (bits : List Bool) (reading : ℕ → Bool) → IsReading q.circuit own_now (setting_of q phase bits).inputs (λ n. reading (at n))
       → (n : ℕ) → IsInputNet q.circuit n → (setting_of q phase bits).inputs n ≡ reading (at n)
   input_same bits reading reads n i =
       sym (subst (λ (kind : NetKind). HasGivenBit own_now (setting_of q phase bits).inputs kind n (reading (at n))) i.2 (reads n i.0 i.1))

@@ -226,11 +226,15 @@ module _ (cut : Cut) (blif : Blif) (facts : List CellFacts) (i : ℕ) (p : Numbe
             ]
       ]
 
+  pub remaining_port : (j : ℕ) → IsPlain q.circuit j → is_outside_at t depth p.at (at j) ≡ true → j < base
+  remaining_port j plain stays =
+      remaining_low j stays
+      (net_inside t q.pairing.ports (suc i) p.at depth front back split (tied cut blif facts i p m step) (none cut blif facts i p m step)
+      (split.within (ordered_is_within_depth t t.cell step.netlist.ordered step.netlist.there)) j plain)
+
   output_seen : (phase j : ℕ) → phase < length q.rules.phases → IsPlain q.circuit j → is_outside_at t depth p.at (at j) ≡ true → is_observed q phase j ≡ true
   output_seen phase j lt plain stays =
-      let less = net_inside t q.pairing.ports (suc i) p.at depth front back split (tied cut blif facts i p m step) (none cut blif facts i p m step)
-      (split.within (ordered_is_within_depth t t.cell step.netlist.ordered step.netlist.there)) j plain in
-      let port = plain_port cut blif facts i p m step j (remaining_low j stays less) plain in
+      let port = plain_port cut blif facts i p m step j (remaining_port j plain stays) plain in
       let out = filter_among (λ (x : CellPort). is_some (output_signal x.role)) (ports_of q) port.0 port.1 in
       subst (λ (n : ℕ). is_observed q phase n ≡ true) port.2 (output_observed phase port.0 lt out.0 out.1)
 

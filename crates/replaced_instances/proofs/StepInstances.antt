@@ -102,14 +102,14 @@ port_role_among first (x ∷ xs) (n ∷ ns) [] port m = absurd (none-some port m
 port_role_among first (x ∷ xs) (n ∷ ns) (r ∷ rs) port (zero, e) = (0, ap (λ (q : CellPort). Some q.role) (same_Some _ port e))
 port_role_among first (x ∷ xs) (n ∷ ns) (r ∷ rs) port (suc i, e) = among_later r rs port.role (port_role_among (suc first) xs ns rs port (i, e))
 
-input_role : (role : PortRole) → kind_by_role role ≡ InputNet → (s : ℕ) × (input_signal role ≡ Some s)
+pub input_role : (role : PortRole) → kind_by_role role ≡ InputNet → (s : ℕ) × (input_signal role ≡ Some s)
 unfolding is_input_kind
 input_role (Supply value) e = absurd (false≢true (ap is_input_kind e))
 input_role (Clock clock) e = absurd (false≢true (ap is_input_kind e))
 input_role (Input s) e = (s, refl)
 input_role (Output s) e = absurd (false≢true (ap is_input_kind e))
 
-input_given : (role : PortRole) → is_some (input_signal role) ≡ true → (is_net_role role ≡ true) × (is_given (kind_by_role role) ≡ true)
+pub input_given : (role : PortRole) → is_some (input_signal role) ≡ true → (is_net_role role ≡ true) × (is_given (kind_by_role role) ≡ true)
 input_given (Supply value) e = absurd (false≢true e)
 input_given (Clock clock) e = absurd (false≢true e)
 input_given (Input s) e = (refl, refl)
@@ -252,7 +252,7 @@ module _ (cut : Cut) (blif : Blif) (facts : List CellFacts) (i : ℕ) (p : Numbe
 
   -- ---- whole instances
 
-  one_model : (o : NumberedPlace) (a b : ℕ) → paired_model t.design blif t.rules o.at.cell ≡ Model a → paired_model t.design blif t.rules o.at.cell ≡ Model b → a ≡ b
+  pub one_model : (o : NumberedPlace) (a b : ℕ) → paired_model t.design blif t.rules o.at.cell ≡ Model a → paired_model t.design blif t.rules o.at.cell ≡ Model b → a ≡ b
   one_model o a b e f = ap (λ (x : Paired). elim x [ Model j ↦ j | Skipped ↦ 0 | Missing ↦ 0 ]) (sym e ∙ f)
 
   same_inputs : (o : NumberedPlace) (v w : Whole) → IsWholeAt later blif facts o v → IsWholeAt earlier blif facts o w → v.inputs ≡ w.inputs
@@ -262,13 +262,13 @@ module _ (cut : Cut) (blif : Blif) (facts : List CellFacts) (i : ℕ) (p : Numbe
       one.2 ∙ ap (λ (n : ℕ). input_pins (compared_at t blif o n) o.at) (one_model o one.0 other.0 one.1 other.1) ∙ sym other.2
 
   -- the inputs of the instance itself
-  own_inputs : (v : Whole) → IsWholeAt later blif facts p v → v.inputs ≡ input_pins q p.at
+  pub own_inputs : (v : Whole) → IsWholeAt later blif facts p v → v.inputs ≡ input_pins q p.at
   own_inputs v told =
       let one = inputs_at later blif facts p v told.whole in
       one.2 ∙ ap (λ (n : ℕ). input_pins (compared_at t blif p n) p.at) (one_model p one.0 m one.1 step.paired)
 
   -- the instance as a whole one
-  own_whole : (whole_circuit : Circuit) → IsCircuitWith later blif facts whole_circuit → (v : Whole) × Among whole_circuit.wholes v × IsWholeAt later blif facts p v
+  pub own_whole : (whole_circuit : Circuit) → IsCircuitWith later blif facts whole_circuit → (v : Whole) × Among whole_circuit.wholes v × IsWholeAt later blif facts p v
   own_whole whole_circuit after =
       zip_left (IsWholeAt later blif facts) (whole_places later) whole_circuit.wholes p after.wholes
       (subst (λ (ps : List NumberedPlace). Among ps p) (sym (one_more_place cut i p step.place step.chosen)) (among_right (whole_places earlier) (p ∷ []) p (0, refl)))
@@ -300,7 +300,7 @@ module _ (cut : Cut) (blif : Blif) (facts : List CellFacts) (i : ℕ) (p : Numbe
   -- ---- what is observed in the cell
 
   -- its nets are observed in each phase where they are in one
-  observed_again : (a b n : ℕ) → a < length q.rules.phases → b < length q.rules.phases → is_observed q a n ≡ true → is_observed q b n ≡ true
+  pub observed_again : (a b n : ℕ) → a < length q.rules.phases → b < length q.rules.phases → is_observed q a n ≡ true → is_observed q b n ≡ true
   unfolding is_observed
   observed_again a b n low lt e =
       elim (or_cases (devices || holds || ports a || instances) wholes e) [
@@ -360,7 +360,7 @@ module _ (cut : Cut) (blif : Blif) (facts : List CellFacts) (i : ℕ) (p : Numbe
       )
 
   -- a net that is neither plain nor a supply is a port's
-  port_of_net : (n : ℕ) (net : FlatNet) → At q.circuit.nets n net → (net.kind ≡ Plain → ⊥) → ((value : Bool) → net.kind ≡ SupplyNet value → ⊥)
+  pub port_of_net : (n : ℕ) (net : FlatNet) → At q.circuit.nets n net → (net.kind ≡ Plain → ⊥) → ((value : Bool) → net.kind ≡ SupplyNet value → ⊥)
       → (port : CellPort) × Among (ports_of q) port × (port.net ≡ n) × (kind_by_role port.role ≡ net.kind)
   unfolding flat_circuit_of
   port_of_net n net here not_plain not_supply =
@@ -376,11 +376,11 @@ module _ (cut : Cut) (blif : Blif) (facts : List CellFacts) (i : ℕ) (p : Numbe
             absurd (not_plain (ap (λ (x : FlatNet). x.kind) (one_at q.circuit.nets n net plain.0 here plain.1) ∙ plain.2))
       ]
 
-  input_there : (whole_circuit : Circuit) (after : IsCircuitWith later blif facts whole_circuit) (phase n : ℕ) (net : FlatNet) → phase < length q.rules.phases
-      → At q.circuit.nets n net → net.kind ≡ InputNet → is_observed q phase n ≡ true
-      → (v : Whole) × (pin : WholePin) × Among whole_circuit.wholes v × Among v.inputs pin × (pin.observed ≡ true) × (pin.net.0 ≡ at n)
+  -- an observed input has an observed pin
+  pub pin_of_input : (phase n : ℕ) (net : FlatNet) → phase < length q.rules.phases → At q.circuit.nets n net → net.kind ≡ InputNet → is_observed q phase n ≡ true
+      → (pin : WholePin) × Among (input_pins q p.at) pin × (pin.observed ≡ true) × (pin.net.0 ≡ at n)
   unfolding is_input_kind
-  input_there whole_circuit after phase n net lt here kind seen =
+  pin_of_input phase n net lt here kind seen =
       let port = port_of_net n net here (λ plain. false≢true (ap is_input_kind (sym plain ∙ kind))) (λ value supply. false≢true (ap is_input_kind (sym supply ∙ kind))) in
       let role = input_role port.0.role (port.3 ∙ kind) in
       let pin : WholePin = record { net = net_id (at port.0.net); signal = role.0; drive = Soft; observed = is_observed q 0 port.0.net } in
@@ -388,15 +388,20 @@ module _ (cut : Cut) (blif : Blif) (facts : List CellFacts) (i : ℕ) (p : Numbe
       λ x. option_map (λ (s : ℕ). let one : WholePin = record { net = x.net; signal = s; drive = Soft; observed = is_observed q 0 x.port.net } in one) (input_signal x.port.role) in
       let made : make (pin_at at port.0) ≡ Some pin =
       ap (option_map (λ (s : ℕ). let one : WholePin = record { net = net_id (at port.0.net); signal = s; drive = Soft; observed = is_observed q 0 port.0.net } in one)) role.1 in
-      let there = subst (λ (pins : List Pin). At pins port.1.0 (pin_at at port.0)) (sym (pins_shifted cut blif facts i p m step)) (map_at (pin_at at) (ports_of q) port.1.0 port.0 port.1.1) in
-      let v = own_whole whole_circuit after in (
-        v.0,
+      let there = subst (λ (pins : List Pin). At pins port.1.0 (pin_at at port.0)) (sym (pins_shifted cut blif facts i p m step)) (map_at (pin_at at) (ports_of q) port.1.0 port.0 port.1.1) in (
         pin,
-        v.1,
-        subst (λ (pins : List WholePin). Among pins pin) (sym (own_inputs v.0 v.2)) (filter_map_among make (pins_of q p.at) port.1.0 (pin_at at port.0) pin there made),
+        filter_map_among make (pins_of q p.at) port.1.0 (pin_at at port.0) pin there made,
         observed_again phase 0 port.0.net lt (omega (arith, lt)) (subst (λ (x : ℕ). is_observed q phase x ≡ true) (sym port.2) seen),
         ap at port.2,
       )
+
+  input_there : (whole_circuit : Circuit) (after : IsCircuitWith later blif facts whole_circuit) (phase n : ℕ) (net : FlatNet) → phase < length q.rules.phases
+      → At q.circuit.nets n net → net.kind ≡ InputNet → is_observed q phase n ≡ true
+      → (v : Whole) × (pin : WholePin) × Among whole_circuit.wholes v × Among v.inputs pin × (pin.observed ≡ true) × (pin.net.0 ≡ at n)
+  input_there whole_circuit after phase n net lt here kind seen =
+      let pin = pin_of_input phase n net lt here kind seen in
+      let v = own_whole whole_circuit after in
+      (v.0, pin.0, v.1, subst (λ (pins : List WholePin). Among pins pin.0) (sym (own_inputs v.0 v.2)) pin.1, pin.2, pin.3)
 
   -- ---- clocks
 
@@ -419,7 +424,7 @@ module _ (cut : Cut) (blif : Blif) (facts : List CellFacts) (i : ℕ) (p : Numbe
           or_right (list_any (λ (y : AssumeRule). bytes_eq y.cell name) t.rules.assumes) (list_any (λ (y : ClockportRule). bytes_eq y.cell name) t.rules.clockports)
           (among_any (λ (y : ClockportRule). bytes_eq y.cell name) t.rules.clockports r found.0 (and_parts (bytes_eq r.cell name) (bytes_eq r.port x) found.1).0)
 
-  own_shown : is_inside_whole later p.at ≡ false
+  pub own_shown : is_inside_whole later p.at ≡ false
   own_shown =
       elim (cases_Bool (is_inside_whole later p.at)) [
         | inr out ↦ out

@@ -42,7 +42,7 @@ use Rattle.vrt_model.specs.declared.whole.WholePin.{WholePin}
 
 -- ---- what a fact and a role say
 
-fact_there : (test : CellFacts → Bool) (facts : List CellFacts) (cell : ℕ) → has_fact test facts cell ≡ true → (f : CellFacts) × At facts cell f × (test f ≡ true)
+pub fact_there : (test : CellFacts → Bool) (facts : List CellFacts) (cell : ℕ) → has_fact test facts cell ≡ true → (f : CellFacts) × At facts cell f × (test f ≡ true)
 fact_there test facts cell e = by_case (slice_get facts cell) refl e
   where
     by_case : (o : Option CellFacts) → slice_get facts cell ≡ o → unwrap_or (option_map test o) false ≡ true → (f : CellFacts) × At facts cell f × (test f ≡ true)
@@ -62,7 +62,7 @@ met_kind (Clock clock) e = absurd (false≢true e)
 met_kind (Input signal) e = absurd (false≢true e)
 met_kind (Output signal) e = inl refl
 
-enumerated_at : {X : Type 0} (n : ℕ) (xs : List X) (i : ℕ) (x : X) → At xs i x → At (enumerate_from n xs) i (n + i, x)
+pub enumerated_at : {X : Type 0} (n : ℕ) (xs : List X) (i : ℕ) (x : X) → At xs i x → At (enumerate_from n xs) i (n + i, x)
 enumerated_at n [] i x e = absurd (none-some x e)
 enumerated_at {X} n (y ∷ xs) zero x e = ap (λ (z : X). Some (n, z)) (same_Some y x e) ∙ ap (λ (k : ℕ). Some (k, x)) (let same : n ≡ n + 0 = omega arith in same)
 enumerated_at {X} n (y ∷ xs) (suc i) x e =
@@ -139,7 +139,7 @@ module _ (cut : Cut) (blif : Blif) (facts : List CellFacts) (i : ℕ) (p : Numbe
         | inl named ↦ absurd (false≢true (sym (ap not named) ∙ not_named))
       ]
 
-  told : (f : CellFacts) × (f.equal ≡ true) × IsTrueFor k f × (f.stateless ≡ true)
+  pub told : (f : CellFacts) × (f.equal ≡ true) × IsTrueFor k f × (f.stateless ≡ true)
   told =
       let h = fact_there (λ (f : CellFacts). f.equal && f.stateless) facts k.cell allowed.0 in
       let parts = and_parts h.0.equal h.0.stateless h.2 in

@@ -141,7 +141,7 @@ module _ (cut : Cut) (blif : Blif) (facts : List CellFacts) (p : NumberedPlace) 
   abbrev k : Comparison
   k = comparison_of cut.top.design blif cut.top.rules p.at.cell m
 
-  abbrev made : Whole
+  abbrev pub made : Whole
   made = record {
     path = path_text p.at.path;
     cell = p.at.cell;
@@ -152,7 +152,7 @@ module _ (cut : Cut) (blif : Blif) (facts : List CellFacts) (p : NumberedPlace) 
     links = [];
   }
 
-  made_is : made ≡ record w { links = [] }
+  pub made_is : made ≡ record w { links = [] }
   made_is = same_Some made (record w { links = [] }) (sym (ap (whole_by cut blif facts p) paired) ∙ is.whole)
 
   outputs_are : outputs_of_place cut.top blif facts p ≡ outputs_by cut blif facts p (Model m)
@@ -180,7 +180,7 @@ module _ (cut : Cut) (blif : Blif) (facts : List CellFacts) (p : NumberedPlace) 
       from : (o : OutputAt) × Among (outputs_of_place cut.top blif facts p) o × (settled o ≡ pin) → IsOutputOf (pins_of k p.at) pin
       from (o, m, e) = subst (IsOutputOf (pins_of k p.at)) e (pin_of_output o m)
 
-  input_pin_of : (pin : WholePin) → Among w.inputs pin → (q : Pin) × Among (pins_of k p.at) q × (q.net ≡ pin.net) × (input_signal q.port.role ≡ Some pin.signal)
+  pub input_pin_of : (pin : WholePin) → Among w.inputs pin → (q : Pin) × Among (pins_of k p.at) q × (q.net ≡ pin.net) × (input_signal q.port.role ≡ Some pin.signal)
   input_pin_of pin n =
       input_of_port (is_observed k 0) (pins_of k p.at) pin (subst (λ (ps : List WholePin). Among ps pin) (sym (ap (λ (x : Whole). x.inputs) made_is)) n)
 

@@ -1,0 +1,12 @@
+pub mod BrokenTold
+pub mod ChainLaws
+pub mod ChosenLaws
+pub mod FirmDownLaws
+pub mod InnerLaws
+pub mod LogicCells
+pub mod OneMoreLaws
+pub mod SeenNets
+pub mod StepDownLaws
+pub mod WholeCells
+pub mod WholePins
+pub mod WholeRanges

@@ -1,0 +1,338 @@
+-- Output pins before and after one more instance is whole.
+use Rattle.std.proofs.Common.{◌≡◌, ◌⊎◌, ℕ, zero, suc, ◌+◌, ◌<◌, Bool, true, false, List, [], ◌∷◌, ◌++◌, map, length, Option, Some, None, cond, refl, ap, sym, ◌∙◌, subst, arith, append-nil, inl, inr}
+use Rattle.std.specs.Prelude.{flat_map, is_some}
+use Rattle.std.specs.List.{AllZip}
+use Rattle.std.proofs.lemmas.Bool.{false≢true}
+use Rattle.std.proofs.lemmas.Grind.{flat_map-append}
+use Rattle.std.proofs.lemmas.List.{length-map}
+use Rattle.std.proofs.lemmas.Option.{none-some}
+use Rattle.cell_inside.specs.Placed.{IsPlaced}
+use Rattle.firm_faults.specs.StepDown.{HasOneMoreWhole, IsSameWhole}
+use Rattle.placed_cells.proofs.ListLaws.{zip_left}
+use Rattle.placed_cells.specs.Above.{net_above}
+use Rattle.replaced_cells.specs.OneMoreWhole.{HasCellPins, HasSameSignal}
+use Rattle.replaced_instances.proofs.OutputPorts.{pin_at}
+use Rattle.replaced_instances.proofs.PinOutputs.{output_pin}
+use Rattle.replaced_instances.proofs.StepHides.{remaining_port}
+use Rattle.replaced_instances.proofs.StepOutputs.{one_more_place, outputs_behind}
+use Rattle.replaced_instances.proofs.StepPlaced.{step_is_placed}
+use Rattle.replaced_instances.proofs.StepPorts.{output_plain, pins_shifted, plain_output}
+use Rattle.replaced_instances.specs.Steps.{compared_at, is_outside_at}
+use Rattle.substitution_laws.proofs.WholeCells.{whole_chosen, wholes_are_determined, wholes_stand_for_cells}
+use Rattle.substitution_laws.proofs.ChosenLaws.{chosen_steps_are_at_gates}
+use Rattle.substitution_laws.specs.Pins.{IsStep, StepHasCellPins, StepHasOneMoreWhole}
+use Rattle.vrt_model.proofs.Filtered.{among_kept}
+use Rattle.vrt_model.proofs.Lists.{at_back, at_either, at_front, at_map, map_at, one_at}
+use Rattle.vrt_model.proofs.Members.{among_later, among_left, among_map, among_right}
+use Rattle.vrt_model.specs.Checked.{before, top_of, with_circuit}
+use Rattle.vrt_model.specs.CheckedParts.{checked_devices}
+use Rattle.vrt_model.specs.Comparison.{CellPort, Comparison, is_observed, output_signal, phase_at, ports_of}
+use Rattle.vrt_model.specs.Cut.{Cut, NumberedPlace, whole_places}
+use Rattle.vrt_model.specs.Determined.{IsLinkedTo}
+use Rattle.vrt_model.specs.Known.{IsPlain}
+use Rattle.vrt_model.specs.Lists.{Among, At}
+use Rattle.vrt_model.specs.PairedPorts.{Model, paired_model}
+use Rattle.vrt_model.specs.State.{OutputPin, output_pins}
+use Rattle.vrt_model.specs.Unrolled.{Place, Top}
+use Rattle.vrt_model.specs.WholeInstances.{IsWholeAt, OutputAt, Pin, all_outputs, outputs_of_place, pins_of, settled_drive}
+use Rattle.vrt_model.specs.declared.blif.Blif.{Blif}
+use Rattle.vrt_model.specs.declared.circuit.Circuit.{Circuit}
+use Rattle.vrt_model.specs.declared.ids.Net.{Net}
+use Rattle.vrt_model.specs.declared.rules.Phase.{Phase}
+use Rattle.vrt_model.specs.declared.whole.CellFacts.{CellFacts}
+use Rattle.vrt_model.specs.declared.whole.Drive.TheVariants.{Soft}
+use Rattle.vrt_model.specs.declared.whole.Whole.{Whole}
+use Rattle.vrt_model.specs.declared.whole.WholePin.{WholePin}
+use Rattle.whole_ranks.proofs.PlaceLaws.{made_is, output_pin as port_of_pin}
+use Rattle.whole_ranks.specs.WholeCells.{IsOutputAt, StandsFor}
+
+-- ---- one whole instance in two circuits
+
+module _ (phase : Phase) where
+  -- each output of the first is one of the second
+  abbrev pub HasSamePins : Whole → Whole → Type 0
+  HasSamePins w v = (at : ℕ) (pin : WholePin) → At w.outputs at pin → (x : WholePin) × At v.outputs at x × (x.net ≡ pin.net) × (x.signal ≡ pin.signal)
+
+  pub record IsWholeAgain (w v : Whole) : Type 0 where
+    pub same : IsSameWhole phase w v
+    pub count : length v.outputs ≡ length w.outputs
+    pub pins : HasSamePins w v
+
+  -- and each output pin of it
+  pub record IsPinAgain (out pin : OutputPin) : Type 0 where
+    pub whole : IsSameWhole phase out.whole pin.whole
+    pub net : pin.pin.net ≡ out.pin.net
+    pub signal : pin.pin.signal ≡ out.pin.signal
+
+  module _ (cut : Cut) (blif : Blif) (facts : List CellFacts) (a b : ℕ) (p : NumberedPlace) (m : ℕ) (w v : Whole) (paired : paired_model cut.top.design blif cut.top.rules p.at.cell ≡ Model m)
+      (one : IsWholeAt (before cut a) blif facts p w) (other : IsWholeAt (before cut b) blif facts p v) where
+    abbrev outs : List OutputAt
+    outs = outputs_of_place cut.top blif facts p
+
+    abbrev first : OutputAt → WholePin
+    first o = settled_drive (checked_devices (before cut a)) (all_outputs (before cut a) blif facts) o
+
+    abbrev second : OutputAt → WholePin
+    second o = settled_drive (checked_devices (before cut b)) (all_outputs (before cut b) blif facts) o
+
+    outputs_of_first : map first outs ≡ w.outputs
+    outputs_of_first = ap (λ (x : Whole). x.outputs) (made_is (before cut a) blif facts p m w paired one)
+
+    outputs_of_second : map second outs ≡ v.outputs
+    outputs_of_second = ap (λ (x : Whole). x.outputs) (made_is (before cut b) blif facts p m v paired other)
+
+    pins_again : HasSamePins w v
+    pins_again at pin here =
+        let o = at_map first outs at pin (subst (λ (pins : List WholePin). At pins at pin) (sym outputs_of_first) here) in (
+          second o.0,
+          subst (λ (pins : List WholePin). At pins at (second o.0)) outputs_of_second (map_at second outs at o.0 o.1),
+          ap (λ (x : WholePin). x.net) o.2,
+          ap (λ (x : WholePin). x.signal) o.2,
+        )
+
+    links_again : (input : WholePin) (at : ℕ) → IsLinkedTo phase w input at → IsLinkedTo phase v input at
+    links_again input at (link, on, named, from, to) =
+        let s = (one.links m paired).sound link on in
+        let x = pins_again link.output s.3 s.10 in
+        let f = (other.links m paired).full s.0 s.1 s.2 x.0 link.output s.4 s.6 s.7 s.8 x.1 (s.11 ∙ ap (λ (n : ℕ). Some n) (sym x.3)) in
+        (f.0, f.1, f.2 ∙ (sym s.5 ∙ named), f.3 ∙ (sym s.9 ∙ from), f.4 ∙ to)
+
+    pub whole_again : IsWholeAgain w v
+    whole_again =
+        let e = made_is (before cut a) blif facts p m w paired one in
+        let f = made_is (before cut b) blif facts p m v paired other in
+        record {
+          same = record {
+            path = ap (λ (x : Whole). x.path) (sym f) ∙ ap (λ (x : Whole). x.path) e;
+            cell = ap (λ (x : Whole). x.cell) (sym f) ∙ ap (λ (x : Whole). x.cell) e;
+            model = ap (λ (x : Whole). x.model) (sym f) ∙ ap (λ (x : Whole). x.model) e;
+            clocked = ap (λ (x : Whole). x.clocked) (sym f) ∙ ap (λ (x : Whole). x.clocked) e;
+            inputs = ap (λ (x : Whole). x.inputs) (sym f) ∙ ap (λ (x : Whole). x.inputs) e;
+            outputs = λ at pin here. let x = pins_again at pin here in (x.0, x.1, x.2);
+            links = links_again;
+          };
+          count = ap (λ (pins : List WholePin). length pins) (sym outputs_of_second) ∙ length-map outs second ∙ sym (length-map outs first) ∙ ap (λ (pins : List WholePin). length pins) outputs_of_first;
+          pins = pins_again;
+        }
+
+  -- ---- lists of them
+
+  abbrev pub pin_in : Whole → WholePin → OutputPin
+  pin_in w pin = record { whole = w; pin = pin }
+
+  abbrev pub pins_in : Whole → List OutputPin
+  pins_in w = map (pin_in w) w.outputs
+
+  pub pins_in_row : (ws vs : List Whole) → AllZip IsWholeAgain ws vs → (j : ℕ) (out : OutputPin) → At (flat_map pins_in ws) j out
+      → (pin : OutputPin) × At (flat_map pins_in vs) j pin × IsPinAgain out pin
+  pins_in_row [] vs h j out e = absurd (none-some out e)
+  pins_in_row (w ∷ ws) [] h j out e = absurd h
+  pins_in_row (w ∷ ws) (v ∷ vs) h j out e =
+      elim (at_either (pins_in w) (flat_map pins_in ws) j out e) [
+        | inl here ↦
+            let from = at_map (pin_in w) w.outputs j out here in
+            let x = h.0.pins j from.0 from.1 in (
+              pin_in v x.0,
+              at_front (pins_in v) (flat_map pins_in vs) j (pin_in v x.0) (map_at (pin_in v) v.outputs j x.0 x.1),
+              subst (λ (y : OutputPin). IsPinAgain y (pin_in v x.0)) from.2 (record { whole = h.0.same; net = x.2; signal = x.3 }),
+            )
+        | inr behind ↦
+            let more = pins_in_row ws vs h.1 behind.0 out behind.2 in
+            let place = behind.1 in
+            let count = length-map v.outputs (pin_in v) in
+            let before = length-map w.outputs (pin_in w) in
+            let same = h.0.count in
+            let number : length (pins_in v) + behind.0 ≡ j = omega (arith, place, count, before, same) in (
+              more.0,
+              subst (λ (n : ℕ). At (pins_in v ++ flat_map pins_in vs) n more.0) number (at_back (pins_in v) (flat_map pins_in vs) behind.0 more.0 more.1),
+              more.2,
+            )
+      ]
+
+-- what stands beside a list with one item more
+pub zip_split : {X Y : Type 0} (R : X → Y → Type 0) (xs : List X) (x : X) (ys : List Y) → AllZip R (xs ++ x ∷ []) ys
+    → (front : List Y) × (y : Y) × (ys ≡ front ++ y ∷ []) × AllZip R xs front × R x y
+zip_split R [] x [] h = absurd h
+zip_split R [] x (y ∷ []) h = ([], y, refl, tt, h.0)
+zip_split R [] x (y ∷ z ∷ ys) h = absurd h.1
+zip_split R (w ∷ xs) x [] h = absurd h
+zip_split {X} {Y} R (w ∷ xs) x (y ∷ ys) h =
+    let more = zip_split R xs x ys h.1 in
+    (y ∷ more.0, more.1, ap (λ (zs : List Y). y ∷ zs) more.2, (h.0, more.3), more.4)
+
+-- two lists beside one
+zip_both : {X Y Z : Type 0} (R : X → Y → Type 0) (S : X → Z → Type 0) (T : Y → Z → Type 0) (xs : List X) (ys : List Y) (zs : List Z)
+    → ((x : X) (y : Y) (z : Z) → Among xs x → R x y → S x z → T y z) → AllZip R xs ys → AllZip S xs zs → AllZip T ys zs
+zip_both R S T [] [] [] t h g = tt
+zip_both R S T [] [] (z ∷ zs) t h g = absurd g
+zip_both R S T [] (y ∷ ys) zs t h g = absurd h
+zip_both R S T (x ∷ xs) [] zs t h g = absurd h
+zip_both R S T (x ∷ xs) (y ∷ ys) [] t h g = absurd g
+zip_both R S T (x ∷ xs) (y ∷ ys) (z ∷ zs) t h g =
+    (t x y z (0, refl) h.0 g.0, zip_both R S T xs ys zs (λ a b c m. t a b c (among_later x xs a m)) h.1 g.1)
+
+-- ---- a step
+
+module _ (cut : Cut) (blif : Blif) (facts : List CellFacts) (i : ℕ) (p : NumberedPlace) (m depth : ℕ) (front back : List Place) (c whole_circuit : Circuit)
+    (step : IsStep cut blif facts i p m depth front back c whole_circuit) (phase : ℕ) where
+  abbrev t : Top
+  t = cut.top
+
+  abbrev q : Comparison
+  q = compared_at cut.top blif p m
+
+  abbrev at : ℕ → ℕ
+  at n = net_above cut.top p.at n
+
+  abbrev now : Phase
+  now = phase_at cut.top.rules phase
+
+  -- the whole instances after the step are those before it, and the instance
+  pub split_wholes : (front : List Whole) × (x : Whole) × (whole_circuit.wholes ≡ front ++ x ∷ []) × AllZip (IsWholeAt (before cut (suc i)) blif facts) (whole_places (before cut i)) front
+      × IsWholeAt (before cut (suc i)) blif facts p x
+  split_wholes =
+      zip_split (IsWholeAt (before cut (suc i)) blif facts) (whole_places (before cut i)) p whole_circuit.wholes
+      (subst (λ (ps : List NumberedPlace). AllZip (IsWholeAt (before cut (suc i)) blif facts) ps whole_circuit.wholes) (one_more_place cut i p step.at_gates.place step.at_gates.chosen) step.whole.wholes)
+
+  abbrev olds : List Whole
+  olds = split_wholes.0
+
+  abbrev pub x : Whole
+  x = split_wholes.1
+
+  pub x_is : IsWholeAt (before cut (suc i)) blif facts p x
+  x_is = split_wholes.4
+
+  pub x_there : Among whole_circuit.wholes x
+  x_there = subst (λ (ws : List Whole). Among ws x) (sym split_wholes.2) (among_right olds (x ∷ []) x (0, refl))
+
+  -- the cell of a whole instance pairs with a model
+  modelled : (a : ℕ) (o : NumberedPlace) → Among (whole_places (before cut a)) o → (j : ℕ) × (paired_model t.design blif t.rules o.at.cell ≡ Model j)
+  modelled a o on =
+      let is = whole_chosen cut a o on in
+      let there = chosen_steps_are_at_gates cut blif facts is.0 o step.choice is.1.place is.1.chosen in
+      (there.0, there.1.paired)
+
+  again : (o : NumberedPlace) (w v : Whole) → Among (whole_places (before cut i)) o → IsWholeAt (before cut i) blif facts o w → IsWholeAt (before cut (suc i)) blif facts o v → IsWholeAgain now w v
+  again o w v on one other = let j = modelled i o on in whole_again now cut blif facts i (suc i) o j.0 w v j.1 one other
+
+  back_again : (o : NumberedPlace) (v w : Whole) → Among (whole_places (before cut i)) o → IsWholeAt (before cut (suc i)) blif facts o v → IsWholeAt (before cut i) blif facts o w → IsWholeAgain now v w
+  back_again o v w on one other = let j = modelled i o on in whole_again now cut blif facts (suc i) i o j.0 v w j.1 one other
+
+  forth : AllZip (IsWholeAgain now) c.wholes olds
+  forth = zip_both (IsWholeAt (before cut i) blif facts) (IsWholeAt (before cut (suc i)) blif facts) (IsWholeAgain now) (whole_places (before cut i)) c.wholes olds again step.circuit.wholes split_wholes.3
+
+  back_forth : AllZip (IsWholeAgain now) olds c.wholes
+  back_forth =
+      zip_both (IsWholeAt (before cut (suc i)) blif facts) (IsWholeAt (before cut i) blif facts) (IsWholeAgain now) (whole_places (before cut i)) olds c.wholes back_again split_wholes.3 step.circuit.wholes
+
+  pins_are : output_pins whole_circuit ≡ flat_map (pins_in now) olds ++ pins_in now x
+  pins_are =
+      ap (flat_map (pins_in now)) split_wholes.2
+      ∙ flat_map-append (pins_in now) olds (x ∷ [])
+      ∙ ap (λ (pins : List OutputPin). flat_map (pins_in now) olds ++ pins) (append-nil (pins_in now x))
+
+  -- each pin stays at its place
+  pub pin_stays : (j : ℕ) (out : OutputPin) → At (output_pins c) j out → (pin : OutputPin) × At (output_pins whole_circuit) j pin × IsPinAgain now out pin
+  pin_stays j out e =
+      let there = pins_in_row now c.wholes olds forth j out e in
+      (there.0, subst (λ (pins : List OutputPin). At pins j there.0) (sym pins_are) (at_front (flat_map (pins_in now) olds) (pins_in now x) j there.0 there.1), there.2)
+
+  -- a pin is the instance's, or an old one
+  pub pin_is : (j : ℕ) (pin : OutputPin) → At (output_pins whole_circuit) j pin
+      → ((pin.whole ≡ x) × Among x.outputs pin.pin) ⊎ ((out : OutputPin) × At (output_pins c) j out × IsPinAgain now pin out)
+  pin_is j pin e =
+      elim (at_either (flat_map (pins_in now) olds) (pins_in now x) j pin (subst (λ (pins : List OutputPin). At pins j pin) pins_are e)) [
+        | inl old ↦ inr (pins_in_row now olds c.wholes back_forth j pin old)
+        | inr own ↦ (let from = at_map (pin_in now x) x.outputs own.0 pin own.2 in inl (ap (λ (y : OutputPin). y.whole) (sym from.2), (own.0, from.1 ∙ ap (λ (y : OutputPin). Some y.pin) from.2)))
+      ]
+
+  -- ---- the pins at nets of the cell
+
+  placed : IsPlaced q.circuit c at (λ n. false) (λ n. 0)
+  placed = step_is_placed cut blif facts i p m c (λ n. 0) step.at_gates step.circuit
+
+  -- none was there before
+  pub no_old : (j n : ℕ) (out : OutputPin) → At (output_pins c) j out → IsPlain q.circuit n → out.pin.net.0 ≡ at n → ⊥
+  no_old j n out e plain same = false≢true (placed.pins out n (j, e) plain same).0
+
+  -- the port of an output pin of the instance
+  pub port_of : (pin : WholePin) (n : ℕ) → Among x.outputs pin → IsPlain q.circuit n → pin.net.0 ≡ at n → (j : ℕ) × (port : CellPort) × IsOutputAt q j port pin.signal × (port.net ≡ n)
+  port_of pin n on plain same =
+      let from = port_of_pin (before cut (suc i)) blif facts p m x step.at_gates.paired x_is pin on in
+      let port = among_map (pin_at at) (ports_of q) from.0 (subst (λ (pins : List Pin). Among pins from.0) (pins_shifted cut blif facts i p m step.at_gates) from.1) in
+      let signal : output_signal port.0.role ≡ Some pin.signal = ap (λ (y : Pin). output_signal y.port.role) port.2 ∙ from.2 in
+      let above : at port.0.net ≡ at n = ap (λ (y : Pin). y.net.0) port.2 ∙ (ap (λ (y : Net). y.0) from.3 ∙ same) in
+      let low = output_plain cut blif facts i p m step.at_gates port.0 (among_kept (λ (y : CellPort). is_some (output_signal y.role)) (ports_of q) port.0 port.1 (ap is_some signal)) in (
+        port.1.0,
+        port.0,
+        (port.1.1, signal),
+        elim (placed.apart port.0.net n low.1 plain above) [ inl one ↦ one | inr exposed ↦ absurd (false≢true exposed.0) ],
+      )
+
+  -- where a net of the cell remains, the instance has a soft pin
+  pub pin_there : (n : ℕ) → IsPlain q.circuit n → is_outside_at t depth p.at (at n) ≡ true
+      → (j : ℕ) × (pin : OutputPin) × At (output_pins whole_circuit) j pin × (pin.whole ≡ x) × (pin.pin.net.0 ≡ at n) × (pin.pin.drive ≡ Soft)
+  pin_there n plain stays =
+      let low = remaining_port cut blif facts i p m step.at_gates depth front back step.split n plain stays in
+      let found = plain_output cut blif facts i p m step.at_gates n low plain in
+      let o = found.1 in
+      let olds_at = all_outputs (before cut i) blif facts in
+      let outs = outputs_of_place t blif facts p in
+      let number : ℕ = length olds_at + o.output in
+      let here : At (all_outputs (before cut (suc i)) blif facts) number o =
+      subst (λ (os : List OutputAt). At os number o) (sym (outputs_behind cut i p step.at_gates.place step.at_gates.chosen blif facts)) (at_back olds_at outs o.output o found.3) in
+      let pin = output_pin (before cut (suc i)) blif facts whole_circuit step.whole number o here in
+      let net : pin.0.pin.net.0 ≡ at n = ap (λ (y : WholePin). y.net.0) pin.2 ∙ found.5 in
+      let soft : pin.0.pin.drive ≡ Soft =
+      ap (λ (y : WholePin). y.drive) pin.2 ∙ ap (λ (b : Bool). cond b Soft o.pin.drive) (step.at_gates.gates o (o.output, found.3)) in (
+        number,
+        pin.0,
+        pin.1,
+        elim (pin_is number pin.0 pin.1) [
+          | inl own ↦ own.0
+          | inr old ↦ absurd (no_old number n old.0 old.1 plain (ap (λ (y : Net). y.0) old.2.net ∙ net))
+        ],
+        net,
+        soft,
+      )
+
+  module _ (k : Comparison) (same : cut.top ≡ top_of k) (lt : phase < length cut.top.rules.phases) where
+    pub has_cell_pins : HasCellPins (with_circuit k c) q phase whole_circuit at (λ j. j) (is_outside_at t depth p.at)
+    has_cell_pins = record {
+      stay = λ j out pin e f.
+          let there = pin_stays j out e in
+          let one = one_at (output_pins whole_circuit) j there.0 pin there.1 f in
+          subst (HasSameSignal out) one (record { model = there.2.whole.model; clocked = there.2.whole.clocked; inputs = there.2.whole.inputs; signal = there.2.signal });
+      own = λ n pin plain on net.
+          elim (pin_is on.0 pin on.1) [
+            | inr old ↦ absurd (no_old on.0 n old.0 old.1 plain (ap (λ (y : Net). y.0) old.2.net ∙ net))
+            | inl own ↦ (
+              subst (λ (w : Whole). StandsFor q phase whole_circuit (is_observed (with_circuit k whole_circuit) phase) at w) (sym own.0)
+                  (wholes_stand_for_cells k cut blif facts i p m phase (suc i) whole_circuit x same step.choice step.at_gates step.supported lt step.whole x_there x_is),
+              port_of pin.pin n own.1 plain net,
+            )
+          ];
+      there = λ n plain stays. let pin = pin_there n plain stays in (pin.1, (pin.0, pin.2), pin.4);
+    }
+
+    pub has_one_more : HasOneMoreWhole now c whole_circuit (λ j. j) x
+    has_one_more = record {
+      own = x_there;
+      wholes = λ w on.
+          let v = zip_left (IsWholeAgain now) c.wholes olds w forth on in
+          (v.0, subst (λ (ws : List Whole). Among ws v.0) (sym split_wholes.2) (among_left olds (x ∷ []) v.0 v.1), v.2.same);
+      pins = λ j out e. let pin = pin_stays j out e in (pin.0, pin.1, pin.2.whole, pin.2.net, pin.2.signal);
+      pins_back = λ j pin e. elim (pin_is j pin e) [ inl own ↦ inl own.0 | inr old ↦ inr (j, old.0, old.1, sym old.2.net) ];
+      assigned = λ w reading on. (wholes_are_determined k cut blif facts phase (suc i) whole_circuit same step.choice lt step.whole w on).assigned reading;
+    }
+
+pub step_has_cell_pins : StepHasCellPins
+step_has_cell_pins k cut blif facts i p m depth front back c whole_circuit phase same lt step = has_cell_pins cut blif facts i p m depth front back c whole_circuit step phase k same lt
+
+pub step_has_one_more_whole : StepHasOneMoreWhole
+step_has_one_more_whole k cut blif facts i p m depth front back c whole_circuit phase same lt step = (
+  x cut blif facts i p m depth front back c whole_circuit step phase,
+  x_is cut blif facts i p m depth front back c whole_circuit step phase,
+  has_one_more cut blif facts i p m depth front back c whole_circuit step phase k same lt,
+)

@@ -1,0 +1,43 @@
+-- Whole instances of the circuits between the flat circuit of a cell and its checked one, where the facts say of no output how
+-- strongly it drives.
+use Rattle.std.specs.Prelude.{◌≡◌, ℕ, ◌<◌, List, length}
+use Rattle.checked_chain.specs.Holds.{AreEndsShown}
+use Rattle.placed_cells.specs.Above.{net_above}
+use Rattle.replaced_instances.specs.Steps.{IsStepAtGates, compared_at}
+use Rattle.substitution_laws.specs.Chosen.{IsSoftChoice}
+use Rattle.vrt_model.specs.Checked.{IsCircuitWith, before, top_of, with_circuit}
+use Rattle.vrt_model.specs.Circuits.{IsCircuit}
+use Rattle.vrt_model.specs.Comparison.{Comparison, is_observed, phase_at}
+use Rattle.vrt_model.specs.Cut.{Cut, NumberedPlace}
+use Rattle.vrt_model.specs.FlatCircuit.{flat_circuit_of}
+use Rattle.vrt_model.specs.Lists.{Among}
+use Rattle.vrt_model.specs.Networks.{HasRanges}
+use Rattle.vrt_model.specs.Unsupported.{IsSupported}
+use Rattle.vrt_model.specs.WholeInstances.{IsWholeAt}
+use Rattle.vrt_model.specs.declared.blif.Blif.{Blif}
+use Rattle.vrt_model.specs.declared.circuit.Circuit.{Circuit}
+use Rattle.vrt_model.specs.declared.whole.CellFacts.{CellFacts}
+use Rattle.vrt_model.specs.declared.whole.Whole.{Whole}
+use Rattle.whole_ranks.specs.Solved.{AreDetermined}
+use Rattle.whole_ranks.specs.WholeCells.{StandsFor}
+
+-- The law: a whole instance of a circuit of the chain stands for its cell.
+abbrev pub WholesStandForCells : Type 0
+WholesStandForCells =
+    (k : Comparison) (cut : Cut) (blif : Blif) (facts : List CellFacts) (i : ℕ) (p : NumberedPlace) (m phase n : ℕ) (c : Circuit) (w : Whole)
+    → cut.top ≡ top_of k → IsSoftChoice cut blif facts → IsStepAtGates cut blif facts i p m → IsSupported cut.top.design blif cut.top.rules p.at.cell m
+    → phase < length cut.top.rules.phases → IsCircuitWith (before cut n) blif facts c → Among c.wholes w → IsWholeAt (before cut n) blif facts p w
+    → StandsFor (compared_at cut.top blif p m) phase c (is_observed (with_circuit k c) phase) (net_above cut.top p.at) w
+
+-- The law: so each whole instance is determined.
+abbrev pub WholesAreDetermined : Type 0
+WholesAreDetermined =
+    (k : Comparison) (cut : Cut) (blif : Blif) (facts : List CellFacts) (phase n : ℕ) (c : Circuit)
+    → cut.top ≡ top_of k → IsSoftChoice cut blif facts → phase < length cut.top.rules.phases → IsCircuitWith (before cut n) blif facts c
+    → AreDetermined c (phase_at cut.top.rules phase) (is_observed (with_circuit k c) phase)
+
+-- The law: numbers, levels and sizes are in range, where no end of a hold names an instance inside a whole one.
+abbrev pub CircuitsHaveRanges : Type 0
+CircuitsHaveRanges =
+    (cut : Cut) (blif : Blif) (facts : List CellFacts) (n : ℕ) (c : Circuit)
+    → IsSoftChoice cut blif facts → IsCircuit (flat_circuit_of cut.top) → AreEndsShown (before cut n) → IsCircuitWith (before cut n) blif facts c → HasRanges c
