@@ -29,6 +29,27 @@ pub cond_self : (b : Bool) → b ≡ cond b true false
 cond_self true = refl
 cond_self false = refl
 
+pub either_way : (b x : Bool) → x ≡ cond b x x
+either_way true x = refl
+either_way false x = refl
+
+-- a disjunction and a conjunction with a constant
+pub self_or_zero : (b : Bool) → b ≡ cond b b false
+self_or_zero true = refl
+self_or_zero false = refl
+
+pub self_or_one : (b : Bool) → true ≡ cond b b true
+self_or_one true = refl
+self_or_one false = refl
+
+pub self_and_zero : (b : Bool) → false ≡ cond b false b
+self_and_zero true = refl
+self_and_zero false = refl
+
+pub self_and_one : (b : Bool) → b ≡ cond b true b
+self_and_one true = refl
+self_and_one false = refl
+
 -- a constant in the place of a function that is tested
 pub then_true : (f h : Bool) → cond f true h ≡ cond f f h
 then_true true h = refl

@@ -197,8 +197,8 @@ impl Memo {
         put(&mut self.pairs, self.mask, entry);
     }
 
-    /// Has four times the pairs where the store has as many nodes as they have entries, and twice as many answers were
-    /// kept since they last grew: as long as few are kept, a small table costs less, since caches hold it.
+    /// Tries to grow where twice as many answers were kept as there were entries when it last grew: as long as few are
+    /// kept, a small table costs less, since caches hold it.
     fn grow(&mut self, count: u32)
         ensures { HoldsOnly self.old self.new }
     {
@@ -206,6 +206,16 @@ impl Memo {
             self.left -= 1;
             return;
         }
+        self.enlarge(count);
+    }
+
+    /// Has four times the pairs where the store has as many nodes as they have entries. It is seldom called, and a call of
+    /// its own, so that keeping an answer stays short.
+    #[cold]
+    #[inline(never)]
+    fn enlarge(&mut self, count: u32)
+        ensures { HoldsOnly self.old self.new }
+    {
         let few = self.pairs.len();
         if (count as usize) < few * 2 || few > self.most as usize / 4 {
             return;

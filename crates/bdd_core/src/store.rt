@@ -6,7 +6,7 @@ ghost use Rattle.bdd_core.specs.Diagram.{IsSame, IsReduced, IsProper, choice, bi
 ghost use Rattle.bdd_core.specs.Memo.{fixed_mark};
 
 use crate::memo::{Entry, Memo};
-use crate::standard::{constants, in_order};
+use crate::standard::{Form, form_of, in_order};
 use crate::{H, ONE, Spent, ZERO};
 use node_pool::{Mark, Node, Pool, Span};
 use std::alloc::Global;
@@ -245,75 +245,60 @@ impl Store {
         self.join(var.0, ZERO, ONE)
     }
 
-    /// What is known of `choose` with no new node: at the ends, and by the memo.
-    fn known(&self, f: H, g: H, h: H) -> Option<H>
-        requires { IsLive self.now f × IsLive self.now g × IsLive self.now h }
-        ensures some { IfSome result (λ r. Means self.now r (choice (function_of self.now f) (function_of self.now g) (function_of self.now h))) }
-        ensures none { IsNone result → top self.now.nodes f.0 < self.now.vars }
-    {
-        let _known = &self.pool;
-        if f.0 == 1 {
-            return Some(g);
-        }
-        if f.0 == 0 {
-            return Some(h);
-        }
-        if g == h {
-            return Some(g);
-        }
-        if g.0 == 1 && h.0 == 0 {
-            return Some(f);
-        }
-        self.recalled(f, g, h)
-    }
-
-    /// What is known of `choose` where its first function is no constant: the memo has it by constants in the place of
-    /// functions that are the first.
+    /// An answer of `choose` that the memo has.
     fn recalled(&self, f: H, g: H, h: H) -> Option<H>
         requires first { 2 ≤ f.0 }
         requires live { IsLive self.now f × IsLive self.now g × IsLive self.now h }
         ensures { IfSome result (λ r. Means self.now r (choice (function_of self.now f) (function_of self.now g) (function_of self.now h))) }
     {
         let _known = &self.pool;
-        let (high, low) = constants(f, g, h);
-        if high.0 == low.0 {
-            return Some(high);
-        }
-        if high.0 == 1 && low.0 == 0 {
-            return Some(f);
-        }
-        let Some(r) = self.memo.recall(f.0, high.0, low.0) else {
+        let Some(r) = self.memo.recall(f.0, g.0, h.0) else {
             return None;
         };
         Some(H(r))
     }
 
-    /// Keeps an answer of `choose`, as `recalled` asks for it.
+    /// Keeps an answer of `choose`.
     fn remember(&mut self, f: H, g: H, h: H, r: H)
         requires live { IsLive self.old f × IsLive self.old g × IsLive self.old h }
         requires is { Means self.old r (choice (function_of self.old f) (function_of self.old g) (function_of self.old h)) }
         ensures { self.new ≡ self.old }
     {
         let count = self.pool.node_count();
-        let (high, low) = constants(f, g, h);
         let entry = Entry {
             f: f.0,
-            g: high.0,
-            h: low.0,
+            g: g.0,
+            h: h.0,
             r: r.0,
         };
         self.memo.keep(entry, count);
     }
 
-    /// `ite`, part by part. It goes as deep as there are variables.
+    /// `ite`, by its form, by the memo, or part by part. It goes as deep as there are variables.
+    #[cycle(choose)]
     fn choose(&mut self, f: H, g: H, h: H) -> Result<H, Spent>
         requires { IsLive self.old f × IsLive self.old g × IsLive self.old h }
         ensures { Makes self.old self.new (choice (function_of self.old f) (function_of self.old g) (function_of self.old h)) result }
     {
         let _known = &self.pool;
-        if let Some(r) = self.known(f, g, h) {
+        let (high, low) = match form_of(f, g, h) {
+            Form::Known(r) => return Ok(r),
+            Form::Asks(high, low) => (high, low),
+        };
+        if let Some(r) = self.recalled(f, high, low) {
             return Ok(r);
         }
+        self.part(f, high, low)
+    }
+
+    /// `ite` part by part, where `f` is no constant. It is a call of its own, so that what is known at once costs little.
+    #[cycle(choose)]
+    #[inline(never)]
+    fn part(&mut self, f: H, g: H, h: H) -> Result<H, Spent>
+        requires { (2 ≤ f.0) × IsLive self.old f × IsLive self.old g × IsLive self.old h }
+        ensures { Makes self.old self.new (choice (function_of self.old f) (function_of self.old g) (function_of self.old h)) result }
+    {
+        let _known = &self.pool;
         let var = self.least_top(f, g, h);
         let (f0, f1) = self.branches(f, var);
         let (g0, g1) = self.branches(g, var);

@@ -37,6 +37,7 @@ pub(crate) fn phase(alloc: Global, bit: bool) -> Result<Phase, Stop> {
 }
 
 /// The known nets of a circuit.
+#[tactic(auto, using(known_nets::proofs::WiredLaws::flat_wired))]
 fn known(alloc: Global, circuit: &Circuit) -> Result<Vec<Option<bool>>, Stop> {
     if !is_flat(circuit) {
         return Err(Stop::Unfit);

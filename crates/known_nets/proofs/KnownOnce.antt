@@ -1,22 +1,22 @@
 -- A known net has one bit; and a table that has the supplies and clock ports, and that no shut set adds to, has all known nets.
-use Rattle.std.proofs.Common.{◌≡◌, ℕ, ◌≤◌, ◌&&◌, Bool, true, [], Option, Some, ap, inl, inr, subst, sym, ◌∙◌}
+use Rattle.std.proofs.Common.{◌≡◌, ℕ, ◌&&◌, Bool, true, Option, Some, ap, inl, inr, subst, sym, ◌∙◌}
 use Rattle.std.proofs.lemmas.Bool.{and_from, and_parts}
 use Rattle.std.proofs.lemmas.Option.{same_Some}
+pub use Rattle.known_nets.proofs.KnownShow.{fixed_not_plain}
+use Rattle.known_nets.proofs.KnownShow.{shows_moves}
 use Rattle.known_nets.specs.KnownTables.{IsClosedTable}
+use Rattle.known_nets.specs.Wired.{IsWired}
 use Rattle.vrt_model.proofs.GatesGiven.{shown_by}
 use Rattle.vrt_model.proofs.Laws.{one_response}
-use Rattle.vrt_model.proofs.Locality.{fixed_given, shows_moves}
-use Rattle.vrt_model.proofs.Ranked.{plain_not_given}
-use Rattle.vrt_model.specs.Known.{HasFixedBit, IsFixed, IsKnown, IsPlain, IsShut, fixed, settled}
-use Rattle.vrt_model.specs.Lists.{At, Among}
+use Rattle.vrt_model.specs.Known.{HasFixedBit, IsFixed, IsKnown, IsShut, fixed, settled}
+use Rattle.vrt_model.specs.Lists.{Among}
 use Rattle.vrt_model.specs.Path.{Joins}
-use Rattle.vrt_model.specs.Reading.{HasGivenBit, IsReading, conducts_at, devices_of}
+use Rattle.vrt_model.specs.Reading.{IsReading, conducts_at, devices_of}
 use Rattle.vrt_model.specs.Response.{IsResponse, Shows}
 use Rattle.vrt_model.specs.State.{network_of}
 use Rattle.vrt_model.specs.declared.circuit.Circuit.{Circuit}
 use Rattle.vrt_model.specs.declared.circuit.Device.{Device}
 use Rattle.vrt_model.specs.declared.circuit.FlatNet.{FlatNet}
-use Rattle.vrt_model.specs.declared.circuit.Hold.{Hold}
 use Rattle.vrt_model.specs.declared.circuit.NetKind.{NetKind}
 use Rattle.vrt_model.specs.declared.circuit.NetKind.TheVariants.{Supply, Clock, Input, Plain}
 use Rattle.vrt_model.specs.declared.rules.Phase.{Phase}
@@ -27,27 +27,13 @@ bit_once phase (Clock clock) u v h k = h ∙ sym k
 bit_once phase Input u v h k = absurd h
 bit_once phase Plain u v h k = absurd h
 
-bit_read : (phase : Phase) (inputs : ℕ → Bool) (kind : NetKind) (n : ℕ) (v bit : Bool) → HasFixedBit phase kind v → HasGivenBit phase inputs kind n bit → bit ≡ v
-bit_read phase inputs (Supply value) n v bit h g = g ∙ sym h
-bit_read phase inputs (Clock clock) n v bit h g = g ∙ sym h
-bit_read phase inputs Input n v bit h g = absurd h
-bit_read phase inputs Plain n v bit h g = absurd h
-
 -- a supply or a clock port has one bit
 pub fixed_once : (c : Circuit) (phase : Phase) (n : ℕ) (u v : Bool) → IsFixed c phase n u → IsFixed c phase n v → u ≡ v
 fixed_once c phase n u v f g =
     let same : f.0 ≡ g.0 = same_Some f.0 g.0 (sym f.1 ∙ g.1) in
     bit_once phase g.0.kind u v (subst (λ (x : FlatNet). HasFixedBit phase x.kind u) same f.2) g.2
 
--- and is not plain
-pub fixed_not_plain : (c : Circuit) (phase : Phase) (n : ℕ) (v : Bool) → IsFixed c phase n v → IsPlain c n → ⊥
-fixed_not_plain c phase n v f plain = plain_not_given c n plain (f.0, f.1, fixed_given phase f.0.kind v f.2)
-
-pub fixed_read : (c : Circuit) (phase : Phase) (inputs reading : ℕ → Bool) → IsReading c phase inputs reading → (n : ℕ) (v : Bool) → IsFixed c phase n v → reading n ≡ v
-fixed_read c phase inputs reading is n v f = bit_read phase inputs f.0.kind n v (reading n) f.2 (is n f.0 f.1)
-
-module _ (c : Circuit) (phase : Phase) (flat : c.wholes ≡ []) (weak : (d : Device) → Among (devices_of true c) d → d.level ≤ 7)
-    (small : (at : ℕ) (h : Hold) → At c.holds at h → h.size ≤ 3) where
+module _ (c : Circuit) (phase : Phase) (wired : IsWired c) where
   -- two readings have the same bits at the gates of a set
   abbrev SameGates : (ℕ → Bool) → (ℕ → Bool) → (ℕ → Bool) → Type 0
   SameGates inside r q = (m l : ℕ) (d : Device) → inside m ≡ true → Among (devices_of true c) d → Joins d m l → r d.gate.0 ≡ q d.gate.0
@@ -66,27 +52,14 @@ module _ (c : Circuit) (phase : Phase) (flat : c.wholes ≡ []) (weak : (d : Dev
         ];
   }
 
-  shared_back : (inside other r q : ℕ → Bool) → IsShut c phase inside r → IsShut c phase other q → SameGates (λ n. inside n && other n) r q
-      → IsShut c phase (λ n. inside n && other n) q
-  shared_back inside other r q shut closed same = record {
-    plain = λ n e. shut.plain n (and_parts (inside n) (other n) e).0;
-    joined = λ n m d e a j on.
-        let both = and_parts (inside n) (other n) e in
-        let there : conducts_at d.kind (r d.gate.0) ≡ true = subst (λ (b : Bool). conducts_at d.kind b ≡ true) (sym (same n m d e a j)) on in
-        elim (closed.joined n m d both.1 a j on) [
-          | inr f ↦ inr f
-          | inl k ↦ elim (shut.joined n m d both.0 a j there) [ inr f ↦ inr f | inl i ↦ inl (and_from (inside m) (other m) i k) ]
-        ];
-  }
-
   -- what a net of two shut sets, whose readings have the same bits at the gates of both, shows in one, it shows in the other
   pub shows_there : (inside other r held driven q kept given : ℕ → Bool) (n : ℕ) (u : Bool) → IsShut c phase inside r → IsShut c phase other q
       → SameGates (λ m. inside m && other m) r q → IsReading c phase r r → IsReading c phase q q → inside n ≡ true → other n ≡ true
       → IsResponse (network_of c true held (record { reading = r; driven = driven })) n (Shows u)
       → IsResponse (network_of c true kept (record { reading = q; driven = given })) n (Shows u)
   shows_there inside other r held driven q kept given n u shut closed same own own_q ins ins_q shows =
-      shows_moves c phase flat weak small (λ m. inside m && other m) r held driven q kept given (shared_shut inside other r q shut closed same) (shared_back inside other r q shut closed same)
-      same (fixed_read c phase r r own) (fixed_read c phase q q own_q) n u (and_from (inside n) (other n) ins ins_q) shows
+      shows_moves c phase wired (λ m. inside m && other m) held kept r q (record { reading = r; driven = driven }) (record { reading = q; driven = given })
+      (shared_shut inside other r q shut closed same) own own_q same n u (and_from (inside n) (other n) ins ins_q) shows
 
   -- so it shows one bit
   shown_once : (inside other r held driven q kept given : ℕ → Bool) (n : ℕ) (u v : Bool) → IsShut c phase inside r → IsShut c phase other q

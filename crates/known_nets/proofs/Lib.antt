@@ -1,6 +1,7 @@
 -- Known nets.
 pub mod IncidenceLaws
 pub mod KnownOnce
+pub mod KnownShow
 pub mod NetKinds
 pub mod PlaceLaws
 pub mod RegionLaws
@@ -10,3 +11,4 @@ pub mod ShutLaws
 pub mod SpreadLaws
 pub mod TableLaws
 pub mod WaitLaws
+pub mod WiredLaws

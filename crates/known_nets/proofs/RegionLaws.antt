@@ -4,28 +4,29 @@ use Rattle.std.proofs.Common.{◌≡◌, ℕ, ◌<◌, ◌≤◌, min, ◌⊎◌
 use Rattle.std.specs.Prelude.{◌==◌, ◌↔◌, option_map, slice_index, unwrap_or}
 use Rattle.std.proofs.lemmas.Bool.{cases_Bool, eq-eqb, eqb-true, false≢true, lt-ltb, ltb-true}
 use Rattle.std.proofs.lemmas.Option.{none-some, same_Some}
-use Rattle.known_nets.proofs.KnownOnce.{fixed_not_plain}
+use Rattle.known_nets.proofs.KnownShow.{fixed_not_plain, given_root, no_root_inside}
 use Rattle.known_nets.proofs.NetKinds.{fixed_or_input, given_or_plain, is_plain_is, plain_is}
 use Rattle.known_nets.specs.Conduction.{conduction_of, is_plain_at}
 use Rattle.known_nets.specs.KnownTables.{HasFixedNets, HasGateBits, known_at}
 use Rattle.known_nets.specs.Regions.{IsRegion, IsShutAt, has_amount, known_network, reading_of}
 use Rattle.known_nets.specs.Spreads.{HasArrived, IsKnownOn, IsSpread, before, given, given_amount, is_bit, level_of_end, onward}
 use Rattle.known_nets.specs.declared.spread.Spread.TheVariants.{Strength, Value}
+use Rattle.known_nets.specs.Wired.{IsWired}
 use Rattle.vrt_model.proofs.Clear.{HopFits, RootFits, arrives-reaches, clear-keeps}
 use Rattle.vrt_model.proofs.Decidable.{strength_at, strength_at_is}
 use Rattle.vrt_model.proofs.Filtered.{among_devices, device_among}
 use Rattle.vrt_model.proofs.GatesGiven.{IsGiven}
 use Rattle.vrt_model.proofs.GivenNets.{clear_from_source, level_most, source_strength}
 use Rattle.vrt_model.proofs.Laws.{one_strength, turned}
-use Rattle.vrt_model.proofs.Members.{all_among, at_none}
-use Rattle.vrt_model.proofs.Networks.{given_source, network_finite, network_levels, flat_outputs, flat_ranges}
+use Rattle.vrt_model.proofs.Locality.{fixed_given}
+use Rattle.vrt_model.proofs.Members.{all_among}
+use Rattle.vrt_model.proofs.Networks.{given_source, network_finite, network_levels}
 use Rattle.vrt_model.proofs.PathKinds.{Arrives, arrives_on, arrives_root}
-use Rattle.vrt_model.proofs.Ranked.{plain_not_given}
 use Rattle.vrt_model.proofs.Strength.{AtLeast, HopHas, RootHas, at_least_on, level-keeps}
 use Rattle.vrt_model.proofs.Tables.{response_of}
-use Rattle.vrt_model.specs.Circuits.{IsDevice, IsHold, IsFlat}
+use Rattle.vrt_model.specs.Circuits.{IsDevice}
 use Rattle.vrt_model.specs.Known.{IsFixed, IsShut}
-use Rattle.vrt_model.specs.Lists.{At, Among}
+use Rattle.vrt_model.specs.Lists.{Among}
 use Rattle.vrt_model.specs.Path.{Hop, IsOn, IsPath, IsRoot, Joins, Network, Root, end_of, level_of}
 use Rattle.vrt_model.specs.Reading.{conducts, conducts_at}
 use Rattle.vrt_model.specs.Response.{IsClear, IsResponse, IsStrength, Reaches}
@@ -34,8 +35,6 @@ use Rattle.vrt_model.specs.State.{State}
 use Rattle.vrt_model.specs.declared.circuit.Circuit.{Circuit}
 use Rattle.vrt_model.specs.declared.circuit.Device.{Device}
 use Rattle.vrt_model.specs.declared.rules.Phase.{Phase}
-use Rattle.vrt_model.specs.declared.whole.Whole.{Whole}
-use Rattle.vrt_model.specs.declared.whole.WholePin.{WholePin}
 use Rattle.vrt_model.specs.Networks.{HasLevels, IsSource}
 
 -- ---- bits and amounts
@@ -78,7 +77,7 @@ amount_there table n lt = lt-ltb 0 (slice_index table n) lt
 amount_above : (table : List ℕ) (n : ℕ) → has_amount table n ≡ true → 0 < slice_index table n
 amount_above table n e = ltb-true 0 (slice_index table n) e
 
-module _ (c : Circuit) (phase : Phase) (known : List (Option Bool)) (flat : IsFlat c) (has : HasFixedNets c phase (known_at known))
+module _ (c : Circuit) (phase : Phase) (known : List (Option Bool)) (wired : IsWired c) (has : HasFixedNets c phase (known_at known))
     (inside : ℕ → Bool) (region : IsRegion c known inside) (shut : (n : ℕ) → inside n ≡ true → IsShutAt c known n) where
   -- ---- the network where the known nets have their bits
 
@@ -91,12 +90,12 @@ module _ (c : Circuit) (phase : Phase) (known : List (Option Bool)) (flat : IsFl
 
   -- no root is above the source level, and the devices are below it
   in_levels : HasLevels w
-  in_levels = network_levels c true (λ k. false) state (flat_ranges c flat)
+  in_levels = network_levels c true (λ k. false) state wired.ranges
 
   -- the ends of a device are nets of the circuit
   in_range : (m n : ℕ) (d : Device) → Among c.devices d → Joins d m n → m < length c.nets
-  in_range m n d there (inl j) = subst (λ (x : ℕ). x < length c.nets) j.0 (all_among (IsDevice c) c.devices d flat.devices there).left
-  in_range m n d there (inr j) = subst (λ (x : ℕ). x < length c.nets) j.1 (all_among (IsDevice c) c.devices d flat.devices there).right
+  in_range m n d there (inl j) = subst (λ (x : ℕ). x < length c.nets) j.0 (all_among (IsDevice c) c.devices d wired.ranges.devices there).left
+  in_range m n d there (inr j) = subst (λ (x : ℕ). x < length c.nets) j.1 (all_among (IsDevice c) c.devices d wired.ranges.devices there).right
 
   -- an end of a device that is not plain is a given net
   given_end : (m n : ℕ) (d : Device) → Among c.devices d → Joins d m n → is_plain_at c m ≡ false → IsGiven c m
@@ -108,7 +107,7 @@ module _ (c : Circuit) (phase : Phase) (known : List (Option Bool)) (flat : IsFl
 
   -- a given net is a root of the source level
   source_of : (m : ℕ) → IsGiven c m → IsSource w m
-  source_of m g = given_source c true (λ k. false) state (flat_ranges c flat) m g.0 g.1 g.2
+  source_of m g = given_source c true (λ k. false) state wired.ranges m g.0 g.1 g.2
 
   -- what is known to conduct does so in the network
   on_known : (d : Device) → IsKnownOn c known d → IsOn w d
@@ -137,20 +136,6 @@ module _ (c : Circuit) (phase : Phase) (known : List (Option Bool)) (flat : IsFl
   fixed_not_at : (m : ℕ) (v : Bool) → IsFixed c phase m v → is_plain_at c m ≡ false
   fixed_not_at m v f = elim (cases_Bool (is_plain_at c m)) [ inl t ↦ absurd (fixed_not_plain c phase m v f (plain_is c m t)) | inr e ↦ e ]
 
-  -- a flat circuit has no output pin
-  no_output : (at : ℕ) (pin : WholePin) → At w.outputs at pin → ⊥
-  no_output at pin e = at_none at pin (subst (λ (os : List WholePin). At os at pin) (flat_outputs c true (λ k. false) state flat.wholes) e)
-
-  -- no path begins at a net inside
-  no_root : (root : Root) → IsRoot w root → inside root.net ≡ true → ⊥
-  no_root root (inl g) ins = plain_not_given c root.net (region.plain root.net ins) (g.0, g.1, g.2)
-  no_root root (inr (inl h)) ins = (shut root.net ins).free (h.1, (h.0, h.2), sym h.3)
-  no_root root (inr (inr o)) ins = no_output o.0 o.1 o.2
-
-  -- nor an instance that drives a net
-  no_driven : (whole : Whole) → Among c.wholes whole → ⊥
-  no_driven whole m = at_none m.0 whole (subst (λ (ws : List Whole). At ws m.0 whole) flat.wholes m.1)
-
   -- ---- the set
 
   -- the gates at a shut region are known
@@ -163,9 +148,13 @@ module _ (c : Circuit) (phase : Phase) (known : List (Option Bool)) (flat : IsFl
   -- a shut region is a shut set
   pub region_shut : IsShut c phase inside (reading_of known)
   region_shut = record {
-    plain = λ n ins. (region.plain n ins, (shut n ins).free, λ driven. no_driven driven.0 driven.2);
+    plain = λ n ins. (region.plain n ins, (shut n ins).free, (shut n ins).idle);
     joined = λ n m d ins there j on. bounded n m d ins (known_on n m d ins (there, on) j) j;
   }
+
+  -- no path begins at a net inside
+  no_root : (root : Root) → IsRoot w root → inside root.net ≡ true → ⊥
+  no_root root r ins = no_root_inside c phase wired inside (reading_of known) (λ k. false) state region_shut root r ins
 
   -- ---- strengths
 
@@ -265,16 +254,12 @@ module _ (c : Circuit) (phase : Phase) (known : List (Option Bool)) (flat : IsFl
 
     -- a root of the value that is as strong as a supply or a clock port gives it the value
     root_value : (root : Root) (m : ℕ) (u : Bool) → IsRoot w root → IsStrength w root.net root.level → root.value ≡ v → root.net ≡ m → IsSource w m → IsFixed c phase m u → is_bit v (known_at known m) ≡ true
-    root_value root m u (inl g) clear is e from f =
+    root_value root m u r clear is e from f =
         let k = has m u f in
-        let same : u ≡ v = sym (ap (λ (o : Option Bool). unwrap_or o false) k) ∙ (sym (ap (reading_of known) e) ∙ (sym g.4 ∙ is)) in
+        let top : root.level ≡ 8 = one_strength w root.net root.level 8 clear (subst (λ (x : ℕ). IsStrength w x 8) (sym e) (source_strength w in_levels m from)) in
+        let read : root.value ≡ reading_of known m = given_root c phase wired (λ k. false) state m (f.0, f.1, fixed_given phase f.0.kind u f.2) root r e top in
+        let same : u ≡ v = sym (ap (λ (o : Option Bool). unwrap_or o false) k) ∙ (sym read ∙ is) in
         ap (is_bit v) (k ∙ ap (λ (b : Bool). Some b) same) ∙ bit_here v
-    root_value root m u (inr (inl h)) clear is e from f =
-        let top = one_strength w root.net 8 root.level (subst (λ (x : ℕ). IsStrength w x 8) (sym e) (source_strength w in_levels m from)) clear in
-        let size = h.4 in
-        let small = (all_among (IsHold c) c.holds h.1 flat.holds (h.0, h.2)).size.1 in
-        absurd (omega (arith, top, size, small))
-    root_value root m u (inr (inr o)) clear is e from f = absurd (no_output o.0 o.1 o.2)
 
     -- so the bit of a supply or a clock port at which a clear path of the value ends is the value
     path_value : (root : Root) (hops : List Hop) (m : ℕ) (u : Bool) → IsPath w root hops → IsClear w root hops → root.value ≡ v → end_of root hops ≡ m → IsSource w m → IsFixed c phase m u → hops ≡ []
@@ -317,7 +302,7 @@ module _ (c : Circuit) (phase : Phase) (known : List (Option Bool)) (flat : IsFl
       → ((n : ℕ) → inside n ≡ true → Among nets n) → IsSpread (Value v) c known levels nets table
       → (n : ℕ) → inside n ≡ true → (has_amount table n ≡ true) ↔ Reaches (known_network c known) n v
   region_reached risen levels nets table v all strengths all_nets values n ins =
-      let finite = network_finite c true (λ k. false) state (flat_ranges c flat) in
+      let finite = network_finite c true (λ k. false) state wired.ranges in
       let s = strength_at (known_network c known) (length c.nets) 8 finite in
       let strong = strength_at_is (known_network c known) (length c.nets) 8 finite in
       let agree : (m : ℕ) → inside m ≡ true → slice_index levels m ≡ s m =

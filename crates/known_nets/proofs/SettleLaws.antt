@@ -7,14 +7,14 @@ use Rattle.known_nets.proofs.KnownOnce.{known_once, shows_there}
 use Rattle.known_nets.proofs.NetKinds.{known_reading}
 use Rattle.known_nets.proofs.RegionLaws.{region_gates, region_response, region_shut}
 use Rattle.known_nets.proofs.ShutLaws.{has_number_is}
-use Rattle.known_nets.proofs.TableLaws.{bit_is, flat_small, flat_weak}
+use Rattle.known_nets.proofs.TableLaws.{bit_is}
 use Rattle.known_nets.specs.Conduction.{conduction_of}
 use Rattle.known_nets.specs.KnownTables.{AreKnown, HasFixedNets, HasGateBits, IsClosedTable, known_at}
 use Rattle.known_nets.specs.Learned.{bit_shown, shown_of}
 use Rattle.known_nets.specs.Regions.{HasKept, HasMarkedEnds, IsOpenAt, IsRegion, IsSettled, IsShutAt, has_amount, known_network, reading_of}
 use Rattle.known_nets.specs.Spreads.{IsKnownOn, IsSpread}
 use Rattle.known_nets.specs.declared.spread.Spread.TheVariants.{Strength, Value}
-use Rattle.vrt_model.specs.Circuits.{IsFlat}
+use Rattle.known_nets.specs.Wired.{IsWired}
 use Rattle.vrt_model.proofs.Filtered.{device_among}
 use Rattle.vrt_model.specs.Known.{IsKnown, IsPlain, IsShut, settled}
 use Rattle.vrt_model.specs.Lists.{Among, has_number, mark_at}
@@ -41,7 +41,7 @@ settled_open c phase known nets old new opens kept before set reading held drive
     (λ m i. unmarked_before nets old new m kept (none m i) (λ r. opens m r set reading shut bits i))
     n v ins shows
 
-module _ (c : Circuit) (phase : Phase) (known more : List (Option Bool)) (flat : IsFlat c) (nets : List ℕ) (region : IsRegion c known (has_number nets))
+module _ (c : Circuit) (phase : Phase) (known more : List (Option Bool)) (wired : IsWired c) (nets : List ℕ) (region : IsRegion c known (has_number nets))
     (shut : IsShut c phase (has_number nets) (reading_of known)) (gates : HasGateBits c (known_at known) (has_number nets) (reading_of known)) (has : HasFixedNets c phase (known_at known))
     (grown : (n : ℕ) (v : Bool) → known_at known n ≡ Some v → known_at more n ≡ Some v)
     (learned : (n : ℕ) (v : Bool) → Among nets n → IsResponse (known_network c known) n (Shows v) → known_at more n ≡ Some v)
@@ -93,7 +93,7 @@ module _ (c : Circuit) (phase : Phase) (known more : List (Option Bool)) (flat :
             unmarked_before nets old new m kept (none m both.0) (λ r. false≢true (sym (not-true (inside m) both.1) ∙ (has_number_is nets m).1 r)))
             n v (and_from (set n) (not (inside n)) ins (not_from_false (inside n) f)) shows)
         | inl t ↦ learned n v ((has_number_is nets n).0 t)
-            (shows_there c phase flat.wholes (flat_weak c flat) (flat_small c flat) set (has_number nets) reading held driven (reading_of known) (λ k. false) (λ k. false) n v closed shut
+            (shows_there c phase wired set (has_number nets) reading held driven (reading_of known) (λ k. false) (λ k. false) n v closed shut
             (λ m l d e a j.
             let both = and_parts (set m) (inside m) e in
             same_Some (reading d.gate.0) (reading_of known d.gate.0) (sym (earlier m l d both.0 a j) ∙ gates m l d both.1 a j))
@@ -105,7 +105,7 @@ module _ (c : Circuit) (phase : Phase) (known more : List (Option Bool)) (flat :
 
 -- ---- what the nets of a shut region show
 
-module _ (c : Circuit) (phase : Phase) (known : List (Option Bool)) (flat : IsFlat c) (has : HasFixedNets c phase (known_at known)) (are : AreKnown c phase (known_at known))
+module _ (c : Circuit) (phase : Phase) (known : List (Option Bool)) (wired : IsWired c) (has : HasFixedNets c phase (known_at known)) (are : AreKnown c phase (known_at known))
     (nets levels zeros ones : List ℕ) (region : IsRegion c known (has_number nets)) (all_shut : (n : ℕ) → Among nets n → IsShutAt c known n)
     (strengths : IsSpread Strength c known [] nets levels) (lows : IsSpread (Value false) c known levels nets zeros) (highs : IsSpread (Value true) c known levels nets ones) where
   shut_in : (n : ℕ) → has_number nets n ≡ true → IsShutAt c known n
@@ -115,14 +115,14 @@ module _ (c : Circuit) (phase : Phase) (known : List (Option Bool)) (flat : IsFl
   listed_in n e = (has_number_is nets n).0 e
 
   gates_in : HasGateBits c (known_at known) (has_number nets) (reading_of known)
-  gates_in = region_gates c phase known flat has (has_number nets) region shut_in
+  gates_in = region_gates c phase known wired has (has_number nets) region shut_in
 
   set_in : IsShut c phase (has_number nets) (reading_of known)
-  set_in = region_shut c phase known flat has (has_number nets) region shut_in
+  set_in = region_shut c phase known wired has (has_number nets) region shut_in
 
   response_in : (n : ℕ) → Among nets n → IsResponse (known_network c known) n (response_by (has_amount zeros n) (has_amount ones n))
   response_in n m =
-      region_response c phase known flat has (has_number nets) region shut_in nets levels nets zeros nets ones listed_in strengths listed_in lows listed_in highs n ((has_number_is nets n).1 m)
+      region_response c phase known wired has (has_number nets) region shut_in nets levels nets zeros nets ones listed_in strengths listed_in lows listed_in highs n ((has_number_is nets n).1 m)
 
   -- the bit that a net shows is known
   pub shown_known : (n : ℕ) (v : Bool) → Among nets n → shown_of zeros ones n ≡ Some v → IsKnown c phase n v
@@ -138,7 +138,7 @@ module _ (c : Circuit) (phase : Phase) (known : List (Option Bool)) (flat : IsFl
       → ((n : ℕ) → Among nets n → is_some (shown_of zeros ones n) ≡ true → is_some (known_at more n) ≡ true)
       → HasKept nets old new → HasMarkedEnds c known more new → IsSettled c phase known old → IsSettled c phase more new
   shown_settled more old new grown sound found kept ends before =
-      settled_shut c phase known more flat nets region set_in gates_in has grown learned old new kept ends before
+      settled_shut c phase known more wired nets region set_in gates_in has grown learned old new kept ends before
     where
       learned : (n : ℕ) (v : Bool) → Among nets n → IsResponse (known_network c known) n (Shows v) → known_at more n ≡ Some v
       learned n v m shows =
@@ -153,7 +153,7 @@ module _ (c : Circuit) (phase : Phase) (known : List (Option Bool)) (flat : IsFl
               settled (has_number nets) (reading_of known) (λ k. false) (λ k. false) set_in ((has_number_is nets n).1 m)
               (known_reading c phase known has)
               (λ k l d i a j. are d.gate.0 (reading_of known d.gate.0) (gates_in k l d i a j)) shows in
-              e ∙ ap (λ (b : Bool). Some b) (known_once c phase flat.wholes (flat_weak c flat) (flat_small c flat) n u v (sound n u e) known_v)
+              e ∙ ap (λ (b : Bool). Some b) (known_once c phase wired n u v (sound n u e) known_v)
 
 -- where no net is to be looked at, the table is closed
 pub settled_closed : (c : Circuit) (phase : Phase) (known : List (Option Bool)) (pending : List Bool) → ((n : ℕ) → mark_at pending n ≡ false) → IsSettled c phase known pending → IsClosedTable c phase (known_at known)

@@ -4,10 +4,10 @@ use Rattle.std.specs.Prelude.{◌↔◌, ◌==◌, option_map, unwrap_or}
 use Rattle.std.proofs.lemmas.Bool.{cases_eq, eq-eqb, eqb-true, false≢true, lt-ltb, ltb-true}
 use Rattle.std.proofs.lemmas.Option.{none-some, same_Some, slice_get_within}
 use Rattle.graphs.specs.Graphs.{ArcIn, sources_at}
-use Rattle.known_nets.proofs.KnownOnce.{fixed_not_plain}
+use Rattle.known_nets.proofs.KnownShow.{fixed_not_plain}
 use Rattle.known_nets.proofs.NetKinds.{is_plain_is, kind_is_input, plain_is}
 use Rattle.known_nets.specs.Conduction.{conduction_of, is_input_at, is_input_kind, is_plain_at}
-use Rattle.known_nets.specs.Incidence.{AreHeldMarks, HasEnds}
+use Rattle.known_nets.specs.Incidence.{AreRootMarks, HasEnds}
 use Rattle.known_nets.specs.Regions.{GoTogether, IsInput, IsOpenAt, IsRegion, IsShutAt, KeepsOpen, KeepsShut, has_amount}
 use Rattle.known_nets.specs.Spreads.{HasArrived, IsZero, IsKnownOn, IsPassedOn, before, given, onward}
 use Rattle.known_nets.specs.declared.spread.Spread.TheVariants.{Joined}
@@ -69,11 +69,17 @@ open_by_device c phase known n d there opens inside reading shut bits ins =
           ]
     ]
 
--- where no device and no hold does, nothing keeps it open there
-pub shut_there : (c : Circuit) (known : List (Option Bool)) (held : List Bool) (ends : List (List ℕ)) (row : List ℕ) (n : ℕ) → HasEnds c (length c.devices) ends → n < length ends → row ≡ sources_at ends n
-    → AreHeldMarks c held → mark_at held n ≡ false → ((k : ℕ) (d : Device) → Among row k → At c.devices k d → KeepsShut c known n d) → IsShutAt c known n
-shut_there c known held ends row n listed inside is marks free each = record {
-  free = λ h. false≢true (sym free ∙ (marks n).1 h);
+-- and so is one with a hold or an output of a whole instance
+pub open_by_root : (c : Circuit) (phase : Phase) (known : List (Option Bool)) (rooted : List Bool) (n : ℕ) → AreRootMarks c rooted → mark_at rooted n ≡ true → IsOpenAt c phase known n
+open_by_root c phase known rooted n marks e inside reading shut bits ins =
+    elim ((marks n).0 e) [ inl held ↦ (shut.plain n ins).1 held | inr driven ↦ (shut.plain n ins).2 driven ]
+
+-- where no device, no hold and no output does, nothing keeps it open there
+pub shut_there : (c : Circuit) (known : List (Option Bool)) (rooted : List Bool) (ends : List (List ℕ)) (row : List ℕ) (n : ℕ) → HasEnds c (length c.devices) ends → n < length ends → row ≡ sources_at ends n
+    → AreRootMarks c rooted → mark_at rooted n ≡ false → ((k : ℕ) (d : Device) → Among row k → At c.devices k d → KeepsShut c known n d) → IsShutAt c known n
+shut_there c known rooted ends row n listed inside is marks free each = record {
+  free = λ h. false≢true (sym free ∙ (marks n).1 (inl h));
+  idle = λ d. false≢true (sym free ∙ (marks n).1 (inr d));
   gates = λ m d there bare j. elim (keeps m d there j bare m j) [ inl on ↦ (true, on.0) | inr off ↦ (false, off) ];
   ends = λ m d on j input.
       elim (keeps m d on.there j on.bare m j) [

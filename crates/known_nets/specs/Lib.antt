@@ -7,3 +7,4 @@ pub mod Regions
 pub mod Searches
 pub mod Spreads
 pub mod Waits
+pub mod Wired

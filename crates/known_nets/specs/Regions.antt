@@ -1,12 +1,12 @@
 -- Regions: the plain nets that devices known to conduct join to a net. A region is shut where all gates at it are known,
--- it has no hold, and no device joins it to an input.
+-- it has no hold and no output of a whole instance, and no device joins it to an input.
 use Rattle.std.specs.Prelude.{◌≡◌, ℕ, ◌⊎◌, ◌↔◌, nat_lt, Bool, true, false, List, [], length, None, Option, Some, slice_index, unwrap_or}
 use Rattle.known_nets.specs.Conduction.{conduction_of, is_input_at}
 use Rattle.known_nets.specs.KnownTables.{HasGateBits, known_at}
 use Rattle.known_nets.specs.Spreads.{AreListed, AreNone, IsKnownOn, IsSpread}
 use Rattle.known_nets.specs.declared.signals.Tables.{Tables}
 use Rattle.known_nets.specs.declared.spread.Spread.TheVariants.{Strength, Value}
-use Rattle.vrt_model.specs.Known.{IsHeld, IsPlain, IsShut}
+use Rattle.vrt_model.specs.Known.{IsDriven, IsHeld, IsPlain, IsShut}
 use Rattle.vrt_model.specs.Lists.{At, Among, mark_at}
 use Rattle.vrt_model.specs.Path.{Joins, Network}
 use Rattle.vrt_model.specs.Reading.{IsReading, is_in}
@@ -30,9 +30,10 @@ pub record IsRegion (c : Circuit) (known : List (Option Bool)) (inside : ℕ →
   pub plain : (n : ℕ) → inside n ≡ true → IsPlain c n
   pub closed : (m n : ℕ) (d : Device) → inside m ≡ true → IsKnownOn c known d → Joins d m n → IsPlain c n → inside n ≡ true
 
--- the net has no hold, each gate at it is known, and what is known to conduct joins it to no input
+-- the net has no hold and no output of a whole instance, each gate at it is known, and what is known to conduct joins it to no input
 pub record IsShutAt (c : Circuit) (known : List (Option Bool)) (n : ℕ) : Type 0 where
   pub free : ¬ IsHeld c n
+  pub idle : ¬ IsDriven c n
   pub gates : (m : ℕ) (d : Device) → Among c.devices d → is_in true d ≡ true → Joins d n m → (on : Bool) × (conduction_of known d ≡ Some on)
   pub ends : (m : ℕ) (d : Device) → IsKnownOn c known d → Joins d n m → ¬ IsInput c m
 

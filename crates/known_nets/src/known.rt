@@ -8,7 +8,7 @@ ghost use Rattle.known_nets.specs.KnownTables.{AreKnown, HasFixedNets, IsKnownTa
 ghost use Rattle.known_nets.specs.Regions.{GoTogether, IsRegion, IsShutAt};
 ghost use Rattle.known_nets.specs.Searches.{HasLookedAround, HasLookedAt, HasSearched, IsBegun, IsReady, IsSearch};
 ghost use Rattle.known_nets.specs.Waits.{waits};
-ghost use Rattle.vrt_model.specs.Circuits.{IsFlat};
+ghost use Rattle.known_nets.specs.Wired.{IsWired};
 ghost use Rattle.vrt_model.specs.Lists.{Among, has_number};
 ghost use Rattle.vrt_model.specs.declared.rules.Phase.{Phase as PhaseValue};
 
@@ -60,7 +60,7 @@ impl Search {
         by: &Incidence,
         nets: &[usize],
     ) -> Result<bool, NoMemory>
-        requires flat { IsFlat circuit.now }
+        requires wired { IsWired circuit.now }
         requires by { IsIncidence circuit.now by.now }
         requires search { IsSearch circuit.now self.old }
         requires region { IsRegion circuit.now self.old.known.items (has_number nets.now) }
@@ -87,7 +87,7 @@ impl Search {
         by: &Incidence,
         nets: &[usize],
     ) -> Result<bool, NoMemory>
-        requires flat { IsFlat circuit.now }
+        requires wired { IsWired circuit.now }
         requires by { IsIncidence circuit.now by.now }
         requires search { IsSearch circuit.now self.old }
         requires region { IsRegion circuit.now self.old.known.items (has_number nets.now) }
@@ -109,7 +109,7 @@ impl Search {
         by: &Incidence,
         net: usize,
     ) -> Result<bool, NoMemory>
-        requires flat { IsFlat circuit.now }
+        requires wired { IsWired circuit.now }
         requires by { IsIncidence circuit.now by.now }
         requires plain { is_plain_at circuit.now net ≡ true }
         requires search { IsSearch circuit.now self.old }
@@ -135,7 +135,7 @@ impl Search {
         circuit: &Circuit,
         by: &Incidence,
     ) -> Result<bool, NoMemory>
-        requires flat { IsFlat circuit.now }
+        requires wired { IsWired circuit.now }
         requires by { IsIncidence circuit.now by.now }
         requires ready { IsReady circuit.now self.old }
         ensures { IfOk result (λ more. HasSearched circuit.now more self.old self.new) }
@@ -158,7 +158,7 @@ impl Search {
         circuit: &Circuit,
         by: &Incidence,
     ) -> Result<(), NoMemory>
-        requires flat { IsFlat circuit.now }
+        requires wired { IsWired circuit.now }
         requires by { IsIncidence circuit.now by.now }
         requires ready { IsReady circuit.now self.old }
         requires all { (n : ℕ) → is_plain_at circuit.now n ≡ true → waits self.old.waiting n ≡ true }
@@ -174,14 +174,14 @@ impl Search {
     }
 }
 
-/// The known nets of a circuit without whole instances in a phase, with their bits, by net: the supplies and the clock
-/// ports, and the nets that show one bit before anything is solved. Nothing but want of memory refuses.
+/// The known nets of a circuit in a phase, with their bits, by net: the supplies and the clock ports, and the nets that show
+/// one bit before anything is solved, whatever the outputs of whole instances are. Nothing but want of memory refuses.
 pub fn known_nets(
     alloc: Global,
     circuit: &Circuit,
     phase: &Phase,
 ) -> Result<Vec<Option<bool>>, NoMemory>
-    requires { IsFlat circuit.now }
+    requires { IsWired circuit.now }
     ensures len { IfOk result (λ t. vec_len t ≡ length circuit.now.nets) }
     ensures known { IfOk result (λ t. IsKnownTable circuit.now phase.now (known_at t.items)) }
 {

@@ -1,5 +1,6 @@
 //! Regions: the plain nets that devices known to conduct join to a net. Where all gates at a region are known, it has no
-//! hold, and no device joins it to an input, it is shut: what its nets show hangs on nothing that is not known.
+//! hold and no output of a whole instance, and no device joins it to an input, it is shut: what its nets show hangs on
+//! nothing that is not known.
 
 ghost use Rattle.std.specs.Prelude.{◌≡◌, ℕ, ◌<◌, false, true, length, IfOk};
 ghost use Rattle.known_nets.specs.Conduction.{is_plain_at};
@@ -85,14 +86,14 @@ fn all_keep_shut(circuit: &Circuit, known: &[Option<bool>], numbers: &[u32], net
     true
 }
 
-/// Whether the region of a plain net may be shut as far as its hold and the devices at it go.
+/// Whether the region of a plain net may be shut as far as its hold, the outputs of whole instances and the devices at it go.
 fn is_shut_at(circuit: &Circuit, by: &Incidence, known: &[Option<bool>], net: usize) -> bool
     requires by { IsIncidence circuit.now by.now }
     requires net { net < length by.now.ends.items }
     ensures yes { result ≡ true → IsShutAt circuit.now known.now net }
     ensures no { result ≡ false → (phase : PhaseValue) → IsOpenAt circuit.now phase known.now net }
 {
-    if is_marked(by.held.as_slice(), net) {
+    if is_marked(by.rooted.as_slice(), net) {
         false
     } else {
         all_keep_shut(circuit, known, by.ends[net].as_slice(), net)

@@ -54,3 +54,15 @@ count_all t (suc n) le i lt =
             | inr off ↦ absurd (omega (arith, le, count_le t n, ap {B = ℕ} (λ (b : Bool). cond b 1 0) off))
           ])
     ]
+
+-- where none is counted, none is set
+pub none_counted : (t : ℕ → Bool) (n : ℕ) → count t n ≤ 0 → (i : ℕ) → i < n → t i ≡ true → ⊥
+none_counted t zero le i lt e = omega (arith, lt)
+none_counted t (suc n) le i lt e =
+    elim (cases_lt i n) [
+      | inl low ↦ none_counted t n (omega (arith, le)) i low e
+      | inr high ↦
+          let at : i ≡ n = omega (arith, lt, high) in
+          let on : t n ≡ true = subst (λ (x : ℕ). t x ≡ true) at e in
+          omega (arith, le, ap {B = ℕ} (λ (b : Bool). cond b 1 0) on)
+    ]

@@ -1,5 +1,5 @@
 -- Devices and directions that pass nothing on, and so cost nothing.
-use Rattle.std.proofs.Common.{◌≡◌, ℕ, Bool, true, false, not, List, Option, Some, ap, refl, sym, subst, ◌∙◌, inl}
+use Rattle.std.proofs.Common.{◌≡◌, ℕ, ◌⊎◌, Bool, true, false, not, List, Option, Some, ap, refl, sym, subst, ◌∙◌, inl, inr}
 use Rattle.std.proofs.lemmas.Bool.{false≢true}
 use Rattle.std.proofs.lemmas.Option.{same_Some}
 use Rattle.node_pool.specs.declared.region.Node.{Node}
@@ -10,14 +10,15 @@ use Rattle.bdd_core.specs.Words.{word_at}
 use Rattle.bdd_core.proofs.Meaning.{meaning_one, meaning_zero}
 use Rattle.vrt_model.specs.Circuits.{IsFlat}
 use Rattle.vrt_model.specs.Lists.{Among}
-use Rattle.vrt_model.specs.Path.{IsOn, Network}
+use Rattle.vrt_model.specs.Path.{IsOn, Joins, Network}
 use Rattle.vrt_model.specs.Reading.{conducts, conducts_at}
 use Rattle.vrt_model.specs.declared.circuit.Circuit.{Circuit}
 use Rattle.vrt_model.specs.declared.circuit.Device.{Device}
 use Rattle.vrt_model.specs.declared.design.Kind.{Kind}
 use Rattle.vrt_model.specs.declared.design.Kind.TheVariants.{N, P}
+use Rattle.vrt_model.specs.declared.ids.Net.{Net}
 use Rattle.channel_parts.specs.declared.part.Part.{Part}
-use Rattle.path_fixpoint.specs.Parts.{part_devices}
+use Rattle.path_fixpoint.specs.Parts.{IsGiven, IsOnSide, IsPart, IsWithoutGivenEnd, part_devices}
 use Rattle.path_fixpoint.specs.Passed.{blocking}
 use Rattle.path_fixpoint.specs.Reaching.{PassesSignal, SpreadsValue, slot_of}
 use Rattle.path_fixpoint.specs.Strengths.{Passes, Spreads, StandsAt, strong, strong_end, word_of}
@@ -38,18 +39,49 @@ module _ (c : Circuit) (part : Part) (flat : IsFlat c) (gates out : Span) (d : D
       ap (λ (h : ℕ). meaning s.nodes h v) (sym gate_is) ∙ st.reading d.gate.0 (device_ranges c part d flat member).gate in
       false≢true (sym (blocked s.nodes d.kind v) ∙ ap (λ (b : Bool). conducts_at d.kind b) reads ∙ conducts_d)
 
-  pub spreads_off : (level : ℕ) → Spreads c part gates out level (λ x. x ≡ d) false s s
-  spreads_off level = record {
+  pub spreads_off : (level : ℕ) (inside : Bool) → Spreads c part gates out level inside (λ x. x ≡ d) false s s
+  spreads_off level inside = record {
     grown = λ i lt v e. e;
     passed = λ x is v w st on. absurd (never_on x is v w st on);
     paths = λ v w st paths. paths;
     same = λ e. refl;
   }
 
-  pub spreads_value_off : (roots : Span) (value : Bool) → SpreadsValue c part gates roots out value (λ x. x ≡ d) false s s
-  spreads_value_off roots value = record {
+  pub spreads_value_off : (roots : Span) (value inside : Bool) → SpreadsValue c part gates roots out value inside (λ x. x ≡ d) false s s
+  spreads_value_off roots value inside = record {
     grown = λ i lt v e. e;
     passed = λ x is v w t st on. absurd (never_on x is v w st.stands on);
+    paths = λ v w t st paths. paths;
+    same = λ e. refl;
+  }
+
+-- both ends are in the part, so nothing comes from outside over the device
+module _ (c : Circuit) (part : Part) (is_part : IsPart c part) (gates out : Span) (d : Device) (member : Among (part_devices c part) d) (s : Diagrams)
+    (inside : Bool) (no_given : IsWithoutGivenEnd c d) (outer : inside ≡ false) where
+  in_part : (net : Net) → Among part.nets net ⊎ IsGiven c net.0 → (IsGiven c net.0 → ⊥) → IsOnSide part false net.0 → ⊥
+  in_part net (inl p) none away = away p.0 (net, p.1, refl)
+  in_part net (inr given) none away = none given
+
+  no_end : (x : Device) → x ≡ d → (m n : ℕ) → Joins x m n → IsOnSide part inside m → ⊥
+  no_end x is m n j side =
+      let away : IsOnSide part false m = subst (λ (b : Bool). IsOnSide part b m) outer side in
+      elim (subst (λ (y : Device). Joins y m n) is j) [
+        | inl q ↦ in_part d.left (is_part.left d member) no_given.0 (subst (IsOnSide part false) (sym q.0) away)
+        | inr q ↦ in_part d.right (is_part.right d member) no_given.1 (subst (IsOnSide part false) (sym q.1) away)
+      ]
+
+  pub spreads_idle : (level : ℕ) → Spreads c part gates out level inside (λ x. x ≡ d) false s s
+  spreads_idle level = record {
+    grown = λ i lt v e. e;
+    passed = λ x is v w st on le m n j side str. absurd (no_end x is m n j side);
+    paths = λ v w st paths. paths;
+    same = λ e. refl;
+  }
+
+  pub spreads_value_idle : (roots : Span) (value : Bool) → SpreadsValue c part gates roots out value inside (λ x. x ≡ d) false s s
+  spreads_value_idle roots value = record {
+    grown = λ i lt v e. e;
+    passed = λ x is v w t st on m n j fits side r. absurd (no_end x is m n j side);
     paths = λ v w t st paths. paths;
     same = λ e. refl;
   }
@@ -59,21 +91,20 @@ module _ (out : Span) (level : ℕ) (d : Diagrams) (i : ℕ) (full : word_at d o
   full_strong : (v : Valuation) → strong d out level i v ≡ true
   full_strong v = ap (λ (h : ℕ). meaning d.nodes h v) full ∙ meaning_one d.nodes v
 
-  pub passes_full : (kind : Kind) (gate : ℕ) (from : Option ℕ) → Passes out level kind gate from (Some i) false d d
-  passes_full kind gate from = record {
+  pub passes_full : (kind : Kind) (gate signal : ℕ) → Passes out level kind gate signal (Some i) false d d
+  passes_full kind gate signal = record {
     grown = λ j lt v e. e;
     passed = λ j is v on seen. subst (λ (x : ℕ). strong d out level x v ≡ true) (same_Some i j is) (full_strong v);
     only = λ j lt v e. inl e;
     same = λ e. refl;
   }
 
-module _ (out : Span) (level : ℕ) (d : Diagrams) (i : ℕ) where
+module _ (out : Span) (level : ℕ) (d : Diagrams) (to : Option ℕ) where
   -- nothing is passed on of the constant 0
-  pub passes_none : (kind : Kind) (gate signal : ℕ) (from : Option ℕ) → ((v : Valuation) → meaning d.nodes signal v ≡ strong_end d out level from v) → signal ≡ 0
-      → Passes out level kind gate from (Some i) false d d
-  passes_none kind gate signal from shown none = record {
+  pub passes_none : (kind : Kind) (gate signal : ℕ) → signal ≡ 0 → Passes out level kind gate signal to false d d
+  passes_none kind gate signal none = record {
     grown = λ j lt v e. e;
-    passed = λ j is v on seen. absurd (false≢true (sym (meaning_zero d.nodes v) ∙ sym (ap (λ (h : ℕ). meaning d.nodes h v) none) ∙ shown v ∙ seen));
+    passed = λ j is v on seen. absurd (false≢true (sym (ap (λ (h : ℕ). meaning d.nodes h v) none ∙ meaning_zero d.nodes v) ∙ seen));
     only = λ j lt v e. inl e;
     same = λ e. refl;
   }

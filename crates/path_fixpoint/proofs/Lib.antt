@@ -2,6 +2,7 @@ pub mod Counts
 pub mod Fitting
 pub mod HoldPlaces
 pub mod Idle
+pub mod Offered
 pub mod Opened
 pub mod Passing
 pub mod Places

@@ -22,7 +22,7 @@ use Rattle.path_fixpoint.specs.Passed.{IsWider, gated}
 use Rattle.path_fixpoint.specs.Strengths.{HasPaths, HasWords, IsStrong, Passes, strong, strong_end, word_of}
 use Rattle.bdd_core.specs.Words.{IsFilled, Writes, word_at}
 use Rattle.bdd_core.proofs.Frames.{shows_kept, adds_words, writes_added}
-use Rattle.path_fixpoint.proofs.Places.{place_once, place_word, words_differ}
+use Rattle.path_fixpoint.proofs.Places.{EndIs, place_once, place_word, words_differ}
 
 -- a p-device conducts where its gate is 0
 pub blocked_choice : (a b : Bool) → cond a false b ≡ (not a && b)
@@ -30,9 +30,8 @@ blocked_choice true b = refl
 blocked_choice false b = refl
 
 -- a word that shows a signal too, and the signal that a device passes on
-module _ (out : Span) (level : ℕ) (kind : Kind) (gate : ℕ) (from : Option ℕ) (i : ℕ) (old mid new : Diagrams) (signal passed : H) (changed : Bool)
-    (signal_is : (v : Valuation) → meaning old.nodes signal.0 v ≡ strong_end old out level from v)
-    (made : Makes old mid (gated kind (meaning old.nodes gate) (meaning old.nodes signal.0)) (Ok passed))
+module _ (out : Span) (level : ℕ) (kind : Kind) (gate signal : ℕ) (i : ℕ) (old mid new : Diagrams) (passed : H) (changed : Bool)
+    (made : Makes old mid (gated kind (meaning old.nodes gate) (meaning old.nodes signal)) (Ok passed))
     (live : IsFilled old out)
     (wider : IsWider out (word_of level i) (meaning mid.nodes passed.0) changed mid new)
     (wrote : Writes out mid new)
@@ -45,28 +44,27 @@ module _ (out : Span) (level : ℕ) (kind : Kind) (gate : ℕ) (from : Option �
   before j lt v = shows_kept out out old mid (word_of level j) v made_writes
       (ap (λ (ws : List ℕ). get_or ws (out.start + word_of level j) 0) (adds_words old mid old.words made.adds)) (live (word_of level j) lt)
 
-  here : (v : Valuation) → strong new out level i v ≡ (strong old out level i v || (conducts_at kind (meaning old.nodes gate v) && strong_end old out level from v))
-  here v = wider.here v ∙ ap₂ (λ (a b : Bool). a || b) (before i inside v)
-      (made.ok.same v ∙ ap (λ (b : Bool). conducts_at kind (meaning old.nodes gate v) && b) (signal_is v))
+  here : (v : Valuation) → strong new out level i v ≡ (strong old out level i v || (conducts_at kind (meaning old.nodes gate v) && meaning old.nodes signal v))
+  here v = wider.here v ∙ ap₂ (λ (a b : Bool). a || b) (before i inside v) (made.ok.same v)
 
   other : (j : ℕ) → word_of level j < out.len → j ≢ i → (v : Valuation) → strong new out level j v ≡ strong old out level j v
   other j lt ne v = shows_kept out out mid new (word_of level j) v wrote (apart (word_of level j) (λ e. ne (words_differ level j i e))) (made_writes.live (word_of level j) lt) ∙ before j lt v
 
-  pub passes_from : Passes out level kind gate from (Some i) changed old new
+  pub passes_from : Passes out level kind gate signal (Some i) changed old new
   passes_from = record {
     grown = λ j lt v e. elim (cases_eq j i) [
       | inl is ↦ subst (λ (x : ℕ). strong new out level x v ≡ true) (sym is)
-          (here v ∙ or_left (strong old out level i v) (conducts_at kind (meaning old.nodes gate v) && strong_end old out level from v) (subst (λ (x : ℕ). strong old out level x v ≡ true) is e))
+          (here v ∙ or_left (strong old out level i v) (conducts_at kind (meaning old.nodes gate v) && meaning old.nodes signal v) (subst (λ (x : ℕ). strong old out level x v ≡ true) is e))
       | inr ne ↦ other j lt ne v ∙ e
     ];
     passed = λ j is v on seen. subst (λ (x : ℕ). strong new out level x v ≡ true) (same_Some i j is)
-        (here v ∙ or_right (strong old out level i v) (conducts_at kind (meaning old.nodes gate v) && strong_end old out level from v)
-        (and_from (conducts_at kind (meaning old.nodes gate v)) (strong_end old out level from v) on seen));
+        (here v ∙ or_right (strong old out level i v) (conducts_at kind (meaning old.nodes gate v) && meaning old.nodes signal v)
+        (and_from (conducts_at kind (meaning old.nodes gate v)) (meaning old.nodes signal v) on seen));
     only = λ j lt v e. elim (cases_eq j i) [
-      | inl is ↦ elim (or_cases (strong old out level i v) (conducts_at kind (meaning old.nodes gate v) && strong_end old out level from v)
+      | inl is ↦ elim (or_cases (strong old out level i v) (conducts_at kind (meaning old.nodes gate v) && meaning old.nodes signal v)
           (sym (here v) ∙ subst (λ (x : ℕ). strong new out level x v ≡ true) is e)) [
             | inl was ↦ inl (subst (λ (x : ℕ). strong old out level x v ≡ true) (sym is) was)
-            | inr new' ↦ let parts = and_parts (conducts_at kind (meaning old.nodes gate v)) (strong_end old out level from v) new' in inr (ap Some (sym is), parts.0, parts.1)
+            | inr new' ↦ let parts = and_parts (conducts_at kind (meaning old.nodes gate v)) (meaning old.nodes signal v) new' in inr (ap Some (sym is), parts.0, parts.1)
           ]
       | inr ne ↦ inl (sym (other j lt ne v) ∙ e)
     ];
@@ -76,47 +74,40 @@ module _ (out : Span) (level : ℕ) (kind : Kind) (gate : ℕ) (from : Option �
 none-some : {X : Type 0} (x : X) → None ≡ Some x → ⊥
 none-some x e = cc e
 
--- where a net stands in a part
-pub record EndIs (part : Part) (place : Option ℕ) (n : ℕ) : Type 0 where
-  pub some : IfSome place (λ i. IsPlace part i n)
-  pub none : IsNone place → (i : ℕ) → IsPlace part i n → ⊥
-
-end_strong : (part : Part) (out : Span) (level : ℕ) (d : Diagrams) (v : Valuation) (place : Option ℕ) (n : ℕ) → EndIs part place n → IsStrong part out level d v n → strong_end d out level place v ≡ true
-end_strong part out level d v (Some i) n e s = s i e.some
-end_strong part out level d v None n e s = refl
-
 -- one direction, from the net m to the net n
 module _ (c : Circuit) (part : Part) (is_part : IsPart c part) (gates out : Span) (level : ℕ) (low : 1 ≤ level) (high : level ≤ 8)
-    (kind : Kind) (gate : ℕ) (changed : Bool) (m n : ℕ) where
-  pub over : (from to : Option ℕ) (old new : Diagrams) → EndIs part from m → EndIs part to n → Passes out level kind gate from to changed old new
-      → (v : Valuation) → conducts_at kind (meaning old.nodes gate v) ≡ true → IsStrong part out level old v m → IsStrong part out level new v n
-  over from None old new e f p v on s = λ j q. absurd (f.none refl j q)
-  over from (Some i) old new e f p v on s = λ j q.
-      subst (λ (x : ℕ). strong new out level x v ≡ true) (is_part.once i j n f.some q)
-      (p.passed i refl v on (end_strong part out level old v from m e s))
-
-  -- the end of a channel that is marked is the end of a path
-  end_path : (from : Option ℕ) (d : Diagrams) (v : Valuation) (w : Network) → EndIs part from m → (from ≡ None → AtLeast w level m) → HasPaths part out level d v w
-      → strong_end d out level from v ≡ true → AtLeast w level m
-  end_path (Some i) d v w e given paths s = paths i m e.some s
-  end_path None d v w e given paths s = given refl
+    (kind : Kind) (gate signal : ℕ) (changed : Bool) (m n : ℕ) where
+  pub over : (to : Option ℕ) (old new : Diagrams) → EndIs part to n → Passes out level kind gate signal to changed old new
+      → (v : Valuation) → conducts_at kind (meaning old.nodes gate v) ≡ true → meaning old.nodes signal v ≡ true → IsStrong part out level new v n
+  over None old new f p v on s = λ j q. absurd (f.none refl j q)
+  over (Some i) old new f p v on s = λ j q. subst (λ (x : ℕ). strong new out level x v ≡ true) (is_part.once i j n f.some q) (p.passed i refl v on s)
 
   placed : (to : Option ℕ) (j : ℕ) → EndIs part to n → to ≡ Some j → IsPlace part j n
   placed (Some i) j f e = subst (λ (x : ℕ). IsPlace part x n) (same_Some i j e) f.some
   placed None j f e = absurd (none-some j e)
 
-  pub over_paths : (from to : Option ℕ) (old new : Diagrams) (d : Device) (w : Network) (v : Valuation) → HasWords c part gates out old → EndIs part from m → EndIs part to n
-      → Passes out level kind gate from to changed old new
-      → (from ≡ None → AtLeast w level m) → Among w.devices d → (conducts_at kind (meaning old.nodes gate v) ≡ true → conducts w.reading d ≡ true) → level ≤ d.level → Joins d m n
+  pub over_paths : (to : Option ℕ) (old new : Diagrams) (d : Device) (w : Network) (v : Valuation) → HasWords c part gates out old → EndIs part to n
+      → Passes out level kind gate signal to changed old new
+      → (meaning old.nodes signal v ≡ true → AtLeast w level m) → Among w.devices d → (conducts_at kind (meaning old.nodes gate v) ≡ true → conducts w.reading d ≡ true) → level ≤ d.level → Joins d m n
       → HasPaths part out level old v w → HasPaths part out level new v w
-  over_paths from to old new d w v words e f p given there on le joins paths j k q s =
+  over_paths to old new d w v words f p from there on le joins paths j k q s =
       elim (p.only j (place_word c part gates out old level j k words low high q) v s) [
         | inl was ↦ paths j k q was
         | inr added ↦
-            let at = end_path from old v w e given paths added.2 in
             subst (AtLeast w level) (place_once part j n k (placed to j f added.0) q)
-            (arrives_on w (RootHas level) (HopHas level) m n d at (there, on added.1) joins le)
+            (arrives_on w (RootHas level) (HopHas level) m n d (from added.2) (there, on added.1) joins le)
       ]
+
+-- what stands at the end of a channel, where it is on the side that is asked: at a marked net the mark, and where the mark is seen a path ends
+module _ (part : Part) (out : Span) (level : ℕ) (inside : Bool) (d : Diagrams) (v : Valuation) where
+  pub end_marked : (place : Option ℕ) (n : ℕ) → EndIs part place n → IsStrong part out level d v n → strong_end d out level place v ≡ true
+  end_marked (Some i) n e s = s i e.some
+  end_marked None n e s = refl
+
+  pub end_path : (w : Network) (place : Option ℕ) (n : ℕ) → EndIs part place n → (place ≡ None → AtLeast w level n) → HasPaths part out level d v w
+      → strong_end d out level place v ≡ true → AtLeast w level n
+  end_path w (Some i) n e given paths s = paths i n e.some s
+  end_path w None n e given paths s = given refl
 
 -- a net outside the part has a given value, so a path of the source level
 pub given_path : (c : Circuit) (w : Network) (level n : ℕ) → w.nets ≡ c.nets → w.source ≡ 8 → level ≤ 8 → IsGiven c n → AtLeast w level n

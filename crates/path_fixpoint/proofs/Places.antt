@@ -1,14 +1,37 @@
 -- The places of a part, and their words.
-use Rattle.std.proofs.Common.{◌≡◌, ℕ, ◌+◌, ◌*◌, ◌<◌, ◌≤◌, length, Option, Some, None, arith, ap, sym, ◌∙◌}
-use Rattle.std.specs.Prelude.{IfSome}
+use Rattle.std.proofs.Common.{◌≡◌, ℕ, ◌+◌, ◌*◌, ◌<◌, ◌≤◌, ◌⊎◌, ◌==◌, Bool, true, false, length, Option, Some, None, arith, ap, refl, sym, ◌∙◌, inl, inr}
+use Rattle.std.specs.Prelude.{IfSome, IsNone}
+use Rattle.std.specs.List.{list_any}
+use Rattle.std.proofs.lemmas.Bool.{cases_Bool, eq-eqb, eqb-true, false≢true}
 use Rattle.std.proofs.lemmas.Option.{same_Some, slice_get_within}
 use Rattle.node_pool.specs.declared.region.Span.{Span}
 use Rattle.bdd_core.specs.Store.{Diagrams}
+use Rattle.vrt_model.proofs.Members.{among_any, any_among}
 use Rattle.vrt_model.specs.declared.circuit.Circuit.{Circuit}
 use Rattle.vrt_model.specs.declared.ids.Net.{Net}
 use Rattle.channel_parts.specs.declared.part.Part.{Part}
-use Rattle.path_fixpoint.specs.Parts.{IsPlace}
+use Rattle.path_fixpoint.specs.Parts.{IsOnSide, IsPlace, is_on_side}
 use Rattle.path_fixpoint.specs.Strengths.{HasWords, word_of}
+
+-- where a net stands in a part
+pub record EndIs (part : Part) (place : Option ℕ) (n : ℕ) : Type 0 where
+  pub some : IfSome place (λ i. IsPlace part i n)
+  pub none : IsNone place → (i : ℕ) → IsPlace part i n → ⊥
+
+-- a net is in the part or outside it
+pub on_a_side : (part : Part) (n : ℕ) → IsOnSide part true n ⊎ IsOnSide part false n
+on_a_side part n =
+    elim (cases_Bool (list_any (λ (net : Net). net.0 == n) part.nets)) [
+      | inl there ↦ let found = any_among (λ (net : Net). net.0 == n) part.nets there in inl (found.1.0, (found.0, found.1.1, eqb-true found.0.0 n found.2))
+      | inr none ↦ inr (λ i p. false≢true (sym none ∙ among_any (λ (net : Net). net.0 == n) part.nets p.0 (i, p.1) (eq-eqb p.0.0 n p.2)))
+    ]
+
+-- the place of a net tells on which side it is
+pub side_of : (part : Part) (inside : Bool) (place : Option ℕ) (n : ℕ) → EndIs part place n → IsOnSide part inside n → is_on_side inside place ≡ true
+side_of part true (Some i) n e side = refl
+side_of part true None n e side = absurd (e.none refl side.0 side.1)
+side_of part false (Some i) n e side = absurd (side i e.some)
+side_of part false None n e side = refl
 
 pub place_in : (part : Part) (i n : ℕ) → IsPlace part i n → i < length part.nets
 place_in part i n p = slice_get_within part.nets i p.0 p.1

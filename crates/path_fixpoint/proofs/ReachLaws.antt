@@ -1,6 +1,6 @@
 -- Rounds of one value, taken at each valuation by itself: they end where the marks are at exactly the nets that the value
 -- reaches.
-use Rattle.std.proofs.Common.{◌≡◌, ℕ, ◌+◌, ◌<◌, ◌≤◌, ◌⊎◌, min, Bool, true, false, not, List, length, Option, Some, None, get_or, arith, ap, refl, sym, subst, ◌∙◌, inl, inr}
+use Rattle.std.proofs.Common.{◌≡◌, ℕ, ◌+◌, ◌<◌, ◌≤◌, ◌⊎◌, min, ◌&&◌, Bool, true, false, not, List, length, Option, Some, None, get_or, arith, ap, refl, sym, subst, ◌∙◌, inl, inr}
 use Rattle.std.specs.Prelude.{◌↔◌}
 use Rattle.std.proofs.lemmas.Bool.{cases_lt, false≢true}
 use Rattle.std.proofs.lemmas.Option.{same_Some}
@@ -23,14 +23,14 @@ use Rattle.vrt_model.specs.declared.circuit.FlatNet.{FlatNet}
 use Rattle.vrt_model.specs.declared.circuit.Hold.{Hold}
 use Rattle.vrt_model.specs.declared.whole.WholePin.{WholePin}
 use Rattle.channel_parts.specs.declared.part.Part.{Part}
-use Rattle.path_fixpoint.specs.Parts.{IsGiven, IsPart, IsPlace, part_devices}
-use Rattle.path_fixpoint.specs.Reaching.{FitsAt, HasReach, HasReachPaths, HasReachPassed, HasReachRoots, HasRootWords, IsReached, PassesSignal, SolvedAt, reached_end, slot_of}
+use Rattle.path_fixpoint.specs.Parts.{IsGiven, IsPart, IsPlace, is_on_side, part_devices}
+use Rattle.path_fixpoint.specs.Reaching.{FitsAt, HasReach, HasReachPaths, HasReachPassed, HasReachRoots, HasRootWords, IsReached, PassesSignal, SolvedAt, offered_end, reached_end, slot_of}
 use Rattle.path_fixpoint.specs.Strengths.{ChangesLevel, StandsAt, StrongGrows, strong, strong_end, word_of}
 use Rattle.bdd_core.specs.Words.{Writes, shows}
-use Rattle.path_fixpoint.proofs.Counts.{count, count_all, same_or_more}
+use Rattle.path_fixpoint.proofs.Counts.{count, count_all, none_counted, same_or_more}
 use Rattle.bdd_core.proofs.Frames.{filled_beside, shows_beside, shows_kept, span_written}
-use Rattle.path_fixpoint.proofs.Passing.{EndIs, given_path}
-use Rattle.path_fixpoint.proofs.Places.{place_in, place_once}
+use Rattle.path_fixpoint.proofs.Passing.{given_path}
+use Rattle.path_fixpoint.proofs.Places.{EndIs, on_a_side, place_in, place_once}
 use Rattle.path_fixpoint.proofs.RoundLaws.{level_stays, stands_kept, words_kept}
 use Rattle.path_fixpoint.proofs.Spreading.{device_ranges}
 use Rattle.vrt_model.specs.Networks.{HasLevels}
@@ -110,6 +110,10 @@ module _ (c : Circuit) (part : Part) (is_part : IsPart c part) (flat : IsFlat c)
   end_kept old new v None n words wr same is lt =
       ap (λ (b : Bool). differ (not value) b) (shows_beside out roots old new n v wr words.roots_apart words.roots_live (omega (arith, lt, words.roots_len)))
 
+  pub offered_kept : (old new : Diagrams) (v : Valuation) (inside : Bool) (o : Option ℕ) (n : ℕ) → HasRootWords c part gates roots out old → Writes out old new → new.words ≡ old.words
+      → EndIs part o n → n < length c.nets → offered_end new roots out value inside o n v ≡ offered_end old roots out value inside o n v
+  offered_kept old new v inside o n words wr same is lt = ap (λ (b : Bool). is_on_side inside o && b) (end_kept old new v o n words wr same is lt)
+
   -- ---- where a device fits the strengths
 
   module _ (d : Diagrams) (v : Valuation) (w : Network) (s : ℕ → ℕ) (is : SolvedAt c part gates roots out d v w s) (dev : Device) (on : IsOn w dev)
@@ -154,20 +158,33 @@ module _ (c : Circuit) (part : Part) (is_part : IsPart c part) (flat : IsFlat c)
         let le = (there_says level low high).0 on' in
         (omega (arith, e, le), (end_says level from refl low high).1 (omega (arith, e, le)))
 
+  -- ---- the end of a channel
+
+  module _ (d : Diagrams) (v : Valuation) (w : Network) (s : ℕ → ℕ) (is : SolvedAt c part gates roots out d v w s) (m : ℕ) (from : Option ℕ) (from_is : EndIs part from m)
+      (outside : from ≡ None → IsGiven c m) (m_in : m < length c.nets) where
+    -- one that is marked shows the value
+    pub end_reached : (o : Option ℕ) → o ≡ from → IsReached c part out value d v w m → reached_end d roots out value o m v ≡ true
+    end_reached None e r =
+        (differ_same value (shows d roots m v)).1 (is.given m m_in ∙ r.1 ((subst (λ (o : Option ℕ). EndIs part o m) (sym e) from_is).none refl) (outside (sym e)))
+    end_reached (Some j) e r = r.0 j (subst (λ (o : Option ℕ). EndIs part o m) (sym e) from_is).some
+
+    -- one that shows the value is the end of a path
+    pub end_arrives : (o : Option ℕ) → o ≡ from → HasReachPaths part out value d v w s → reached_end d roots out value o m v ≡ true → Arrives w (RootFits s value) (HopFits s) m
+    end_arrives (Some j) e paths q = paths j m (subst (λ (o : Option ℕ). EndIs part o m) (sym e) from_is).some q
+    end_arrives None e paths q =
+        let given = outside (sym e) in
+        let root : Root = record { net = m; level = 8; value = w.given m } in
+        let at : At w.nets m given.0 = subst (λ (ns : List FlatNet). At ns m given.0) (sym is.stands.nets) given.1 in
+        let level : 8 ≡ s m = omega (arith, given_strength d v w m (s m) is.stands (is.strength m) given, strength_most d v w m (s m) is.stands (is.strength m)) in
+        arrives_root w (RootFits s value) (HopFits s) root (inl (given.0, at, given.2, sym is.stands.source, refl)) (level, sym (is.given m m_in) ∙ (differ_same value (shows d roots m v)).0 q)
+
   -- ---- one direction of a device
 
   module _ (old new : Diagrams) (words : HasRootWords c part gates roots out old) (dev : Device) (member : Among (part_devices c part) dev)
-      (m n gate signal : ℕ) (from to : Option ℕ) (from_is : EndIs part from m) (to_is : EndIs part to n) (outside : from ≡ None → IsGiven c m) (m_in : m < length c.nets)
-      (changed : Bool) (signal_is : (v : Valuation) → meaning old.nodes signal v ≡ reached_end old roots out value from m v)
-      (p : PassesSignal out value dev.kind gate signal from to dev.level changed old new) where
+      (m n gate signal : ℕ) (from to : Option ℕ) (from_is : EndIs part from m) (to_is : EndIs part to n) (outside : from ≡ None → IsGiven c m)
+      (changed : Bool) (p : PassesSignal out value dev.kind gate signal from to dev.level changed old new) where
     module _ (v : Valuation) (w : Network) (s : ℕ → ℕ) (is : SolvedAt c part gates roots out old v w s) (joins : Joins dev m n) (there : Among w.devices dev)
         (gate_is : conducts_at dev.kind (meaning old.nodes gate v) ≡ conducts w.reading dev) where
-      -- the end of a channel that is marked shows the value
-      end_reached : (o : Option ℕ) → o ≡ from → IsReached c part out value old v w m → reached_end old roots out value o m v ≡ true
-      end_reached None e r =
-          (differ_same value (shows old roots m v)).1 (is.given m m_in ∙ r.1 ((subst (λ (o : Option ℕ). EndIs part o m) (sym e) from_is).none refl) (outside (sym e)))
-      end_reached (Some j) e r = r.0 j (subst (λ (o : Option ℕ). EndIs part o m) (sym e) from_is).some
-
       placed : (o : Option ℕ) → o ≡ to → (i : ℕ) → IsPlace part i n → to ≡ Some i
       placed None e i q = absurd ((subst (λ (o : Option ℕ). EndIs part o n) (sym e) to_is).none refl i q)
       placed (Some j) e i q = sym e ∙ ap Some (is_part.once j i n (subst (λ (o : Option ℕ). EndIs part o n) (sym e) to_is).some q)
@@ -176,31 +193,21 @@ module _ (c : Circuit) (part : Part) (is_part : IsPart c part) (flat : IsFlat c)
       place_of None e i q = absurd (cc (e, q))
       place_of (Some j) e i q = subst (λ (x : ℕ). IsPlace part x n) (same_Some j i (e ∙ q)) (subst (λ (o : Option ℕ). EndIs part o n) (sym e) to_is).some
 
-      pub over_value : conducts w.reading dev ≡ true → HopFits s m dev n → IsReached c part out value old v w m → IsReached c part out value new v w n
-      over_value on fits r = (
-        λ i q. p.passed i (placed to refl i q) v (gate_is ∙ on) (signal_is v ∙ end_reached from refl r) (hop_fits old v w s is dev (there, on) m n joins from i from_is outside q fits),
+      pub over_value : conducts w.reading dev ≡ true → HopFits s m dev n → meaning old.nodes signal v ≡ true → IsReached c part out value new v w n
+      over_value on fits seen = (
+        λ i q. p.passed i (placed to refl i q) v (gate_is ∙ on) seen (hop_fits old v w s is dev (there, on) m n joins from i from_is outside q fits),
         λ none given. absurd (omega (arith, fits, given_strength old v w n (s n) is.stands (is.strength n) given, (device_ranges c part dev flat member).level.1)),
       )
 
-      -- the end of a channel that shows the value is the end of a path
-      end_arrives : (o : Option ℕ) → o ≡ from → HasReachPaths part out value old v w s → reached_end old roots out value o m v ≡ true → Arrives w (RootFits s value) (HopFits s) m
-      end_arrives (Some j) e paths q = paths j m (subst (λ (o : Option ℕ). EndIs part o m) (sym e) from_is).some q
-      end_arrives None e paths q =
-          let given = outside (sym e) in
-          let root : Root = record { net = m; level = 8; value = w.given m } in
-          let at : At w.nets m given.0 = subst (λ (ns : List FlatNet). At ns m given.0) (sym is.stands.nets) given.1 in
-          let level : 8 ≡ s m = omega (arith, given_strength old v w m (s m) is.stands (is.strength m) given, strength_most old v w m (s m) is.stands (is.strength m)) in
-          arrives_root w (RootFits s value) (HopFits s) root (inl (given.0, at, given.2, sym is.stands.source, refl)) (level, sym (is.given m m_in) ∙ (differ_same value (shows old roots m v)).0 q)
-
-      pub over_value_paths : HasReachPaths part out value old v w s → HasReachPaths part out value new v w s
-      over_value_paths paths i k q e =
+      pub over_value_paths : (meaning old.nodes signal v ≡ true → Arrives w (RootFits s value) (HopFits s) m) → HasReachPaths part out value old v w s → HasReachPaths part out value new v w s
+      over_value_paths arrives paths i k q e =
           elim (p.only i (slot_place old i k words q) v e) [
             | inl was ↦ paths i k q was
             | inr added ↦
                 let here : IsPlace part i n = place_of to refl i added.0 in
                 let on : conducts w.reading dev ≡ true = sym gate_is ∙ added.1 in
                 subst (Arrives w (RootFits s value) (HopFits s)) (place_once part i n k here q)
-                (arrives_on w (RootFits s value) (HopFits s) m n dev (end_arrives from refl paths (sym (signal_is v) ∙ added.2)) (there, on) joins
+                (arrives_on w (RootFits s value) (HopFits s) m n dev (arrives added.2) (there, on) joins
                 (fits_hop old v w s is dev (there, on) m n joins from i from_is outside here added.3))
           ]
 
@@ -213,12 +220,29 @@ module _ (c : Circuit) (part : Part) (is_part : IsPart c part) (flat : IsFlat c)
       → IsReached c part out value old v w n → IsReached c part out value new v w n
   reached_grown old new v w n words grown r = (λ i p. grown i (slot_place old i n words p) v (r.0 i p), r.1)
 
-  pub reach_closed : (d : Diagrams) (v : Valuation) (w : Network) (s : ℕ → ℕ) → w.devices ≡ part_devices c part → HasReachRoots c part out value d v w s
-      → ((dev : Device) → Among (part_devices c part) dev → HasReachPassed c part out value dev d d v w s) → HasAllReached d v w s
-  reach_closed d v w s devices rooted passed n r =
+  -- what devices pass on from outside the part is marked
+  abbrev pub IsReachEntered : Diagrams → Valuation → Network → (ℕ → ℕ) → Type 0
+  IsReachEntered d v w s = (dev : Device) → Among (part_devices c part) dev → HasReachPassed c part out value false dev d d v w s
+
+  pub reach_closed : (d : Diagrams) (v : Valuation) (w : Network) (s : ℕ → ℕ) → w.devices ≡ part_devices c part → HasReachRoots c part out value d v w s → IsReachEntered d v w s
+      → ((dev : Device) → Among (part_devices c part) dev → HasReachPassed c part out value true dev d d v w s) → HasAllReached d v w s
+  reach_closed d v w s devices rooted entered passed n r =
       subst (IsReached c part out value d v w) r.4
       (closed_end w (RootFits s value) (HopFits s) (IsReached c part out value d v w) rooted
-      (λ m k dev on j fits q. passed dev (subst (λ (ds : List Device). Among ds dev) devices on.0) on m k j fits q) r.0 r.1 r.2 r.3)
+      (λ m k dev on j fits q.
+      let among = subst (λ (ds : List Device). Among ds dev) devices on.0 in
+      elim (on_a_side part m) [ inl here ↦ passed dev among on m k j fits here q | inr away ↦ entered dev among on m k j fits away q ]) r.0 r.1 r.2 r.3)
+
+  -- what was passed on from outside stays, since no mark stands there
+  pub reach_entered : (old new : Diagrams) (v : Valuation) (w : Network) (s : ℕ → ℕ) → HasRootWords c part gates roots out old → StrongGrows out (slot_of value) old new
+      → ((dev : Device) → Among (part_devices c part) dev → HasReachPassed c part out value false dev old old v w s ⊎ HasReachPassed c part out value false dev old new v w s)
+      → IsReachEntered new v w s
+  reach_entered old new v w s words grown passed dev among on m k j fits away q =
+      let before : IsReached c part out value old v w m = (λ i p. absurd (away i p), q.1) in
+      elim (passed dev among) [
+        | inl stays ↦ reached_grown old new v w k words grown (stays on m k j fits away before)
+        | inr got ↦ got on m k j fits away before
+      ]
 
   pub reach_from : (d : Diagrams) (v : Valuation) (w : Network) (s : ℕ → ℕ) → ((n : ℕ) → IsStrength w n (s n)) → HasReachPaths part out value d v w s → HasAllReached d v w s → HasReach part out value d v w
   reach_from d v w s strength paths all i n p = (λ e. arrives-reaches w s strength value n (paths i n p e), λ r. (all n (reaches-arrives w s strength value n r)).0 i p)
@@ -237,19 +261,33 @@ HasReachProgress c part out value rounds d v w s =
     ((n : ℕ) → Arrives w (RootFits s value) (HopFits s) n → IsReached c part out value d v w n) ⊎ (rounds ≤ count (λ i. strong d out (slot_of value) i v) (length part.nets))
 
 module _ (c : Circuit) (part : Part) (is_part : IsPart c part) (flat : IsFlat c) (gates roots out : Span) (value : Bool) where
+  -- where no net is marked, what comes from outside is all that there is
+  pub reach_first : (old new : Diagrams) (v : Valuation) (w : Network) (s : ℕ → ℕ) → HasRootWords c part gates roots out old → w.devices ≡ part_devices c part
+      → StrongGrows out (slot_of value) old new → HasReachRoots c part out value old v w s → IsReachEntered c part is_part flat gates roots out value new v w s
+      → HasReachProgress c part out value 1 new v w s
+  reach_first old new v w s words devices grown rooted entered =
+      elim (cases_lt 0 (count (λ i. strong new out (slot_of value) i v) (length part.nets))) [
+        | inl some ↦ inr (omega (arith, some))
+        | inr none ↦ inl (reach_closed c part is_part flat gates roots out value new v w s devices
+            (λ root r k. reached_grown c part is_part flat gates roots out value old new v w root.net words grown (rooted root r k)) entered
+            (λ dev among on m k j fits here q.
+            absurd (none_counted (λ i. strong new out (slot_of value) i v) (length part.nets) (omega (arith, none)) here.0 (place_in part here.0 m here.1) (q.0 here.0 here.1))))
+      ]
+
   pub reach_progress : (rounds : ℕ) (old new : Diagrams) (v : Valuation) (w : Network) (s : ℕ → ℕ) → HasRootWords c part gates roots out old → w.devices ≡ part_devices c part
-      → StrongGrows out (slot_of value) old new → ((dev : Device) → Among (part_devices c part) dev → HasReachPassed c part out value dev old new v w s)
+      → StrongGrows out (slot_of value) old new → IsReachEntered c part is_part flat gates roots out value old v w s
+      → ((dev : Device) → Among (part_devices c part) dev → HasReachPassed c part out value true dev old new v w s)
       → HasReachRoots c part out value old v w s → HasReachProgress c part out value rounds old v w s → HasReachProgress c part out value (rounds + 1) new v w s
-  reach_progress rounds old new v w s words devices grown passed rooted (inl all) =
+  reach_progress rounds old new v w s words devices grown entered passed rooted (inl all) =
       inl (λ n r. reached_grown c part is_part flat gates roots out value old new v w n words grown (all n r))
-  reach_progress rounds old new v w s words devices grown passed rooted (inr le) =
+  reach_progress rounds old new v w s words devices grown entered passed rooted (inr le) =
       elim (same_or_more (λ i. strong old out (slot_of value) i v) (λ i. strong new out (slot_of value) i v) (length part.nets)
       (λ i lt. grown i (slot_in c part is_part flat gates roots out value old i words lt) v)) [
         | inr more ↦ inr (omega (arith, le, more))
         | inl same ↦
             inl (λ n r. reached_grown c part is_part flat gates roots out value old new v w n words grown
-            (reach_closed c part is_part flat gates roots out value old v w s devices rooted
-            (λ dev m on a b j fits q. let got = passed dev m on a b j fits q in (λ i p. same.0 i (place_in part i b p) (got.0 i p), got.1)) n r))
+            (reach_closed c part is_part flat gates roots out value old v w s devices rooted entered
+            (λ dev m on a b j fits here q. let got = passed dev m on a b j fits here q in (λ i p. same.0 i (place_in part i b p) (got.0 i p), got.1)) n r))
       ]
 
   -- where each net of the part is marked, as after as many rounds as the part has nets, the value reaches all of them

@@ -1,6 +1,7 @@
 -- Rounds of one level of strength, taken at each valuation by itself: they end where the marks are at exactly the nets at
 -- which a path of at least this level ends.
-use Rattle.std.proofs.Common.{◌≡◌, ◌≢◌, ℕ, ◌+◌, ◌<◌, ◌≤◌, ◌⊎◌, List, length, get_or, arith, ap, sym, subst, ◌∙◌, inl, inr}
+use Rattle.std.proofs.Common.{◌≡◌, ◌≢◌, ℕ, ◌+◌, ◌<◌, ◌≤◌, ◌⊎◌, true, false, List, length, get_or, arith, ap, sym, subst, ◌∙◌, inl, inr}
+use Rattle.std.proofs.lemmas.Bool.{cases_lt}
 use Rattle.node_pool.specs.declared.region.Span.{Span}
 use Rattle.bdd_core.specs.Diagram.{Valuation}
 use Rattle.bdd_core.specs.Store.{Diagrams}
@@ -14,9 +15,9 @@ use Rattle.channel_parts.specs.declared.part.Part.{Part}
 use Rattle.path_fixpoint.specs.Parts.{part_devices}
 use Rattle.path_fixpoint.specs.Strengths.{ChangesLevel, HasLevel, HasPassed, HasPaths, HasRoots, HasSpans, HasWords, IsStrong, StandsAt, StrongGrows, TellsStrengths, strong, word_of}
 use Rattle.bdd_core.specs.Words.{Writes}
-use Rattle.path_fixpoint.proofs.Counts.{count, count_all, same_or_more}
+use Rattle.path_fixpoint.proofs.Counts.{count, count_all, none_counted, same_or_more}
 use Rattle.bdd_core.proofs.Frames.{filled_beside, shows_beside, shows_kept, span_written}
-use Rattle.path_fixpoint.proofs.Places.{levels_differ, place_in, place_word, word_in}
+use Rattle.path_fixpoint.proofs.Places.{levels_differ, on_a_side, place_in, place_word, word_in}
 
 -- the marks are at all nets where a path of at least this level ends
 abbrev pub HasAll : Part → Span → ℕ → Diagrams → Valuation → Network → Type 0
@@ -25,6 +26,10 @@ HasAll part out level d v w = (n : ℕ) → AtLeast w level n → IsStrong part 
 -- at a valuation either all these marks are set, or at least one for each round
 abbrev pub HasProgress : Part → Span → ℕ → ℕ → Diagrams → Valuation → Network → Type 0
 HasProgress part out level rounds d v w = HasAll part out level d v w ⊎ (rounds ≤ count (λ i. strong d out level i v) (length part.nets))
+
+-- what devices pass on from outside the part is marked
+abbrev pub IsEntered : Circuit → Part → Span → ℕ → Diagrams → Valuation → Network → Type 0
+IsEntered c part out level d v w = (dev : Device) → Among (part_devices c part) dev → HasPassed part out level false dev d d v w
 
 module _ (c : Circuit) (part : Part) (gates out : Span) where
   pub words_kept : (old new : Diagrams) → HasWords c part gates out old → Writes out old new → HasWords c part gates out new
@@ -86,21 +91,42 @@ module _ (c : Circuit) (part : Part) (gates out : Span) where
         (words.out_live (word_of level i) (word_in c part gates out old level i words low high lt))
 
     pub closed_all : (d : Diagrams) (v : Valuation) (w : Network) → w.devices ≡ part_devices c part → HasRoots part out level d v w
-        → ((dev : Device) → Among (part_devices c part) dev → HasPassed part out level dev d d v w) → HasAll part out level d v w
-    closed_all d v w devices roots passed n r =
+        → IsEntered c part out level d v w → ((dev : Device) → Among (part_devices c part) dev → HasPassed part out level true dev d d v w) → HasAll part out level d v w
+    closed_all d v w devices roots entered passed n r =
         subst (IsStrong part out level d v) r.4
         (closed_end w (RootHas level) (HopHas level) (IsStrong part out level d v) roots
-        (λ m k dev on j le s. passed dev (subst (λ (ds : List Device). Among ds dev) devices on.0) on le m k j s) r.0 r.1 r.2 r.3)
+        (λ m k dev on j le s.
+        let among = subst (λ (ds : List Device). Among ds dev) devices on.0 in
+        elim (on_a_side part m) [ inl here ↦ passed dev among on le m k j here s | inr away ↦ entered dev among on le m k j away s ]) r.0 r.1 r.2 r.3)
+
+    -- what was passed on from outside stays, since no mark stands there
+    pub entered_more : (old new : Diagrams) (v : Valuation) (w : Network) → HasWords c part gates out old → StrongGrows out level old new
+        → ((dev : Device) → Among (part_devices c part) dev → HasPassed part out level false dev old old v w ⊎ HasPassed part out level false dev old new v w) → IsEntered c part out level new v w
+    entered_more old new v w words grown passed dev among on le m k j away s =
+        elim (passed dev among) [
+          | inl stays ↦ (λ i p. grown i (place_word c part gates out old level i k words low high p) v (stays on le m k j away (λ x q. absurd (away x q)) i p))
+          | inr got ↦ got on le m k j away (λ x q. absurd (away x q))
+        ]
+
+    -- where no net is marked, what comes from outside is all that there is
+    pub progress_first : (old new : Diagrams) (v : Valuation) (w : Network) → HasWords c part gates out old → w.devices ≡ part_devices c part → StrongGrows out level old new
+        → HasRoots part out level old v w → IsEntered c part out level new v w → HasProgress part out level 1 new v w
+    progress_first old new v w words devices grown roots entered =
+        elim (cases_lt 0 (count (λ i. strong new out level i v) (length part.nets))) [
+          | inl some ↦ inr (omega (arith, some))
+          | inr none ↦ inl (closed_all new v w devices (roots_grown old new v w words grown roots) entered
+              (λ dev among on le m k j here s. absurd (none_counted (λ i. strong new out level i v) (length part.nets) (omega (arith, none)) here.0 (place_in part here.0 m here.1) (s here.0 here.1))))
+        ]
 
     pub progress_more : (rounds : ℕ) (old new : Diagrams) (v : Valuation) (w : Network) → HasWords c part gates out old → w.devices ≡ part_devices c part
-        → StrongGrows out level old new → ((dev : Device) → Among (part_devices c part) dev → HasPassed part out level dev old new v w)
+        → StrongGrows out level old new → IsEntered c part out level old v w → ((dev : Device) → Among (part_devices c part) dev → HasPassed part out level true dev old new v w)
         → HasRoots part out level old v w → HasProgress part out level rounds old v w → HasProgress part out level (rounds + 1) new v w
-    progress_more rounds old new v w words devices grown passed roots (inl all) = inl (λ n r i p. grown i (place_word c part gates out old level i n words low high p) v (all n r i p))
-    progress_more rounds old new v w words devices grown passed roots (inr le) =
+    progress_more rounds old new v w words devices grown entered passed roots (inl all) = inl (λ n r i p. grown i (place_word c part gates out old level i n words low high p) v (all n r i p))
+    progress_more rounds old new v w words devices grown entered passed roots (inr le) =
         elim (same_or_more (λ i. strong old out level i v) (λ i. strong new out level i v) (length part.nets) (λ i lt. grown i (word_in c part gates out old level i words low high lt) v)) [
           | inr more ↦ inr (omega (arith, le, more))
           | inl same ↦
-              let all : HasAll part out level old v w = closed_all old v w devices roots (λ dev m on le' a b j s i p. same.0 i (place_in part i b p) (passed dev m on le' a b j s i p)) in
+              let all : HasAll part out level old v w = closed_all old v w devices roots entered (λ dev m on le' a b j here s i p. same.0 i (place_in part i b p) (passed dev m on le' a b j here s i p)) in
               inl (λ n r i p. grown i (place_word c part gates out old level i n words low high p) v (all n r i p))
         ]
 

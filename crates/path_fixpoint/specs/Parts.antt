@@ -1,5 +1,5 @@
 -- What a channel-connected part is in its circuit.
-use Rattle.std.specs.Prelude.{◌≡◌, ℕ, ◌-◌, ◌<◌, ◌⊎◌, Bool, IsTrue, true, List, [], cond, length, slice_get, filter_map, All}
+use Rattle.std.specs.Prelude.{◌≡◌, ℕ, ◌-◌, ◌<◌, ◌⊎◌, Bool, IsTrue, true, false, not, List, [], Option, Some, None, cond, length, slice_get, filter_map, All}
 use Rattle.vrt_model.specs.Circuits.{IsFlat, IsNet}
 use Rattle.vrt_model.specs.Lists.{At, Among}
 use Rattle.vrt_model.specs.Reading.{is_given}
@@ -31,9 +31,23 @@ part_pins c part = []
 abbrev pub IsPlace : Part → ℕ → ℕ → Type 0
 IsPlace part i n = (net : Net) × At part.nets i net × (net.0 ≡ n)
 
+-- the net n is in the part, or outside it, as is asked
+abbrev pub IsOnSide : Part → Bool → ℕ → Type 0
+IsOnSide part true n = (i : ℕ) × IsPlace part i n
+IsOnSide part false n = (i : ℕ) → IsPlace part i n → ⊥
+
+-- whether the end of a channel, by its place in the part, is on the side that is asked
+abbrev pub is_on_side : Bool → Option ℕ → Bool
+is_on_side inside (Some i) = inside
+is_on_side inside None = not inside
+
 -- a supply, an input or a clock port
 abbrev pub IsGiven : Circuit → ℕ → Type 0
 IsGiven c n = (net : FlatNet) × At c.nets n net × (is_given net.kind ≡ true)
+
+-- neither end of a device's channel has a given value
+abbrev pub IsWithoutGivenEnd : Circuit → Device → Type 0
+IsWithoutGivenEnd c d = (IsGiven c d.left.0 → ⊥) × (IsGiven c d.right.0 → ⊥)
 
 -- a part of a circuit: a set of nets, and devices whose channel nets are among these or have given values
 pub record IsPart (c : Circuit) (part : Part) : Type 0 where

@@ -1,5 +1,5 @@
 -- What the words of a part say of the values that reach its nets.
-use Rattle.std.specs.Prelude.{◌≡◌, ℕ, ◌<◌, ◌≤◌, ◌⊎◌, ◌↔◌, ◌-◌, Bool, true, false, not, cond, length, Option, Some, None}
+use Rattle.std.specs.Prelude.{◌≡◌, ℕ, ◌<◌, ◌≤◌, ◌⊎◌, ◌↔◌, ◌-◌, ◌&&◌, Bool, true, false, not, cond, length, Option, Some, None}
 use Rattle.node_pool.specs.declared.region.Span.{Span}
 use Rattle.bdd_core.specs.Diagram.{Function, Valuation, meaning}
 use Rattle.bdd_core.specs.Store.{Diagrams, IsSpan}
@@ -15,7 +15,7 @@ use Rattle.vrt_model.specs.declared.circuit.Device.{Device}
 use Rattle.vrt_model.specs.declared.circuit.Hold.{Hold}
 use Rattle.vrt_model.specs.declared.design.Kind.{Kind}
 use Rattle.channel_parts.specs.declared.part.Part.{Part}
-use Rattle.path_fixpoint.specs.Parts.{IsGiven, IsPlace}
+use Rattle.path_fixpoint.specs.Parts.{IsGiven, IsOnSide, IsPlace, is_on_side}
 use Rattle.path_fixpoint.specs.Strengths.{HasLevel, HasWords, StandsAt, StrongGrows, net_words, strong, strong_end, word_of}
 use Rattle.bdd_core.specs.Words.{IsApart, IsFilled, shows}
 
@@ -31,6 +31,10 @@ bit_is value f = λ v. differ (not value) (f v)
 abbrev pub reached_end : Diagrams → Span → Span → Bool → Option ℕ → ℕ → Valuation → Bool
 reached_end d roots out value (Some i) n v = strong d out (slot_of value) i v
 reached_end d roots out value None n v = differ (not value) (shows d roots n v)
+
+-- the same where the end is on the side that is asked, in the part or outside it; on the other side nothing
+abbrev pub offered_end : Diagrams → Span → Span → Bool → Bool → Option ℕ → ℕ → Valuation → Bool
+offered_end d roots out value inside place n v = is_on_side inside place && reached_end d roots out value place n v
 
 -- the spans of the handles of the gates and the roots, one for each net, and of the words of a part
 pub record HasRootWords (c : Circuit) (part : Part) (gates roots out : Span) (d : Diagrams) : Type 0 where
@@ -65,10 +69,10 @@ HasReachPaths part out value d v w s = (i n : ℕ) → IsPlace part i n → stro
 abbrev pub HasReachRoots : Circuit → Part → Span → Bool → Diagrams → Valuation → Network → (ℕ → ℕ) → Type 0
 HasReachRoots c part out value d v w s = (root : Root) → IsRoot w root → RootFits s value root → IsReached c part out value d v w root.net
 
--- what a device passes on from the marks in `old` is marked in `new`
-abbrev pub HasReachPassed : Circuit → Part → Span → Bool → Device → Diagrams → Diagrams → Valuation → Network → (ℕ → ℕ) → Type 0
-HasReachPassed c part out value d old new v w s =
-    IsOn w d → (m n : ℕ) → Joins d m n → HopFits s m d n → IsReached c part out value old v w m → IsReached c part out value new v w n
+-- what a device passes on from the marks in `old` of nets on one side, in the part or outside it, is marked in `new`
+abbrev pub HasReachPassed : Circuit → Part → Span → Bool → Bool → Device → Diagrams → Diagrams → Valuation → Network → (ℕ → ℕ) → Type 0
+HasReachPassed c part out value inside d old new v w s =
+    IsOn w d → (m n : ℕ) → Joins d m n → HopFits s m d n → IsOnSide part inside m → IsReached c part out value old v w m → IsReached c part out value new v w n
 
 -- the marks are at exactly the nets that the value reaches
 abbrev pub HasReach : Part → Span → Bool → Diagrams → Valuation → Network → Type 0
@@ -84,9 +88,9 @@ pub record PassesSignal (out : Span) (value : Bool) (kind : Kind) (gate signal :
       ⊎ ((to ≡ Some i) × (conducts_at kind (meaning old.nodes gate v) ≡ true) × (meaning old.nodes signal v ≡ true) × FitsAt old out from i device v)
   pub same : changed ≡ false → new.words ≡ old.words
 
--- what a step over devices does to the marks of a value, whatever the valuation
-pub record SpreadsValue (c : Circuit) (part : Part) (gates roots out : Span) (value : Bool) (IsPassed : Device → Type 0) (changed : Bool) (old new : Diagrams) : Type 0 where
+-- what a step over devices does to the marks of a value, from nets on one side, whatever the valuation
+pub record SpreadsValue (c : Circuit) (part : Part) (gates roots out : Span) (value inside : Bool) (IsPassed : Device → Type 0) (changed : Bool) (old new : Diagrams) : Type 0 where
   pub grown : StrongGrows out (slot_of value) old new
-  pub passed : (d : Device) → IsPassed d → (v : Valuation) (w : Network) (s : ℕ → ℕ) → SolvedAt c part gates roots out old v w s → HasReachPassed c part out value d old new v w s
+  pub passed : (d : Device) → IsPassed d → (v : Valuation) (w : Network) (s : ℕ → ℕ) → SolvedAt c part gates roots out old v w s → HasReachPassed c part out value inside d old new v w s
   pub paths : (v : Valuation) (w : Network) (s : ℕ → ℕ) → SolvedAt c part gates roots out old v w s → HasReachPaths part out value old v w s → HasReachPaths part out value new v w s
   pub same : changed ≡ false → new.words ≡ old.words

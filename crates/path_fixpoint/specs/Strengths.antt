@@ -12,7 +12,7 @@ use Rattle.vrt_model.specs.declared.circuit.Circuit.{Circuit}
 use Rattle.vrt_model.specs.declared.circuit.Device.{Device}
 use Rattle.vrt_model.specs.declared.design.Kind.{Kind}
 use Rattle.channel_parts.specs.declared.part.Part.{Part}
-use Rattle.path_fixpoint.specs.Parts.{IsPlace, part_devices, part_pins}
+use Rattle.path_fixpoint.specs.Parts.{IsOnSide, IsPlace, part_devices, part_pins}
 use Rattle.bdd_core.specs.Words.{IsApart, IsFilled, shows, word_at}
 
 -- the words of a net of a part: whether its strength is at least each level from 1 to the source level, and whether 0 and 1 reach it
@@ -83,27 +83,27 @@ HasPaths part out level d v w = (i n : ℕ) → IsPlace part i n → strong d ou
 abbrev pub HasRoots : Part → Span → ℕ → Diagrams → Valuation → Network → Type 0
 HasRoots part out level d v w = (root : Root) → IsRoot w root → level ≤ root.level → IsStrong part out level d v root.net
 
--- what a device passes on from the marks in `old` is marked in `new`
-abbrev pub HasPassed : Part → Span → ℕ → Device → Diagrams → Diagrams → Valuation → Network → Type 0
-HasPassed part out level d old new v w =
-    IsOn w d → level ≤ d.level → (m n : ℕ) → Joins d m n → IsStrong part out level old v m → IsStrong part out level new v n
+-- what a device passes on from the marks in `old` of nets on one side, in the part or outside it, is marked in `new`
+abbrev pub HasPassed : Part → Span → ℕ → Bool → Device → Diagrams → Diagrams → Valuation → Network → Type 0
+HasPassed part out level inside d old new v w =
+    IsOn w d → level ≤ d.level → (m n : ℕ) → Joins d m n → IsOnSide part inside m → IsStrong part out level old v m → IsStrong part out level new v n
 
 -- the marks are at exactly the nets at which a path of at least this level ends
 abbrev pub HasLevel : Part → Span → ℕ → Diagrams → Valuation → Network → Type 0
 HasLevel part out level d v w = (i n : ℕ) → IsPlace part i n → (strong d out level i v ≡ true) ↔ AtLeast w level n
 
--- what one direction of a device with such a gate passes on, from one end of its channel to the other
-pub record Passes (out : Span) (level : ℕ) (kind : Kind) (gate : ℕ) (from to : Option ℕ) (changed : Bool) (old new : Diagrams) : Type 0 where
+-- what a device with such a gate passes on of a mark, to one end of its channel
+pub record Passes (out : Span) (level : ℕ) (kind : Kind) (gate signal : ℕ) (to : Option ℕ) (changed : Bool) (old new : Diagrams) : Type 0 where
   pub grown : StrongGrows out level old new
-  pub passed : (i : ℕ) → to ≡ Some i → (v : Valuation) → conducts_at kind (meaning old.nodes gate v) ≡ true → strong_end old out level from v ≡ true → strong new out level i v ≡ true
+  pub passed : (i : ℕ) → to ≡ Some i → (v : Valuation) → conducts_at kind (meaning old.nodes gate v) ≡ true → meaning old.nodes signal v ≡ true → strong new out level i v ≡ true
   pub only : (i : ℕ) → word_of level i < out.len → (v : Valuation) → strong new out level i v ≡ true
-      → (strong old out level i v ≡ true) ⊎ ((to ≡ Some i) × (conducts_at kind (meaning old.nodes gate v) ≡ true) × (strong_end old out level from v ≡ true))
+      → (strong old out level i v ≡ true) ⊎ ((to ≡ Some i) × (conducts_at kind (meaning old.nodes gate v) ≡ true) × (meaning old.nodes signal v ≡ true))
   pub same : changed ≡ false → new.words ≡ old.words
 
--- what a step over devices does to the marks of a level, whatever the valuation
-pub record Spreads (c : Circuit) (part : Part) (gates out : Span) (level : ℕ) (IsPassed : Device → Type 0) (changed : Bool) (old new : Diagrams) : Type 0 where
+-- what a step over devices does to the marks of a level, from nets on one side, whatever the valuation
+pub record Spreads (c : Circuit) (part : Part) (gates out : Span) (level : ℕ) (inside : Bool) (IsPassed : Device → Type 0) (changed : Bool) (old new : Diagrams) : Type 0 where
   pub grown : StrongGrows out level old new
-  pub passed : (d : Device) → IsPassed d → (v : Valuation) (w : Network) → StandsAt c part gates old v w → HasPassed part out level d old new v w
+  pub passed : (d : Device) → IsPassed d → (v : Valuation) (w : Network) → StandsAt c part gates old v w → HasPassed part out level inside d old new v w
   pub paths : (v : Valuation) (w : Network) → StandsAt c part gates old v w → HasPaths part out level old v w → HasPaths part out level new v w
   pub same : changed ≡ false → new.words ≡ old.words
 

@@ -8,7 +8,7 @@ ghost use Rattle.vrt_model.specs.Lists.{At};
 ghost use Rattle.vrt_model.specs.Path.{Network};
 ghost use Rattle.vrt_model.specs.declared.circuit.Hold.{Hold as HoldValue};
 ghost use Rattle.path_fixpoint.specs.Openings.{IsGivenAt, IsHoldAt, OnlyBy, TakesAbove, mark_of};
-ghost use Rattle.path_fixpoint.specs.Parts.{IsGiven, IsPart, IsPlace, Rises};
+ghost use Rattle.path_fixpoint.specs.Parts.{IsGiven, IsPart, IsPlace, IsWithoutGivenEnd, Rises};
 ghost use Rattle.path_fixpoint.specs.Strengths.{ChangesLevel, HasLevel, HasPaths, HasRoots, HasWords, StandsAt, word_of, HasMarks, net_words};
 ghost use Rattle.bdd_core.specs.Words.{IsFilled, Writes, word_at};
 ghost use Rattle.bdd_ops.specs.Counting.{IsSpanWithin};
@@ -18,7 +18,7 @@ use crate::Part;
 use crate::steps::{place, word};
 use bdd_core::{H, ONE, Store, ZERO};
 use node_pool::Span;
-use vrt_model::{Circuit, Net, NetKind};
+use vrt_model::{Circuit, Device, Net, NetKind};
 
 /// Writes a handle into a word.
 pub(crate) fn set(store: &mut Store, out: Span, at: u32, handle: H)
@@ -100,6 +100,27 @@ pub(crate) fn is_given(circuit: &Circuit, net: Net) -> bool
         NetKind::Plain => false,
         _ => true,
     }
+}
+
+/// Whether an end of a device's channel has a given value.
+fn has_given_end(circuit: &Circuit, device: &Device) -> bool
+    ensures { result ≡ false → IsWithoutGivenEnd circuit.now device.now }
+{
+    if is_given(circuit, device.left) {
+        return true;
+    }
+    is_given(circuit, device.right)
+}
+
+/// Whether it is seen at once that a device passes nothing on of the ends on the side that is asked: outside, where no end
+/// has a given value, so that both are in the part.
+pub(crate) fn is_idle(circuit: &Circuit, device: &Device, inside: bool) -> bool
+    ensures { result ≡ true → IsWithoutGivenEnd circuit.now device.now × (inside ≡ false) }
+{
+    if inside {
+        return false;
+    }
+    !has_given_end(circuit, device)
 }
 
 /// Marks the nets of the part that have given values.

@@ -14,8 +14,11 @@ ghost use Rattle.bdd_ops.specs.Counting.{IsSpanWithin};
 ghost use Rattle.path_fixpoint.specs.Spending.{Spends};
 
 use crate::Part;
-use crate::signals::{fitting, reached, slot};
-use crate::steps::{blocks, is_full, place, through, visited, widen, word};
+use crate::opening::is_idle;
+use crate::signals::{fitting, offers, slot};
+use crate::steps::{
+    blocks, is_behind_first, is_full, is_settled, place, through, visited, widen, word,
+};
 use bdd_core::{H, Spent, Store};
 use node_pool::Span;
 use vrt_model::{Circuit, Device, Kind};
@@ -63,7 +66,8 @@ fn pass(
     widen(store, out, at, fits)
 }
 
-/// Passes a value on over one device, in both directions, and says whether anything changed.
+/// Passes on over one device, in both directions, the marks of a value that its ends had before, of those ends that are in
+/// the part or of those outside it. Says whether anything changed. What one end gets is not passed back to it.
 fn visit(
     store: &mut Store,
     circuit: &Circuit,
@@ -74,13 +78,14 @@ fn visit(
     out: Span,
     device: &Device,
     value: bool,
+    inside: bool,
 ) -> Result<bool, Spent>
     requires part { IsPartOf circuit.now part.now rising }
     requires words { HasRootWords circuit.now part.now gates roots out store.old }
     requires device { Among (part_devices circuit.now part.now) device.now }
     ensures writes { Writes out store.old store.new }
     ensures apart { ChangesLevel out (slot_of value) store.old store.new }
-    ensures spreads { IfOk result (λ changed. SpreadsValue circuit.now part.now gates roots out value (λ d. d ≡ device.now) changed store.old store.new) }
+    ensures spreads { IfOk result (λ changed. SpreadsValue circuit.now part.now gates roots out value inside (λ d. d ≡ device.now) changed store.old store.new) }
     ensures few { (u : ℕ) → IsSpanWithin u store.old gates → IsSpanWithin u store.old roots → IsSpanWithin u store.old out → Spends u 38 out store.old store.new result }
 {
     store.sound();
@@ -88,18 +93,21 @@ fn visit(
     if blocks(device.kind, gate) {
         return Ok(false);
     }
+    if is_idle(circuit, device, inside) {
+        return Ok(false);
+    }
     let left = place(part, rising, device.left);
     let right = place(part, rising, device.right);
-    let there = match reached(store, roots, out, left, device.left, value) {
+    let there = match offers(store, roots, out, left, device.left, value, inside) {
         Ok(there) => there,
+        Err(spent) => return Err(spent),
+    };
+    let here = match offers(store, roots, out, right, device.right, value, inside) {
+        Ok(here) => here,
         Err(spent) => return Err(spent),
     };
     let forth = match pass(store, device, gate, there, out, left, right, value) {
         Ok(forth) => forth,
-        Err(spent) => return Err(spent),
-    };
-    let here = match reached(store, roots, out, right, device.right, value) {
-        Ok(here) => here,
         Err(spent) => return Err(spent),
     };
     let back = match pass(store, device, gate, here, out, right, left, value) {
@@ -109,7 +117,8 @@ fn visit(
     Ok(forth | back)
 }
 
-/// Goes over the devices of the part once, in place, forward or backward, and says whether anything changed.
+/// Goes over the devices of the part once, in place, forward or backward, passes on the marks of nets in the part or of
+/// those outside it, and says whether anything changed.
 fn round(
     store: &mut Store,
     circuit: &Circuit,
@@ -119,13 +128,14 @@ fn round(
     roots: Span,
     out: Span,
     value: bool,
+    inside: bool,
     forward: bool,
 ) -> Result<bool, Spent>
     requires part { IsPartOf circuit.now part.now rising }
     requires words { HasRootWords circuit.now part.now gates roots out store.old }
     ensures writes { Writes out store.old store.new }
     ensures apart { ChangesLevel out (slot_of value) store.old store.new }
-    ensures spreads { IfOk result (λ changed. SpreadsValue circuit.now part.now gates roots out value (Among (part_devices circuit.now part.now)) changed store.old store.new) }
+    ensures spreads { IfOk result (λ changed. SpreadsValue circuit.now part.now gates roots out value inside (Among (part_devices circuit.now part.now)) changed store.old store.new) }
     ensures few { (u : ℕ) → IsSpanWithin u store.old gates → IsSpanWithin u store.old roots → IsSpanWithin u store.old out → Spends u (length part.now.devices * 38) out store.old store.new result }
 {
     store.sound();
@@ -133,7 +143,7 @@ fn round(
     for step in 0..part.devices.len() {
         let device = visited(circuit, part, forward, step);
         let grew = match visit(
-            store, circuit, part, rising, gates, roots, out, device, value,
+            store, circuit, part, rising, gates, roots, out, device, value, inside,
         ) {
             Ok(grew) => grew,
             Err(spent) => return Err(spent),
@@ -143,8 +153,8 @@ fn round(
     Ok(changed)
 }
 
-/// Spreads the marks of a value in rounds, forward and backward by turns, until no word changes, in at most as many rounds
-/// as the part has nets.
+/// Spreads the marks of a value in at most as many rounds as the part has nets. The first one passes on what comes from
+/// outside, where no mark changes; those behind it go over the part, forward and backward by turns, until no word changes.
 pub(crate) fn settle(
     store: &mut Store,
     circuit: &Circuit,
@@ -163,15 +173,16 @@ pub(crate) fn settle(
     ensures few { (u : ℕ) → IsSpanWithin u store.old gates → IsSpanWithin u store.old roots → IsSpanWithin u store.old out → Spends u (length part.now.nets * (length part.now.devices * 38)) out store.old store.new result }
 {
     store.sound();
-    let mut forward = true;
-    'rounds: for _count in 0..part.nets.len() {
+    let mut forward = false;
+    'rounds: for count in 0..part.nets.len() {
+        let inside = is_behind_first(count);
         let changed = match round(
-            store, circuit, part, rising, gates, roots, out, value, forward,
+            store, circuit, part, rising, gates, roots, out, value, inside, forward,
         ) {
             Ok(changed) => changed,
             Err(spent) => return Err(spent),
         };
-        if !changed {
+        if is_settled(inside, changed) {
             return Ok(());
         }
         forward = !forward;

@@ -13,41 +13,44 @@ ghost use Rattle.bdd_ops.specs.Counting.{IsSpanWithin};
 ghost use Rattle.path_fixpoint.specs.Spending.{Spends};
 
 use crate::Part;
-use crate::steps::{blocks, is_full, place, strength, through, visited, widen, word};
+use crate::opening::is_idle;
+use crate::steps::{
+    blocks, is_behind_first, is_full, is_settled, offered, place, strength, through, visited,
+    widen, word,
+};
 use bdd_core::{H, Spent, Store};
 use node_pool::Span;
 use vrt_model::{Circuit, Device, Kind};
 
-/// Passes the marks of a level on over one device, in one direction, and says whether anything changed.
+/// Passes a mark of a level on over one device, to one end of its channel, and says whether anything changed.
 fn pass(
     store: &mut Store,
     kind: Kind,
     gate: H,
+    signal: H,
     out: Span,
-    from: Option<usize>,
     to: Option<usize>,
     level: u32,
 ) -> Result<bool, Spent>
     requires gate { IsLive store.old gate }
+    requires signal { IsLive store.old signal }
     requires out { IsSpan store.old out × IsFilled store.old out × (out.len < 2 ^ 32) }
     requires level { (1 ≤ level) × (level ≤ 8) }
-    requires from { IfSome from (λ i. net_words * i + net_words ≤ out.len) }
     requires to { IfSome to (λ i. net_words * i + net_words ≤ out.len) }
     ensures writes { Writes out store.old store.new }
     ensures apart { ChangesLevel out level store.old store.new }
-    ensures passes { IfOk result (λ changed. Passes out level kind gate.0 from to changed store.old store.new) }
-    ensures few { (u : ℕ) → IsSpanWithin u store.old out → IsWithin u (function_of store.old gate) → Spends u 2 out store.old store.new result }
+    ensures passes { IfOk result (λ changed. Passes out level kind gate.0 signal.0 to changed store.old store.new) }
+    ensures few { (u : ℕ) → IsSpanWithin u store.old out → IsWithin u (function_of store.old gate) → IsWithin u (function_of store.old signal) → Spends u 2 out store.old store.new result }
 {
     store.sound();
+    if signal.0 == 0 {
+        return Ok(false);
+    }
     let Some(to) = to else {
         return Ok(false);
     };
     let at = word(to, level);
     if is_full(store, out, at) {
-        return Ok(false);
-    }
-    let signal = strength(store, out, from, level);
-    if signal.0 == 0 {
         return Ok(false);
     }
     let passed = match through(store, kind, gate, signal) {
@@ -57,7 +60,8 @@ fn pass(
     widen(store, out, at, passed)
 }
 
-/// Passes the marks of a level on over one device, in both directions, and says whether anything changed.
+/// Passes on over one device, in both directions, the marks of a level that its ends had before, of those ends that are
+/// in the part or of those outside it. Says whether anything changed. What one end gets is not passed back to it.
 fn visit(
     store: &mut Store,
     circuit: &Circuit,
@@ -67,6 +71,7 @@ fn visit(
     out: Span,
     device: &Device,
     level: u32,
+    inside: bool,
 ) -> Result<bool, Spent>
     requires part { IsPartOf circuit.now part.now rising }
     requires words { HasWords circuit.now part.now gates out store.old }
@@ -74,7 +79,7 @@ fn visit(
     requires device { Among (part_devices circuit.now part.now) device.now }
     ensures writes { Writes out store.old store.new }
     ensures apart { ChangesLevel out level store.old store.new }
-    ensures spreads { IfOk result (λ changed. Spreads circuit.now part.now gates out level (λ d. d ≡ device.now) changed store.old store.new) }
+    ensures spreads { IfOk result (λ changed. Spreads circuit.now part.now gates out level inside (λ d. d ≡ device.now) changed store.old store.new) }
     ensures few { (u : ℕ) → IsSpanWithin u store.old gates → IsSpanWithin u store.old out → Spends u 4 out store.old store.new result }
 {
     store.sound();
@@ -85,20 +90,28 @@ fn visit(
     if blocks(device.kind, gate) {
         return Ok(false);
     }
+    if is_idle(circuit, device, inside) {
+        return Ok(false);
+    }
     let left = place(part, rising, device.left);
     let right = place(part, rising, device.right);
-    let forth = match pass(store, device.kind, gate, out, left, right, level) {
+    let left_mark = strength(store, out, left, level);
+    let right_mark = strength(store, out, right, level);
+    let there = offered(inside, left, left_mark);
+    let here = offered(inside, right, right_mark);
+    let forth = match pass(store, device.kind, gate, there, out, right, level) {
         Ok(forth) => forth,
         Err(spent) => return Err(spent),
     };
-    let back = match pass(store, device.kind, gate, out, right, left, level) {
+    let back = match pass(store, device.kind, gate, here, out, left, level) {
         Ok(back) => back,
         Err(spent) => return Err(spent),
     };
     Ok(forth | back)
 }
 
-/// Goes over the devices of the part once, in place, forward or backward, and says whether anything changed.
+/// Goes over the devices of the part once, in place, forward or backward, passes on the marks of nets in the part or of
+/// those outside it, and says whether anything changed.
 fn round(
     store: &mut Store,
     circuit: &Circuit,
@@ -107,6 +120,7 @@ fn round(
     gates: Span,
     out: Span,
     level: u32,
+    inside: bool,
     forward: bool,
 ) -> Result<bool, Spent>
     requires part { IsPartOf circuit.now part.now rising }
@@ -114,14 +128,16 @@ fn round(
     requires level { (1 ≤ level) × (level ≤ 8) }
     ensures writes { Writes out store.old store.new }
     ensures apart { ChangesLevel out level store.old store.new }
-    ensures spreads { IfOk result (λ changed. Spreads circuit.now part.now gates out level (Among (part_devices circuit.now part.now)) changed store.old store.new) }
+    ensures spreads { IfOk result (λ changed. Spreads circuit.now part.now gates out level inside (Among (part_devices circuit.now part.now)) changed store.old store.new) }
     ensures few { (u : ℕ) → IsSpanWithin u store.old gates → IsSpanWithin u store.old out → Spends u (length part.now.devices * 4) out store.old store.new result }
 {
     store.sound();
     let mut changed = false;
     for step in 0..part.devices.len() {
         let device = visited(circuit, part, forward, step);
-        let grew = match visit(store, circuit, part, rising, gates, out, device, level) {
+        let grew = match visit(
+            store, circuit, part, rising, gates, out, device, level, inside,
+        ) {
             Ok(grew) => grew,
             Err(spent) => return Err(spent),
         };
@@ -130,8 +146,8 @@ fn round(
     Ok(changed)
 }
 
-/// Spreads the marks of a level in rounds, forward and backward by turns, until no word changes, in at most as many rounds
-/// as the part has nets.
+/// Spreads the marks of a level in at most as many rounds as the part has nets. The first one passes on what comes from
+/// outside, where no mark changes; those behind it go over the part, forward and backward by turns, until no word changes.
 pub(crate) fn settle(
     store: &mut Store,
     circuit: &Circuit,
@@ -150,13 +166,16 @@ pub(crate) fn settle(
     ensures few { (u : ℕ) → IsSpanWithin u store.old gates → IsSpanWithin u store.old out → Spends u (length part.now.nets * (length part.now.devices * 4)) out store.old store.new result }
 {
     store.sound();
-    let mut forward = true;
-    'rounds: for _count in 0..part.nets.len() {
-        let changed = match round(store, circuit, part, rising, gates, out, level, forward) {
+    let mut forward = false;
+    'rounds: for count in 0..part.nets.len() {
+        let inside = is_behind_first(count);
+        let changed = match round(
+            store, circuit, part, rising, gates, out, level, inside, forward,
+        ) {
             Ok(changed) => changed,
             Err(spent) => return Err(spent),
         };
-        if !changed {
+        if is_settled(inside, changed) {
             return Ok(());
         }
         forward = !forward;

@@ -3,7 +3,7 @@
 ghost use Rattle.std.specs.Prelude.{◌≡◌, ◌≢◌, ℕ, ◌+◌, ◌*◌, ◌^◌, ◌<◌, ◌≤◌, ◌⊎◌, ◌↔◌, true, false, cond, length, List, IfOk, IfSome};
 ghost use Rattle.bdd_core.specs.Diagram.{IsWithin, Valuation, meaning};
 ghost use Rattle.bdd_core.specs.Store.{IsLive, IsSpan, Makes, function_of};
-ghost use Rattle.path_fixpoint.specs.Reaching.{FitsAt, bit_is, reached_end, slot_of};
+ghost use Rattle.path_fixpoint.specs.Reaching.{FitsAt, bit_is, offered_end, reached_end, slot_of};
 ghost use Rattle.path_fixpoint.specs.Strengths.{strong, strong_end, word_of, net_words};
 ghost use Rattle.node_pool.specs.declared.region.Node.{Node as NodeValue};
 ghost use Rattle.node_pool.specs.declared.region.Span.{Span as SpanValue};
@@ -11,7 +11,7 @@ ghost use Rattle.bdd_core.specs.Words.{IsFilled, Writes, shows, word_at};
 ghost use Rattle.bdd_ops.specs.Counting.{IsSpanWithin};
 ghost use Rattle.path_fixpoint.specs.Spending.{Finds};
 
-use crate::steps::{strength, word};
+use crate::steps::{is_on_side, strength, word};
 use crate::words::net_words;
 use bdd_core::{H, Spent, Store, ZERO};
 use bdd_ops::{and, not};
@@ -60,6 +60,31 @@ pub(crate) fn reached(
         return root_bit(store, roots, net, value);
     };
     Ok(H(store.read(out, word(place, slot(value)))))
+}
+
+/// What an end of a channel offers to the other one of a value: whether the value reaches it, where it is in the part or
+/// outside, as is asked; else nothing.
+pub(crate) fn offers(
+    store: &mut Store,
+    roots: Span,
+    out: Span,
+    place: Option<usize>,
+    net: Net,
+    value: bool,
+    inside: bool,
+) -> Result<H, Spent>
+    requires roots { IsSpan store.old roots × IsFilled store.old roots }
+    requires out { IsSpan store.old out × IsFilled store.old out }
+    requires net { net.0 < roots.len }
+    requires place { IfSome place (λ i. net_words * i + net_words ≤ out.len) }
+    requires len { out.len < 2 ^ 32 }
+    ensures { Makes store.old store.new (λ v. offered_end store.old roots out value inside place net.0 v) result }
+{
+    store.sound();
+    if is_on_side(inside, place) {
+        return reached(store, roots, out, place, net, value);
+    }
+    Ok(ZERO)
 }
 
 /// The strength of the one end of a channel is at least a level, and so is the device's level.

@@ -1,6 +1,6 @@
 -- No arc leads to a known net: its part is within its shut set, whose gates are known, and at which no output pin is.
 use Rattle.std.proofs.Common.{◌≡◌, ℕ, Bool, true, subst, refl, inl, inr}
-use Rattle.known_nets.proofs.KnownOnce.{fixed_not_plain}
+use Rattle.known_nets.proofs.KnownShow.{fixed_not_plain}
 use Rattle.vrt_model.proofs.Ranked.{together_first}
 use Rattle.vrt_model.specs.Known.{HasArc, HasGateArc, HasWholeArc, IsKnown, IsPlain, IsShut, IsTogether, fixed, itself, onward, settled}
 use Rattle.vrt_model.specs.Lists.{Among}

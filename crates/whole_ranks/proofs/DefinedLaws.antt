@@ -4,7 +4,9 @@ use Rattle.std.specs.Prelude.{option_map, unwrap_or}
 use Rattle.std.proofs.lemmas.Bool.{cases_Bool, cond-false, cond-true}
 use Rattle.std.proofs.lemmas.Option.{same_Some}
 use Rattle.channel_parts.specs.OneSolution.{AreObserved, HasDrives, HasKnownBits, SameBelow}
+use Rattle.known_nets.proofs.KnownShow.{given_shows}
 use Rattle.known_nets.proofs.NetKinds.{given_or_plain}
+use Rattle.known_nets.specs.Wired.{AreOutputsPlain}
 use Rattle.vrt_model.proofs.Bounded.{response_inside}
 use Rattle.vrt_model.proofs.Decidable.{some_response}
 use Rattle.vrt_model.proofs.Filtered.{device_among}
@@ -30,9 +32,8 @@ use Rattle.vrt_model.specs.declared.circuit.FlatNet.{FlatNet}
 use Rattle.vrt_model.specs.declared.rules.Phase.{Phase}
 use Rattle.vrt_model.specs.declared.whole.WholePin.{WholePin}
 use Rattle.whole_ranks.proofs.DriveLaws.{ranked_nets_have_drives, same_bits}
-use Rattle.whole_ranks.proofs.KnownLaws.{given_shows, known_nets_are_solved}
+use Rattle.whole_ranks.proofs.KnownLaws.{known_nets_are_solved}
 use Rattle.whole_ranks.specs.Defined.{HasBitAt, SettledNetsRespond, SolutionsAreDefined}
-use Rattle.whole_ranks.specs.KnownNets.{AreOutputsPlain}
 use Rattle.whole_ranks.specs.Solved.{AreDetermined}
 
 module _ (c : Circuit) (phase : Phase) (observed : ℕ → Bool) (setting : Setting) (rank : ℕ → ℕ) (a : ℕ → Option Bool) (ranges : HasRanges c) (seen : AreObserved c observed)
@@ -62,7 +63,7 @@ module _ (c : Circuit) (phase : Phase) (observed : ℕ → Bool) (setting : Sett
   given_solved n o g =
       (solves n (given n) o).1 (λ s is agrees.
       subst (λ (v : Bool). IsResponse (view s) n (Shows v)) (same_given s.reading given is.reading (base_reading c phase setting.inputs) n g)
-      (given_shows c phase ranges plain_outputs setting.held s n g))
+      (given_shows c phase (record { ranges = ranges; outputs = plain_outputs }) setting.held s n g))
 
   -- ---- a state with the bits of the solution
 

@@ -2,6 +2,7 @@
 use Rattle.std.proofs.Common.{◌≡◌, ℕ, Bool, true, false, Option, Some, None, slice_get, ap, subst, sym, refl, ◌∙◌, inl, inr}
 use Rattle.std.proofs.lemmas.Option.{none-some, same_Some}
 use Rattle.channel_parts.specs.OneSolution.{HasDrives, HasKnownBits, SameBelow}
+use Rattle.known_nets.proofs.WiredLaws.{pin_of_whole}
 use Rattle.vrt_model.specs.Determined.{IsLinkedTo}
 use Rattle.vrt_model.specs.Known.{HasWholeArc, IsRanking, IsTogether}
 use Rattle.vrt_model.specs.Lists.{Among, At}
@@ -10,7 +11,6 @@ use Rattle.vrt_model.specs.declared.circuit.Circuit.{Circuit}
 use Rattle.vrt_model.specs.declared.ids.Net.{Net}
 use Rattle.vrt_model.specs.declared.rules.Phase.{Phase}
 use Rattle.vrt_model.specs.declared.whole.WholePin.{WholePin}
-use Rattle.whole_ranks.proofs.OutputPins.{pin_of_whole}
 use Rattle.whole_ranks.specs.Solved.{AreDetermined, RankedNetsHaveDrives}
 
 -- two bits that are not different are the same

@@ -8,10 +8,8 @@ pub mod DriveLaws
 pub mod IdleLaws
 pub mod KnownLaws
 pub mod LogicLaws
-pub mod OutputPins
 pub mod PartRanks
 pub mod PlaceLaws
 pub mod RankLaws
 pub mod SolvedLaws
-pub mod SourceLaws
 pub mod UnlinkedLaws

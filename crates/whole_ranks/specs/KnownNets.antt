@@ -1,6 +1,7 @@
 -- Known nets of a circuit that may have whole instances: their bits stand, and no arc leads to one.
 use Rattle.std.specs.Prelude.{◌≡◌, ℕ, Bool, true, Option, Some}
-use Rattle.vrt_model.specs.Known.{HasArc, IsKnown, IsPlain, IsUnknown}
+use Rattle.known_nets.specs.Wired.{AreOutputsPlain}
+use Rattle.vrt_model.specs.Known.{HasArc, IsKnown, IsUnknown}
 use Rattle.vrt_model.specs.Lists.{Among}
 use Rattle.vrt_model.specs.Networks.{HasRanges}
 use Rattle.vrt_model.specs.Reading.{bare, devices_of}
@@ -10,12 +11,6 @@ use Rattle.vrt_model.specs.State.{IsState, Setting, State, network_of}
 use Rattle.vrt_model.specs.declared.circuit.Circuit.{Circuit}
 use Rattle.vrt_model.specs.declared.circuit.Device.{Device}
 use Rattle.vrt_model.specs.declared.rules.Phase.{Phase}
-use Rattle.vrt_model.specs.declared.whole.Whole.{Whole}
-use Rattle.vrt_model.specs.declared.whole.WholePin.{WholePin}
-
--- each output of a whole instance is at a plain net
-abbrev pub AreOutputsPlain : Circuit → Type 0
-AreOutputsPlain c = (w : Whole) (pin : WholePin) → Among c.wholes w → Among w.outputs pin → IsPlain c pin.net.0
 
 -- a reading has the bits of the known nets that are gates of the bare circuit
 abbrev pub HasKnownGates : Circuit → Phase → (ℕ → Bool) → Type 0

@@ -2,6 +2,7 @@
 use Rattle.std.specs.Prelude.{ℕ, Bool, Option}
 use Rattle.channel_parts.specs.OneSolution.{AreObserved, HasDrives, HasOneSolution, KnownStand}
 use Rattle.known_nets.specs.KnownTables.{IsKnownTable}
+use Rattle.known_nets.specs.Wired.{AreOutputsPlain}
 use Rattle.vrt_model.specs.Determined.{IsDetermined}
 use Rattle.vrt_model.specs.Known.{HasArc, IsRanking}
 use Rattle.vrt_model.specs.Lists.{Among}
@@ -11,7 +12,6 @@ use Rattle.vrt_model.specs.Unsupported.{IsAcyclic}
 use Rattle.vrt_model.specs.declared.circuit.Circuit.{Circuit}
 use Rattle.vrt_model.specs.declared.rules.Phase.{Phase}
 use Rattle.vrt_model.specs.declared.whole.Whole.{Whole}
-use Rattle.whole_ranks.specs.KnownNets.{AreOutputsPlain}
 use Rattle.whole_ranks.specs.Ranks.{TestsArcs}
 
 -- each whole instance is determined

@@ -5,10 +5,14 @@ use Rattle.channel_parts.proofs.OneSolution.{one_solution_of_ranked}
 use Rattle.channel_parts.proofs.PartLaws.{ranks_even}
 use Rattle.channel_parts.proofs.RankLaws.{at_some, some_map}
 use Rattle.channel_parts.specs.Ranks.{AreLeast}
+use Rattle.known_nets.proofs.WiredLaws.{flat_wired}
 use Rattle.known_nets.specs.KnownTables.{IsKnownTable, known_at}
 use Rattle.vrt_model.proofs.Networks.{flat_ranges}
 use Rattle.vrt_model.specs.Known.{HasArc, IsFirstCycle, IsRanking}
 use Rattle.channel_parts.proofs.assembly.bare_parts.Goals as goal
+
+pub known_nets-requires : goal.known_nets-requires
+known_nets-requires c = flat_wired c.args.circuit.now c.requires
 
 pub returns-in-Some : goal.returns-in-Some
 returns-in-Some c =

@@ -1,4 +1,4 @@
-use Rattle.std.proofs.Common.{◌≡◌, ℕ, ◌<◌, ◌⊎◌, true}
+use Rattle.std.proofs.Common.{◌≡◌, ℕ, ◌<◌, ◌⊎◌, length, true}
 use Rattle.vrt_model.specs.Known.{IsHeld}
 use Rattle.vrt_model.specs.Lists.{At, mark_at}
 use Rattle.vrt_model.specs.declared.circuit.Hold.{Hold}
@@ -6,6 +6,7 @@ use Rattle.known_nets.proofs.incidence.mark_holds.Given as goal
 
 abbrev pub invariant-loop-hold : goal.invariant-loop-hold
 invariant-loop-hold l = record {
-  holds : (k : ℕ) → k < l.hold-index → (hold : Hold) → At l.circuit.holds k hold → mark_at l.marks hold.net.0 ≡ true;
-  only : (n : ℕ) → mark_at l.marks n ≡ true → (mark_at l.initial.marks n ≡ true) ⊎ IsHeld l.circuit n;
+  size : length l.marks.items ≡ length l.initial.marks.items;
+  holds : (k : ℕ) → k < l.hold-index → (hold : Hold) → At l.circuit.holds k hold → mark_at l.marks.items hold.net.0 ≡ true;
+  only : (n : ℕ) → mark_at l.marks.items n ≡ true → (mark_at l.initial.marks.items n ≡ true) ⊎ IsHeld l.circuit n;
 }

@@ -1,8 +1,11 @@
-use Rattle.std.proofs.Common.{ℕ, ◌*◌, length}
+use Rattle.std.proofs.Common.{ℕ, ◌*◌, ◌≤◌, false, length}
 use Rattle.bdd_ops.specs.Counting.{IsCounted, IsSpanWithin}
 use Rattle.bdd_core.specs.Diagram.{Valuation}
+use Rattle.vrt_model.specs.Lists.{Among}
 use Rattle.vrt_model.specs.Path.{Network}
-use Rattle.path_fixpoint.specs.Reaching.{HasReachPaths, HasReachRoots, SolvedAt, slot_of}
+use Rattle.vrt_model.specs.declared.circuit.Device.{Device}
+use Rattle.path_fixpoint.specs.Parts.{part_devices}
+use Rattle.path_fixpoint.specs.Reaching.{HasReachPassed, HasReachPaths, HasReachRoots, SolvedAt, slot_of}
 use Rattle.path_fixpoint.specs.Strengths.{ChangesLevel}
 use Rattle.bdd_core.specs.Words.{Writes}
 use Rattle.path_fixpoint.proofs.ReachLaws.{HasReachProgress}
@@ -17,6 +20,8 @@ invariant-rounds l = record {
   paths : (v : Valuation) (w : Network) (s : ℕ → ℕ) → SolvedAt l.circuit l.part l.fn.gates l.fn.roots l.fn.out l.fn.store v w s → HasReachPaths l.part l.fn.out l.fn.value l.fn.store v w s
       → HasReachPaths l.part l.fn.out l.fn.value l.store v w s;
   progress : (v : Valuation) (w : Network) (s : ℕ → ℕ) → SolvedAt l.circuit l.part l.fn.gates l.fn.roots l.fn.out l.fn.store v w s → HasReachRoots l.circuit l.part l.fn.out l.fn.value l.fn.store v w s
-      → HasReachProgress l.circuit l.part l.fn.out l.fn.value l._count l.store v w s;
-  few : (u : ℕ) → IsSpanWithin u l.fn.store l.fn.gates → IsSpanWithin u l.fn.store l.fn.roots → IsSpanWithin u l.fn.store l.fn.out → IsCounted u (l._count * (length l.part.devices * 38)) l.fn.store l.store × IsSpanWithin u l.store l.fn.out;
+      → HasReachProgress l.circuit l.part l.fn.out l.fn.value l.count l.store v w s;
+  entered : 1 ≤ l.count → (v : Valuation) (w : Network) (s : ℕ → ℕ) → SolvedAt l.circuit l.part l.fn.gates l.fn.roots l.fn.out l.fn.store v w s
+      → (dev : Device) → Among (part_devices l.circuit l.part) dev → HasReachPassed l.circuit l.part l.fn.out l.fn.value false dev l.store l.store v w s;
+  few : (u : ℕ) → IsSpanWithin u l.fn.store l.fn.gates → IsSpanWithin u l.fn.store l.fn.roots → IsSpanWithin u l.fn.store l.fn.out → IsCounted u (l.count * (length l.part.devices * 38)) l.fn.store l.store × IsSpanWithin u l.store l.fn.out;
 }

@@ -39,31 +39,31 @@ returns-clause-passes c =
     let passed = c.in-Ok.passed in
     let fits : 10 * to + 10 ≤ out.len = subst (λ (o : Option ℕ). IfSome o (λ i. 10 * i + 10 ≤ out.len)) c.in-Some.is c.requires.to in
     let inside : word_of level to < out.len = omega (arith, fits, c.requires.level.0, c.requires.level.1) in
-    if_ok_more (λ changed. IsWider out c.word-at.result (meaning mid.nodes passed.0) changed mid new) (λ changed. Passes out level c.args.kind c.args.gate.0 c.args.from c.args.to changed old new) c.widen.result
+    if_ok_more (λ changed. IsWider out c.word-at.result (meaning mid.nodes passed.0) changed mid new) (λ changed. Passes out level c.args.kind c.args.gate.0 c.args.signal.0 c.args.to changed old new) c.widen.result
     (λ changed wider.
-    subst (λ (o : Option ℕ). Passes out level c.args.kind c.args.gate.0 c.args.from o changed old new) (sym c.in-Some.is)
-    (passes_from out level c.args.kind c.args.gate.0 c.args.from to old mid new c.strength-signal.result passed changed c.strength-signal.ensures.is c.in-Ok.ensures c.requires.out.1
+    subst (λ (o : Option ℕ). Passes out level c.args.kind c.args.gate.0 c.args.signal.0 o changed old new) (sym c.in-Some.is)
+    (passes_from out level c.args.kind c.args.gate.0 c.args.signal.0 to old mid new passed changed c.in-Ok.ensures c.requires.out.1
     (subst (λ (at : ℕ). IsWider out at (meaning mid.nodes passed.0) changed mid new) c.word-at.ensures wider)
     c.widen.ensures.writes (λ k ne. c.widen.ensures.apart k (λ e. ne (e ∙ c.word-at.ensures))) inside))
     c.widen.ensures.wider
 
 pub returns-in-Err-clause-few : goal.returns-in-Err-clause-few
-returns-in-Err-clause-few c u all gate =
+returns-in-Err-clause-few c u all gate signal =
     let old = c.args.store.now in
-    let f : Function = gated c.args.kind (meaning old.nodes c.args.gate.0) (meaning old.nodes c.strength-signal.result.0) in
+    let f : Function = gated c.args.kind (meaning old.nodes c.args.gate.0) (meaning old.nodes c.args.signal.0) in
     spends_refused u c.args.out 2 old c.through.new.store c.in-Err.spent
     (counts_more u 1 2 old c.through.new.store (Err c.in-Err.spent) (omega arith)
     (counts_made u old c.through.new.store c.sound.ensures.sound.ends f (Err c.in-Err.spent) c.in-Err.ensures
-    (within_gated u c.args.kind (meaning old.nodes c.args.gate.0) (meaning old.nodes c.strength-signal.result.0) gate (c.strength-signal.ensures.few u all))))
+    (within_gated u c.args.kind (meaning old.nodes c.args.gate.0) (meaning old.nodes c.args.signal.0) gate signal)))
 
 pub returns-clause-few : goal.returns-clause-few
-returns-clause-few c u all gate =
+returns-clause-few c u all gate signal =
     let out = c.args.out in
     let old = c.args.store.now in
     let mid = c.through.new.store in
-    let f : Function = gated c.args.kind (meaning old.nodes c.args.gate.0) (meaning old.nodes c.strength-signal.result.0) in
+    let f : Function = gated c.args.kind (meaning old.nodes c.args.gate.0) (meaning old.nodes c.args.signal.0) in
     let made = finds_made u old mid f (Ok c.in-Ok.passed) c.sound.ensures.sound.ends c.in-Ok.ensures
-    (within_gated u c.args.kind (meaning old.nodes c.args.gate.0) (meaning old.nodes c.strength-signal.result.0) gate (c.strength-signal.ensures.few u all)) in
+    (within_gated u c.args.kind (meaning old.nodes c.args.gate.0) (meaning old.nodes c.args.signal.0) gate signal) in
     spends_behind u out 1 1 old mid c.widen.new.store c.widen.result made.counts.added
     (c.widen.ensures.few u
     (span_still u out out old mid (writes_added out old mid c.requires.out.1 c.in-Ok.ensures.adds) (adds_words old mid old.words c.in-Ok.ensures.adds) c.requires.out.1 all) made.within)
@@ -80,11 +80,8 @@ returns-then-is_full-clause-passes c =
     let level = c.args.level in
     let d = c.args.store.now in
     let full : word_at d out (word_of level c.in-Some.to) ≡ 1 = ap (λ (x : ℕ). word_at d out x) (sym c.word-at.ensures) ∙ c.is_full.ensures c.if-is_full.true in
-    subst (λ (o : Option ℕ). Passes out level c.args.kind c.args.gate.0 c.args.from o false d d) (sym c.in-Some.is)
-    (passes_full out level d c.in-Some.to full c.args.kind c.args.gate.0 c.args.from)
+    subst (λ (o : Option ℕ). Passes out level c.args.kind c.args.gate.0 c.args.signal.0 o false d d) (sym c.in-Some.is)
+    (passes_full out level d c.in-Some.to full c.args.kind c.args.gate.0 c.args.signal.0)
 
 pub returns-then-signal-eq0-clause-passes : goal.returns-then-signal-eq0-clause-passes
-returns-then-signal-eq0-clause-passes c =
-    let d = c.args.store.now in
-    subst (λ (o : Option ℕ). Passes c.args.out c.args.level c.args.kind c.args.gate.0 c.args.from o false d d) (sym c.in-Some.is)
-    (passes_none c.args.out c.args.level d c.in-Some.to c.args.kind c.args.gate.0 c.strength-signal.result.0 c.args.from c.strength-signal.ensures.is (omega (arith, c.if-signal-eq0.true)))
+returns-then-signal-eq0-clause-passes c = passes_none c.args.out c.args.level c.args.store.now c.args.to c.args.kind c.args.gate.0 c.args.signal.0 (omega (arith, c.if-signal-eq0.true))

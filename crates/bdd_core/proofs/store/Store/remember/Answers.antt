@@ -1,4 +1,4 @@
-use Rattle.std.proofs.Common.{◌≡◌, ℕ, ◌<◌, length, sym, ap, subst, ◌∙◌, inl, inr, arith}
+use Rattle.std.proofs.Common.{◌≡◌, ℕ, ◌<◌, length, sym, ap, subst, inl, inr, arith}
 use Rattle.bdd_core.specs.declared.memo.Entry.{Entry}
 use Rattle.bdd_core.specs.Diagram.{meaning, choice, IsSame}
 use Rattle.bdd_core.specs.Memo.{Recalls}
@@ -13,20 +13,18 @@ invariant_of-self c =
     let g : ℕ = c.args.g.0 in
     let h : ℕ = c.args.h.0 in
     let r : ℕ = c.args.r.0 in
-    let asked = c.constants.result in
     let f_in : f < length ns = omega (arith, ap length same, c.requires.live.0) in
     let g_in : g < length ns = omega (arith, ap length same, c.requires.live.1) in
     let h_in : h < length ns = omega (arith, ap length same, c.requires.live.2) in
-    let within = c.constants.ensures.within (length ns) c.self.invariant.reduced.ends g_in h_in in
     let is : IsSame (meaning ns r) (choice (meaning ns f) (meaning ns g) (meaning ns h)) =
     subst (λ xs. IsSame (meaning xs r) (choice (meaning xs f) (meaning xs g) (meaning xs h))) (sym same) c.requires.is.same in
-    let entry : Entry = record { f = f; g = asked.0.0; h = asked.1.0; r = r } in
+    let entry : Entry = record { f = f; g = g; h = h; r = r } in
     let right : Recalls ns entry = record {
       f_in = f_in;
-      g_in = within.0;
-      h_in = within.1;
+      g_in = g_in;
+      h_in = h_in;
       r_in = omega (arith, ap length same, c.requires.is.live);
-      is = λ v. is v ∙ sym (c.constants.ensures.same ns v);
+      is = is;
     } in
     record {
       reduced = c.self.invariant.reduced;

@@ -28,7 +28,7 @@ sound c phase has are n v e =
     elim (c.in_ok-more.ensures.only n v e) [
       | inl old ↦ are n v old
       | inr new ↦
-          shown_known c.args.circuit.now phase c.args.self.now.known.items c.requires.flat has are c.args.nets.now tables.levels.table.items tables.zeros.table.items tables.ones.table.items
+          shown_known c.args.circuit.now phase c.args.self.now.known.items c.requires.wired has are c.args.nets.now tables.levels.table.items tables.zeros.table.items tables.ones.table.items
           c.requires.region c.requires.shut (signals c).strengths (signals c).zeros (signals c).ones n v new.0 new.1
     ]
 
@@ -51,7 +51,7 @@ returns c =
       waited = step.waited;
       settles = λ phase before has are kept settles.
           let all_kept : HasKept nets before marks = λ n e. elim (kept n e) [ inl t ↦ inl (step.waited.grown n t) | inr m ↦ inr m ] in
-          shown_settled circuit phase c.args.self.now.known.items c.requires.flat has are nets tables.levels.table.items tables.zeros.table.items tables.ones.table.items
+          shown_settled circuit phase c.args.self.now.known.items c.requires.wired has are nets tables.levels.table.items tables.zeros.table.items tables.ones.table.items
           c.requires.region c.requires.shut (signals c).strengths (signals c).zeros (signals c).ones c.learn.new.known.items before marks
           step.grown (sound c phase has are) c.in_ok-more.ensures.found all_kept step.ends settles;
       progress = record { list = λ e. (step.same e).1; known = λ e. (step.same e).0; less = step.less };

@@ -1,7 +1,7 @@
 use Rattle.std.proofs.Common.{sym, subst}
 use Rattle.bdd_core.specs.Memo.{HoldsOnly}
 use Rattle.bdd_core.proofs.MemoLaws.{only_append, only_then}
-use Rattle.bdd_core.proofs.memo.Memo.grow.Goals as goal
+use Rattle.bdd_core.proofs.memo.Memo.enlarge.Goals as goal
 
 pub returns : goal.returns
 returns c =
