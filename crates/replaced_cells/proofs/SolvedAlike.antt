@@ -34,7 +34,7 @@ use Rattle.vrt_model.specs.declared.circuit.FlatNet.{FlatNet}
 use Rattle.vrt_model.specs.declared.groups.Group.{Group}
 use Rattle.vrt_model.specs.declared.whole.Whole.{Whole}
 use Rattle.vrt_model.specs.declared.whole.WholePin.{WholePin}
-use Rattle.whole_ranks.proofs.OutputPins.{pin_of_whole}
+use Rattle.known_nets.proofs.WiredLaws.{pin_of_whole}
 use Rattle.whole_ranks.specs.Solved.{AreDetermined}
 use Rattle.whole_solutions.proofs.ObservedCases.{gate_observed}
 

@@ -21,7 +21,7 @@ use Rattle.vrt_model.specs.declared.pairing.ClockedSignal.{ClockedSignal}
 use Rattle.vrt_model.specs.declared.rules.Phase.{Phase}
 use Rattle.vrt_model.specs.declared.whole.WholePin.{WholePin}
 use Rattle.whole_ranks.proofs.DriveLaws.{driven_by, driven_gives}
-use Rattle.whole_ranks.proofs.OutputPins.{pin_of_whole}
+use Rattle.known_nets.proofs.WiredLaws.{pin_of_whole}
 use Rattle.whole_ranks.specs.Solved.{AreDetermined}
 use Rattle.whole_solutions.proofs.GivenShow.{given_shows}
 use Rattle.whole_solutions.specs.Observed.{is_given_at}

@@ -5,6 +5,7 @@ pub mod FirmDownLaws
 pub mod InnerLaws
 pub mod LogicCells
 pub mod OneMoreLaws
+pub mod OrderedLaws
 pub mod SeenNets
 pub mod StepDownLaws
 pub mod WholeCells

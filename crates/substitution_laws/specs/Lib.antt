@@ -1,6 +1,7 @@
 pub mod Agreement
 pub mod Chosen
 pub mod FirmDown
+pub mod FirstFaults
 pub mod Formed
 pub mod Pins
 pub mod StepDowns
