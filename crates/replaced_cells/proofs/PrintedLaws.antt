@@ -48,7 +48,7 @@ module _ (k q : Comparison) (phase : ℕ) (whole_circuit : Circuit) (at place fr
       )
   unsettled_printed g n circuit wanted c (inr (none, no_value, no_want)) = absurd (none n (all_bits r.reading n) (refl, refl))
 
-  differs_printed : (g : Assignment) (n : ℕ) (circuit wanted : Option Bool) → PrintedThere g Differs n circuit wanted → PrintedHere g Differs n circuit wanted
+  pub differs_printed : (g : Assignment) (n : ℕ) (circuit wanted : Option Bool) → PrintedThere g Differs n circuit wanted → PrintedHere g Differs n circuit wanted
   differs_printed g n circuit wanted (inl (x, want, value)) =
       let same = differs_wanted k phase whole_circuit k.circuit there.groups k.groups (all_bits r.reading) (all_bits s.reading) one.held_groups (hold_back k q phase whole_circuit at place fresh remaining compared drive setting s r bits one alike) (λ next i. sym (one.enters next i)) (hold_bits_back k q phase whole_circuit at place fresh remaining compared drive setting s r bits one alike) (port_bits_back k q phase whole_circuit at place fresh remaining compared drive setting s r bits one alike) g n x wanted want in
       inl (x, same.0, value ∙ same.1)
@@ -60,7 +60,7 @@ module _ (k q : Comparison) (phase : ℕ) (whole_circuit : Circuit) (at place fr
         no_want,
       )
 
-  next_printed : (g : Assignment) (n : ℕ) (circuit wanted : Option Bool) → PrintedThere g Next n circuit wanted → PrintedHere g Next n circuit wanted
+  pub next_printed : (g : Assignment) (n : ℕ) (circuit wanted : Option Bool) → PrintedThere g Next n circuit wanted → PrintedHere g Next n circuit wanted
   next_printed g n circuit wanted (inl (x, want, value)) =
       let same = next_wanted k phase whole_circuit k.circuit there.groups k.groups (all_bits r.reading) (all_bits s.reading) one.held_groups (hold_back k q phase whole_circuit at place fresh remaining compared drive setting s r bits one alike) (λ next i. sym (one.enters next i)) (hold_bits_back k q phase whole_circuit at place fresh remaining compared drive setting s r bits one alike) (port_bits_back k q phase whole_circuit at place fresh remaining compared drive setting s r bits one alike) g n x wanted want in
       inl (x, same.0, value ∙ same.1)
@@ -72,7 +72,7 @@ module _ (k q : Comparison) (phase : ℕ) (whole_circuit : Circuit) (at place fr
         no_want,
       )
 
-  apart_printed : (g : Assignment) (n : ℕ) (circuit wanted : Option Bool) → PrintedThere g Apart n circuit wanted → PrintedHere g Apart n circuit wanted
+  pub apart_printed : (g : Assignment) (n : ℕ) (circuit wanted : Option Bool) → PrintedThere g Apart n circuit wanted → PrintedHere g Apart n circuit wanted
   apart_printed g n circuit wanted (inl (x, want, value)) =
       let same = apart_wanted k phase whole_circuit k.circuit there.groups k.groups (all_bits r.reading) (all_bits s.reading) one.held_groups (hold_back k q phase whole_circuit at place fresh remaining compared drive setting s r bits one alike) (λ next i. sym (one.enters next i)) (hold_bits_back k q phase whole_circuit at place fresh remaining compared drive setting s r bits one alike) (port_bits_back k q phase whole_circuit at place fresh remaining compared drive setting s r bits one alike) g n x wanted want in
       inl (x, same.0, value ∙ same.1)
@@ -84,7 +84,7 @@ module _ (k q : Comparison) (phase : ℕ) (whole_circuit : Circuit) (at place fr
         no_want,
       )
 
-  enter_printed : (g : Assignment) (n : ℕ) (circuit wanted : Option Bool) → PrintedThere g Enter n circuit wanted → PrintedHere g Enter n circuit wanted
+  pub enter_printed : (g : Assignment) (n : ℕ) (circuit wanted : Option Bool) → PrintedThere g Enter n circuit wanted → PrintedHere g Enter n circuit wanted
   enter_printed g n circuit wanted (inl (x, want, value)) =
       let same = enter_wanted k phase whole_circuit k.circuit there.groups k.groups (all_bits r.reading) (all_bits s.reading) one.held_groups (hold_back k q phase whole_circuit at place fresh remaining compared drive setting s r bits one alike) (λ next i. sym (one.enters next i)) (hold_bits_back k q phase whole_circuit at place fresh remaining compared drive setting s r bits one alike) (port_bits_back k q phase whole_circuit at place fresh remaining compared drive setting s r bits one alike) g n x wanted want in
       inl (x, same.0, value ∙ same.1)

@@ -65,7 +65,7 @@ from_not false e = refl
 
 -- ---- lists that fit
 
-zip_at_right : {X Y : Type 0} (R : X → Y → Type 0) (xs : List X) (ys : List Y) (j : ℕ) (y : Y) → AllZip R xs ys → At ys j y → (x : X) × At xs j x × R x y
+pub zip_at_right : {X Y : Type 0} (R : X → Y → Type 0) (xs : List X) (ys : List Y) (j : ℕ) (y : Y) → AllZip R xs ys → At ys j y → (x : X) × At xs j x × R x y
 zip_at_right R xs [] j y h e = absurd (none-some y e)
 zip_at_right R [] (z ∷ ys) j y h e = absurd h
 zip_at_right {X} {Y} R (x ∷ xs) (z ∷ ys) zero y h e = (x, refl, subst (λ (w : Y). R x w) (same_Some z y e) h.0)
@@ -117,16 +117,16 @@ input_given (Output s) e = absurd (false≢true e)
 
 module _ (cut : Cut) (blif : Blif) (facts : List CellFacts) (i : ℕ) (p : NumberedPlace) (m : ℕ) (step : IsStepAtGates cut blif facts i p m)
     (depth : ℕ) (front back : List Place) (split : IsSplit cut.top (suc i) p.at depth front back) where
-  abbrev t : Top
+  abbrev pub t : Top
   t = cut.top
 
-  abbrev q : Comparison
+  abbrev pub q : Comparison
   q = compared_at cut.top blif p m
 
-  abbrev own : Top
+  abbrev pub own : Top
   own = top_alone cut.top p.at.cell q.pairing.ports
 
-  abbrev at : ℕ → ℕ
+  abbrev pub at : ℕ → ℕ
   at n = net_above cut.top p.at n
 
   abbrev earlier : Cut
@@ -135,10 +135,10 @@ module _ (cut : Cut) (blif : Blif) (facts : List CellFacts) (i : ℕ) (p : Numbe
   abbrev later : Cut
   later = before cut (suc i)
 
-  abbrev FitsPlace : Place → Place → Type 0
+  abbrev pub FitsPlace : Place → Place → Type 0
   FitsPlace s r = IsShiftedWithNets t own at p.at.path s r
 
-  fitting : AllZip FitsPlace (all_places own) (places_in t depth p.at)
+  pub fitting : AllZip FitsPlace (all_places own) (places_in t depth p.at)
   fitting =
       shifted t q.pairing.ports (suc i) p.at depth front back split (tied cut blif facts i p m step) (none cut blif facts i p m step)
       (split.within (ordered_is_within_depth t t.cell step.netlist.ordered step.netlist.there))
@@ -173,7 +173,7 @@ module _ (cut : Cut) (blif : Blif) (facts : List CellFacts) (i : ℕ) (p : Numbe
       omega (arith, lt, count)
 
   -- a place inside has a number there
-  place_inside : (j : ℕ) (r : Place) → At (all_places t) (suc j) r → is_inside r p.at ≡ true → (l : ℕ) × At (places_in t depth p.at) (suc l) r
+  pub place_inside : (j : ℕ) (r : Place) → At (all_places t) (suc j) r → is_inside r p.at ≡ true → (l : ℕ) × At (places_in t depth p.at) (suc l) r
   place_inside j r here e =
       elim (which cut blif facts i p step.place step.chosen depth front back split step.netlist.design (record { number = suc j; at = r }) (listed t (suc j) r here)) [
         | inl out ↦ absurd (false≢true (sym (split.past step.netlist.design r out) ∙ inside_leads r p.at e))

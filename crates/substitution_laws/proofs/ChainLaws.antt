@@ -1,5 +1,5 @@
 -- Along the chain from the flat circuit to the checked one nothing is wrong in the one exactly where nothing is wrong in the other.
-use Rattle.std.proofs.Common.{◌≡◌, ℕ, zero, suc, ◌<◌, ◌≤◌, Bool, true, false, not, List, [], map, length, Option, Some, None, ◌+◌, refl, ap, ap₂, sym, ◌∙◌, subst, arith, inl, inr}
+use Rattle.std.proofs.Common.{◌≡◌, ℕ, zero, suc, ◌<◌, Bool, true, false, not, List, length, Option, Some, None, ◌+◌, refl, ap, ap₂, sym, ◌∙◌, subst, arith, inl, inr}
 use Rattle.std.specs.Prelude.{All, drop, filter, option_map, slice_get, unwrap_or}
 use Rattle.std.specs.List.{enumerate_from}
 use Rattle.std.proofs.lemmas.Bool.{cases_Bool, false≢true}
@@ -10,7 +10,7 @@ use Rattle.checked_chain.proofs.StepLaws.{none_more_is_same}
 use Rattle.checked_chain.proofs.ThereLaws.{chain_is_there}
 use Rattle.checked_chain.specs.Arcs.{AreOutputsApart, AreWholeOutputsApart}
 use Rattle.checked_chain.specs.Holds.{AreEndsShown, IsEndShown, IsOfChain}
-use Rattle.channel_parts.specs.OneSolution.{AreObserved, HasOneSolution}
+use Rattle.channel_parts.specs.OneSolution.{HasOneSolution}
 use Rattle.placed_cells.proofs.SplitLaws.{places_in_stand_together}
 use Rattle.placed_cells.specs.Above.{net_above}
 use Rattle.replaced_cells.proofs.AgreementLaws.{agreement_is_transitive, one_more_whole_agrees}
@@ -20,6 +20,7 @@ use Rattle.replaced_instances.proofs.StepPlaces.{first_in}
 use Rattle.replaced_instances.proofs.StepPorts.{enumerated_at, place_there}
 use Rattle.replaced_instances.specs.Steps.{compared_at, fresh_place, is_inside_at, is_outside_at}
 use Rattle.substitution_laws.proofs.ChosenLaws.{chosen_steps_are_at_gates}
+use Rattle.substitution_laws.proofs.EndsLaws.{chosen_ends_are_shown}
 use Rattle.substitution_laws.proofs.OneMoreLaws.{one_more}
 use Rattle.substitution_laws.proofs.SeenNets.{HasPortsWithin, port_range, seen_within}
 use Rattle.substitution_laws.proofs.WholeCells.{inside_of_all, whole_chosen, wholes_are_determined}
@@ -30,10 +31,9 @@ use Rattle.vrt_model.proofs.Filtered.{device_among, filter_among}
 use Rattle.vrt_model.proofs.Lists.{at_there, map_among, map_at}
 use Rattle.vrt_model.proofs.Members.{all_among, among_map}
 use Rattle.vrt_model.specs.Checked.{IsCircuitWith, before, top_of, with_circuit}
-use Rattle.vrt_model.specs.CheckedParts.{checked_instances}
 use Rattle.vrt_model.specs.Circuits.{IsNet}
 use Rattle.vrt_model.specs.Comparison.{Comparison, is_observed, phase_at}
-use Rattle.vrt_model.specs.Cut.{Cut, NumberedPlace, is_inside_whole, is_instance_shown, numbered_places, whole_places}
+use Rattle.vrt_model.specs.Cut.{Cut, NumberedPlace, is_inside_whole, is_instance_shown, numbered_places}
 use Rattle.vrt_model.specs.FlatCircuit.{flat_circuit_of, flat_instance, flat_instances, flat_nets}
 use Rattle.vrt_model.specs.Groups.{groups_of}
 use Rattle.vrt_model.specs.Held.{setting_of}
@@ -45,11 +45,9 @@ use Rattle.vrt_model.specs.declared.blif.Blif.{Blif}
 use Rattle.vrt_model.specs.declared.circuit.Circuit.{Circuit}
 use Rattle.vrt_model.specs.declared.circuit.FlatInstance.{FlatInstance}
 use Rattle.vrt_model.specs.declared.circuit.FlatNet.{FlatNet}
-use Rattle.vrt_model.specs.declared.circuit.Hold.{Hold}
 use Rattle.vrt_model.specs.declared.circuit.HoldEnd.{HoldEnd}
 use Rattle.vrt_model.specs.declared.circuit.HoldEnd.TheVariants.{Own, Latch}
 use Rattle.vrt_model.specs.declared.groups.Group.{Group}
-use Rattle.vrt_model.specs.declared.ids.Net.{Net}
 use Rattle.vrt_model.specs.declared.whole.CellFacts.{CellFacts}
 use Rattle.whole_ranks.proofs.SolvedLaws.{acyclic_nets_have_one_solution}
 use Rattle.whole_solutions.proofs.ObservedCases.{gate_observed}
@@ -57,7 +55,7 @@ use Rattle.whole_solutions.proofs.ObservedCases.{gate_observed}
 -- ---- places
 
 -- there is a place
-some_place : (t : Top) → 0 < length (all_places t)
+pub some_place : (t : Top) → 0 < length (all_places t)
 unfolding all_places
 some_place t =
     let on = first_in t deepest (top_place t) in
@@ -101,7 +99,7 @@ module _ (k : Comparison) (cut : Cut) (blif : Blif) (facts : List CellFacts) (c 
 
   module _ (n : ℕ) (d : Circuit) (circuit : IsCircuitWith (before cut n) blif facts d) where
     pub of_chain : IsOfChain k blif facts (before cut n) d
-    of_chain = record { top = h.top; flat = h.flat; groups = h.groups; circuit = circuit; ends = ends_before cut n h.ends }
+    of_chain = record { top = h.top; flat = h.flat; groups = h.groups; circuit = circuit; ends = ends_before cut n (chosen_ends_are_shown cut blif facts h.choice) }
 
     pub ports_within : HasPortsWithin (with_circuit k d)
     unfolding flat_circuit_of
@@ -127,7 +125,7 @@ module _ (k : Comparison) (cut : Cut) (blif : Blif) (facts : List CellFacts) (c 
     solved_at : IsChainTold cut blif facts → n < length (all_places t) → (phase : ℕ) (bits : List Bool) → phase < length t.rules.phases
         → HasOneSolution d (phase_at t.rules phase) (is_observed (with_circuit k d) phase) (setting_of (with_circuit k d) phase bits)
     solved_at told low phase bits lt =
-        let ranges = circuits_have_ranges cut blif facts n d h.choice h.formed (ends_before cut n h.ends) circuit in
+        let ranges = circuits_have_ranges cut blif facts n d h.choice h.formed (ends_before cut n (chosen_ends_are_shown cut blif facts h.choice)) circuit in
         let one = told n phase d circuit lt in
         acyclic_nets_have_one_solution d (phase_at t.rules phase) (is_observed (with_circuit k d) phase) (setting_of (with_circuit k d) phase bits) one.known one.arcs ranges
         (record {

@@ -1,5 +1,5 @@
 -- Facts without drives leave only those instances whole whose outputs meet gates alone.
-use Rattle.std.proofs.Common.{◌≡◌, ℕ, zero, suc, ◌+◌, ◌&&◌, ◌||◌, Bool, true, false, List, [], ◌∷◌, map, Option, Some, None, refl, ap, sym, ◌∙◌, subst}
+use Rattle.std.proofs.Common.{◌≡◌, ℕ, zero, suc, ◌&&◌, ◌||◌, Bool, true, false, List, [], ◌∷◌, map, Option, Some, None, refl, ap, sym, ◌∙◌, subst}
 use Rattle.std.specs.Prelude.{option_and_then, slice_get, unwrap_or}
 use Rattle.std.specs.List.{enumerate_from}
 use Rattle.std.proofs.lemmas.Bool.{and_parts}
@@ -7,13 +7,13 @@ use Rattle.std.proofs.lemmas.Option.{none-some, same_Some}
 use Rattle.checked_chain.proofs.StepLaws.{one_more_is_next}
 use Rattle.placed_cells.proofs.ListLaws.{enumerated}
 use Rattle.replaced_instances.proofs.StepPorts.{fact_there}
-use Rattle.substitution_laws.specs.Chosen.{AreSoft, ChosenStepsAreAtGates, IsSoftChoice}
+use Rattle.substitution_laws.specs.Chosen.{AreSoft, ChosenStepsAreAtGates}
 use Rattle.vrt_model.proofs.Members.{among_map}
-use Rattle.vrt_model.specs.Checked.{MayBeWhole, before, has_fact, keeps_inputs_free, names_no_global, observes_outputs, with_one}
+use Rattle.vrt_model.specs.Checked.{MayBeWhole, before, has_fact, keeps_inputs_free, names_no_global, observes_outputs}
 use Rattle.vrt_model.specs.CheckedParts.{checked_devices}
 use Rattle.vrt_model.specs.Comparison.{Comparison, output_signal}
-use Rattle.vrt_model.specs.Cut.{Cut, NumberedPlace, numbered_places}
-use Rattle.vrt_model.specs.Lists.{Among, At}
+use Rattle.vrt_model.specs.Cut.{Cut, NumberedPlace}
+use Rattle.vrt_model.specs.Lists.{Among}
 use Rattle.vrt_model.specs.PairedPorts.{Paired, Model, Skipped, Missing, paired_model}
 use Rattle.vrt_model.specs.Unrolled.{Top}
 use Rattle.vrt_model.specs.Unsupported.{IsSupported, comparison_of}

@@ -1,5 +1,5 @@
 -- Firm ground goes down the chain to the flat circuit.
-use Rattle.std.proofs.Common.{◌≡◌, ◌↔◌, ℕ, zero, suc, ◌<◌, not, Bool, true, false, List, length, Option, Some, refl, ap, sym, ◌∙◌, subst, arith, inl, inr}
+use Rattle.std.proofs.Common.{◌≡◌, ◌↔◌, ℕ, zero, suc, ◌<◌, not, Bool, true, List, length, refl, ap, sym, ◌∙◌, subst, arith, inl, inr}
 use Rattle.std.specs.Prelude.{is_some}
 use Rattle.std.proofs.lemmas.Bool.{cases_Bool}
 use Rattle.checked_chain.proofs.EndLaws.{chain_begins_flat}
@@ -10,7 +10,7 @@ use Rattle.firm_faults.proofs.StepLaws.{firm_ground_goes_down}
 use Rattle.firm_faults.specs.FirmGround.{IsFoundByRank, IsOnFirmGround}
 use Rattle.firm_faults.specs.StepDown.{IsCellRanked, IsSamePlaceIn}
 use Rattle.placed_cells.specs.Above.{net_above}
-use Rattle.replaced_instances.specs.Steps.{IsStepAtGates, compared_at, fresh_place, is_inside_at, is_outside_at}
+use Rattle.replaced_instances.specs.Steps.{compared_at, fresh_place, is_inside_at, is_outside_at}
 use Rattle.substitution_laws.proofs.ChainLaws.{at_last, is_itself, step_at}
 use Rattle.substitution_laws.proofs.LogicCells.{logic_cell}
 use Rattle.substitution_laws.proofs.StepDownLaws.{steps_go_down}

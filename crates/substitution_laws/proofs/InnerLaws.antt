@@ -8,7 +8,7 @@ use Rattle.firm_faults.specs.Settled.{IsBrokenAt}
 use Rattle.firm_faults.specs.StepDown.{IsInnerSolution}
 use Rattle.known_nets.proofs.NetKinds.{given_or_plain, is_plain_is}
 use Rattle.replaced_cells.proofs.GoesDown.{bit_there}
-use Rattle.replaced_cells.proofs.Prepared.{IsBase, input_same, valuation_of}
+use Rattle.replaced_cells.proofs.Prepared.{input_same, valuation_of}
 use Rattle.replaced_cells.proofs.SolvedAlike.{no_pins, none_held}
 use Rattle.replaced_cells.proofs.States.{given_solved}
 use Rattle.replaced_cells.specs.OneMoreWhole.{IsOneMoreWhole, all_bits}

@@ -1,6 +1,6 @@
 -- One step of the chain leaves one more instance whole.
-use Rattle.std.proofs.Common.{◌≡◌, ℕ, suc, ◌<◌, not, Bool, true, List, [], map, length, refl, ap, sym, ◌∙◌, subst}
-use Rattle.std.specs.Prelude.{All, filter_map, find, is_some, ◌==◌}
+use Rattle.std.proofs.Common.{◌≡◌, ℕ, suc, ◌<◌, not, true, List, [], map, length, refl, ap, sym, ◌∙◌, subst}
+use Rattle.std.specs.Prelude.{All, find, is_some, ◌==◌}
 use Rattle.std.specs.List.{enumerate_from}
 use Rattle.std.proofs.lemmas.Simd.{map-map}
 use Rattle.placed_cells.proofs.AboveLaws.{instances_are_shifted}
@@ -37,7 +37,6 @@ use Rattle.vrt_model.specs.declared.circuit.FlatInstance.{FlatInstance}
 use Rattle.vrt_model.specs.declared.circuit.FlatNet.{FlatNet}
 use Rattle.vrt_model.specs.declared.circuit.Hold.{Hold}
 use Rattle.vrt_model.specs.declared.flat_model.FlatModel.{FlatModel}
-use Rattle.vrt_model.specs.declared.ids.Net.{Net}
 use Rattle.vrt_model.specs.declared.whole.CellFacts.{CellFacts}
 use Rattle.whole_ranks.specs.Solved.{AreDetermined}
 use Rattle.whole_solutions.specs.Instances.{IsInstanceOf}
@@ -88,7 +87,7 @@ module _ (k : Comparison) (cut : Cut) (blif : Blif) (facts : List CellFacts) (i 
     cell = refl;
     ports =
         ap (map net_id) (instances_are_shifted t q.pairing.ports p.at (tied cut blif facts i p m h.step.at_gates)).0.ports
-            ∙ map-map net_id at (port_nets t.rules (cell_at t.design p.at.cell).ports);
+        ∙ map-map net_id at (port_nets t.rules (cell_at t.design p.at.cell).ports);
   }
 
   pub one_more : (phase : ℕ) → phase < length t.rules.phases

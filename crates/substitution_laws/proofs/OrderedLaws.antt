@@ -1,5 +1,5 @@
 -- What the order of the faults of the checked circuit rests on.
-use Rattle.std.proofs.Common.{◌≡◌, ◌↔◌, ℕ, zero, suc, ◌<◌, ◌||◌, Bool, true, false, cond, List, [], ◌∷◌, map, length, Option, Some, None, refl, ap, sym, ◌∙◌, subst, arith, inl, inr}
+use Rattle.std.proofs.Common.{◌≡◌, ◌↔◌, ℕ, zero, suc, ◌<◌, ◌||◌, Bool, true, false, cond, List, [], ◌∷◌, map, length, refl, ap, sym, ◌∙◌, subst, arith, inl, inr}
 use Rattle.std.specs.Prelude.{is_some}
 use Rattle.std.specs.List.{list_any}
 use Rattle.std.proofs.lemmas.Bool.{or_cases}
@@ -14,6 +14,7 @@ use Rattle.replaced_instances.proofs.StepPorts.{pins_shifted}
 use Rattle.replaced_instances.specs.Steps.{IsStepAtGates, compared_at}
 use Rattle.substitution_laws.proofs.ChainLaws.{at_last, ends_before, ports_within}
 use Rattle.substitution_laws.proofs.ChosenLaws.{chosen_steps_are_at_gates}
+use Rattle.substitution_laws.proofs.EndsLaws.{chosen_ends_are_shown}
 use Rattle.substitution_laws.proofs.SeenNets.{seen_within}
 use Rattle.substitution_laws.proofs.StepDownLaws.{instance_of_whole}
 use Rattle.substitution_laws.proofs.WholeCells.{count_nets, ports_at, whole_chosen, wholes_are_determined}
@@ -46,9 +47,8 @@ use Rattle.vrt_model.specs.declared.ids.Net.{Net}
 use Rattle.vrt_model.specs.declared.pairing.PortRole.{PortRole}
 use Rattle.vrt_model.specs.declared.rules.Expr.{Expr}
 use Rattle.vrt_model.specs.declared.whole.CellFacts.{CellFacts}
-use Rattle.vrt_model.specs.declared.whole.Whole.{Whole}
 use Rattle.whole_ranks.proofs.KnownLaws.{known_nets_are_solved}
-use Rattle.whole_ranks.proofs.PlaceLaws.{made_is, output_pin}
+use Rattle.whole_ranks.proofs.PlaceLaws.{output_pin}
 use Rattle.whole_ranks.specs.Solved.{AreDetermined}
 use Rattle.whole_solutions.proofs.ObservedCases.{gate_observed, instance_observed}
 
@@ -157,7 +157,7 @@ module _ (k : Comparison) (cut : Cut) (blif : Blif) (facts : List CellFacts) (c 
 
     pub is_ordered : IsOrderedAt (with_circuit k c) phase setting known
     is_ordered =
-        let ranges = circuits_have_ranges cut blif facts last.0 c h.choice h.formed (ends_before cut last.0 h.ends) last.2 in
+        let ranges = circuits_have_ranges cut blif facts last.0 c h.choice h.formed (ends_before cut last.0 (chosen_ends_are_shown cut blif facts h.choice)) last.2 in
         let determined = subst (λ (u : Top). AreDetermined c (phase_at u.rules phase) (is_observed (with_circuit k c) phase)) h.top (wholes_are_determined k cut blif facts phase last.0 c h.top h.choice lt last.2) in
         record {
           ranked = λ rank ranking. record {
@@ -170,7 +170,7 @@ module _ (k : Comparison) (cut : Cut) (blif : Blif) (facts : List CellFacts) (c 
           };
           known_bits = λ a solves n v s is.
               known_nets_are_solved c (phase_at k.rules phase) (is_observed (with_circuit k c) phase) setting a ranges (λ w pin on there. (determined w on).plain pin there)
-                  (λ d on. gate_observed (with_circuit k c) phase d.gate.0 (d, (device_among true c d on).0, refl)) solves n v is s;
+              (λ d on. gate_observed (with_circuit k c) phase d.gate.0 (d, (device_among true c d on).0, refl)) solves n v is s;
           linked = linked;
           seen = seen;
         }

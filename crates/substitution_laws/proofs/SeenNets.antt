@@ -1,5 +1,5 @@
 -- Observed nets are nets of the circuit.
-use Rattle.std.proofs.Common.{◌≡◌, ℕ, ◌<◌, true, List, length, arith, subst, inl, inr}
+use Rattle.std.proofs.Common.{◌≡◌, ℕ, ◌<◌, true, length, arith, subst, inl, inr}
 use Rattle.placed_cells.proofs.FlatNetLaws.{net_count}
 use Rattle.placed_cells.proofs.SplitLaws.{port_below}
 use Rattle.replaced_instances.proofs.StepHides.{port_net_among}

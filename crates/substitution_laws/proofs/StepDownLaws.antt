@@ -1,5 +1,5 @@
 -- One step of the chain goes down as the law of firm ground asks.
-use Rattle.std.proofs.Common.{◌≡◌, ◌⊎◌, ℕ, zero, suc, ◌<◌, ◌||◌, not, Bool, true, false, cond, List, [], ◌∷◌, length, Option, Some, None, refl, ap, sym, ◌∙◌, subst, inl, inr}
+use Rattle.std.proofs.Common.{◌≡◌, ◌⊎◌, ℕ, zero, suc, ◌<◌, ◌||◌, not, Bool, true, false, cond, List, [], ◌∷◌, length, Some, ap, sym, ◌∙◌, subst, inl, inr}
 use Rattle.std.specs.Prelude.{drop, filter, is_some}
 use Rattle.std.specs.List.{list_any}
 use Rattle.std.proofs.lemmas.Bool.{or_right}

@@ -1,5 +1,5 @@
 -- Numbers, levels and sizes of the circuits of a chain are in range.
-use Rattle.std.proofs.Common.{◌≡◌, ℕ, zero, suc, ◌<◌, Bool, true, false, not, cond, List, [], ◌∷◌, map, length, Option, Some, None, refl, ap, sym, ◌∙◌, subst, inl, inr}
+use Rattle.std.proofs.Common.{◌≡◌, ℕ, zero, suc, ◌<◌, Bool, true, false, not, cond, List, [], ◌∷◌, map, length, Option, Some, None, refl, ap, sym, ◌∙◌, subst}
 use Rattle.std.specs.Prelude.{All, drop, option_map}
 use Rattle.std.proofs.lemmas.Option.{none-some, same_Some, slice_get_within}
 use Rattle.blif_eval.proofs.Drivers.{interface_below}
@@ -26,7 +26,6 @@ use Rattle.vrt_model.specs.Cut.{Cut, NumberedPlace, is_left_out, moved_instance,
 use Rattle.vrt_model.specs.FlatCircuit.{flat_circuit_of, flat_device, flat_devices, flat_holds, flat_instance, flat_instances, net_id}
 use Rattle.vrt_model.specs.FlatModels.{IsFlatModel}
 use Rattle.vrt_model.specs.Lists.{Among, At}
-use Rattle.vrt_model.specs.Networks.{HasRanges}
 use Rattle.vrt_model.specs.Unrolled.{Place, Top, all_places}
 use Rattle.vrt_model.specs.Unsupported.{IsSupported}
 use Rattle.vrt_model.specs.WholeInstances.{IsWholeAt, OutputAt, Pin, all_outputs, input_pins, meets_gates_only, outputs_of_place, pins_from, pins_of, settled_drive}
@@ -203,13 +202,13 @@ module _ (cut : Cut) (blif : Blif) (facts : List CellFacts) (n : ℕ) (c : Circu
         model = subst IsFlatModel same_model formed.model;
         clocked =
             all_by (λ (s : ClockedSignal). s.signal < length w.model.signals) w.clocked
-                (λ s there. low s.signal (interface_below q.model formed.model s.signal (formed.signals.clocked s.signal (s, subst (λ (ss : List ClockedSignal). Among ss s) (sym clocked) there, refl))));
+            (λ s there. low s.signal (interface_below q.model formed.model s.signal (formed.signals.clocked s.signal (s, subst (λ (ss : List ClockedSignal). Among ss s) (sym clocked) there, refl))));
         inputs =
             all_by (λ (pin : WholePin). IsNet c pin.net × (pin.signal < length w.model.signals) × IsDrive c pin.drive) w.inputs
-                (λ pin there. let x = input_in_range pin there in (x.0, low pin.signal x.1, x.2));
+            (λ pin there. let x = input_in_range pin there in (x.0, low pin.signal x.1, x.2));
         outputs =
             all_by (λ (pin : WholePin). IsNet c pin.net × (pin.signal < length w.model.signals) × IsDrive c pin.drive) w.outputs
-                (λ pin there. let x = output_in_range pin there in (x.0, low pin.signal x.1, x.2));
+            (λ pin there. let x = output_in_range pin there in (x.0, low pin.signal x.1, x.2));
         links = all_by (λ (link : Link). IsNet c link.from × (link.output < length w.outputs)) w.links link_in_range;
       }
 
@@ -219,9 +218,9 @@ circuits_have_ranges cut blif facts n c h flat ends circuit = record {
   holds = all_by (IsHold c) c.holds (hold_in_range cut blif facts n c h flat ends circuit);
   wholes =
       all_by (IsWhole c) c.wholes
-          (λ w on.
-          let from = zip_right (IsWholeAt (before cut n) blif facts) (whole_places (before cut n)) c.wholes w circuit.wholes on in
-          let is = whole_chosen cut n from.0 from.1 in
-          let step = chosen_steps_are_at_gates cut blif facts is.0 from.0 h is.1.place is.1.chosen in
-          whole_in_range cut blif facts n c h flat ends circuit is.0 from.0 step.0 step.1 step.2 w on from.2);
+      (λ w on.
+      let from = zip_right (IsWholeAt (before cut n) blif facts) (whole_places (before cut n)) c.wholes w circuit.wholes on in
+      let is = whole_chosen cut n from.0 from.1 in
+      let step = chosen_steps_are_at_gates cut blif facts is.0 from.0 h is.1.place is.1.chosen in
+      whole_in_range cut blif facts n c h flat ends circuit is.0 from.0 step.0 step.1 step.2 w on from.2);
 }

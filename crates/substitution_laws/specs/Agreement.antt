@@ -1,7 +1,6 @@
 -- The flat circuit of a cell and its checked one, where the facts say of no output how strongly it drives: nothing is wrong in the one
 -- exactly where nothing is wrong in the other.
 use Rattle.std.specs.Prelude.{◌≡◌, ℕ, ◌<◌, Bool, List, Option, length}
-use Rattle.checked_chain.specs.Holds.{AreEndsShown}
 use Rattle.known_nets.specs.KnownTables.{IsKnownTable}
 use Rattle.replaced_cells.specs.Agreement.{AgreesWith, IsAlwaysSolved}
 use Rattle.substitution_laws.specs.Chosen.{IsSoftChoice}
@@ -27,8 +26,7 @@ pub record CanBeTold (c : Circuit) (phase : Phase) : Type 0 where
   pub arcs : ℕ → ℕ → Bool
   pub tested : TestsArcs c phase arcs
 
--- a circuit with the instances of such a choice whole, of a comparison whose own circuit is the flat one, well formed and without cycles; no
--- end of a hold names an instance inside a whole one
+-- a circuit with the instances of such a choice whole, of a comparison whose own circuit is the flat one, well formed and without cycles
 pub record IsCheckedSoftly (k : Comparison) (cut : Cut) (blif : Blif) (facts : List CellFacts) (c : Circuit) : Type 0 where
   pub choice : IsSoftChoice cut blif facts
   pub top : cut.top ≡ top_of k
@@ -36,7 +34,6 @@ pub record IsCheckedSoftly (k : Comparison) (cut : Cut) (blif : Blif) (facts : L
   pub groups : k.groups ≡ groups_of k.circuit k.model
   pub formed : IsCircuit (flat_circuit_of cut.top)
   pub acyclic : (phase : ℕ) → phase < length cut.top.rules.phases → IsAcyclic (HasArc (flat_circuit_of cut.top) (phase_at cut.top.rules phase))
-  pub ends : AreEndsShown cut
   pub circuit : IsCircuitWith cut blif facts c
 
 -- what is known in each circuit of its chain can be told

@@ -1,5 +1,5 @@
 -- The first fault of the checked circuit, where it is found while the nets are solved, stands in the flat circuit.
-use Rattle.std.specs.Prelude.{◌≡◌, ℕ, ◌<◌, Bool, List, length}
+use Rattle.std.specs.Prelude.{ℕ, ◌<◌, Bool, List, length}
 use Rattle.firm_faults.specs.FirmGround.{IsFoundByRank, IsOrderedAt}
 use Rattle.substitution_laws.specs.Agreement.{CanBeTold, IsChainTold, IsCheckedSoftly}
 use Rattle.substitution_laws.specs.FirmDown.{AreCellsParted}

@@ -1,9 +1,12 @@
 pub mod Agreement
 pub mod Chosen
+pub mod Ends
 pub mod FirmDown
 pub mod FirstFaults
 pub mod Formed
+pub mod LaterFaults
 pub mod Pins
 pub mod StepDowns
 pub mod Steps
+pub mod Substitution
 pub mod Wholes

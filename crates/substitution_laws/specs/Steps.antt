@@ -1,5 +1,5 @@
 -- One step of the chain of circuits: what the laws of one more whole instance ask of it holds.
-use Rattle.std.specs.Prelude.{◌≡◌, ℕ, suc, ◌<◌, not, List, length}
+use Rattle.std.specs.Prelude.{ℕ, suc, ◌<◌, not, List, length}
 use Rattle.checked_chain.specs.Holds.{IsOfChain}
 use Rattle.placed_cells.specs.Above.{net_above}
 use Rattle.replaced_cells.specs.OneMoreWhole.{IsOneMoreWhole}

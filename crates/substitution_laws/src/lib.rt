@@ -4,12 +4,24 @@
 
 mod agreement;
 mod chosen;
+mod downs;
+mod ends;
+mod firm;
+mod first;
+mod later;
 mod pins;
 mod steps;
+mod substitution;
 mod wholes;
 
 pub use agreement::{chain_is_always_solved, checked_circuits_agree};
 pub use chosen::{chosen_cells_are_logic, chosen_steps_are_at_gates};
+pub use downs::steps_go_down;
+pub use ends::chosen_ends_are_shown;
+pub use firm::firm_ground_reaches_flat;
+pub use first::{checked_circuit_is_ordered, first_faults_stand_below};
+pub use later::later_faults_stand_below;
 pub use pins::{step_has_cell_pins, step_has_one_more_whole};
 pub use steps::steps_are_one_more_whole;
+pub use substitution::substitution_holds;
 pub use wholes::{circuits_have_ranges, wholes_are_determined, wholes_stand_for_cells};

@@ -1,0 +1,30 @@
+-- A checked cell's model stands for it in the cells above.
+use Rattle.std.specs.Prelude.{List}
+use Rattle.replaced_cells.specs.Agreement.{AgreesWith}
+use Rattle.substitution_laws.specs.Agreement.{IsChainTold, IsCheckedSoftly}
+use Rattle.substitution_laws.specs.FirmDown.{AreCellsParted}
+use Rattle.substitution_laws.specs.StepDowns.{ArePathsApart}
+use Rattle.vrt_model.specs.Checked.{with_circuit}
+use Rattle.vrt_model.specs.CheckedVerdicts.{IsSamePlace}
+use Rattle.vrt_model.specs.Comparison.{Comparison}
+use Rattle.vrt_model.specs.Cut.{Cut}
+use Rattle.vrt_model.specs.Places.{Finding, IsFinding, IsFirst}
+use Rattle.vrt_model.specs.Verdicts.{Describes}
+use Rattle.vrt_model.specs.declared.blif.Blif.{Blif}
+use Rattle.vrt_model.specs.declared.circuit.Circuit.{Circuit}
+use Rattle.vrt_model.specs.declared.verdict.FaultAt.{FaultAt}
+use Rattle.vrt_model.specs.declared.whole.CellFacts.{CellFacts}
+
+-- what describes the first finding of one comparison describes one of another at the same place
+abbrev pub FirstStands : Comparison → Cut → Comparison → Type 0
+FirstStands k cut j =
+    (fault : FaultAt) (f : Finding) → Describes j fault f → IsFirst j f
+    → (flat : Finding) × Describes k fault flat × IsFinding k flat × IsSamePlace cut fault.kind flat.at f.at
+
+-- The law: nothing is wrong in the flat circuit exactly where nothing is wrong in the checked one, and the first fault of this stands in
+-- that, where the facts say of no output how strongly it drives.
+abbrev pub SubstitutionHolds : Type 0
+SubstitutionHolds =
+    (k : Comparison) (cut : Cut) (blif : Blif) (facts : List CellFacts) (c : Circuit)
+    → IsCheckedSoftly k cut blif facts c → ArePathsApart cut.top → IsChainTold cut blif facts → AreCellsParted cut blif
+    → AgreesWith k (with_circuit k c) × FirstStands k cut (with_circuit k c)
