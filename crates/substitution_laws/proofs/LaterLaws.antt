@@ -152,7 +152,7 @@ module _ (k : Comparison) (f : Finding) (first : IsFirst k f) (later : IsFoundLa
 -- ---- along the chain
 
 module _ (k : Comparison) (cut : Cut) (blif : Blif) (facts : List CellFacts) (c : Circuit) (h : IsCheckedSoftly k cut blif facts c) (told : IsChainTold cut blif facts)
-    (phase : ℕ) (vals : List Bool) (lt : phase < length k.rules.phases) (g : Assignment) (kind : FaultKind) (later : IsFoundLater kind) (at : ℕ) (circuit wanted : Option Bool) where
+    (phase : ℕ) (vals : List Bool) (lt : phase < length k.rules.phases) (g : Assignment) (kind : FaultKind) (later : IsFoundLater kind) (at : ℕ) (value wanted : Option Bool) where
   abbrev t : Top
   t = cut.top
 
@@ -166,7 +166,7 @@ module _ (k : Comparison) (cut : Cut) (blif : Blif) (facts : List CellFacts) (c 
     defined : (n : ℕ) → is_observed (with_circuit k d) phase n ≡ true → IsSome (bits n)
     unbroken : (j : ℕ) (p : NumberedPlace) → IsChosenAt cut j p → ¬ BreaksConstraint k.design k.rules phase bits (flat_instance p.at)
     stands : Stands (with_circuit k d) phase setting bits g kind at
-    printed : (e : Assignment) → Assigns k phase setting e → IsPrintedWith (with_circuit k d) phase setting bits e kind at circuit wanted
+    printed : (e : Assignment) → Assigns k phase setting e → IsPrintedWith (with_circuit k d) phase setting bits e kind at value wanted
 
   one_solution : (n : ℕ) (d : Circuit) → n < length (all_places t) → IsCircuitWith (before cut n) blif facts d → HasOneSolution d (phase_at k.rules phase) (is_observed (with_circuit k d) phase) setting
   one_solution n d low circuit =
@@ -242,7 +242,7 @@ module _ (k : Comparison) (cut : Cut) (blif : Blif) (facts : List CellFacts) (c 
         subst (λ (n : ℕ). Stands (with_circuit k d) phase setting below g kind n) (kept_place d e kind found.0 at later found.1) found.2
 
     printed_down : (x : Assignment) (other : FaultKind) → IsFoundLater other → Stands (with_circuit k e) phase setting whole g other at
-        → IsPrintedWith (with_circuit k e) phase setting whole x other at circuit wanted → IsPrintedWith (with_circuit k d) phase setting below x other at circuit wanted
+        → IsPrintedWith (with_circuit k e) phase setting whole x other at value wanted → IsPrintedWith (with_circuit k d) phase setting below x other at value wanted
     printed_down x Fight ok st p_there = absurd ok
     printed_down x Float ok st p_there = absurd ok
     printed_down x Constraint ok st p_there = absurd ok
@@ -250,31 +250,31 @@ module _ (k : Comparison) (cut : Cut) (blif : Blif) (facts : List CellFacts) (c 
     printed_down x FightKept ok st (inr (none, c, w)) = inr (λ n v want. want, c, w)
     printed_down x Unsettled ok st p_there =
         printed_below (with_circuit k d) q phase e above (λ j. j) (fresh_place (before cut i) blif facts q) (is_outside_at t step.2 p.at) (λ n. not (is_inside_at q.circuit above n)) (λ n. 0) setting down.0 down.1 down.2
-        one down.3 x Unsettled at at circuit wanted refl st p_there
+        one down.3 x Unsettled at at value wanted refl st p_there
     printed_down x Differs ok st p_there =
         differs_printed (with_circuit k d) q phase e above (λ j. j) (fresh_place (before cut i) blif facts q) (is_outside_at t step.2 p.at) (λ n. not (is_inside_at q.circuit above n)) (λ n. 0) setting down.0 down.1 down.2
-        one down.3 x at circuit wanted p_there
+        one down.3 x at value wanted p_there
     printed_down x Next ok st p_there =
         next_printed (with_circuit k d) q phase e above (λ j. j) (fresh_place (before cut i) blif facts q) (is_outside_at t step.2 p.at) (λ n. not (is_inside_at q.circuit above n)) (λ n. 0) setting down.0 down.1 down.2 one
-        down.3 x at circuit wanted p_there
+        down.3 x at value wanted p_there
     printed_down x Apart ok st p_there =
         apart_printed (with_circuit k d) q phase e above (λ j. j) (fresh_place (before cut i) blif facts q) (is_outside_at t step.2 p.at) (λ n. not (is_inside_at q.circuit above n)) (λ n. 0) setting down.0 down.1 down.2
-        one down.3 x at circuit wanted p_there
+        one down.3 x at value wanted p_there
     printed_down x Enter ok st p_there =
         enter_printed (with_circuit k d) q phase e above (λ j. j) (fresh_place (before cut i) blif facts q) (is_outside_at t step.2 p.at) (λ n. not (is_inside_at q.circuit above n)) (λ n. 0) setting down.0 down.1 down.2
-        one down.3 x at circuit wanted p_there
+        one down.3 x at value wanted p_there
 
-    printed_below_it : (x : Assignment) → Assigns k phase setting x → IsPrintedWith (with_circuit k d) phase setting below x kind at circuit wanted
+    printed_below_it : (x : Assignment) → Assigns k phase setting x → IsPrintedWith (with_circuit k d) phase setting below x kind at value wanted
     printed_below_it x assigns =
         printed_down x kind later (observed_bits_show_faults (with_circuit k e) phase setting there.bits whole g kind at same_there there.stands)
-        (printed_same (with_circuit k e) phase setting there.bits whole same_there g x kind at circuit wanted later there.stands (there.printed x assigns))
+        (printed_same (with_circuit k e) phase setting there.bits whole same_there g x kind at value wanted later there.stands (there.printed x assigns))
 
     there_below : IsThere d
     there_below = record { bits = below; solves = down.3.solves; defined = λ n seen. refl; unbroken = unbroken_below; stands = stands_below; printed = printed_below_it }
 
   abbrev IsThereFlat : Comparison → Type 0
   IsThereFlat x =
-      (a : Partial) × Solves x phase setting a × Stands x phase setting a g kind at × ((e : Assignment) → Assigns k phase setting e → IsPrintedWith x phase setting a e kind at circuit wanted)
+      (a : Partial) × Solves x phase setting a × Stands x phase setting a g kind at × ((e : Assignment) → Assigns k phase setting e → IsPrintedWith x phase setting a e kind at value wanted)
 
   goes_down : (n : ℕ) (d : Circuit) → n < length (all_places t) → IsCircuitWith (before cut n) blif facts d → IsThere d → IsThereFlat k
   goes_down zero d low circuit there =
@@ -333,9 +333,9 @@ module _ (k : Comparison) (cut : Cut) (blif : Blif) (facts : List CellFacts) (c 
     abbrev g : Assignment
     g = last_found.stands.1
 
-    below : (a : Partial) × Solves k f.phase (setting_of k f.phase f.bits) a × Stands k f.phase (setting_of k f.phase f.bits) a g f.kind f.at
+    flat_below : (a : Partial) × Solves k f.phase (setting_of k f.phase f.bits) a × Stands k f.phase (setting_of k f.phase f.bits) a g f.kind f.at
         × ((e : Assignment) → Assigns k f.phase (setting_of k f.phase f.bits) e → IsPrintedWith k f.phase (setting_of k f.phase f.bits) a e f.kind f.at fault.circuit fault.wanted)
-    below =
+    flat_below =
         goes_down k cut blif facts c h told f.phase f.bits last_found.phase g f.kind later f.at fault.circuit fault.wanted last.0 c last.1 last.2
         (record {
           bits = last_found.stands.0;
@@ -345,14 +345,14 @@ module _ (k : Comparison) (cut : Cut) (blif : Blif) (facts : List CellFacts) (c 
           stands = subst (λ (s : Setting). Stands (with_circuit k c) f.phase s last_found.stands.0 g f.kind f.at) same_setting last_found.stands.4;
           printed = λ e assigns.
               subst (λ (s : Setting). IsPrintedWith (with_circuit k c) f.phase s last_found.stands.0 e f.kind f.at fault.circuit fault.wanted) same_setting
-                  (describes.values last_found.stands.0 e last_found.stands.2 (subst (λ (s : Setting). Assigns (with_circuit k c) f.phase s e) (sym same_setting) assigns));
+              (describes.values last_found.stands.0 e last_found.stands.2 (subst (λ (s : Setting). Assigns (with_circuit k c) f.phase s e) (sym same_setting) assigns));
         })
 
     later_found : IsFinding k f
     later_found = record {
       phase = last_found.phase;
       meets = (constraints_are_same k blif facts cut c chain f.phase f.bits).0 last_found.meets;
-      stands = (below.0, g, below.1, subst (λ (s : Setting). Assigns k f.phase s g) same_setting last_found.stands.3, below.2);
+      stands = (flat_below.0, g, flat_below.1, subst (λ (s : Setting). Assigns k f.phase s g) same_setting last_found.stands.3, flat_below.2);
     }
 
     place : IsSamePlace cut f.kind f.at f.at
@@ -366,8 +366,8 @@ module _ (k : Comparison) (cut : Cut) (blif : Blif) (facts : List CellFacts) (c 
     later_described =
         descriptions_move k blif facts cut c chain fault f f (record { phase = refl; kind = refl; bits = refl; place = place })
         (λ a e solves assigns.
-        printed_same k f.phase (setting_of k f.phase f.bits) below.0 a (λ n seen. sym (flat_one.only below.0 below.1 n seen) ∙ flat_one.only a solves n seen) g e f.kind f.at fault.circuit fault.wanted later below.2
-        (below.3 e assigns))
+        printed_same k f.phase (setting_of k f.phase f.bits) flat_below.0 a (λ n seen. sym (flat_one.only flat_below.0 flat_below.1 n seen) ∙ flat_one.only a solves n seen) g e f.kind f.at fault.circuit fault.wanted later flat_below.2
+        (flat_below.3 e assigns))
         describes
 
     pub later_stands : (flat : Finding) × Describes k fault flat × IsFinding k flat × IsSamePlace cut fault.kind flat.at f.at
