@@ -54,6 +54,7 @@ fn copy_reach(store: &mut Store, part: &Part, value: bool, out: Span, to: Span)
 
 /// Solves a part of the kept circuit, where its devices have the bits of the gates, and writes to the words of its nets
 /// where 0 and where 1 reach them.
+#[tactic(auto, using(vrt_model::proofs::Networks::flat_ranges))]
 fn solve_kept(
     store: &mut Store,
     circuit: &Circuit,

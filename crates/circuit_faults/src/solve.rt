@@ -24,6 +24,7 @@ use vrt_model::Circuit;
 /// The first fault of a part in the care set, at the valuations at which its devices have the bits of `gates`. Where
 /// there is none, the handles of its nets among `gates` become their bits. `roots` has the bits of the given nets and of
 /// the holds.
+#[tactic(auto, using(vrt_model::proofs::Networks::flat_ranges))]
 pub(crate) fn check_part(
     store: &mut Store,
     circuit: &Circuit,

@@ -154,6 +154,7 @@ impl Board {
     }
 
     /// Solves the part.
+    #[tactic(auto, using(vrt_model::proofs::Networks::flat_ranges))]
     pub(crate) fn solve(&mut self, circuit: &Circuit) -> Result<Result<(), Spent>, Stop> {
         let part = &self.part;
         let (gates, roots, out) = (self.gates, self.roots, self.out);

@@ -8,7 +8,7 @@ use Rattle.bdd_core.specs.Diagram.{Valuation, meaning}
 use Rattle.bdd_core.specs.Store.{Diagrams}
 use Rattle.bdd_core.specs.Words.{word_at}
 use Rattle.bdd_core.proofs.Meaning.{meaning_one, meaning_zero}
-use Rattle.vrt_model.specs.Circuits.{IsFlat}
+use Rattle.vrt_model.specs.Networks.{HasRanges}
 use Rattle.vrt_model.specs.Lists.{Among}
 use Rattle.vrt_model.specs.Path.{IsOn, Joins, Network}
 use Rattle.vrt_model.specs.Reading.{conducts, conducts_at}
@@ -29,14 +29,14 @@ blocked : (nodes : List Node) (kind : Kind) (v : Valuation) → conducts_at kind
 blocked nodes N v = meaning_zero nodes v
 blocked nodes P v = ap not (meaning_one nodes v)
 
-module _ (c : Circuit) (part : Part) (flat : IsFlat c) (gates out : Span) (d : Device) (member : Among (part_devices c part) d) (s : Diagrams)
+module _ (c : Circuit) (part : Part) (in_range : HasRanges c) (gates out : Span) (d : Device) (member : Among (part_devices c part) d) (s : Diagrams)
     (gate_is : word_at s gates d.gate.0 ≡ blocking d.kind) where
   -- it is on at no valuation
   pub never_on : (x : Device) → x ≡ d → (v : Valuation) (w : Network) → StandsAt c part gates s v w → IsOn w x → ⊥
   never_on x is v w st on =
       let conducts_d : conducts w.reading d ≡ true = subst (λ (y : Device). conducts w.reading y ≡ true) is on.1 in
       let reads : meaning s.nodes (blocking d.kind) v ≡ w.reading d.gate.0 =
-      ap (λ (h : ℕ). meaning s.nodes h v) (sym gate_is) ∙ st.reading d.gate.0 (device_ranges c part d flat member).gate in
+      ap (λ (h : ℕ). meaning s.nodes h v) (sym gate_is) ∙ st.reading d.gate.0 (device_ranges c part d in_range member).gate in
       false≢true (sym (blocked s.nodes d.kind v) ∙ ap (λ (b : Bool). conducts_at d.kind b) reads ∙ conducts_d)
 
   pub spreads_off : (level : ℕ) (inside : Bool) → Spreads c part gates out level inside (λ x. x ≡ d) false s s

@@ -12,7 +12,8 @@ use Rattle.vrt_model.proofs.GivenNets.{level_most}
 use Rattle.vrt_model.proofs.Members.{all_among, at_none}
 use Rattle.vrt_model.proofs.PathKinds.{Arrives, arrives_on, arrives_root, closed_end}
 use Rattle.vrt_model.proofs.Strength.{at_least-strength, at_least_on, strength-at_least}
-use Rattle.vrt_model.specs.Circuits.{IsHold, IsFlat}
+use Rattle.vrt_model.specs.Circuits.{IsHold}
+use Rattle.vrt_model.specs.Networks.{HasLevels, HasRanges}
 use Rattle.vrt_model.specs.Lists.{At, Among, differ}
 use Rattle.vrt_model.specs.Path.{IsOn, Joins, Network, Root}
 use Rattle.vrt_model.specs.Reading.{conducts, conducts_at}
@@ -33,7 +34,6 @@ use Rattle.path_fixpoint.proofs.Passing.{given_path}
 use Rattle.path_fixpoint.proofs.Places.{EndIs, on_a_side, place_in, place_once}
 use Rattle.path_fixpoint.proofs.RoundLaws.{level_stays, stands_kept, words_kept}
 use Rattle.path_fixpoint.proofs.Spreading.{device_ranges}
-use Rattle.vrt_model.specs.Networks.{HasLevels}
 
 pub slot_low : (value : Bool) → 9 ≤ slot_of value
 slot_low true = omega arith
@@ -49,7 +49,7 @@ differ_same true b = (λ e. e, λ e. e)
 differ_same false true = (λ e. absurd (false≢true e), λ e. absurd (false≢true (sym e)))
 differ_same false false = (λ e. refl, λ e. refl)
 
-module _ (c : Circuit) (part : Part) (is_part : IsPart c part) (flat : IsFlat c) (gates roots out : Span) (value : Bool) where
+module _ (c : Circuit) (part : Part) (is_part : IsPart c part) (in_range : HasRanges c) (gates roots out : Span) (value : Bool) where
   pub slot_in : (d : Diagrams) (i : ℕ) → HasRootWords c part gates roots out d → i < length part.nets → word_of (slot_of value) i < out.len
   slot_in d i words lt = omega (arith, words.words.out_len, slot_low value, slot_high value, lt)
 
@@ -71,7 +71,7 @@ module _ (c : Circuit) (part : Part) (is_part : IsPart c part) (flat : IsFlat c)
     stands = stands_kept c part gates out old new v w words.words wr is.stands;
     given = λ n lt. shows_beside out roots old new n v wr words.roots_apart words.roots_live (omega (arith, lt, words.roots_len)) ∙ is.given n lt;
     held = λ at hold e.
-        let lt = (all_among (IsHold c) c.holds hold flat.holds (at, e)).net in
+        let lt = (all_among (IsHold c) c.holds hold in_range.holds (at, e)).net in
         shows_beside out roots old new hold.net.0 v wr words.roots_apart words.roots_live (omega (arith, lt, words.roots_len)) ∙ is.held at hold e;
     strength = is.strength;
     solved = λ level low high.
@@ -86,11 +86,11 @@ module _ (c : Circuit) (part : Part) (is_part : IsPart c part) (flat : IsFlat c)
       | inr other ↦ elim other [
         | inl h ↦
             let there : At c.holds h.0 h.1 = subst (λ (hs : List Hold). At hs h.0 h.1) st.holds h.2 in
-            omega (arith, h.4, (all_among (IsHold c) c.holds h.1 flat.holds (h.0, there)).size.1, st.source)
+            omega (arith, h.4, (all_among (IsHold c) c.holds h.1 in_range.holds (h.0, there)).size.1, st.source)
         | inr o ↦ absurd (at_none o.0 o.1 (subst (λ (ps : List WholePin). At ps o.0 o.1) st.outputs o.2))
       ]
     ];
-    devices = λ dev on. omega (arith, (device_ranges c part dev flat (subst (λ (ds : List Device). Among ds dev) st.devices on.0)).level.1, st.source);
+    devices = λ dev on. omega (arith, (device_ranges c part dev in_range (subst (λ (ds : List Device). Among ds dev) st.devices on.0)).level.1, st.source);
   }
 
   pub strength_most : (d : Diagrams) (v : Valuation) (w : Network) (n s : ℕ) → StandsAt c part gates d v w → IsStrength w n s → s ≤ 8
@@ -196,7 +196,7 @@ module _ (c : Circuit) (part : Part) (is_part : IsPart c part) (flat : IsFlat c)
       pub over_value : conducts w.reading dev ≡ true → HopFits s m dev n → meaning old.nodes signal v ≡ true → IsReached c part out value new v w n
       over_value on fits seen = (
         λ i q. p.passed i (placed to refl i q) v (gate_is ∙ on) seen (hop_fits old v w s is dev (there, on) m n joins from i from_is outside q fits),
-        λ none given. absurd (omega (arith, fits, given_strength old v w n (s n) is.stands (is.strength n) given, (device_ranges c part dev flat member).level.1)),
+        λ none given. absurd (omega (arith, fits, given_strength old v w n (s n) is.stands (is.strength n) given, (device_ranges c part dev in_range member).level.1)),
       )
 
       pub over_value_paths : (meaning old.nodes signal v ≡ true → Arrives w (RootFits s value) (HopFits s) m) → HasReachPaths part out value old v w s → HasReachPaths part out value new v w s
@@ -260,33 +260,33 @@ abbrev pub HasReachProgress : Circuit → Part → Span → Bool → ℕ → Dia
 HasReachProgress c part out value rounds d v w s =
     ((n : ℕ) → Arrives w (RootFits s value) (HopFits s) n → IsReached c part out value d v w n) ⊎ (rounds ≤ count (λ i. strong d out (slot_of value) i v) (length part.nets))
 
-module _ (c : Circuit) (part : Part) (is_part : IsPart c part) (flat : IsFlat c) (gates roots out : Span) (value : Bool) where
+module _ (c : Circuit) (part : Part) (is_part : IsPart c part) (in_range : HasRanges c) (gates roots out : Span) (value : Bool) where
   -- where no net is marked, what comes from outside is all that there is
   pub reach_first : (old new : Diagrams) (v : Valuation) (w : Network) (s : ℕ → ℕ) → HasRootWords c part gates roots out old → w.devices ≡ part_devices c part
-      → StrongGrows out (slot_of value) old new → HasReachRoots c part out value old v w s → IsReachEntered c part is_part flat gates roots out value new v w s
+      → StrongGrows out (slot_of value) old new → HasReachRoots c part out value old v w s → IsReachEntered c part is_part in_range gates roots out value new v w s
       → HasReachProgress c part out value 1 new v w s
   reach_first old new v w s words devices grown rooted entered =
       elim (cases_lt 0 (count (λ i. strong new out (slot_of value) i v) (length part.nets))) [
         | inl some ↦ inr (omega (arith, some))
-        | inr none ↦ inl (reach_closed c part is_part flat gates roots out value new v w s devices
-            (λ root r k. reached_grown c part is_part flat gates roots out value old new v w root.net words grown (rooted root r k)) entered
+        | inr none ↦ inl (reach_closed c part is_part in_range gates roots out value new v w s devices
+            (λ root r k. reached_grown c part is_part in_range gates roots out value old new v w root.net words grown (rooted root r k)) entered
             (λ dev among on m k j fits here q.
             absurd (none_counted (λ i. strong new out (slot_of value) i v) (length part.nets) (omega (arith, none)) here.0 (place_in part here.0 m here.1) (q.0 here.0 here.1))))
       ]
 
   pub reach_progress : (rounds : ℕ) (old new : Diagrams) (v : Valuation) (w : Network) (s : ℕ → ℕ) → HasRootWords c part gates roots out old → w.devices ≡ part_devices c part
-      → StrongGrows out (slot_of value) old new → IsReachEntered c part is_part flat gates roots out value old v w s
+      → StrongGrows out (slot_of value) old new → IsReachEntered c part is_part in_range gates roots out value old v w s
       → ((dev : Device) → Among (part_devices c part) dev → HasReachPassed c part out value true dev old new v w s)
       → HasReachRoots c part out value old v w s → HasReachProgress c part out value rounds old v w s → HasReachProgress c part out value (rounds + 1) new v w s
   reach_progress rounds old new v w s words devices grown entered passed rooted (inl all) =
-      inl (λ n r. reached_grown c part is_part flat gates roots out value old new v w n words grown (all n r))
+      inl (λ n r. reached_grown c part is_part in_range gates roots out value old new v w n words grown (all n r))
   reach_progress rounds old new v w s words devices grown entered passed rooted (inr le) =
       elim (same_or_more (λ i. strong old out (slot_of value) i v) (λ i. strong new out (slot_of value) i v) (length part.nets)
-      (λ i lt. grown i (slot_in c part is_part flat gates roots out value old i words lt) v)) [
+      (λ i lt. grown i (slot_in c part is_part in_range gates roots out value old i words lt) v)) [
         | inr more ↦ inr (omega (arith, le, more))
         | inl same ↦
-            inl (λ n r. reached_grown c part is_part flat gates roots out value old new v w n words grown
-            (reach_closed c part is_part flat gates roots out value old v w s devices rooted entered
+            inl (λ n r. reached_grown c part is_part in_range gates roots out value old new v w n words grown
+            (reach_closed c part is_part in_range gates roots out value old v w s devices rooted entered
             (λ dev m on a b j fits here q. let got = passed dev m on a b j fits here q in (λ i p. same.0 i (place_in part i b p) (got.0 i p), got.1)) n r))
       ]
 

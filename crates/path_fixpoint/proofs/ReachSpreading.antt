@@ -4,7 +4,7 @@ use Rattle.std.proofs.lemmas.Bool.{and_from, and_parts, or_parts}
 use Rattle.node_pool.specs.declared.region.Span.{Span}
 use Rattle.bdd_core.specs.Diagram.{Valuation, meaning}
 use Rattle.bdd_core.specs.Store.{Diagrams}
-use Rattle.vrt_model.specs.Circuits.{IsFlat}
+use Rattle.vrt_model.specs.Networks.{HasRanges}
 use Rattle.vrt_model.specs.Lists.{Among}
 use Rattle.vrt_model.specs.Path.{Joins, Network}
 use Rattle.vrt_model.specs.Reading.{conducts, conducts_at}
@@ -21,7 +21,7 @@ use Rattle.path_fixpoint.proofs.Places.{EndIs, place_in, side_of}
 use Rattle.path_fixpoint.proofs.ReachLaws.{end_arrives, end_reached, over_value, over_value_paths, reached_grown, root_words_kept, slot_place, solved_kept, value_same}
 use Rattle.path_fixpoint.proofs.Spreading.{device_ranges, outside_given}
 
-module _ (c : Circuit) (part : Part) (is_part : IsPart c part) (flat : IsFlat c) (gates roots out : Span) (value inside : Bool) where
+module _ (c : Circuit) (part : Part) (is_part : IsPart c part) (in_range : HasRanges c) (gates roots out : Span) (value inside : Bool) where
   -- what the two ends offer, which writes no word, and then what the device brings to the right and to the left
   module _ (d : Device) (member : Among (part_devices c part) d) (left right : Option ℕ) (left_is : EndIs part left d.left.0) (right_is : EndIs part right d.right.0)
       (old a mid new : Diagrams) (gate there here : ℕ) (forth back : Bool) (words : HasRootWords c part gates roots out old) (gate_is : gate ≡ word_at old gates d.gate.0)
@@ -31,13 +31,13 @@ module _ (c : Circuit) (part : Part) (is_part : IsPart c part) (flat : IsFlat c)
       (here_is : (v : Valuation) → meaning a.nodes here v ≡ offered_end a roots out value inside right d.right.0 v)
       (first : PassesSignal out value d.kind gate there left right d.level forth a mid) (second : PassesSignal out value d.kind gate here right left d.level back mid new) where
     words_a : HasRootWords c part gates roots out a
-    words_a = root_words_kept c part is_part flat gates roots out value old a words wa
+    words_a = root_words_kept c part is_part in_range gates roots out value old a words wa
 
     words_m : HasRootWords c part gates roots out mid
-    words_m = root_words_kept c part is_part flat gates roots out value a mid words_a wm
+    words_m = root_words_kept c part is_part in_range gates roots out value a mid words_a wm
 
     gate_in : d.gate.0 < length c.nets
-    gate_in = (device_ranges c part d flat member).gate
+    gate_in = (device_ranges c part d in_range member).gate
 
     gate_live : gate < length old.nodes
     gate_live = omega (arith, gate_is, words.words.gates_live d.gate.0 (omega (arith, gate_in, words.words.gates_len)))
@@ -49,10 +49,10 @@ module _ (c : Circuit) (part : Part) (is_part : IsPart c part) (flat : IsFlat c)
     right_out e = outside_given c part right d.right right_is (is_part.right d member) e
 
     left_in : d.left.0 < length c.nets
-    left_in = (device_ranges c part d flat member).left
+    left_in = (device_ranges c part d in_range member).left
 
     right_in : d.right.0 < length c.nets
-    right_in = (device_ranges c part d flat member).right
+    right_in = (device_ranges c part d in_range member).right
 
     -- what the right end offers was made before the device passed anything on
     here_mid : (v : Valuation) → meaning mid.nodes here v ≡ offered_end a roots out value inside right d.right.0 v
@@ -60,10 +60,10 @@ module _ (c : Circuit) (part : Part) (is_part : IsPart c part) (flat : IsFlat c)
 
     module _ (v : Valuation) (w : Network) (s : ℕ → ℕ) (is : SolvedAt c part gates roots out old v w s) where
       is_a : SolvedAt c part gates roots out a v w s
-      is_a = solved_kept c part is_part flat gates roots out value old a v w s words wa (λ k away. ap (λ (ws : List ℕ). get_or ws (out.start + k) 0) sa) is
+      is_a = solved_kept c part is_part in_range gates roots out value old a v w s words wa (λ k away. ap (λ (ws : List ℕ). get_or ws (out.start + k) 0) sa) is
 
       is_m : SolvedAt c part gates roots out mid v w s
-      is_m = solved_kept c part is_part flat gates roots out value a mid v w s words_a wm sm is_a
+      is_m = solved_kept c part is_part in_range gates roots out value a mid v w s words_a wm sm is_a
 
       gate_a : conducts_at d.kind (meaning a.nodes gate v) ≡ conducts w.reading d
       gate_a = ap (λ (x : Bool). conducts_at d.kind x) (wa.adds.kept gate gate_live v ∙ ap (λ (h : ℕ). meaning old.nodes h v) gate_is ∙ is.stands.reading d.gate.0 gate_in)
@@ -75,7 +75,7 @@ module _ (c : Circuit) (part : Part) (is_part : IsPart c part) (flat : IsFlat c)
       member_w = subst (λ (ds : List Device). Among ds d) (sym is.stands.devices) member
 
       back_a : (i n : ℕ) → IsPlace part i n → strong a out (slot_of value) i v ≡ strong old out (slot_of value) i v
-      back_a i n p = value_same c part is_part flat gates roots out value old a i v words wa sa (place_in part i n p)
+      back_a i n p = value_same c part is_part in_range gates roots out value old a i v words wa sa (place_in part i n p)
 
       -- marks of before stand after a step that wrote no word
       step_a : (n : ℕ) → IsReached c part out value old v w n → IsReached c part out value a v w n
@@ -86,33 +86,33 @@ module _ (c : Circuit) (part : Part) (is_part : IsPart c part) (flat : IsFlat c)
           → offered_end a roots out value inside place n v ≡ true
       offers place n e out' n_in side r =
           and_from (is_on_side inside place) (reached_end a roots out value place n v) (side_of part inside place n e side)
-          (end_reached c part is_part flat gates roots out value a v w s is_a n place e out' n_in place refl (step_a n r))
+          (end_reached c part is_part in_range gates roots out value a v w s is_a n place e out' n_in place refl (step_a n r))
 
       both_values : conducts w.reading d ≡ true → (m n : ℕ) → Joins d m n → HopFits s m d n → IsOnSide part inside m → IsReached c part out value old v w m → IsReached c part out value new v w n
       both_values on m n (inl j) fits side r =
           let seen = offers left d.left.0 left_is left_out left_in (subst (IsOnSide part inside) (sym j.0) side) (subst (IsReached c part out value old v w) (sym j.0) r) in
           let fits' : HopFits s d.left.0 d d.right.0 = subst (λ (x : ℕ). HopFits s d.left.0 d x) (sym j.1) (subst (λ (x : ℕ). HopFits s x d n) (sym j.0) fits) in
           let q : IsReached c part out value mid v w d.right.0 =
-          over_value c part is_part flat gates roots out value a mid words_a d member d.left.0 d.right.0 gate there left right left_is right_is left_out forth first
+          over_value c part is_part in_range gates roots out value a mid words_a d member d.left.0 d.right.0 gate there left right left_is right_is left_out forth first
           v w s is_a (inl (refl, refl)) member_w gate_a on fits' (there_is v ∙ seen) in
-          subst (IsReached c part out value new v w) j.1 (reached_grown c part is_part flat gates roots out value mid new v w d.right.0 words_m second.grown q)
+          subst (IsReached c part out value new v w) j.1 (reached_grown c part is_part in_range gates roots out value mid new v w d.right.0 words_m second.grown q)
       both_values on m n (inr j) fits side r =
           let seen = offers right d.right.0 right_is right_out right_in (subst (IsOnSide part inside) (sym j.1) side) (subst (IsReached c part out value old v w) (sym j.1) r) in
           let fits' : HopFits s d.right.0 d d.left.0 = subst (λ (x : ℕ). HopFits s d.right.0 d x) (sym j.0) (subst (λ (x : ℕ). HopFits s x d n) (sym j.1) fits) in
           subst (IsReached c part out value new v w) j.0
-          (over_value c part is_part flat gates roots out value mid new words_m d member d.right.0 d.left.0 gate here right left right_is left_is right_out back second
+          (over_value c part is_part in_range gates roots out value mid new words_m d member d.right.0 d.left.0 gate here right left right_is left_is right_out back second
           v w s is_m (inr (refl, refl)) member_w gate_m on fits' (here_mid v ∙ seen))
 
       both_paths : HasReachPaths part out value old v w s → HasReachPaths part out value new v w s
       both_paths paths =
           let paths_a : HasReachPaths part out value a v w s = λ i n p e. paths i n p (sym (back_a i n p) ∙ e) in
-          over_value_paths c part is_part flat gates roots out value mid new words_m d member d.right.0 d.left.0 gate here right left right_is left_is right_out back second
+          over_value_paths c part is_part in_range gates roots out value mid new words_m d member d.right.0 d.left.0 gate here right left right_is left_is right_out back second
           v w s is_m (inr (refl, refl)) member_w gate_m
-          (λ e. end_arrives c part is_part flat gates roots out value a v w s is_a d.right.0 right right_is right_out right_in right refl paths_a
+          (λ e. end_arrives c part is_part in_range gates roots out value a v w s is_a d.right.0 right right_is right_out right_in right refl paths_a
           (and_parts (is_on_side inside right) (reached_end a roots out value right d.right.0 v) (sym (here_mid v) ∙ e)).1)
-          (over_value_paths c part is_part flat gates roots out value a mid words_a d member d.left.0 d.right.0 gate there left right left_is right_is left_out forth first
+          (over_value_paths c part is_part in_range gates roots out value a mid words_a d member d.left.0 d.right.0 gate there left right left_is right_is left_out forth first
           v w s is_a (inl (refl, refl)) member_w gate_a
-          (λ e. end_arrives c part is_part flat gates roots out value a v w s is_a d.left.0 left left_is left_out left_in left refl paths_a
+          (λ e. end_arrives c part is_part in_range gates roots out value a v w s is_a d.left.0 left left_is left_out left_in left refl paths_a
           (and_parts (is_on_side inside left) (reached_end a roots out value left d.left.0 v) (sym (there_is v) ∙ e)).1) paths_a)
 
     grown_all : StrongGrows out (slot_of value) old new
@@ -135,11 +135,11 @@ module _ (c : Circuit) (part : Part) (is_part : IsPart c part) (flat : IsFlat c)
   spreads_value_then P Q R f g x y z words writes changes either a b = record {
     grown = λ i lt v e. b.grown i lt v (a.grown i lt v e);
     passed = λ d is v w s st on m n j fits side r. elim (either d is) [
-      | inl p ↦ (let q = a.passed d p v w s st on m n j fits side r in (λ i k. b.grown i (slot_place c part is_part flat gates roots out value x i n words k) v (q.0 i k), q.1))
-      | inr p ↦ b.passed d p v w s (solved_kept c part is_part flat gates roots out value x y v w s words writes changes st) on m n j fits side
-          (reached_grown c part is_part flat gates roots out value x y v w m words a.grown r)
+      | inl p ↦ (let q = a.passed d p v w s st on m n j fits side r in (λ i k. b.grown i (slot_place c part is_part in_range gates roots out value x i n words k) v (q.0 i k), q.1))
+      | inr p ↦ b.passed d p v w s (solved_kept c part is_part in_range gates roots out value x y v w s words writes changes st) on m n j fits side
+          (reached_grown c part is_part in_range gates roots out value x y v w m words a.grown r)
     ];
-    paths = λ v w s st paths. b.paths v w s (solved_kept c part is_part flat gates roots out value x y v w s words writes changes st) (a.paths v w s st paths);
+    paths = λ v w s st paths. b.paths v w s (solved_kept c part is_part in_range gates roots out value x y v w s words writes changes st) (a.paths v w s st paths);
     same = λ e. let h = or_parts f g e in b.same h.1 ∙ a.same h.0;
   }
 

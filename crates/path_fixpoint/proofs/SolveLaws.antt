@@ -7,7 +7,8 @@ use Rattle.bdd_core.specs.Store.{Diagrams}
 use Rattle.vrt_model.proofs.Decidable.{strength_exists}
 use Rattle.vrt_model.proofs.Members.{all_among, at_none}
 use Rattle.vrt_model.proofs.Strength.{at_least-strength, strength-at_least}
-use Rattle.vrt_model.specs.Circuits.{IsHold, IsFlat}
+use Rattle.vrt_model.specs.Circuits.{IsHold}
+use Rattle.vrt_model.specs.Networks.{HasRanges, IsFinite}
 use Rattle.vrt_model.specs.Path.{Network}
 use Rattle.vrt_model.specs.Response.{IsStrength}
 use Rattle.vrt_model.specs.declared.circuit.Circuit.{Circuit}
@@ -23,9 +24,8 @@ use Rattle.path_fixpoint.proofs.Places.{levels_differ, place_word}
 use Rattle.path_fixpoint.proofs.ReachLaws.{levels_of, slot_high, slot_low, slot_place}
 use Rattle.path_fixpoint.proofs.RoundLaws.{words_from}
 use Rattle.path_fixpoint.proofs.Spreading.{device_ranges}
-use Rattle.vrt_model.specs.Networks.{IsFinite}
 
-module _ (c : Circuit) (part : Part) (is_part : IsPart c part) (flat : IsFlat c) (gates roots out : Span) where
+module _ (c : Circuit) (part : Part) (is_part : IsPart c part) (in_range : HasRanges c) (gates roots out : Span) where
   pub root_words_from : (old new : Diagrams) → HasRootSpans c part gates roots out old → Writes out old new → HasRootWords c part gates roots out new
   root_words_from old new spans w = record {
     words = words_from c part gates out old new spans.spans w;
@@ -55,15 +55,15 @@ module _ (c : Circuit) (part : Part) (is_part : IsPart c part) (flat : IsFlat c)
           roots = λ root r. elim r [
             | inl g ↦ slice_get_within c.nets root.net g.0 g.1
             | inr other ↦ elim other [
-              | inl h ↦ omega (arith, h.3, (all_among (IsHold c) c.holds h.1 flat.holds (h.0, h.2)).net)
+              | inl h ↦ omega (arith, h.3, (all_among (IsHold c) c.holds h.1 in_range.holds (h.0, h.2)).net)
               | inr o ↦ absurd (at_none o.0 o.1 o.2)
             ]
           ];
           hops = λ m n d on j.
-              let range = device_ranges c part d flat on.0 in
+              let range = device_ranges c part d in_range on.0 in
               elim j [ inl q ↦ omega (arith, q.1, range.right) | inr q ↦ omega (arith, q.0, range.left) ];
         };
-        most = λ root r. (levels_of c part is_part flat gates roots out true old v w (stands_here old v)).roots root r;
+        most = λ root r. (levels_of c part is_part in_range gates roots out true old v w (stands_here old v)).roots root r;
       }
 
   pub strength_here : (old : Diagrams) (v : Valuation) (n : ℕ) → (s : ℕ) × IsStrength (network_at old c part gates roots v) n s
@@ -90,7 +90,7 @@ module _ (c : Circuit) (part : Part) (is_part : IsPart c part) (flat : IsFlat c)
     };
     given = λ n lt. shows_beside out roots old new n v wr spans.roots_apart spans.roots_live (omega (arith, lt, spans.roots_len));
     held = λ at hold e.
-        let lt = (all_among (IsHold c) c.holds hold flat.holds (at, e)).net in
+        let lt = (all_among (IsHold c) c.holds hold in_range.holds (at, e)).net in
         shows_beside out roots old new hold.net.0 v wr spans.roots_apart spans.roots_live (omega (arith, lt, spans.roots_len))
         ∙ ap (λ (o : Option Hold). shows old roots (net_of o) v) (sym e);
     strength = λ n. (strength_here old v n).1;
@@ -115,7 +115,7 @@ module _ (c : Circuit) (part : Part) (is_part : IsPart c part) (flat : IsFlat c)
       let same : strong b out (slot_of false) i v ≡ strong a out (slot_of false) i v =
       shows_kept out out a b (word_of (slot_of false) i) v wr
       (changes (word_of (slot_of false) i) (λ j e. omega (arith, levels_differ 9 10 i j (omega arith) (omega arith) (omega arith) (omega arith) e)))
-      (words.words.out_live (word_of (slot_of false) i) (slot_place c part is_part flat gates roots out false a i n words p)) in
+      (words.words.out_live (word_of (slot_of false) i) (slot_place c part is_part in_range gates roots out false a i n words p)) in
       (λ e. (is i n p).0 (sym same ∙ e), λ r. same ∙ (is i n p).1 r)
 
   pub both_reach : (d : Diagrams) (v : Valuation) (w : Network) → HasReach part out false d v w → HasReach part out true d v w → TellsReach part out d v w

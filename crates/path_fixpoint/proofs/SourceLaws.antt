@@ -12,7 +12,8 @@ use Rattle.vrt_model.proofs.Clear.{HopFits, RootFits}
 use Rattle.vrt_model.proofs.Members.{all_among, at_none}
 use Rattle.vrt_model.proofs.PathKinds.{Arrives, arrives_root}
 use Rattle.vrt_model.proofs.Strength.{AtLeast, HopHas, RootHas, at_least-strength, strength-at_least}
-use Rattle.vrt_model.specs.Circuits.{IsHold, IsFlat}
+use Rattle.vrt_model.specs.Circuits.{IsHold}
+use Rattle.vrt_model.specs.Networks.{HasRanges}
 use Rattle.vrt_model.specs.Lists.{At}
 use Rattle.vrt_model.specs.Path.{IsRoot, Network, Root}
 use Rattle.vrt_model.specs.declared.circuit.Circuit.{Circuit}
@@ -162,7 +163,7 @@ false_or_true : (b : Bool) → (b ≡ true → ⊥) → b ≡ false
 false_or_true true h = absurd (h refl)
 false_or_true false h = refl
 
-module _ (c : Circuit) (part : Part) (is_part : IsPart c part) (flat : IsFlat c) (gates roots out : Span) (value : Bool) (old a b new : Diagrams) (words : HasRootWords c part gates roots out old)
+module _ (c : Circuit) (part : Part) (is_part : IsPart c part) (in_range : HasRanges c) (gates roots out : Span) (value : Bool) (old a b new : Diagrams) (words : HasRootWords c part gates roots out old)
     (zero : (i : ℕ) → i < length part.nets → word_at a out (word_of (slot_of value) i) ≡ 0) (wa : Writes out old a) (ca : ChangesLevel out (slot_of value) old a)
     (wb : Writes out a b) (cb : ChangesLevel out (slot_of value) a b)
     (given : AddsRoots part roots out value (IsGivenSource c part) a b) (holds : AddsRoots part roots out value (IsHoldSource c) b new)
@@ -187,7 +188,7 @@ module _ (c : Circuit) (part : Part) (is_part : IsPart c part) (flat : IsFlat c)
   )
 
   hold_in : (at : ℕ) (hold : Hold) → At c.holds at hold → IsHold c hold
-  hold_in at hold e = all_among (IsHold c) c.holds hold flat.holds (at, e)
+  hold_in at hold e = all_among (IsHold c) c.holds hold in_range.holds (at, e)
 
   -- a net that is as strong as a root is not one level stronger
   not_above : (n size i : ℕ) → IsPlace part i n → size ≡ s n → size < 8 → strong old out (size + 1) i v ≡ false
@@ -203,7 +204,7 @@ module _ (c : Circuit) (part : Part) (is_part : IsPart c part) (flat : IsFlat c)
               λ i p.
                   let n_in : root.net < length c.nets = slice_get_within c.nets root.net g.0 there in
                   let bit : shows old roots root.net v ≡ value = is.given root.net n_in ∙ sym g.4 ∙ k.1 in
-                  holds.grown i (slot_place c part is_part flat gates roots out value old i root.net words p) v
+                  holds.grown i (slot_place c part is_part in_range gates roots out value old i root.net words p) v
                   (given.marked root.net 8 ((i, p), given_net, refl) i p v
                   ((to_a root.net 8 i (omega (arith, n_in, words.roots_len)) (omega arith) p).0 (bit, λ lt. absurd (omega (arith, lt))))),
               λ none q. sym g.4 ∙ k.1,
@@ -219,7 +220,7 @@ module _ (c : Circuit) (part : Part) (is_part : IsPart c part) (flat : IsFlat c)
                     let p' : IsPlace part i h.1.net.0 = subst (IsPlace part i) h.3 p in
                     holds.marked h.1.net.0 h.1.size (h.0, h.1, there, refl, refl) i p' v
                     ((to_b h.1.net.0 h.1.size i (omega (arith, range.net, words.roots_len)) range.size.0 p').0 (bit, not_above h.1.net.0 h.1.size i p' strength)),
-                λ none q. absurd (omega (arith, given_strength c part is_part flat gates roots out value old v w root.net (s root.net) is.stands (is.strength root.net) q, k.0, size, range.size.1)),
+                λ none q. absurd (omega (arith, given_strength c part is_part in_range gates roots out value old v w root.net (s root.net) is.stands (is.strength root.net) q, k.0, size, range.size.1)),
               )
           | inr o ↦ absurd (at_none o.0 o.1 (subst (λ (ps : List WholePin). At ps o.0 o.1) is.stands.outputs o.2))
         ]
@@ -227,7 +228,7 @@ module _ (c : Circuit) (part : Part) (is_part : IsPart c part) (flat : IsFlat c)
 
   pub source_paths : HasReachPaths part out value new v w s
   source_paths i n p e =
-      let lt = slot_place c part is_part flat gates roots out value old i n words p in
+      let lt = slot_place c part is_part in_range gates roots out value old i n words p in
       elim (holds.only i lt v e) [
         | inr x ↦
             let h = x.2 in
@@ -254,8 +255,8 @@ module _ (c : Circuit) (part : Part) (is_part : IsPart c part) (flat : IsFlat c)
               let there : At w.nets x.0 g.1.0 = subst (λ (ns : List FlatNet). At ns x.0 g.1.0) (sym is.stands.nets) g.1.1 in
               let level : 8 ≡ s x.0 = omega (
                 arith,
-                given_strength c part is_part flat gates roots out value old v w x.0 (s x.0) is.stands (is.strength x.0) g.1,
-                strength_most c part is_part flat gates roots out value old v w x.0 (s x.0) is.stands (is.strength x.0),
+                given_strength c part is_part in_range gates roots out value old v w x.0 (s x.0) is.stands (is.strength x.0) g.1,
+                strength_most c part is_part in_range gates roots out value old v w x.0 (s x.0) is.stands (is.strength x.0),
               ) in
               subst (Arrives w (RootFits s value) (HopFits s)) (place_once part i x.0 n x.3 p)
               (arrives_root w (RootFits s value) (HopFits s) root (inl (g.1.0, there, g.1.2, sym is.stands.source, refl)) (level, sym (is.given x.0 n_in) ∙ o.0))

@@ -8,7 +8,8 @@ use Rattle.node_pool.specs.declared.region.Span.{Span}
 use Rattle.bdd_core.specs.Diagram.{Valuation, meaning}
 use Rattle.bdd_core.specs.Store.{Diagrams}
 use Rattle.vrt_model.proofs.Members.{all_among}
-use Rattle.vrt_model.specs.Circuits.{IsDevice, IsFlat}
+use Rattle.vrt_model.specs.Circuits.{IsDevice}
+use Rattle.vrt_model.specs.Networks.{HasRanges}
 use Rattle.vrt_model.specs.Lists.{At, Among}
 use Rattle.vrt_model.specs.Path.{Joins, Network}
 use Rattle.vrt_model.specs.Reading.{conducts, conducts_at}
@@ -65,8 +66,8 @@ pub visited_among : (c : Circuit) (part : Part) (forward : Bool) (step : ℕ) (d
 visited_among c part forward step d is =
     filter_map_among (λ (x : Dev). slice_get c.devices x.0) part.devices (turned forward (length part.devices) step) is.0 d is.1 is.2
 
-pub device_ranges : (c : Circuit) (part : Part) (d : Device) → IsFlat c → Among (part_devices c part) d → IsDevice c d
-device_ranges c part d flat m = all_among (IsDevice c) c.devices d flat.devices (device_of_circuit c part d m)
+pub device_ranges : (c : Circuit) (part : Part) (d : Device) → HasRanges c → Among (part_devices c part) d → IsDevice c d
+device_ranges c part d in_range m = all_among (IsDevice c) c.devices d in_range.devices (device_of_circuit c part d m)
 
 -- a net of a channel that is not in the part has a given value
 pub outside_given : (c : Circuit) (part : Part) (place : Option ℕ) (net : Net) → EndIs part place net.0 → Among part.nets net ⊎ IsGiven c net.0 → place ≡ None → IsGiven c net.0
@@ -75,7 +76,7 @@ outside_given c part None net e (inr g) none = g
 outside_given c part (Some i) net e h none = absurd (cc none)
 
 -- one device, in both directions
-module _ (c : Circuit) (part : Part) (is_part : IsPart c part) (flat : IsFlat c) (gates out : Span) (level : ℕ) (low : 1 ≤ level) (high : level ≤ 8) (inside : Bool)
+module _ (c : Circuit) (part : Part) (is_part : IsPart c part) (in_range : HasRanges c) (gates out : Span) (level : ℕ) (low : 1 ≤ level) (high : level ≤ 8) (inside : Bool)
     (d : Device) (member : Among (part_devices c part) d) where
   -- too weak for the level
   pub spreads_weak : (s : Diagrams) → d.level < level → Spreads c part gates out level inside (λ x. x ≡ d) false s s
@@ -94,7 +95,7 @@ module _ (c : Circuit) (part : Part) (is_part : IsPart c part) (flat : IsFlat c)
       (first : Writes out old mid) (second : Writes out mid new)
       (onward : Passes out level d.kind gate there right forth old mid) (backward : Passes out level d.kind gate here left back mid new) where
     gate_in : d.gate.0 < length c.nets
-    gate_in = (device_ranges c part d flat member).gate
+    gate_in = (device_ranges c part d in_range member).gate
 
     gate_old : (v : Valuation) (w : Network) → StandsAt c part gates old v w → meaning old.nodes gate v ≡ w.reading d.gate.0
     gate_old v w st = ap (λ (h : ℕ). meaning old.nodes h v) gate_is ∙ st.reading d.gate.0 gate_in

@@ -1,6 +1,7 @@
 -- What a channel-connected part is in its circuit.
 use Rattle.std.specs.Prelude.{◌≡◌, ℕ, ◌-◌, ◌<◌, ◌⊎◌, Bool, IsTrue, true, false, not, List, [], Option, Some, None, cond, length, slice_get, filter_map, All}
-use Rattle.vrt_model.specs.Circuits.{IsFlat, IsNet}
+use Rattle.vrt_model.specs.Circuits.{IsNet}
+use Rattle.vrt_model.specs.Networks.{HasRanges}
 use Rattle.vrt_model.specs.Lists.{At, Among}
 use Rattle.vrt_model.specs.Reading.{is_given}
 use Rattle.vrt_model.specs.declared.circuit.Circuit.{Circuit}
@@ -68,6 +69,6 @@ pub record IsPartDevice (c : Circuit) (part : Part) (dev : Dev) : Type 0 where
   pub left : (d : Device) → At c.devices dev.0 d → Among part.nets d.left ⊎ IsGiven c d.left.0
   pub right : (d : Device) → At c.devices dev.0 d → Among part.nets d.right ⊎ IsGiven c d.right.0
 
--- a part of a flat circuit, whose nets rise where this says so
+-- a part of a circuit whose numbers are in range; its nets rise where this says so
 abbrev pub IsPartOf : Circuit → Part → Bool → Type 0
-IsPartOf c part rising = IsFlat c × IsPart c part × (IsTrue rising → Rises part)
+IsPartOf c part rising = HasRanges c × IsPart c part × (IsTrue rising → Rises part)

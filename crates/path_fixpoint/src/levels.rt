@@ -3,7 +3,7 @@
 ghost use Rattle.std.specs.Prelude.{◌≡◌, ℕ, ◌+◌, ◌*◌, ◌^◌, ◌<◌, ◌≤◌, true, false, length, IfOk};
 ghost use Rattle.bdd_core.specs.Diagram.{Valuation};
 ghost use Rattle.bdd_core.specs.Store.{IsSpan};
-ghost use Rattle.vrt_model.specs.Circuits.{IsFlat};
+ghost use Rattle.vrt_model.specs.Networks.{HasRanges};
 ghost use Rattle.vrt_model.specs.Levels.{source_level};
 ghost use Rattle.vrt_model.specs.Path.{Network};
 ghost use Rattle.path_fixpoint.specs.Openings.{IsUnused, NoDeviceHas, NoHoldHas};
@@ -138,7 +138,7 @@ pub fn strengths(
     gates: Span,
     out: Span,
 ) -> Result<(), Spent>
-    requires circuit { IsFlat circuit.now }
+    requires circuit { HasRanges circuit.now }
     requires part { IsPart circuit.now part.now }
     requires spans { HasSpans circuit.now part.now gates out store.old }
     ensures writes { Writes out store.old store.new }

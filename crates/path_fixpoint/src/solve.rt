@@ -2,7 +2,7 @@
 
 ghost use Rattle.std.specs.Prelude.{◌≡◌, ℕ, ◌+◌, ◌*◌, ◌<◌, ◌≤◌, length, IfOk};
 ghost use Rattle.bdd_core.specs.Diagram.{Valuation};
-ghost use Rattle.vrt_model.specs.Circuits.{IsFlat};
+ghost use Rattle.vrt_model.specs.Networks.{HasRanges};
 ghost use Rattle.vrt_model.specs.Path.{Network};
 ghost use Rattle.path_fixpoint.specs.Parts.{IsPart, IsPartOf};
 ghost use Rattle.path_fixpoint.specs.Reaching.{HasReach, HasRootWords, SolvedAt, slot_of};
@@ -60,7 +60,7 @@ pub fn solve_part(
     roots: Span,
     out: Span,
 ) -> Result<(), Spent>
-    requires circuit { IsFlat circuit.now }
+    requires circuit { HasRanges circuit.now }
     requires part { IsPart circuit.now part.now }
     requires spans { HasRootSpans circuit.now part.now gates roots out store.old }
     ensures writes { Writes out store.old store.new }

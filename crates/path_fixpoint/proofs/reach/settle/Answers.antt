@@ -23,7 +23,7 @@ returns-then-is_settled-clause-reach c v w s st roots paths =
     let circuit = c.args.circuit.now in
     let part = c.args.part.now in
     let is_part = c.requires.part.1 in
-    let flat = c.requires.part.0 in
+    let in_range = c.requires.part.0 in
     let gates = c.args.gates in
     let rs = c.args.roots in
     let out = c.args.out in
@@ -35,16 +35,16 @@ returns-then-is_settled-clause-reach c v w s st roots paths =
     let done = c.is_settled.ensures c.if-is_settled.true in
     let spreads : SpreadsValue circuit part gates rs out value true (Among (part_devices circuit part)) c.in-Ok.changed old new =
     subst (λ (b : Bool). SpreadsValue circuit part gates rs out value b (Among (part_devices circuit part)) c.in-Ok.changed old new) done.0 c.in-Ok.ensures.spreads in
-    let words : HasRootWords circuit part gates rs out old = root_words_kept circuit part is_part flat gates rs out value first old c.requires.words i.writes in
-    let solved : SolvedAt circuit part gates rs out old v w s = solved_kept circuit part is_part flat gates rs out value first old v w s c.requires.words i.writes i.apart st in
+    let words : HasRootWords circuit part gates rs out old = root_words_kept circuit part is_part in_range gates rs out value first old c.requires.words i.writes in
+    let solved : SolvedAt circuit part gates rs out old v w s = solved_kept circuit part is_part in_range gates rs out value first old v w s c.requires.words i.writes i.apart st in
     let same = spreads.same done.1 in
     let rooted : HasReachRoots circuit part out value new v w s =
-    λ root r k. reached_grown circuit part is_part flat gates rs out value old new v w root.net words spreads.grown (i.roots v w s st roots root r k) in
-    reach_from circuit part is_part flat gates rs out value new v w s st.strength (spreads.paths v w s solved (i.paths v w s st paths))
-    (reach_closed circuit part is_part flat gates rs out value new v w s st.stands.devices rooted
-    (reach_entered circuit part is_part flat gates rs out value old new v w s words spreads.grown (λ dev m. inl (i.entered (c.is_behind_first-inside.ensures.later done.0) v w s st dev m)))
+    λ root r k. reached_grown circuit part is_part in_range gates rs out value old new v w root.net words spreads.grown (i.roots v w s st roots root r k) in
+    reach_from circuit part is_part in_range gates rs out value new v w s st.strength (spreads.paths v w s solved (i.paths v w s st paths))
+    (reach_closed circuit part is_part in_range gates rs out value new v w s st.stands.devices rooted
+    (reach_entered circuit part is_part in_range gates rs out value old new v w s words spreads.grown (λ dev m. inl (i.entered (c.is_behind_first-inside.ensures.later done.0) v w s st dev m)))
     (λ dev m on a b j fits here r. spreads.passed dev m v w s solved on a b j fits here
-    (λ k p. sym (value_same circuit part is_part flat gates rs out value old new k v words c.in-Ok.ensures.writes same (place_in part k a p)) ∙ r.0 k p, r.1)))
+    (λ k p. sym (value_same circuit part is_part in_range gates rs out value old new k v words c.in-Ok.ensures.writes same (place_in part k a p)) ∙ r.0 k p, r.1)))
 
 pub rounds-init : goal.rounds-init
 rounds-init c = record {
@@ -62,7 +62,7 @@ rounds-preserved c =
     let circuit = c.args.circuit.now in
     let part = c.args.part.now in
     let is_part = c.requires.part.1 in
-    let flat = c.requires.part.0 in
+    let in_range = c.requires.part.0 in
     let gates = c.args.gates in
     let rs = c.args.roots in
     let out = c.args.out in
@@ -72,7 +72,7 @@ rounds-preserved c =
     let new = c.round.new.store in
     let i = c.rounds.invariant in
     let spreads = c.in-Ok.ensures.spreads in
-    let words : HasRootWords circuit part gates rs out old = root_words_kept circuit part is_part flat gates rs out value first old c.requires.words i.writes in
+    let words : HasRootWords circuit part gates rs out old = root_words_kept circuit part is_part in_range gates rs out value first old c.requires.words i.writes in
     let from_side : (side : Bool) → c.is_behind_first-inside.result ≡ side → (dev : Device) → Among (part_devices circuit part) dev → (v : Valuation) (w : Network) (s : ℕ → ℕ)
     → SolvedAt circuit part gates rs out old v w s → HasReachPassed circuit part out value side dev old new v w s =
     λ side is dev m v w s solved. subst (λ (b : Bool). HasReachPassed circuit part out value b dev old new v w s) is (spreads.passed dev m v w s solved) in
@@ -81,21 +81,21 @@ rounds-preserved c =
     record {
       writes = writes_then out first old new i.writes c.in-Ok.ensures.writes;
       apart = λ k away. c.in-Ok.ensures.apart k away ∙ i.apart k away;
-      roots = λ v w s st r root is k. reached_grown circuit part is_part flat gates rs out value old new v w root.net words spreads.grown (i.roots v w s st r root is k);
-      paths = λ v w s st p. spreads.paths v w s (solved_kept circuit part is_part flat gates rs out value first old v w s c.requires.words i.writes i.apart st) (i.paths v w s st p);
-      entered = λ some v w s st. reach_entered circuit part is_part flat gates rs out value old new v w s words spreads.grown
+      roots = λ v w s st r root is k. reached_grown circuit part is_part in_range gates rs out value old new v w root.net words spreads.grown (i.roots v w s st r root is k);
+      paths = λ v w s st p. spreads.paths v w s (solved_kept circuit part is_part in_range gates rs out value first old v w s c.requires.words i.writes i.apart st) (i.paths v w s st p);
+      entered = λ some v w s st. reach_entered circuit part is_part in_range gates rs out value old new v w s words spreads.grown
           (λ dev m. elim (cases_Bool c.is_behind_first-inside.result) [
             | inl later ↦ inl (i.entered (c.is_behind_first-inside.ensures.later later) v w s st dev m)
-            | inr first' ↦ inr (from_outside first' dev m v w s (solved_kept circuit part is_part flat gates rs out value first old v w s c.requires.words i.writes i.apart st))
+            | inr first' ↦ inr (from_outside first' dev m v w s (solved_kept circuit part is_part in_range gates rs out value first old v w s c.requires.words i.writes i.apart st))
           ]);
       progress = λ v w s st r.
-          let solved = solved_kept circuit part is_part flat gates rs out value first old v w s c.requires.words i.writes i.apart st in
+          let solved = solved_kept circuit part is_part in_range gates rs out value first old v w s c.requires.words i.writes i.apart st in
           elim (cases_Bool c.is_behind_first-inside.result) [
-            | inl later ↦ reach_progress circuit part is_part flat gates rs out value c.rounds.count old new v w s words st.stands.devices spreads.grown
+            | inl later ↦ reach_progress circuit part is_part in_range gates rs out value c.rounds.count old new v w s words st.stands.devices spreads.grown
                 (i.entered (c.is_behind_first-inside.ensures.later later) v w s st) (λ dev m. from_inside later dev m v w s solved) (i.roots v w s st r) (i.progress v w s st r)
             | inr first' ↦ subst (λ (k : ℕ). HasReachProgress circuit part out value (k + 1) new v w s) (sym (c.is_behind_first-inside.ensures.first first'))
-                (reach_first circuit part is_part flat gates rs out value old new v w s words st.stands.devices spreads.grown (i.roots v w s st r)
-                (reach_entered circuit part is_part flat gates rs out value old new v w s words spreads.grown (λ dev m. inr (from_outside first' dev m v w s solved))))
+                (reach_first circuit part is_part in_range gates rs out value old new v w s words st.stands.devices spreads.grown (i.roots v w s st r)
+                (reach_entered circuit part is_part in_range gates rs out value old new v w s words spreads.grown (λ dev m. inr (from_outside first' dev m v w s solved))))
           ];
       few = λ u gates roots all.
           let q = i.few u gates roots all in

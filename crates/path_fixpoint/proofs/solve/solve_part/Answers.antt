@@ -33,7 +33,7 @@ returns-clause-strengths c =
     let circuit = c.args.circuit.now in
     let part = c.args.part.now in
     let is_part = c.requires.part in
-    let flat = c.requires.circuit in
+    let in_range = c.requires.circuit in
     let gates = c.args.gates in
     let roots = c.args.roots in
     let out = c.args.out in
@@ -41,14 +41,14 @@ returns-clause-strengths c =
     let a = c.strengths.new.store in
     let b = c.reaches.new.store in
     let d = c.reaches-2.new.store in
-    let words_a : HasRootWords circuit part gates roots out a = root_words_from circuit part is_part flat gates roots out old a c.requires.spans c.in-Ok.ensures.writes in
-    let words_b : HasRootWords circuit part gates roots out b = root_words_kept circuit part is_part flat gates roots out false a b words_a c.in-Ok-reaches.ensures.writes in
+    let words_a : HasRootWords circuit part gates roots out a = root_words_from circuit part is_part in_range gates roots out old a c.requires.spans c.in-Ok.ensures.writes in
+    let words_b : HasRootWords circuit part gates roots out b = root_words_kept circuit part is_part in_range gates roots out false a b words_a c.in-Ok-reaches.ensures.writes in
     if_ok_more _ _ c.reaches-2.result
     (λ u h v.
     let w : Network = network_at old circuit part gates roots v in
-    tells_stay circuit part is_part flat gates roots out true b d v w words_b c.reaches-2.ensures.writes c.reaches-2.ensures.apart
-    (tells_stay circuit part is_part flat gates roots out false a b v w words_a c.in-Ok-reaches.ensures.writes c.in-Ok-reaches.ensures.apart
-    (c.in-Ok.ensures.strengths v w (stands_here circuit part is_part flat gates roots out old v))))
+    tells_stay circuit part is_part in_range gates roots out true b d v w words_b c.reaches-2.ensures.writes c.reaches-2.ensures.apart
+    (tells_stay circuit part is_part in_range gates roots out false a b v w words_a c.in-Ok-reaches.ensures.writes c.in-Ok-reaches.ensures.apart
+    (c.in-Ok.ensures.strengths v w (stands_here circuit part is_part in_range gates roots out old v))))
     c.reaches-2.ensures.reach
 
 pub returns-clause-reaches : goal.returns-clause-reaches
@@ -56,7 +56,7 @@ returns-clause-reaches c =
     let circuit = c.args.circuit.now in
     let part = c.args.part.now in
     let is_part = c.requires.part in
-    let flat = c.requires.circuit in
+    let in_range = c.requires.circuit in
     let gates = c.args.gates in
     let roots = c.args.roots in
     let out = c.args.out in
@@ -64,17 +64,17 @@ returns-clause-reaches c =
     let a = c.strengths.new.store in
     let b = c.reaches.new.store in
     let d = c.reaches-2.new.store in
-    let words_a : HasRootWords circuit part gates roots out a = root_words_from circuit part is_part flat gates roots out old a c.requires.spans c.in-Ok.ensures.writes in
-    let words_b : HasRootWords circuit part gates roots out b = root_words_kept circuit part is_part flat gates roots out false a b words_a c.in-Ok-reaches.ensures.writes in
+    let words_a : HasRootWords circuit part gates roots out a = root_words_from circuit part is_part in_range gates roots out old a c.requires.spans c.in-Ok.ensures.writes in
+    let words_b : HasRootWords circuit part gates roots out b = root_words_kept circuit part is_part in_range gates roots out false a b words_a c.in-Ok-reaches.ensures.writes in
     if_ok_more _ _ c.reaches-2.result
     (λ u h v.
     let w : Network = network_at old circuit part gates roots v in
-    let s : ℕ → ℕ = λ n. (strength_here circuit part is_part flat gates roots out old v n).0 in
-    let tells = c.in-Ok.ensures.strengths v w (stands_here circuit part is_part flat gates roots out old v) in
-    let solved : SolvedAt circuit part gates roots out a v w s = solved_from circuit part is_part flat gates roots out old a v c.requires.spans c.in-Ok.ensures.writes tells in
-    let later : SolvedAt circuit part gates roots out b v w s = solved_kept circuit part is_part flat gates roots out false a b v w s words_a c.in-Ok-reaches.ensures.writes c.in-Ok-reaches.ensures.apart solved in
-    both_reach circuit part is_part flat gates roots out d v w
-    (zeros_stay circuit part is_part flat gates roots out b d v w words_b c.reaches-2.ensures.writes c.reaches-2.ensures.apart (c.in-Ok-reaches.ensures.reach v w s solved))
+    let s : ℕ → ℕ = λ n. (strength_here circuit part is_part in_range gates roots out old v n).0 in
+    let tells = c.in-Ok.ensures.strengths v w (stands_here circuit part is_part in_range gates roots out old v) in
+    let solved : SolvedAt circuit part gates roots out a v w s = solved_from circuit part is_part in_range gates roots out old a v c.requires.spans c.in-Ok.ensures.writes tells in
+    let later : SolvedAt circuit part gates roots out b v w s = solved_kept circuit part is_part in_range gates roots out false a b v w s words_a c.in-Ok-reaches.ensures.writes c.in-Ok-reaches.ensures.apart solved in
+    both_reach circuit part is_part in_range gates roots out d v w
+    (zeros_stay circuit part is_part in_range gates roots out b d v w words_b c.reaches-2.ensures.writes c.reaches-2.ensures.apart (c.in-Ok-reaches.ensures.reach v w s solved))
     (h v w s later))
     c.reaches-2.ensures.reach
 
