@@ -1,10 +1,15 @@
 -- Parts, ranks, cycles, the law of one solution, and classes of parts.
 pub mod Acyclic
+pub mod AddsLaws
+pub mod ArcLaws
+pub mod ArcsToKnown
 pub mod ClassLaws
 pub mod ClassTestLaws
+pub mod DriveLaws
 pub mod Found
 pub mod GroupLaws
 pub mod Labels
+pub mod LinkLaws
 pub mod LinkedLaws
 pub mod ListLaws
 pub mod NetGraphLaws

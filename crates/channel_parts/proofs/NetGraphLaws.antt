@@ -1,14 +1,19 @@
 -- The graph of nets and parts grows arc by arc, and its cycles are those of the arcs between nets.
 use Rattle.std.proofs.Common.{◌≡◌, ℕ, ◌+◌, ◌<◌, ◌≤◌, ◌⊎◌, Bool, true, List, [], ◌∷◌, ◌++◌, length, None, Option, Some, slice_index, arith, ap, subst, sym, refl, ◌∙◌, inl, inr}
-use Rattle.std.specs.Prelude.{filter, is_none, nat_lt}
+use Rattle.std.specs.Prelude.{bytes_eq, filter, is_none, nat_lt}
 use Rattle.std.proofs.lemmas.Bool.{and_from, cases_lt, cond-false, cond-true, le-ltb, lt-ltb}
 use Rattle.std.proofs.lemmas.Option.{none-some, same_Some, slice_get_within}
+use Rattle.std.proofs.lemmas.Slice.Eq.{bytes_eq-Decides}
+use Rattle.channel_parts.proofs.AddsLaws.{more_adds, same_adds}
+use Rattle.channel_parts.proofs.ArcLaws.{arc_to_plain}
 use Rattle.channel_parts.proofs.Labels.{together_further}
+use Rattle.channel_parts.proofs.LinkLaws.{leads_target, link_inside, target_leads}
 use Rattle.channel_parts.proofs.PartLaws.{device_inside, inside_device, same_least_net}
-use Rattle.channel_parts.proofs.RankLaws.{arc_gate, together_back, unknown_entry, unknown_gate, unknown_parts}
+use Rattle.channel_parts.proofs.RankLaws.{together_back, unknown_entry, unknown_gate, unknown_parts}
 use Rattle.channel_parts.specs.Groups.{device_owner}
 use Rattle.channel_parts.specs.Labels.{AreBelow}
-use Rattle.channel_parts.specs.NetGraphs.{IsDeviceArc, IsDeviceArcBelow, IsNetArc, IsNetArcBelow, IsNetGraph, IsOneNetArc}
+use Rattle.channel_parts.specs.Links.{link_target}
+use Rattle.channel_parts.specs.NetGraphs.{IsDeviceArc, IsDeviceArcBelow, IsLinkArc, IsNetArc, IsNetArcBelow, IsNetGraph, IsOneNetArc, IsWholeArcBelow}
 use Rattle.channel_parts.specs.Ranks.{AreLeast, has_unknown_gate}
 use Rattle.graphs.proofs.Walks.{walk_further}
 use Rattle.graphs.specs.Graphs.{ArcIn, AreInside}
@@ -20,46 +25,18 @@ use Rattle.known_nets.specs.Placed.{Adds, IsArc}
 use Rattle.vrt_model.proofs.Filtered.{device_among}
 use Rattle.vrt_model.proofs.Members.{all_among}
 use Rattle.vrt_model.proofs.Ranked.{together_first}
-use Rattle.vrt_model.specs.Circuits.{IsDevice, IsFlat}
-use Rattle.vrt_model.specs.Known.{HasArc, IsCycle, IsFirstCycle, IsInPart, IsUnknown, IsWalk}
+use Rattle.vrt_model.specs.Circuits.{IsDevice}
+use Rattle.vrt_model.specs.Known.{HasArc, IsCycle, IsFirstCycle, IsInPart, IsUnknown, IsWalk, Leads}
 use Rattle.vrt_model.specs.Lists.{At}
+use Rattle.vrt_model.specs.Networks.{HasRanges}
 use Rattle.vrt_model.specs.Reading.{is_in}
 use Rattle.vrt_model.specs.declared.circuit.Circuit.{Circuit}
 use Rattle.vrt_model.specs.declared.circuit.Device.{Device}
 use Rattle.vrt_model.specs.declared.rules.Phase.{Phase}
+use Rattle.vrt_model.specs.declared.whole.Link.{Link}
+use Rattle.vrt_model.specs.declared.whole.Whole.{Whole}
 
 -- ---- arcs that are added
-
-pub none_adds : (Arc : ℕ → ℕ → Type 0) (graph : List (List ℕ)) → ((from to : ℕ) → Arc from to → ⊥) → Adds Arc graph graph
-none_adds Arc graph none = record {
-  count = refl;
-  only = λ f t arc. inl arc;
-  stays = λ f t arc. arc;
-  joined = λ f t arc lt. absurd (none f t arc);
-}
-
-pub same_adds : (A B : ℕ → ℕ → Type 0) (old new : List (List ℕ)) → ((from to : ℕ) → A from to → B from to) → ((from to : ℕ) → B from to → A from to) → Adds A old new → Adds B old new
-same_adds A B old new forth back adds = record {
-  count = adds.count;
-  only = λ f t arc. elim (adds.only f t arc) [ inl o ↦ inl o | inr a ↦ inr (forth f t a) ];
-  stays = adds.stays;
-  joined = λ f t arc lt. adds.joined f t (back f t arc) lt;
-}
-
-pub more_adds : (A B C : ℕ → ℕ → Type 0) (old mid new : List (List ℕ)) → ((from to : ℕ) → A from to → C from to) → ((from to : ℕ) → B from to → C from to)
-    → ((from to : ℕ) → C from to → A from to ⊎ B from to) → Adds A old mid → Adds B mid new → Adds C old new
-more_adds A B C old mid new left right split first second = record {
-  count = second.count ∙ first.count;
-  only = λ f t arc. elim (second.only f t arc) [
-    | inl before ↦ elim (first.only f t before) [ inl o ↦ inl o | inr a ↦ inr (left f t a) ]
-    | inr b ↦ inr (right f t b)
-  ];
-  stays = λ f t arc. second.stays f t (first.stays f t arc);
-  joined = λ f t arc lt. elim (split f t arc) [
-    | inl a ↦ second.stays f t (first.joined f t a lt)
-    | inr b ↦ (let count = first.count in second.joined f t b (omega (arith, lt, count)))
-  ];
-}
 
 pub one_net : (c : Circuit) (least : List ℕ) (net from : ℕ) (old new : List (List ℕ)) → is_plain_at c net ≡ true → from ≡ length least + slice_index least net → Adds (IsArc from net) old new
     → Adds (IsOneNetArc c least net) old new
@@ -89,64 +66,80 @@ one_device c known least d owner to old new unknown owned part =
       arc.part ∙ ap (λ (x : ℕ). length least + x) (same_Some arc.owner owner (sym arc.owned ∙ owned)) ∙ sym part,
     ))
 
-pub more_devices : (c : Circuit) (known : List (Option Bool)) (least : List ℕ) (at : ℕ) (d : Device) (old mid new : List (List ℕ)) → At c.devices at d
-    → Adds (IsDeviceArcBelow c known least at) old mid → Adds (IsDeviceArc c known least d) mid new → Adds (IsDeviceArcBelow c known least (at + 1)) old new
-more_devices c known least at d old mid new there =
-    more_adds (IsDeviceArcBelow c known least at) (IsDeviceArc c known least d) (IsDeviceArcBelow c known least (at + 1)) old mid new
-    (λ f t arc. (arc.0, arc.1, let lt = arc.2 in omega (arith, lt), arc.3, arc.4))
-    (λ f t arc. (at, d, omega arith, there, arc))
-    (λ f t arc. elim (below_or_at at arc.0 arc.2) [
-      | inl low ↦ inl (arc.0, arc.1, low, arc.3, arc.4)
-      | inr e ↦
-          let same : arc.1 ≡ d = same_Some arc.1 d (sym (subst (λ (x : ℕ). At c.devices x arc.1) e arc.3) ∙ there) in
-          inr (subst (λ (x : Device). IsDeviceArc c known least x f t) same arc.4)
-    ])
+pub one_link : (c : Circuit) (phase : Phase) (least : List ℕ) (w : Whole) (link : Link) (owner to : ℕ) (old new : List (List ℕ)) → bytes_eq link.phase phase.name ≡ true
+    → link_target c least w link ≡ Some owner → to ≡ length least + owner → Adds (IsArc link.from.0 to) old new → Adds (IsLinkArc c phase least w link) old new
+one_link c phase least w link owner to old new stands owned part =
+    same_adds (IsArc link.from.0 to) (IsLinkArc c phase least w link) old new
+    (λ f t arc. record { stands = stands; net = sym arc.0; owner = owner; owned = owned; part = arc.1 ∙ part })
+    (λ f t arc. (
+      sym arc.net,
+      arc.part ∙ ap (λ (x : ℕ). length least + x) (same_Some arc.owner owner (sym arc.owned ∙ owned)) ∙ sym part,
+    ))
 
 -- the arcs to nets and to parts, added to a graph without arcs
-pub adds_graph : (c : Circuit) (known : List (Option Bool)) (least : List ℕ) (none mid graph : List (List ℕ)) → length none ≡ length least + length least
-    → ((k : ℕ) (row : List ℕ) → At none k row → row ≡ []) → Adds (IsNetArcBelow c least (length least)) none mid → Adds (IsDeviceArcBelow c known least (length c.devices)) mid graph
-    → IsNetGraph c known least graph
-adds_graph c known least none mid graph size empty first second = record {
-  size = second.count ∙ first.count ∙ size;
-  only = λ f t arc. elim (second.only f t arc) [
-    | inl before ↦ elim (first.only f t before) [
-      | inl o ↦ (let at = arc_row none f t o in absurd (none-some f (subst (λ (r : List ℕ). At r at.2.0 f) (empty t at.0 at.1) at.2.1)))
-      | inr a ↦ inl a
+pub adds_graph : (c : Circuit) (phase : Phase) (known : List (Option Bool)) (least : List ℕ) (none mid next graph : List (List ℕ)) → length none ≡ length least + length least
+    → ((k : ℕ) (row : List ℕ) → At none k row → row ≡ []) → Adds (IsNetArcBelow c least (length least)) none mid → Adds (IsDeviceArcBelow c known least (length c.devices)) mid next
+    → Adds (IsWholeArcBelow c phase least (length c.wholes)) next graph → IsNetGraph c phase known least graph
+adds_graph c phase known least none mid next graph size empty first second third = record {
+  size = third.count ∙ second.count ∙ first.count ∙ size;
+  only = λ f t arc. elim (third.only f t arc) [
+    | inr whole ↦ inr (inr whole)
+    | inl later ↦ elim (second.only f t later) [
+      | inr device ↦ inr (inl device)
+      | inl before ↦ elim (first.only f t before) [
+        | inl o ↦ (let at = arc_row none f t o in absurd (none-some f (subst (λ (r : List ℕ). At r at.2.0 f) (empty t at.0 at.1) at.2.1)))
+        | inr a ↦ inl a
+      ]
     ]
-    | inr b ↦ inr b
   ];
-  nets = λ f t arc. second.stays f t (first.joined f t arc (let lt = arc.0 in omega (arith, lt, size)));
-  devices = λ f t arc lt. second.joined f t arc (let count = second.count in omega (arith, lt, count));
+  nets = λ f t arc. third.stays f t (second.stays f t (first.joined f t arc (let lt = arc.0 in omega (arith, lt, size))));
+  devices = λ f t arc lt. third.stays f t (second.joined f t arc (let one = second.count in let two = third.count in omega (arith, lt, one, two)));
+  wholes = λ f t arc lt. third.joined f t arc (let count = third.count in omega (arith, lt, count));
 }
 
 -- ---- nets and parts in turn
 
-gate_inside : (c : Circuit) (known : List (Option Bool)) (least : List ℕ) (from to : ℕ) → IsFlat c → length least ≡ length c.nets → IsDeviceArcBelow c known least (length c.devices) from to → from < length least
-gate_inside c known least from to flat len arc =
-    let inside = (all_among (IsDevice c) c.devices arc.1 flat.devices (arc.0, arc.3)).gate in
-    let gate = arc.4.gate in
+-- the net from which an arc leads to a part
+part_inside : (c : Circuit) (phase : Phase) (known : List (Option Bool)) (least : List ℕ) (from to : ℕ) → HasRanges c → length least ≡ length c.nets
+    → IsDeviceArcBelow c known least (length c.devices) from to ⊎ IsWholeArcBelow c phase least (length c.wholes) from to → from < length least
+part_inside c phase known least from to ranges len (inl device) =
+    let inside = (all_among (IsDevice c) c.devices device.1 ranges.devices (device.0, device.3)).gate in
+    let gate = device.4.gate in
     omega (arith, inside, gate, len)
+part_inside c phase known least from to ranges len (inr whole) =
+    let inside = link_inside c whole.1 whole.4.1 ranges (whole.0, whole.3) (whole.4.0, whole.4.3) in
+    let net = whole.4.4.net in
+    omega (arith, inside, net, len)
 
-pub graph_inside : (c : Circuit) (known : List (Option Bool)) (least : List ℕ) (graph : List (List ℕ)) → IsFlat c → length least ≡ length c.nets → AreBelow least → IsNetGraph c known least graph → AreInside graph
-graph_inside c known least graph flat len below is from to arc =
+-- the part to which it leads
+part_owner : (c : Circuit) (phase : Phase) (known : List (Option Bool)) (least : List ℕ) (from to : ℕ)
+    → IsDeviceArcBelow c known least (length c.devices) from to ⊎ IsWholeArcBelow c phase least (length c.wholes) from to → (owner : ℕ) × (to ≡ length least + owner)
+part_owner c phase known least from to (inl device) = (device.4.owner, device.4.part)
+part_owner c phase known least from to (inr whole) = (whole.4.4.owner, whole.4.4.part)
+
+pub graph_inside : (c : Circuit) (phase : Phase) (known : List (Option Bool)) (least : List ℕ) (graph : List (List ℕ)) → HasRanges c → length least ≡ length c.nets → AreBelow least → IsNetGraph c phase known least graph → AreInside graph
+graph_inside c phase known least graph ranges len below is from to arc =
     let size = is.size in
     elim (is.only from to arc) [
       | inl net ↦ (let part = net.1.part in let lt = net.0 in let low = below to in omega (arith, part, lt, low, size))
-      | inr device ↦ (let lt = gate_inside c known least from to flat len device in omega (arith, lt, size))
+      | inr other ↦ (let lt = part_inside c phase known least from to ranges len other in omega (arith, lt, size))
     ]
 
-module _ (c : Circuit) (phase : Phase) (known : List (Option Bool)) (least : List ℕ) (graph : List (List ℕ)) (flat : IsFlat c) (table : IsKnownTable c phase (known_at known)) (are : AreLeast c phase least)
-    (len : length least ≡ length c.nets) (below : AreBelow least) (is : IsNetGraph c known least graph) where
+module _ (c : Circuit) (phase : Phase) (known : List (Option Bool)) (least : List ℕ) (graph : List (List ℕ)) (ranges : HasRanges c) (table : IsKnownTable c phase (known_at known)) (are : AreLeast c phase least)
+    (len : length least ≡ length c.nets) (below : AreBelow least) (is : IsNetGraph c phase known least graph) where
+  abbrev IsPartArc : ℕ → ℕ → Type 0
+  IsPartArc from to = IsDeviceArcBelow c known least (length c.devices) from to ⊎ IsWholeArcBelow c phase least (length c.wholes) from to
+
   -- an arc to a net comes from its part
   to_net : (from to : ℕ) → ArcIn graph from to → to < length least → IsNetArc c least from to
-  to_net from to arc lt = elim (is.only from to arc) [ inl net ↦ net.1 | inr device ↦ (let part = device.4.part in absurd (omega (arith, part, lt))) ]
+  to_net from to arc lt = elim (is.only from to arc) [ inl net ↦ net.1 | inr other ↦ (let part = (part_owner c phase known least from to other).1 in absurd (omega (arith, part, lt))) ]
 
-  -- an arc to a part comes from a gate
-  to_part : (from to : ℕ) → ArcIn graph from to → length least ≤ to → IsDeviceArcBelow c known least (length c.devices) from to
-  to_part from to arc le = elim (is.only from to arc) [ inl net ↦ (let lt = net.0 in absurd (omega (arith, lt, le))) | inr device ↦ device ]
+  -- an arc to a part comes from a gate or from the net of a link
+  to_part : (from to : ℕ) → ArcIn graph from to → length least ≤ to → IsPartArc from to
+  to_part from to arc le = elim (is.only from to arc) [ inl net ↦ (let lt = net.0 in absurd (omega (arith, lt, le))) | inr other ↦ other ]
 
-  gate_net : (from to : ℕ) → IsDeviceArcBelow c known least (length c.devices) from to → from < length least
-  gate_net from to arc = gate_inside c known least from to flat len arc
+  gate_net : (from to : ℕ) → IsPartArc from to → from < length least
+  gate_net from to arc = part_inside c phase known least from to ranges len arc
 
   -- from a net arcs lead to parts
   from_net : (from to : ℕ) → ArcIn graph from to → from < length least → length least ≤ to
@@ -159,12 +152,9 @@ module _ (c : Circuit) (phase : Phase) (known : List (Option Bool)) (least : Lis
       elim (cases_lt to (length least)) [ inl low ↦ low | inr high ↦ (let low = gate_net from to (to_part from to arc high) in absurd (omega (arith, low, le))) ]
 
   -- over a part an arc of the circuit leads from net to net
-  over_part : (m x n : ℕ) → ArcIn graph m x → ArcIn graph x n → m < length least → HasArc c phase m n
-  over_part m x n up down lt =
-      let high = from_net m x up lt in
-      let net = to_net x n down (from_part x n down high) in
+  over_device : (m x n : ℕ) → IsDeviceArcBelow c known least (length c.devices) m x → IsNetArc c least x n → HasArc c phase m n
+  over_device m x n device net =
       let p = plain_is c n net.plain in
-      let device = to_part m x up high in
       let d : Device = device.1 in
       let one = net.part in
       let two = device.4.part in
@@ -174,10 +164,27 @@ module _ (c : Circuit) (phase : Phase) (known : List (Option Bool)) (least : Lis
       let here : IsInPart c phase true n d = (inside.0, inside.1, together_further c phase true n (slice_index least n) inside.0 (are n p).together inside.2, inside.3, inside.4) in
       inl (d, here, device.4.gate, subst (IsUnknown c phase) device.4.gate (unknown_gate c phase known d.gate.0 table (unknown_parts known d device.4.unknown).1))
 
+  over_link : (m x n : ℕ) → IsWholeArcBelow c phase least (length c.wholes) m x → IsNetArc c least x n → HasArc c phase m n
+  over_link m x n whole net =
+      let p = plain_is c n net.plain in
+      let w : Whole = whole.1 in
+      let link : Link = whole.4.1 in
+      let by : IsLinkArc c phase least w link m x = whole.4.4 in
+      let one = net.part in
+      let two = by.part in
+      let same : by.owner ≡ slice_index least n = omega (arith, one, two) in
+      let leads = target_leads c phase least n w link are p (whole.0, whole.3) (whole.4.0, whole.4.3) by.stands (by.owned ∙ ap (λ (k : ℕ). Some k) same) in
+      inr (w, link, subst (λ (k : ℕ). Leads c phase w link k n) by.net leads)
+
+  over_part : (m x n : ℕ) → ArcIn graph m x → ArcIn graph x n → m < length least → HasArc c phase m n
+  over_part m x n up down lt =
+      let high = from_net m x up lt in
+      let net = to_net x n down (from_part x n down high) in
+      elim (to_part m x up high) [ inl device ↦ over_device m x n device net | inr whole ↦ over_link m x n whole net ]
+
   -- and each arc of the circuit is one over a part
-  by_part : (m n : ℕ) → HasArc c phase m n → (x : ℕ) × ArcIn graph m x × ArcIn graph x n
-  by_part m n arc =
-      let gate = arc_gate c phase flat m n arc in
+  part_arc : (m n : ℕ) → HasArc c phase m n → IsPartArc m (length least + slice_index least n)
+  part_arc m n (inl gate) =
       let d : Device = gate.0 in
       let inside = gate.1 in
       let p = together_first c phase true n inside.0 inside.2 in
@@ -188,17 +195,23 @@ module _ (c : Circuit) (phase : Phase) (known : List (Option Bool)) (least : Lis
       let there = device_among true c d inside.3.0 in
       let none : known_at known d.gate.0 ≡ None = unknown_entry c phase known d.gate.0 table (known_at known d.gate.0) refl (subst (IsUnknown c phase) (sym gate.2) gate.3) in
       let unknown : has_unknown_gate known d ≡ true = and_from (is_in true d) (is_none (known_at known d.gate.0)) there.1 (ap is_none none) in
+      inl (there.0.0, d, slice_get_within c.devices there.0.0 d there.0.1, there.0.1, record { unknown = unknown; gate = gate.2; owner = k; owned = owner; part = refl })
+  part_arc m n (inr (w, link, leads)) =
+      let target = leads_target c phase known least w link m n table are leads in
+      let by : IsLinkArc c phase least w link m (length least + slice_index least n) =
+      record { stands = (bytes_eq-Decides link.phase phase.name).1 leads.2; net = leads.3; owner = slice_index least n; owned = target; part = refl } in
+      inr (leads.0.0, w, slice_get_within c.wholes leads.0.0 w leads.0.1, leads.0.1, (leads.1.0, link, slice_get_within w.links leads.1.0 link leads.1.1, leads.1.1, by))
+
+  by_part : (m n : ℕ) → HasArc c phase m n → (x : ℕ) × ArcIn graph m x × ArcIn graph x n
+  by_part m n arc =
+      let p = arc_to_plain c phase m n arc in
+      let k = slice_index least n in
       let low = below n in
       let net = slice_get_within c.nets n p.0 p.1 in
-      let size = is.size in (
+      let size = is.size in
+      let inside : length least + k < length graph = omega (arith, low, net, size, len) in (
         length least + k,
-        is.devices m (length least + k) (
-          there.0.0,
-          d,
-          slice_get_within c.devices there.0.0 d there.0.1,
-          there.0.1,
-          record { unknown = unknown; gate = gate.2; owner = k; owned = owner; part = refl },
-        ) (omega (arith, low, net, size, len)),
+        elim (part_arc m n arc) [ inl device ↦ is.devices m (length least + k) device inside | inr whole ↦ is.wholes m (length least + k) whole inside ],
         is.nets (length least + k) n (omega (arith, net, len), record { plain = is_plain_is c n p; part = refl }),
       )
 

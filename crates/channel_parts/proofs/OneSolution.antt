@@ -6,15 +6,17 @@ use Rattle.std.proofs.lemmas.Option.{none-some, same_Some}
 use Rattle.vrt_model.specs.Networks.{Covers, HasLevels, IsSource, HasRanges}
 use Rattle.channel_parts.proofs.Found.{solution, solution_fixed, solution_shows, shows_solution}
 use Rattle.channel_parts.proofs.Unique.{solution_unique}
-use Rattle.channel_parts.specs.OneSolution.{HasDrives, HasKnownBits, HasOneSolution, KnownStand, SameBelow}
+use Rattle.channel_parts.proofs.DriveLaws.{determined_drives}
+use Rattle.channel_parts.specs.OneSolution.{AreDetermined, AreObserved, HasDrives, HasKnownBits, HasOneSolution, KnownStand, SameBelow}
+use Rattle.known_nets.proofs.KnownShow.{known_in_solution, known_shows}
 use Rattle.known_nets.proofs.NetKinds.{given_or_plain}
 use Rattle.known_nets.specs.KnownTables.{IsKnownTable}
+use Rattle.known_nets.specs.Wired.{IsWired}
 use Rattle.vrt_model.proofs.Decidable.{reaches_test, reaches_test_ok}
 use Rattle.vrt_model.proofs.Filtered.{device_among}
 use Rattle.vrt_model.proofs.GatesGiven.{IsGiven, base_reading, given_once, plain_any}
 use Rattle.vrt_model.proofs.GivenNets.{clear_from_source, source_strength}
-use Rattle.vrt_model.proofs.Locality.{known_in_solution, known_shows}
-use Rattle.vrt_model.proofs.Members.{all_among, among_filter, at_none}
+use Rattle.vrt_model.proofs.Members.{all_among, at_none}
 use Rattle.vrt_model.proofs.Networks.{given_source, network_finite, network_levels}
 use Rattle.vrt_model.proofs.Ranked.{plain_not_given}
 use Rattle.vrt_model.proofs.SameNetwork.{IsPartOf, response_same}
@@ -23,14 +25,13 @@ use Rattle.vrt_model.specs.Constraints.{given_bit}
 use Rattle.vrt_model.specs.Known.{HasFixedBit, HasGateArc, IsChannel, IsKnown, IsPlain, IsRanking, IsTogether, fixed, itself, onward, settled}
 use Rattle.vrt_model.specs.Lists.{At, Among}
 use Rattle.vrt_model.specs.Path.{Hop, IsOn, IsOutputRoot, IsPath, IsRoot, Joins, Network, Root, end_of}
-use Rattle.vrt_model.specs.Reading.{HasGivenBit, IsReading, conducts_at, devices_of, is_given, is_in}
+use Rattle.vrt_model.specs.Reading.{HasGivenBit, IsReading, conducts_at, devices_of, is_given}
 use Rattle.vrt_model.specs.Response.{IsClear, IsResponse, IsStrength, Reaches, Response, Shows}
 use Rattle.vrt_model.specs.Solution.{Agrees, IsSolution, SameObserved}
 use Rattle.vrt_model.specs.State.{IsState, OutputPin, Setting, State, network_of, output_pins}
 use Rattle.vrt_model.specs.declared.circuit.Circuit.{Circuit}
 use Rattle.vrt_model.specs.declared.circuit.Device.{Device}
 use Rattle.vrt_model.specs.declared.circuit.FlatNet.{FlatNet}
-use Rattle.vrt_model.specs.declared.circuit.Hold.{Hold}
 use Rattle.vrt_model.specs.declared.circuit.NetKind.{NetKind}
 use Rattle.vrt_model.specs.declared.circuit.NetKind.TheVariants.{Supply, Clock, Input, Plain}
 use Rattle.vrt_model.specs.declared.rules.Phase.{Phase}
@@ -382,38 +383,24 @@ module _ (c : Circuit) (phase : Phase) (setting : Setting) (ranges : HasRanges c
   pub ranked_one : HasOneSolution c phase observed setting
   ranked_one = record { bits = found_solution; solves = found_solves; only = λ a s. one_solution found_solution a found_solves s }
 
--- ---- circuits without whole instances
+-- ---- circuits in which whole instances may stand
 
-module _ (c : Circuit) (phase : Phase) (setting : Setting) (ranges : HasRanges c) (flat : c.wholes ≡ []) (observed : ℕ → Bool)
-    (gates : (d : Device) → Among (devices_of true c) d → observed d.gate.0 ≡ true) where
-  weak : (d : Device) → Among (devices_of true c) d → d.level ≤ 7
-  weak d m = (all_among (IsDevice c) c.devices d ranges.devices (among_filter (is_in true) c.devices d m)).level.1
+-- known nets stand
+pub nets_stand : (c : Circuit) (phase : Phase) (observed : ℕ → Bool) (setting : Setting) → IsWired c → AreObserved c observed → KnownStand c phase observed setting
+nets_stand c phase observed setting wired seen = record {
+  solved = λ a s n v k o. known_in_solution c phase wired observed setting a s seen.gates n v k o;
+  shown = λ s is ok n v k p. known_shows c phase wired n v k setting.inputs setting.held s is.reading (λ d b m kg. ok.1 d.gate.0 b (seen.gates d m) kg);
+}
 
-  small : (at : ℕ) (h : Hold) → At c.holds at h → h.size ≤ 3
-  small at h e = (all_among (IsHold c) c.holds h ranges.holds (at, e)).size.1
-
-  flat_stand : KnownStand c phase observed setting
-  flat_stand = record {
-    solved = λ a s n v k o. known_in_solution c phase flat weak small observed setting a s gates n v k o;
-    shown = λ s is ok n v k p. known_shows c phase flat weak small n v k p setting.inputs s.reading setting.held s.driven is.reading (λ d b m kg. ok.1 d.gate.0 b (gates d m) kg);
-  }
-
-  no_output : (at : ℕ) (out : OutputPin) → At (output_pins c) at out → ⊥
-  no_output at out e = at_none at out (subst (λ (ws : List Whole). At (output_pins (record c { wholes = ws })) at out) flat e)
-
-  flat_drives : (rank : ℕ → ℕ) → HasDrives c phase setting.inputs observed rank (λ r at. false)
-  flat_drives rank = record {
-    gives = λ r is at out e. absurd (no_output at out e);
-    one = λ s is at out e. absurd (no_output at out e);
-    plain = λ at out e. absurd (no_output at out e);
-    below = λ n r q okr okq same at out e t. absurd (no_output at out e);
-  }
-
--- The first law: a circuit without whole instances whose nets have ranks has in the phase exactly one solution, for any
--- bits of the inputs and holds.
-pub one_solution_of_ranked : (c : Circuit) (phase : Phase) (setting : Setting) → HasRanges c → c.wholes ≡ [] → (observed : ℕ → Bool)
-    → ((d : Device) → Among (devices_of true c) d → observed d.gate.0 ≡ true) → ((n : ℕ) → observed n ≡ true → n < length c.nets)
+-- The first law: a circuit whose nets have ranks has in the phase exactly one solution, for any bits of the inputs and
+-- holds, where its whole instances are determined.
+pub one_solution_of_ranked : (c : Circuit) (phase : Phase) (setting : Setting) → IsWired c → (observed : ℕ → Bool) → AreObserved c observed → AreDetermined c phase observed
     → (known : ℕ → Option Bool) → IsKnownTable c phase known → (rank : ℕ → ℕ) → IsRanking c phase rank → HasOneSolution c phase observed setting
-one_solution_of_ranked c phase setting ranges flat observed gates within known table rank ranks =
-    ranked_one c phase setting ranges observed rank (λ r at. false) (flat_drives c phase setting ranges flat observed gates rank) (flat_stand c phase setting ranges flat observed gates)
-    known table gates within (λ m n arc. ranks.above m n (inl (inl arc, arc.3)))
+one_solution_of_ranked c phase setting wired observed seen determined known table rank ranks =
+    let drives = determined_drives c phase setting.inputs observed rank determined ranks in
+    ranked_one c phase setting wired.ranges observed rank drives.0 drives.1 (nets_stand c phase observed setting wired seen)
+    known table seen.gates seen.nets (λ m n arc. ranks.above m n (inl (inl arc, arc.3)))
+
+-- a circuit without whole instances asks nothing of them
+pub flat_determined : (c : Circuit) (phase : Phase) (observed : ℕ → Bool) → c.wholes ≡ [] → AreDetermined c phase observed
+flat_determined c phase observed flat w m = absurd (at_none m.0 w (subst (λ (ws : List Whole). At ws m.0 w) flat m.1))

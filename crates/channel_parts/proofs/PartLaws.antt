@@ -15,8 +15,9 @@ use Rattle.std.proofs.lemmas.List.Elements.{filter-append}
 use Rattle.std.proofs.lemmas.List.MinMax.{ranks_by}
 use Rattle.std.proofs.lemmas.List.Sorted.{sorted_far}
 use Rattle.std.proofs.lemmas.Option.{get_or_from_slice_get, none-some, same_Some, slice_get_within}
+use Rattle.channel_parts.proofs.ArcLaws.{rank_arc_moves}
 use Rattle.channel_parts.proofs.Labels.{channel_may, may_channel, together_further}
-use Rattle.channel_parts.proofs.RankLaws.{rank_arc_gate, together_back}
+use Rattle.channel_parts.proofs.RankLaws.{together_back}
 use Rattle.channel_parts.specs.Groups.{AreGroups, AreMade, IsMade, device_owner, device_owner_at, is_head, net_owner}
 use Rattle.channel_parts.specs.Labels.{IsLeastTogether, may_conduct}
 use Rattle.channel_parts.specs.Listings.{AreInOrder, order_cmp, same_net}
@@ -25,11 +26,10 @@ use Rattle.channel_parts.specs.declared.part.Part.{Part}
 use Rattle.known_nets.proofs.NetKinds.{is_plain_is, plain_is}
 use Rattle.known_nets.specs.Conduction.{conduction_of, is_plain_at}
 use Rattle.known_nets.specs.KnownTables.{IsKnownTable, known_at}
-use Rattle.vrt_model.specs.Circuits.{IsFlat}
 use Rattle.vrt_model.proofs.Filtered.{among_kept, device_among, filter_among}
 use Rattle.vrt_model.proofs.Lists.{at_front, at_last, at_split, at_there}
 use Rattle.vrt_model.proofs.Ranked.{together_first, together_plain}
-use Rattle.vrt_model.specs.Known.{HasRankArc, IsInPart, IsPlain, IsRanking, IsTogether, itself, onward}
+use Rattle.vrt_model.specs.Known.{IsInPart, IsPlain, IsRanking, IsTogether, itself, onward}
 use Rattle.vrt_model.specs.Lists.{At, Among}
 use Rattle.vrt_model.specs.Reading.{is_in}
 use Rattle.vrt_model.specs.declared.circuit.Circuit.{Circuit}
@@ -159,28 +159,21 @@ made_other nets devices order list pair is are =
 
 -- ---- ranks are the same all over a part
 
-arc_moved : (c : Circuit) (phase : Phase) → IsFlat c → (k n m : ℕ) → IsTogether c phase true n m → HasRankArc c phase k n → HasRankArc c phase k m
-arc_moved c phase flat k n m t arc =
-    let gate = rank_arc_gate c phase flat k n arc in
-    let inside = gate.1 in
-    let moved : IsInPart c phase true m gate.0 = (inside.0, inside.1, together_further c phase true m n inside.0 (together_back c phase true n m t) inside.2, inside.3, inside.4) in
-    inl (inl (gate.0, moved, gate.2, gate.3), gate.3)
-
-rank_not_above : (c : Circuit) (phase : Phase) (rank : ℕ → ℕ) → IsFlat c → IsRanking c phase rank → (n m : ℕ) → IsTogether c phase true n m → rank n ≤ rank m
-rank_not_above c phase rank flat ranks n m t =
+rank_not_above : (c : Circuit) (phase : Phase) (rank : ℕ → ℕ) → IsRanking c phase rank → (n m : ℕ) → IsTogether c phase true n m → rank n ≤ rank m
+rank_not_above c phase rank ranks n m t =
     elim (ranks.reached n (together_first c phase true n m t)) [
       | inl one ↦
           elim (ranks.reached m (together_plain c phase true n m t)) [
             | inl also ↦ omega (arith, one, also)
             | inr from ↦ (let up = from.2 in omega (arith, one, up))
           ]
-      | inr from ↦ (let up = from.2 in let above = ranks.above from.0 m (arc_moved c phase flat from.0 n m t from.1) in omega (arith, up, above))
+      | inr from ↦ (let up = from.2 in let above = ranks.above from.0 m (rank_arc_moves c phase n m t from.0 from.1) in omega (arith, up, above))
     ]
 
-pub ranks_even : (c : Circuit) (phase : Phase) (rank : ℕ → ℕ) → IsFlat c → IsRanking c phase rank → (n m : ℕ) → IsTogether c phase true n m → rank n ≡ rank m
-ranks_even c phase rank flat ranks n m t =
-    let le = rank_not_above c phase rank flat ranks n m t in
-    let ge = rank_not_above c phase rank flat ranks m n (together_back c phase true n m t) in
+pub ranks_even : (c : Circuit) (phase : Phase) (rank : ℕ → ℕ) → IsRanking c phase rank → (n m : ℕ) → IsTogether c phase true n m → rank n ≡ rank m
+ranks_even c phase rank ranks n m t =
+    let le = rank_not_above c phase rank ranks n m t in
+    let ge = rank_not_above c phase rank ranks m n (together_back c phase true n m t) in
     omega (arith, le, ge)
 
 -- ranks of 0 everywhere

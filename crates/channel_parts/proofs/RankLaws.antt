@@ -1,27 +1,22 @@
 -- Ranks by the least nets of the parts, and the arcs from gates that are not known.
-use Rattle.std.proofs.Common.{◌≡◌, ℕ, ◌≤◌, Bool, true, List, length, None, Option, Some, arith, ap, subst, sym, refl, ◌∙◌, inl, inr, slice_index}
-use Rattle.std.specs.Prelude.{IfSome, is_none, option_map}
+use Rattle.std.proofs.Common.{◌≡◌, ℕ, ◌≤◌, Bool, true, List, length, None, Option, Some, arith, subst, sym, refl, ◌∙◌, inl, inr, slice_index}
+use Rattle.std.specs.Prelude.{IfSome, is_none}
 use Rattle.std.proofs.lemmas.Bool.{and_parts, cases_Bool, cond-false, cond-true, false≢true}
 use Rattle.std.proofs.Math.Path.{fun_ext}
 use Rattle.std.proofs.lemmas.Option.{none-some, same_Some, slice_get_within}
-use Rattle.channel_parts.proofs.Labels.{may_channel, together_further}
-use Rattle.channel_parts.specs.Labels.{may_conduct}
+use Rattle.channel_parts.proofs.Labels.{together_further}
 use Rattle.channel_parts.specs.Ranks.{AreLeast, has_unknown_gate, rank_by}
 use Rattle.known_nets.proofs.NetKinds.{is_plain_is, plain_is}
-use Rattle.known_nets.specs.Conduction.{conduction_of, is_plain_at}
+use Rattle.known_nets.specs.Conduction.{is_plain_at}
 use Rattle.known_nets.specs.KnownTables.{IsKnownTable, known_at}
-use Rattle.vrt_model.specs.Circuits.{IsFlat}
 use Rattle.vrt_model.proofs.GatesGiven.{IsGiven}
 use Rattle.vrt_model.proofs.Laws.{turned}
-use Rattle.vrt_model.proofs.Members.{at_none}
-use Rattle.vrt_model.proofs.Ranked.{plain_not_given, together_first, together_plain}
-use Rattle.vrt_model.specs.Known.{HasArc, HasGateArc, HasRankArc, IsPlain, IsRanking, IsTogether, IsUnknown, itself, onward}
-use Rattle.vrt_model.specs.Lists.{At, Among}
-use Rattle.vrt_model.specs.Reading.{conducts_at, is_in}
+use Rattle.vrt_model.proofs.Ranked.{plain_not_given, together_plain}
+use Rattle.vrt_model.specs.Known.{IsPlain, IsRanking, IsTogether, IsUnknown, itself, onward}
+use Rattle.vrt_model.specs.Reading.{is_in}
 use Rattle.vrt_model.specs.declared.circuit.Circuit.{Circuit}
 use Rattle.vrt_model.specs.declared.circuit.Device.{Device}
 use Rattle.vrt_model.specs.declared.rules.Phase.{Phase}
-use Rattle.vrt_model.specs.declared.whole.Whole.{Whole}
 
 -- ---- tables
 
@@ -61,21 +56,6 @@ unknown_parts known d e =
     entry : (o : Option Bool) → is_none o ≡ true → o ≡ None
     entry None t = refl
     entry (Some v) t = absurd (false≢true t)
-
--- ---- the ranks
-
-no_whole : (c : Circuit) → IsFlat c → (w : Whole) → Among c.wholes w → ⊥
-no_whole c flat w m = at_none m.0 w (subst (λ (ws : List Whole). At ws m.0 w) flat.wholes m.1)
-
-pub arc_gate : (c : Circuit) (phase : Phase) → IsFlat c → (n m : ℕ) → HasArc c phase n m → HasGateArc c phase n m
-arc_gate c phase flat n m (inl gate) = gate
-arc_gate c phase flat n m (inr whole) = absurd (no_whole c flat whole.0 whole.2.0)
-
--- an arc that counts comes from a gate that is not known
-pub rank_arc_gate : (c : Circuit) (phase : Phase) → IsFlat c → (n m : ℕ) → HasRankArc c phase n m → HasGateArc c phase n m
-rank_arc_gate c phase flat n m (inl (inl gate, unknown)) = gate
-rank_arc_gate c phase flat n m (inl (inr whole, unknown)) = absurd (no_whole c flat whole.0 whole.2.0)
-rank_arc_gate c phase flat n m (inr named) = absurd (no_whole c flat named.0 named.3.0)
 
 pub unknown_entry : (c : Circuit) (phase : Phase) (known : List (Option Bool)) (n : ℕ) → IsKnownTable c phase (known_at known) → (o : Option Bool) → known_at known n ≡ o → IsUnknown c phase n → known_at known n ≡ None
 unknown_entry c phase known n table None e u = e

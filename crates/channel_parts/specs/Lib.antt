@@ -3,6 +3,7 @@ pub mod Classes
 pub mod Groups
 pub mod Labels
 pub mod LinkedParts
+pub mod Links
 pub mod Listings
 pub mod NetGraphs
 pub mod OneSolution

@@ -1,5 +1,6 @@
 -- A circuit has exactly one solution; and what the law of one solution asks of known nets and of whole instances.
 use Rattle.std.specs.Prelude.{◌≡◌, ℕ, ◌<◌, Bool, true, Option, Some, length}
+use Rattle.vrt_model.specs.Determined.{IsDetermined}
 use Rattle.vrt_model.specs.Known.{IsKnown, IsPlain, IsTogether}
 use Rattle.vrt_model.specs.Lists.{At, Among}
 use Rattle.vrt_model.specs.Reading.{IsReading, devices_of}
@@ -9,11 +10,16 @@ use Rattle.vrt_model.specs.State.{IsState, ModelGives, OutputPin, Setting, State
 use Rattle.vrt_model.specs.declared.circuit.Circuit.{Circuit}
 use Rattle.vrt_model.specs.declared.circuit.Device.{Device}
 use Rattle.vrt_model.specs.declared.rules.Phase.{Phase}
+use Rattle.vrt_model.specs.declared.whole.Whole.{Whole}
 
 -- the gates of the devices of the bare circuit are observed, and nets of the circuit alone are
 pub record AreObserved (c : Circuit) (observed : ℕ → Bool) : Type 0 where
   pub gates : (d : Device) → Among (devices_of true c) d → observed d.gate.0 ≡ true
   pub nets : (n : ℕ) → observed n ≡ true → n < length c.nets
+
+-- each whole instance is determined
+abbrev pub AreDetermined : Circuit → Phase → (ℕ → Bool) → Type 0
+AreDetermined c phase observed = (w : Whole) → Among c.wholes w → IsDetermined c phase observed w
 
 -- there is a solution, and each other is the same on the observed nets
 pub record HasOneSolution (c : Circuit) (phase : Phase) (observed : ℕ → Bool) (setting : Setting) : Type 0 where

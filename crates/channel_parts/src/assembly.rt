@@ -5,7 +5,7 @@ ghost use Rattle.channel_parts.specs.Groups.{AreMade, IsMade, is_head};
 ghost use Rattle.channel_parts.specs.Labels.{IsLeastTogether};
 ghost use Rattle.channel_parts.specs.PartLists.{AreParts, PartsGive, device_numbers, net_numbers};
 ghost use Rattle.known_nets.specs.KnownTables.{IsKnownTable, known_at};
-ghost use Rattle.vrt_model.specs.Circuits.{IsFlat};
+ghost use Rattle.known_nets.specs.Wired.{IsWired};
 ghost use Rattle.vrt_model.specs.Known.{IsPlain, IsTogether};
 ghost use Rattle.vrt_model.specs.Lists.{At};
 ghost use Rattle.vrt_model.specs.declared.rules.Phase.{Phase as PhaseValue};
@@ -129,7 +129,7 @@ fn listed(
     ranks: &[usize],
     bare: bool,
 ) -> Result<Parts, NoMemory>
-    requires flat { IsFlat circuit.now }
+    requires wired { IsWired circuit.now }
     requires known { length known.now ≡ length circuit.now.nets }
     requires nets { length least.now ≡ length circuit.now.nets }
     requires ranks { length ranks.now ≡ length circuit.now.nets }
@@ -149,21 +149,21 @@ fn bare_parts(
     circuit: &Circuit,
     phase: &Phase,
 ) -> Result<Result<Parts, PartFault>, NoMemory>
-    requires { IsFlat circuit.now }
+    requires { IsWired circuit.now }
     ensures { IfOk result (λ answer. PartsGive circuit.now phase.now true answer) }
 {
     let table = known_nets(alloc, circuit, phase)?;
     let known = table.as_slice();
     let labels = least_nets(alloc, circuit, known, true)?;
     let least = labels.as_slice();
-    let found = ranked(alloc, circuit, known, least)?;
+    let found = ranked(alloc, circuit, phase, known, least)?;
     match found {
         Some(ranks) => {
             let parts = listed(alloc, circuit, known, least, ranks.as_slice(), true)?;
             Ok(Ok(parts))
         }
         None => {
-            let around = search_all(alloc, circuit, known, least)?;
+            let around = search_all(alloc, circuit, phase, known, least)?;
             match around {
                 Some(cycle) => {
                     let nets = nets_of(alloc, cycle.as_slice())?;
@@ -177,7 +177,7 @@ fn bare_parts(
 
 /// The parts of the kept circuit, all of rank 0.
 pub(crate) fn kept_parts(alloc: Global, circuit: &Circuit, phase: &Phase) -> Result<Parts, NoMemory>
-    requires { IsFlat circuit.now }
+    requires { IsWired circuit.now }
     ensures { IfOk result (λ parts. AreParts circuit.now phase.now false (λ n. 0) parts) }
 {
     let table = known_nets(alloc, circuit, phase)?;
@@ -202,7 +202,7 @@ fn any_parts(
     phase: &Phase,
     bare: bool,
 ) -> Result<Result<Parts, PartFault>, NoMemory>
-    requires { IsFlat circuit.now }
+    requires { IsWired circuit.now }
     ensures { IfOk result (λ answer. PartsGive circuit.now phase.now bare answer) }
 {
     if bare {
@@ -213,12 +213,13 @@ fn any_parts(
     }
 }
 
-/// The known nets of a circuit without whole instances in a phase, and its channel-connected parts in their order (R. E.
-/// Bryant, A switch-level model and simulator for MOS digital systems, IEEE Transactions on Computers C-33, 1984).
+/// The known nets of a circuit in a phase, and its channel-connected parts in their order (R. E. Bryant, A switch-level model
+/// and simulator for MOS digital systems, IEEE Transactions on Computers C-33, 1984).
 ///
 /// With `bare` the keepers are left out. A part then stands above the nets that are not known and at the gates of its
-/// devices, so that the circuit has exactly one solution, for any bits of the inputs and holds; and a circuit whose
-/// arcs lead around is refused with a cycle that begins with the least net on any. Without `bare` keepers join nets as
+/// devices, and above those that are linked to outputs of whole instances in it, so that the circuit has exactly one
+/// solution, for any bits of the inputs and holds, where its whole instances are determined; and a circuit whose arcs lead
+/// around is refused with a cycle that begins with the least net on any. Without `bare` keepers join nets as
 /// other devices do, all ranks are 0, and no circuit is refused. What is known is known without keepers in both. Beside
 /// this, nothing but want of memory refuses.
 pub fn parts(
@@ -227,7 +228,7 @@ pub fn parts(
     phase: &Phase,
     bare: bool,
 ) -> Result<Parts, PartFault>
-    requires { IsFlat circuit.now }
+    requires { IsWired circuit.now }
     ensures { PartsGive circuit.now phase.now bare result }
 {
     match any_parts(alloc, circuit, phase, bare) {

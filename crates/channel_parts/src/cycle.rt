@@ -4,14 +4,13 @@ ghost use Rattle.std.specs.Prelude.{◌≡◌, ℕ, List, filter, length, nat_lt
 ghost use Rattle.channel_parts.specs.Labels.{AreBelow};
 ghost use Rattle.channel_parts.specs.Ranks.{AreLeast};
 ghost use Rattle.known_nets.specs.KnownTables.{IsKnownTable, known_at};
-ghost use Rattle.vrt_model.specs.Circuits.{IsFlat};
+ghost use Rattle.known_nets.specs.Wired.{IsWired};
 ghost use Rattle.vrt_model.specs.Known.{HasArc, IsCycle, IsFirstCycle};
-ghost use Rattle.vrt_model.specs.declared.rules.Phase.{Phase as PhaseValue};
 
 use crate::net_graph::net_graph;
 use graphs::first_cycle;
 use std::alloc::Global;
-use vrt_model::{Circuit, NoMemory};
+use vrt_model::{Circuit, NoMemory, Phase};
 
 /// Those of some numbers that are below a count.
 fn numbers_below(alloc: Global, numbers: &[u32], count: usize) -> Result<Vec<u32>, NoMemory>
@@ -27,21 +26,22 @@ fn numbers_below(alloc: Global, numbers: &[u32], count: usize) -> Result<Vec<u32
     }
 }
 
-/// The cycle of arcs that begins with the least net on any, where these nets are known and these are the least nets of
-/// the parts, or none exactly where the arcs have no cycle.
+/// The cycle of arcs of a phase that begins with the least net on any, where these nets are known and these are the least
+/// nets of the parts, or none exactly where the arcs have no cycle.
 pub(crate) fn search_all(
     alloc: Global,
     circuit: &Circuit,
+    phase: &Phase,
     known: &[Option<bool>],
     least: &[usize],
 ) -> Result<Option<Vec<u32>>, NoMemory>
-    requires flat { IsFlat circuit.now }
+    requires wired { IsWired circuit.now }
     requires nets { length least.now ≡ length circuit.now.nets }
     requires below { AreBelow least.now }
-    ensures found { IfOk result (λ o. IfSome o (λ t. (phase : PhaseValue) → IsKnownTable circuit.now phase (known_at known.now) → AreLeast circuit.now phase least.now → IsFirstCycle (HasArc circuit.now phase) t.items)) }
-    ensures none { IfOk result (λ o. IsNone o → (phase : PhaseValue) → IsKnownTable circuit.now phase (known_at known.now) → AreLeast circuit.now phase least.now → (nets : List ℕ) → ¬ IsCycle (HasArc circuit.now phase) nets) }
+    ensures found { IfOk result (λ o. IfSome o (λ t. IsKnownTable circuit.now phase.now (known_at known.now) → AreLeast circuit.now phase.now least.now → IsFirstCycle (HasArc circuit.now phase.now) t.items)) }
+    ensures none { IfOk result (λ o. IsNone o → IsKnownTable circuit.now phase.now (known_at known.now) → AreLeast circuit.now phase.now least.now → (nets : List ℕ) → ¬ IsCycle (HasArc circuit.now phase.now) nets) }
 {
-    let table = net_graph(alloc, circuit, known, least)?;
+    let table = net_graph(alloc, circuit, phase, known, least)?;
     let graph = table.as_slice();
     let found = first_cycle(alloc, graph)?;
     match found {

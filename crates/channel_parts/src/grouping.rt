@@ -2,7 +2,7 @@
 
 ghost use Rattle.std.specs.Prelude.{◌≡◌, ◌<◌, length, IfOk};
 ghost use Rattle.channel_parts.specs.Groups.{AreGroups, device_owner, device_owner_at, net_owner};
-ghost use Rattle.vrt_model.specs.Circuits.{IsFlat};
+ghost use Rattle.known_nets.specs.Wired.{IsWired};
 
 use crate::least::{is_in, may_conduct};
 use known_nets::{conduction, is_plain, no_groups, place, short_number};
@@ -72,7 +72,7 @@ pub(crate) fn devices_by_part(
     least: &[usize],
     bare: bool,
 ) -> Result<Vec<Seq<u32>>, NoMemory>
-    requires flat { IsFlat circuit.now }
+    requires wired { IsWired circuit.now }
     requires nets { length least.now ≡ length circuit.now.nets }
     ensures len { IfOk result (λ t. length t.items ≡ length least.now) }
     ensures groups { IfOk result (λ t. AreGroups (device_owner_at circuit.now known.now least.now bare) (length circuit.now.devices) t.items) }

@@ -5,7 +5,7 @@ ghost use Rattle.std.specs.Prelude.{◌≡◌, ℕ, ◌<◌, true, length, slice
 ghost use Rattle.channel_parts.specs.Labels.{AreBelow, AreOfParts, IsLeastTogether, joins_plain_nets, may_conduct};
 ghost use Rattle.channel_parts.specs.Unions.{Respects};
 ghost use Rattle.known_nets.specs.KnownTables.{IsKnownTable, known_at};
-ghost use Rattle.vrt_model.specs.Circuits.{IsFlat};
+ghost use Rattle.known_nets.specs.Wired.{IsWired};
 ghost use Rattle.vrt_model.specs.Known.{IsPlain};
 ghost use Rattle.vrt_model.specs.Lists.{Among};
 ghost use Rattle.vrt_model.specs.Reading.{is_in};
@@ -68,7 +68,7 @@ fn join_ends(
 
 /// Joins the nets over each device.
 fn join_all(circuit: &Circuit, known: &[Option<bool>], bare: bool, parents: &mut [usize])
-    requires flat { IsFlat circuit.now }
+    requires wired { IsWired circuit.now }
     requires len { length parents.old ≡ length circuit.now.nets }
     requires below { AreBelow parents.old }
     ensures below { AreBelow parents.new }
@@ -82,7 +82,7 @@ fn join_all(circuit: &Circuit, known: &[Option<bool>], bare: bool, parents: &mut
 
 /// Gives each plain net the least net of its part, where each net has itself.
 fn label_parts(circuit: &Circuit, known: &[Option<bool>], bare: bool, labels: &mut [usize])
-    requires flat { IsFlat circuit.now }
+    requires wired { IsWired circuit.now }
     requires len { length labels.old ≡ length circuit.now.nets }
     requires own { (n : ℕ) → n < length labels.old → slice_index labels.old n ≡ n }
     ensures below { AreBelow labels.new }
@@ -114,7 +114,7 @@ pub fn least_nets(
     known: &[Option<bool>],
     bare: bool,
 ) -> Result<Vec<usize>, NoMemory>
-    requires { IsFlat circuit.now }
+    requires { IsWired circuit.now }
     ensures len { IfOk result (λ t. vec_len t ≡ length circuit.now.nets) }
     ensures below { IfOk result (λ t. AreBelow t.items) }
     ensures least { IfOk result (λ t. (phase : PhaseValue) → IsKnownTable circuit.now phase (known_at known.now) → (n : ℕ) → IsPlain circuit.now n → IsLeastTogether circuit.now phase bare n (slice_index t.items n)) }

@@ -11,6 +11,7 @@ mod grouping;
 mod judging;
 mod known_bits;
 mod least;
+mod links;
 mod listing;
 mod net_graph;
 mod net_kinds;

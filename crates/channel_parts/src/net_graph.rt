@@ -1,16 +1,19 @@
-//! A graph of nets and parts: an arc leads to each plain net from its part, and to each part from the gates of its devices
-//! that are not known. It has as many numbers as there are nets, twice, and at most an arc for each net and each device.
+//! A graph of nets and parts: an arc leads to each plain net from its part, to each part from the gates of its devices that
+//! are not known, and to the part of an output of a whole instance from the nets that are linked to it. It has as many
+//! numbers as there are nets, twice, and at most an arc for each net, each device and each link.
 
 ghost use Rattle.std.specs.Prelude.{◌≡◌, ◌+◌, ◌<◌, length, IfOk, OnOk};
-ghost use Rattle.channel_parts.specs.NetGraphs.{IsDeviceArc, IsDeviceArcBelow, IsNetArcBelow, IsNetGraph, IsOneNetArc};
+ghost use Rattle.channel_parts.specs.NetGraphs.{IsDeviceArc, IsDeviceArcBelow, IsLinkArc, IsNetArcBelow, IsNetGraph, IsOneNetArc, IsWholeArc, IsWholeArcBelow};
 ghost use Rattle.known_nets.specs.Placed.{Adds};
-ghost use Rattle.vrt_model.specs.Circuits.{IsFlat};
+ghost use Rattle.known_nets.specs.Wired.{IsWired};
+ghost use Rattle.vrt_model.specs.Circuits.{IsWhole};
 
 use crate::grouping::device_owner;
+use crate::links::{link_target, stands};
 use crate::ranking::has_unknown_gate;
 use known_nets::{is_plain, lead, no_groups};
 use std::alloc::Global;
-use vrt_model::{Circuit, Device, NoMemory, Seq};
+use vrt_model::{Circuit, Device, Link, NoMemory, Phase, Seq, Whole};
 
 /// The number of a part, behind those of the nets.
 fn part_number(least: &[usize], part: usize) -> Result<usize, NoMemory>
@@ -83,7 +86,7 @@ fn lead_devices(
     least: &[usize],
     graph: &mut Vec<Seq<u32>>,
 ) -> Result<(), NoMemory>
-    requires flat { IsFlat circuit.now }
+    requires wired { IsWired circuit.now }
     requires nets { length least.now ≡ length circuit.now.nets }
     ensures { OnOk result (Adds (IsDeviceArcBelow circuit.now known.now least.now (length circuit.now.devices)) graph.old.items graph.new.items) }
 {
@@ -93,20 +96,84 @@ fn lead_devices(
     Ok(())
 }
 
-/// The graph of the nets and the parts of the bare circuit.
+/// Adds the arc from the net of a link of the phase to the part to which it leads.
+fn lead_link(
+    circuit: &Circuit,
+    phase: &Phase,
+    least: &[usize],
+    whole: &Whole,
+    link: &Link,
+    graph: &mut Vec<Seq<u32>>,
+) -> Result<(), NoMemory>
+    requires whole { IsWhole circuit.now whole.now }
+    requires nets { length least.now ≡ length circuit.now.nets }
+    ensures { OnOk result (Adds (IsLinkArc circuit.now phase.now least.now whole.now link.now) graph.old.items graph.new.items) }
+{
+    if !stands(phase, link) {
+        return Ok(());
+    }
+    let owner = link_target(circuit, least, whole, link);
+    match owner {
+        Some(part) => {
+            let to = part_number(least, part)?;
+            lead(graph, link.from.0 as usize, to)?;
+            Ok(())
+        }
+        None => Ok(()),
+    }
+}
+
+/// Adds the arcs of the links of a whole instance.
+fn lead_links(
+    circuit: &Circuit,
+    phase: &Phase,
+    least: &[usize],
+    whole: &Whole,
+    graph: &mut Vec<Seq<u32>>,
+) -> Result<(), NoMemory>
+    requires whole { IsWhole circuit.now whole.now }
+    requires nets { length least.now ≡ length circuit.now.nets }
+    ensures { OnOk result (Adds (IsWholeArc circuit.now phase.now least.now whole.now) graph.old.items graph.new.items) }
+{
+    for link in whole.links.as_slice() {
+        lead_link(circuit, phase, least, whole, link, graph)?;
+    }
+    Ok(())
+}
+
+/// Adds those of all whole instances.
+fn lead_wholes(
+    circuit: &Circuit,
+    phase: &Phase,
+    least: &[usize],
+    graph: &mut Vec<Seq<u32>>,
+) -> Result<(), NoMemory>
+    requires wired { IsWired circuit.now }
+    requires nets { length least.now ≡ length circuit.now.nets }
+    ensures { OnOk result (Adds (IsWholeArcBelow circuit.now phase.now least.now (length circuit.now.wholes)) graph.old.items graph.new.items) }
+{
+    for whole in circuit.wholes.as_slice() {
+        lead_links(circuit, phase, least, whole, graph)?;
+    }
+    Ok(())
+}
+
+/// The graph of the nets and the parts of the bare circuit in a phase.
 pub(crate) fn net_graph(
     alloc: Global,
     circuit: &Circuit,
+    phase: &Phase,
     known: &[Option<bool>],
     least: &[usize],
 ) -> Result<Vec<Seq<u32>>, NoMemory>
-    requires flat { IsFlat circuit.now }
+    requires wired { IsWired circuit.now }
     requires nets { length least.now ≡ length circuit.now.nets }
-    ensures { IfOk result (λ t. IsNetGraph circuit.now known.now least.now t.items) }
+    ensures { IfOk result (λ t. IsNetGraph circuit.now phase.now known.now least.now t.items) }
 {
     let count = part_number(least, least.len())?;
     let mut graph = no_groups(alloc, count)?;
     lead_nets(circuit, least, &mut graph)?;
     lead_devices(circuit, known, least, &mut graph)?;
+    lead_wholes(circuit, phase, least, &mut graph)?;
     Ok(graph)
 }

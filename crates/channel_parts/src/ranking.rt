@@ -1,18 +1,18 @@
-//! Ranks of nets: a part is above each net that is not known and at the gate of a device of the part.
+//! Ranks of nets: a part is above each net that is not known and at the gate of a device of the part, and above each net that a
+//! link leads to it, where the net is not known or a named port.
 
 ghost use Rattle.std.specs.Prelude.{◌≡◌, ℕ, ◌<◌, length, slice_index, IfOk, IfSome, IsNone};
 ghost use Rattle.channel_parts.specs.Labels.{AreBelow};
 ghost use Rattle.channel_parts.specs.Ranks.{AreLeast, IsAcyclicArcs, has_unknown_gate, rank_by};
 ghost use Rattle.known_nets.specs.KnownTables.{IsKnownTable, known_at};
-ghost use Rattle.vrt_model.specs.Circuits.{IsFlat};
+ghost use Rattle.known_nets.specs.Wired.{IsWired};
 ghost use Rattle.vrt_model.specs.Known.{IsRanking};
-ghost use Rattle.vrt_model.specs.declared.rules.Phase.{Phase as PhaseValue};
 
 use crate::sources::sources_by_part;
 use graphs::{all_levelled, levels_of};
 use known_nets::{is_plain, known_bit};
 use std::alloc::Global;
-use vrt_model::{Circuit, Device, NoMemory};
+use vrt_model::{Circuit, Device, NoMemory, Phase};
 
 /// The rank that a net has by now.
 fn rank_at(circuit: &Circuit, least: &[usize], ranks: &[usize], net: usize) -> usize
@@ -62,22 +62,23 @@ fn by_net(
     Ok(table)
 }
 
-/// The ranks where these nets are known and these are the least nets of the parts, or none where there are no ranks.
+/// The ranks in a phase where these nets are known and these are the least nets of the parts, or none where there are no ranks.
 pub(crate) fn ranked(
     alloc: Global,
     circuit: &Circuit,
+    phase: &Phase,
     known: &[Option<bool>],
     least: &[usize],
 ) -> Result<Option<Vec<usize>>, NoMemory>
-    requires flat { IsFlat circuit.now }
+    requires wired { IsWired circuit.now }
     requires nets { length least.now ≡ length circuit.now.nets }
     requires below { AreBelow least.now }
     ensures len { IfOk result (λ o. IfSome o (λ t. length t.items ≡ length circuit.now.nets)) }
-    ensures ranked { IfOk result (λ o. IfSome o (λ t. (phase : PhaseValue) → IsKnownTable circuit.now phase (known_at known.now) → AreLeast circuit.now phase least.now → IsRanking circuit.now phase (slice_index t.items))) }
-    ensures cyclic { IfOk result (λ o. IsNone o → (phase : PhaseValue) → IsKnownTable circuit.now phase (known_at known.now) → AreLeast circuit.now phase least.now → (rank : ℕ → ℕ) → ¬ IsRanking circuit.now phase rank) }
-    ensures around { IfOk result (λ o. IsNone o → (phase : PhaseValue) → IsKnownTable circuit.now phase (known_at known.now) → AreLeast circuit.now phase least.now → ¬ IsAcyclicArcs circuit.now phase) }
+    ensures ranked { IfOk result (λ o. IfSome o (λ t. IsKnownTable circuit.now phase.now (known_at known.now) → AreLeast circuit.now phase.now least.now → IsRanking circuit.now phase.now (slice_index t.items))) }
+    ensures cyclic { IfOk result (λ o. IsNone o → IsKnownTable circuit.now phase.now (known_at known.now) → AreLeast circuit.now phase.now least.now → (rank : ℕ → ℕ) → ¬ IsRanking circuit.now phase.now rank) }
+    ensures around { IfOk result (λ o. IsNone o → IsKnownTable circuit.now phase.now (known_at known.now) → AreLeast circuit.now phase.now least.now → ¬ IsAcyclicArcs circuit.now phase.now) }
 {
-    let table = sources_by_part(alloc, circuit, known, least)?;
+    let table = sources_by_part(alloc, circuit, phase, known, least)?;
     let sources = table.as_slice();
     let found = levels_of(alloc, sources)?;
     let levels = found.as_slice();

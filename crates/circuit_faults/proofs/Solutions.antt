@@ -4,25 +4,23 @@ use Rattle.std.specs.Prelude.{option_map, slice_get, unwrap_or}
 use Rattle.std.proofs.lemmas.Bool.{cases_Bool, cond-false, cond-true, false≢true}
 use Rattle.std.proofs.lemmas.Option.{same_Some}
 use Rattle.channel_parts.specs.OneSolution.{AreObserved}
-use Rattle.vrt_model.proofs.Filtered.{device_among}
+use Rattle.known_nets.proofs.KnownShow.{known_in_solution}
+use Rattle.known_nets.proofs.WiredLaws.{flat_wired}
 use Rattle.vrt_model.proofs.GatesGiven.{IsGiven, plain_any}
 use Rattle.vrt_model.proofs.GivenNets.{clear_from_source, source_strength}
 use Rattle.vrt_model.proofs.Laws.{shows_from, shows_no_float}
-use Rattle.vrt_model.proofs.Locality.{known_in_solution}
 use Rattle.vrt_model.proofs.Members.{all_among, at_none}
 use Rattle.vrt_model.proofs.Networks.{given_source, network_levels, flat_ranges}
-use Rattle.vrt_model.specs.Circuits.{IsDevice, IsHold, IsFlat}
+use Rattle.vrt_model.specs.Circuits.{IsHold, IsFlat}
 use Rattle.vrt_model.specs.Known.{HasFixedBit, IsKnown}
-use Rattle.vrt_model.specs.Lists.{At, Among}
+use Rattle.vrt_model.specs.Lists.{At}
 use Rattle.vrt_model.specs.Path.{Hop, IsPath, IsRoot, Network, Root, end_of}
-use Rattle.vrt_model.specs.Reading.{HasGivenBit, bare, IsReading, clock_bit, devices_of, is_given}
+use Rattle.vrt_model.specs.Reading.{HasGivenBit, bare, IsReading, clock_bit, is_given}
 use Rattle.vrt_model.specs.Response.{Float, IsClear, IsResponse, IsStrength, Reaches, Shows}
 use Rattle.vrt_model.specs.Solution.{Agrees, AlwaysResponds, IsSolution}
 use Rattle.vrt_model.specs.State.{IsState, OutputPin, Setting, State, network_of, output_pins}
 use Rattle.vrt_model.specs.declared.circuit.Circuit.{Circuit}
-use Rattle.vrt_model.specs.declared.circuit.Device.{Device}
 use Rattle.vrt_model.specs.declared.circuit.FlatNet.{FlatNet}
-use Rattle.vrt_model.specs.declared.circuit.Hold.{Hold}
 use Rattle.vrt_model.specs.declared.circuit.NetKind.{NetKind}
 use Rattle.vrt_model.specs.declared.circuit.NetKind.TheVariants.{Supply, Clock, Input, Plain}
 use Rattle.vrt_model.specs.declared.rules.Phase.{Phase}
@@ -110,14 +108,8 @@ module _ (c : Circuit) (phase : Phase) (observed : ℕ → Bool) (flat : IsFlat 
     pub given_bit : (n : ℕ) → observed n ≡ true → IsGiven c n → a n ≡ Some (root n)
     given_bit n o g = (solves n (root n) o).1 (λ s is agrees. given_shows bare c phase observed flat seen root fixed setting here s is n g)
 
-    weak : (d : Device) → Among (devices_of true c) d → d.level ≤ 7
-    weak d m = (all_among (IsDevice c) c.devices d flat.devices (device_among true c d m).0).level.1
-
-    small : (at : ℕ) (h : Hold) → At c.holds at h → h.size ≤ 3
-    small at h e = (all_among (IsHold c) c.holds h flat.holds (at, e)).size.1
-
     pub known_bit : (n : ℕ) (v : Bool) → observed n ≡ true → IsKnown c phase n v → a n ≡ Some v
-    known_bit n v o k = known_in_solution c phase flat.wholes weak small observed setting a solves seen.gates n v k o
+    known_bit n v o k = known_in_solution c phase (flat_wired c flat) observed setting a solves seen.gates n v k o
 
     -- ---- a state that agrees
 

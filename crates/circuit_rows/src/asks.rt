@@ -78,6 +78,7 @@ fn tell_known(rt: HostRuntime, circuit: &Circuit, nets: &[u32]) -> Result<()> {
 }
 
 /// The least nets of the parts.
+#[tactic(auto, using(known_nets::proofs::WiredLaws::flat_wired))]
 fn least(alloc: Global, circuit: &Circuit, bare: bool) -> Result<Vec<usize>, Stop> {
     let known = known(alloc, circuit)?;
     if !is_flat(circuit) {
@@ -107,6 +108,7 @@ enum Found {
 }
 
 /// The parts of a circuit.
+#[tactic(auto, using(known_nets::proofs::WiredLaws::flat_wired))]
 fn parts_of(alloc: Global, circuit: &Circuit, bare: bool) -> Result<Found, Stop> {
     if !is_flat(circuit) {
         return Err(Stop::Unfit);

@@ -9,6 +9,7 @@ use Rattle.firm_faults.proofs.ShutRegions.{known_settled}
 use Rattle.firm_faults.specs.FirmGround.{FirstFaultIsFirm, IsFirmIn, IsFoundByRank, IsOrderedAt}
 use Rattle.firm_faults.specs.Settled.{IsBacked, IsBrokenAt, IsInstanceOfWhole, IsSettled, ShowsOwnBit, given, nets_named_at, within}
 use Rattle.known_nets.proofs.NetKinds.{given_or_plain}
+use Rattle.known_nets.proofs.WiredLaws.{pin_of_whole}
 use Rattle.vrt_model.proofs.Laws.{shows_no_float}
 use Rattle.vrt_model.specs.Assignment.{Assignment}
 use Rattle.vrt_model.specs.Comparison.{Comparison, cell_at, is_observed, phase_at}
@@ -31,7 +32,6 @@ use Rattle.vrt_model.specs.declared.whole.Whole.{Whole}
 use Rattle.vrt_model.specs.declared.whole.WholePin.{WholePin}
 use Rattle.whole_solutions.proofs.GivenShow.{given_shows}
 use Rattle.whole_solutions.proofs.ObservedCases.{pin_observed}
-use Rattle.whole_solutions.proofs.PinWholes.{pin_of_whole}
 use Rattle.whole_solutions.proofs.RankedBits.{agreeing_state, ranked_solutions_have_bits}
 use Rattle.whole_solutions.proofs.RankedRegions.{net_in_region, ranks_give_regions, region_net, seen_in_base}
 use Rattle.whole_solutions.specs.Ranked.{IsRanked, known_or_lower, up_to}

@@ -4,6 +4,7 @@ use Rattle.std.specs.List.{list_any}
 use Rattle.std.proofs.lemmas.Bool.{and_from, and_parts, eq-eqb, eqb-true, or_cases, or_left, or_right}
 use Rattle.cell_inside.specs.Regions.{IsRegion}
 use Rattle.firm_faults.specs.Settled.{IsBacked, IsSettled, ShowsOwnBit, given, within}
+use Rattle.known_nets.proofs.WiredLaws.{pin_of_whole}
 use Rattle.vrt_model.proofs.Laws.{turned}
 use Rattle.vrt_model.proofs.Locality.{fixed_given}
 use Rattle.vrt_model.proofs.Members.{among_any, any_among}
@@ -18,7 +19,6 @@ use Rattle.vrt_model.specs.declared.circuit.Device.{Device}
 use Rattle.vrt_model.specs.declared.rules.Phase.{Phase}
 use Rattle.vrt_model.specs.declared.whole.Whole.{Whole}
 use Rattle.vrt_model.specs.declared.whole.WholePin.{WholePin}
-use Rattle.whole_solutions.proofs.PinWholes.{pin_of_whole}
 
 -- a device of the bare circuit at a set has this gate
 abbrev pub is_gate_at : (ℕ → Bool) → ℕ → Device → Bool

@@ -16,6 +16,7 @@ use Rattle.firm_faults.proofs.StepStates.{compared_outside, given_below, outside
 use Rattle.firm_faults.specs.FirmGround.{IsFirmIn, IsOnFirmGround}
 use Rattle.firm_faults.specs.Settled.{IsBacked, IsBrokenAt, IsInstanceOfWhole, IsSettled, ShowsOwnBit, given, nets_named_at, within}
 use Rattle.firm_faults.specs.StepDown.{FirmGroundGoesDown, IsCellRanked, IsInnerSolution, IsSamePlaceIn, IsStepDown}
+use Rattle.known_nets.proofs.WiredLaws.{pin_of_whole}
 use Rattle.vrt_model.proofs.Filtered.{device_among}
 use Rattle.vrt_model.proofs.GatesGiven.{plain_any}
 use Rattle.vrt_model.proofs.GivenNets.{source_strength}
@@ -42,7 +43,6 @@ use Rattle.vrt_model.specs.declared.verdict.FaultKind.TheVariants.{Fight, FightK
 use Rattle.vrt_model.specs.declared.whole.Whole.{Whole}
 use Rattle.vrt_model.specs.declared.whole.WholePin.{WholePin}
 use Rattle.whole_solutions.proofs.GivenShow.{given_shows}
-use Rattle.whole_solutions.proofs.PinWholes.{pin_of_whole}
 
 module _ (k : Comparison) (phase : ℕ) (setting : Setting) (cell whole_circuit : Circuit) (at place fresh : ℕ → ℕ) (remaining compared cell_observed known : ℕ → Bool)
     (together : ℕ → ℕ → Bool) (drive rank : ℕ → ℕ) (x : Whole) (i : FlatInstance)

@@ -9,6 +9,7 @@ use Rattle.cell_inside.specs.Inside.{Touches}
 use Rattle.cell_inside.specs.LeftWhole.{IsLeftDevice}
 use Rattle.cell_inside.specs.Regions.{IsGivenNet, IsRegion}
 use Rattle.firm_faults.specs.StepDown.{IsSameWhole, IsStepDown}
+use Rattle.known_nets.proofs.WiredLaws.{pin_of_whole}
 use Rattle.vrt_model.proofs.Filtered.{among_devices, device_among}
 use Rattle.vrt_model.specs.Assignment.{Assignment, IsAssignment, Tied}
 use Rattle.vrt_model.specs.Comparison.{Comparison, phase_at}
@@ -27,7 +28,6 @@ use Rattle.vrt_model.specs.declared.pairing.ClockedSignal.{ClockedSignal}
 use Rattle.vrt_model.specs.declared.rules.Phase.{Phase}
 use Rattle.vrt_model.specs.declared.whole.Whole.{Whole}
 use Rattle.vrt_model.specs.declared.whole.WholePin.{WholePin}
-use Rattle.whole_solutions.proofs.PinWholes.{pin_of_whole}
 
 -- ---- what models give
 

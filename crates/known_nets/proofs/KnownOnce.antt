@@ -2,8 +2,7 @@
 use Rattle.std.proofs.Common.{◌≡◌, ℕ, ◌&&◌, Bool, true, Option, Some, ap, inl, inr, subst, sym, ◌∙◌}
 use Rattle.std.proofs.lemmas.Bool.{and_from, and_parts}
 use Rattle.std.proofs.lemmas.Option.{same_Some}
-pub use Rattle.known_nets.proofs.KnownShow.{fixed_not_plain}
-use Rattle.known_nets.proofs.KnownShow.{shows_moves}
+use Rattle.known_nets.proofs.KnownShow.{fixed_not_plain, shows_moves}
 use Rattle.known_nets.specs.KnownTables.{IsClosedTable}
 use Rattle.known_nets.specs.Wired.{IsWired}
 use Rattle.vrt_model.proofs.GatesGiven.{shown_by}

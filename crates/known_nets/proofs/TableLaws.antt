@@ -1,5 +1,5 @@
 -- Tables of known nets: how they begin and grow, and that a closed one has all known nets.
-use Rattle.std.proofs.Common.{◌≡◌, ℕ, ◌<◌, ◌≤◌, Bool, true, cond, List, length, map, get_or, None, Option, Some, slice_get, arith, ap, sym, refl, ◌∙◌}
+use Rattle.std.proofs.Common.{◌≡◌, ℕ, ◌<◌, Bool, true, cond, List, length, map, get_or, None, Option, Some, slice_get, arith, ap, sym, refl, ◌∙◌}
 use Rattle.std.specs.Prelude.{is_none, is_some, option_map, unwrap_or}
 use Rattle.std.proofs.Math.ListN.{set}
 use Rattle.std.proofs.lemmas.List.Sums.{sum_by-set}
@@ -8,14 +8,10 @@ use Rattle.std.proofs.lemmas.Option.{none-some, same_Some, slice_get-map, unwrap
 use Rattle.known_nets.proofs.KnownOnce.{closed_has_all}
 use Rattle.known_nets.specs.KnownTables.{AreKnown, HasFixedNets, IsClosedTable, IsKnownTable, fixed_bit_of, known_at}
 use Rattle.known_nets.specs.Learned.{bit_shown, unknown}
-use Rattle.vrt_model.proofs.Members.{all_among, among_filter}
-use Rattle.vrt_model.specs.Circuits.{IsDevice, IsFlat}
 use Rattle.vrt_model.specs.Known.{HasFixedBit, IsKnown, fixed}
-use Rattle.vrt_model.specs.Lists.{Among}
-use Rattle.vrt_model.specs.Reading.{clock_bit, devices_of, is_in}
+use Rattle.vrt_model.specs.Reading.{clock_bit}
 use Rattle.vrt_model.specs.Response.{Fight, Float, Response, Shows}
 use Rattle.vrt_model.specs.declared.circuit.Circuit.{Circuit}
-use Rattle.vrt_model.specs.declared.circuit.Device.{Device}
 use Rattle.vrt_model.specs.declared.circuit.FlatNet.{FlatNet}
 use Rattle.vrt_model.specs.declared.circuit.NetKind.{NetKind}
 use Rattle.vrt_model.specs.declared.circuit.NetKind.TheVariants.{Supply, Clock, Input, Plain}
@@ -74,10 +70,6 @@ pub bit_is : (r : Response) (v : Bool) → bit_shown r ≡ Some v → r ≡ Show
 bit_is Fight v e = absurd (none-some v e)
 bit_is Float v e = absurd (none-some v e)
 bit_is (Shows u) v e = ap Shows (same_Some u v e)
-
--- the devices of a circuit without whole instances are below the source level
-pub flat_weak : (c : Circuit) → IsFlat c → (d : Device) → Among (devices_of true c) d → d.level ≤ 7
-flat_weak c flat d m = (all_among (IsDevice c) c.devices d flat.devices (among_filter (is_in true) c.devices d m)).level.1
 
 -- a closed table of known nets has exactly the known nets
 pub closed_table : (c : Circuit) (phase : Phase) (known : List (Option Bool)) → HasFixedNets c phase (known_at known) → AreKnown c phase (known_at known) → IsClosedTable c phase (known_at known)

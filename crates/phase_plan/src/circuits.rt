@@ -22,6 +22,7 @@ pub(crate) fn phase_of(rules: &Rules, phase: u32) -> &Phase
 }
 
 /// The parts of the circuit without its keepers, or its first cycle.
+#[tactic(auto, using(known_nets::proofs::WiredLaws::flat_wired))]
 pub(crate) fn bare_parts(
     alloc: Global,
     compared: Comparison<'_>,
@@ -40,6 +41,7 @@ pub(crate) fn bare_parts(
 }
 
 /// The parts of the circuit with its keepers. There is no cycle then, so that want of memory alone refuses.
+#[tactic(auto, using(known_nets::proofs::WiredLaws::flat_wired))]
 pub(crate) fn kept_parts(
     alloc: Global,
     compared: Comparison<'_>,

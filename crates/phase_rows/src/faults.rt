@@ -122,6 +122,7 @@ fn tell_clear(page: &mut Page, store: &Store, search: Search<'_>) -> Result<(), 
 }
 
 /// Tells the first fault of the kept circuit, where the bare one has none.
+#[tactic(auto, using(known_nets::proofs::WiredLaws::flat_wired))]
 fn look_at_kept(page: &mut Page, store: &mut Store, search: Search<'_>) -> Result<(), Stop>
     requires { IsSearched search.given.design.now search.given.rules.now search.given.circuit.now search.phase.now search.number search.observed.now }
 {
@@ -179,6 +180,7 @@ fn bare_found(
 }
 
 /// Tells the first fault of the bare circuit, and where it has none, that of the kept one.
+#[tactic(auto, using(known_nets::proofs::WiredLaws::flat_wired))]
 fn look(page: &mut Page, store: &mut Store, search: Search<'_>) -> Result<(), Stop>
     requires { IsSearched search.given.design.now search.given.rules.now search.given.circuit.now search.phase.now search.number search.observed.now }
 {

@@ -2,6 +2,8 @@
 use Rattle.std.proofs.Common.{◌≡◌, ℕ, ◌≤◌, Bool, true, false, List, [], ◌∷◌, subst, sym, refl, ◌∙◌, inl, inr}
 use Rattle.cell_inside.proofs.AssuredLaws.{response_by}
 use Rattle.cell_inside.specs.Inside.{Touches}
+use Rattle.channel_parts.proofs.DriveLaws.{gives_same}
+use Rattle.channel_parts.specs.OneSolution.{AreDetermined}
 use Rattle.vrt_model.proofs.Filtered.{device_among}
 use Rattle.vrt_model.specs.Lists.{Among, At}
 use Rattle.vrt_model.specs.Path.{Hop, IsPath, IsRoot, Network, Root, end_of, level_of}
@@ -10,8 +12,6 @@ use Rattle.vrt_model.specs.State.{IsState, OutputPin, Setting, State, network_of
 use Rattle.vrt_model.specs.declared.circuit.Circuit.{Circuit}
 use Rattle.vrt_model.specs.declared.circuit.Device.{Device}
 use Rattle.vrt_model.specs.declared.rules.Phase.{Phase}
-use Rattle.whole_ranks.proofs.DriveLaws.{gives_same}
-use Rattle.whole_ranks.specs.Solved.{AreDetermined}
 
 -- the bit that a net shows reaches it
 pub shown_reaches : (w : Network) (n : ℕ) (v : Bool) → IsResponse w n (Shows v) → Reaches w n v

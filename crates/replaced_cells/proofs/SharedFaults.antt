@@ -4,6 +4,7 @@ use Rattle.std.specs.Prelude.{◌⊎◌, option_and_then, option_map, slice_get}
 use Rattle.std.proofs.lemmas.Bool.{cases_Bool, false≢true, or_cases}
 use Rattle.std.proofs.lemmas.Option.{slice_get-map}
 use Rattle.cell_inside.specs.Inside.{Touches}
+use Rattle.channel_parts.specs.OneSolution.{AreDetermined}
 use Rattle.replaced_cells.proofs.BrokenLaws.{bit_at_port, breaks_there, ports_same}
 use Rattle.replaced_cells.proofs.MissedLaws.{apart_there, differs_there, enter_there, next_there}
 use Rattle.replaced_cells.proofs.SameResponses.{response_other}
@@ -36,7 +37,6 @@ use Rattle.vrt_model.specs.declared.ids.Net.{Net}
 use Rattle.vrt_model.specs.declared.rules.Rules.{Rules}
 use Rattle.vrt_model.specs.declared.verdict.FaultKind.{FaultKind}
 use Rattle.vrt_model.specs.declared.verdict.FaultKind.TheVariants.{Fight, FightKept, Float, Unsettled, Constraint, Differs, Next, Apart, Enter}
-use Rattle.whole_ranks.specs.Solved.{AreDetermined}
 use Rattle.whole_solutions.proofs.GivenShow.{given_shows}
 use Rattle.whole_solutions.proofs.ObservedLaws.{observed_nets_are_there, whole_observes_no_more}
 use Rattle.whole_solutions.specs.Observed.{IsInstanceImage, is_given_at}

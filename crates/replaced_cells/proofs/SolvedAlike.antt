@@ -13,6 +13,8 @@ use Rattle.cell_inside.specs.Inside.{Touches}
 use Rattle.cell_inside.specs.LeftWhole.{Correspond, HasOutputs}
 use Rattle.cell_inside.specs.OneState.{IsTotal}
 use Rattle.cell_inside.specs.Placed.{alone}
+use Rattle.channel_parts.specs.OneSolution.{AreDetermined}
+use Rattle.known_nets.proofs.WiredLaws.{pin_of_whole}
 use Rattle.replaced_cells.proofs.SameResponses.{driven_same, root_alone}
 use Rattle.replaced_cells.specs.OneMoreWhole.{IsOneMoreWhole, all_bits, no_net}
 use Rattle.vrt_model.proofs.Laws.{level_below_root, shows_from}
@@ -34,8 +36,6 @@ use Rattle.vrt_model.specs.declared.circuit.FlatNet.{FlatNet}
 use Rattle.vrt_model.specs.declared.groups.Group.{Group}
 use Rattle.vrt_model.specs.declared.whole.Whole.{Whole}
 use Rattle.vrt_model.specs.declared.whole.WholePin.{WholePin}
-use Rattle.known_nets.proofs.WiredLaws.{pin_of_whole}
-use Rattle.whole_ranks.specs.Solved.{AreDetermined}
 use Rattle.whole_solutions.proofs.ObservedCases.{gate_observed}
 
 -- without whole instances there is no output pin

@@ -4,6 +4,9 @@ use Rattle.std.specs.Prelude.{option_map, unwrap_or}
 use Rattle.std.proofs.lemmas.Bool.{cases_Bool, cond-false, cond-true, false≢true}
 use Rattle.std.proofs.lemmas.Option.{same_Some}
 use Rattle.cell_inside.specs.Regions.{ArePinsPlain}
+use Rattle.channel_parts.proofs.DriveLaws.{driven_by, driven_gives}
+use Rattle.channel_parts.specs.OneSolution.{AreDetermined}
+use Rattle.known_nets.proofs.WiredLaws.{pin_of_whole}
 use Rattle.replaced_cells.specs.OneMoreWhole.{HasSameSignal}
 use Rattle.vrt_model.proofs.GatesGiven.{IsGiven, base_reading, given_once, plain_any}
 use Rattle.vrt_model.specs.Assignment.{Obeys, Tied}
@@ -20,9 +23,6 @@ use Rattle.vrt_model.specs.declared.flat_model.FlatModel.{FlatModel}
 use Rattle.vrt_model.specs.declared.pairing.ClockedSignal.{ClockedSignal}
 use Rattle.vrt_model.specs.declared.rules.Phase.{Phase}
 use Rattle.vrt_model.specs.declared.whole.WholePin.{WholePin}
-use Rattle.whole_ranks.proofs.DriveLaws.{driven_by, driven_gives}
-use Rattle.known_nets.proofs.WiredLaws.{pin_of_whole}
-use Rattle.whole_ranks.specs.Solved.{AreDetermined}
 use Rattle.whole_solutions.proofs.GivenShow.{given_shows}
 use Rattle.whole_solutions.specs.Observed.{is_given_at}
 

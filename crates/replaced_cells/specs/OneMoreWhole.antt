@@ -3,6 +3,7 @@
 use Rattle.std.specs.Prelude.{◌≡◌, ℕ, ◌<◌, Bool, true, false, List, [], Option, Some, length, is_some}
 use Rattle.cell_inside.specs.LeftWhole.{Correspond, IsLeftWhole}
 use Rattle.cell_inside.specs.Placed.{IsPlaced}
+use Rattle.channel_parts.specs.OneSolution.{AreDetermined}
 use Rattle.vrt_model.specs.Checked.{with_circuit}
 use Rattle.vrt_model.specs.Comparison.{CellPort, Comparison, is_observed, output_signal, phase_at, ports_of}
 use Rattle.vrt_model.specs.Constraints.{Meets}
@@ -16,7 +17,6 @@ use Rattle.vrt_model.specs.State.{IsState, OutputPin, Setting, State, output_pin
 use Rattle.vrt_model.specs.Variables.{enter_of}
 use Rattle.vrt_model.specs.declared.circuit.Circuit.{Circuit}
 use Rattle.vrt_model.specs.declared.circuit.FlatInstance.{FlatInstance}
-use Rattle.whole_ranks.specs.Solved.{AreDetermined}
 use Rattle.whole_ranks.specs.WholeCells.{IsLogicCell, IsOutputAt, StandsFor}
 use Rattle.whole_solutions.specs.Instances.{HasGivenPorts, IsInstanceOf}
 use Rattle.whole_solutions.specs.Observed.{HasLeftInstances, HidesItsNets}

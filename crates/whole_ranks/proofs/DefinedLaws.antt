@@ -3,7 +3,8 @@ use Rattle.std.proofs.Common.{◌≡◌, ℕ, zero, suc, ◌<◌, ◌⊎◌, Boo
 use Rattle.std.specs.Prelude.{option_map, unwrap_or}
 use Rattle.std.proofs.lemmas.Bool.{cases_Bool, cond-false, cond-true}
 use Rattle.std.proofs.lemmas.Option.{same_Some}
-use Rattle.channel_parts.specs.OneSolution.{AreObserved, HasDrives, HasKnownBits, SameBelow}
+use Rattle.channel_parts.specs.OneSolution.{AreDetermined, AreObserved, HasDrives, HasKnownBits, SameBelow}
+use Rattle.channel_parts.proofs.DriveLaws.{determined_drives, same_bits}
 use Rattle.known_nets.proofs.KnownShow.{given_shows}
 use Rattle.known_nets.proofs.NetKinds.{given_or_plain}
 use Rattle.known_nets.specs.Wired.{AreOutputsPlain}
@@ -31,10 +32,8 @@ use Rattle.vrt_model.specs.declared.circuit.Device.{Device}
 use Rattle.vrt_model.specs.declared.circuit.FlatNet.{FlatNet}
 use Rattle.vrt_model.specs.declared.rules.Phase.{Phase}
 use Rattle.vrt_model.specs.declared.whole.WholePin.{WholePin}
-use Rattle.whole_ranks.proofs.DriveLaws.{ranked_nets_have_drives, same_bits}
 use Rattle.whole_ranks.proofs.KnownLaws.{known_nets_are_solved}
 use Rattle.whole_ranks.specs.Defined.{HasBitAt, SettledNetsRespond, SolutionsAreDefined}
-use Rattle.whole_ranks.specs.Solved.{AreDetermined}
 
 module _ (c : Circuit) (phase : Phase) (observed : ℕ → Bool) (setting : Setting) (rank : ℕ → ℕ) (a : ℕ → Option Bool) (ranges : HasRanges c) (seen : AreObserved c observed)
     (determined : AreDetermined c phase observed) (ranks : IsRanking c phase rank) (solves : IsSolution c phase observed setting a) where
@@ -48,7 +47,7 @@ module _ (c : Circuit) (phase : Phase) (observed : ℕ → Bool) (setting : Sett
   plain_outputs w pin m p = (determined w m).plain pin p
 
   drives : (driven : (ℕ → Bool) → ℕ → Bool) × HasDrives c phase setting.inputs observed rank driven
-  drives = ranked_nets_have_drives c phase setting.inputs observed rank determined ranks
+  drives = determined_drives c phase setting.inputs observed rank determined ranks
 
   -- ---- given nets
 

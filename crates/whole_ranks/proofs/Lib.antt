@@ -1,14 +1,11 @@
-pub mod ArcsToKnown
 pub mod ChainRanks
 pub mod CheckedArcLaws
 pub mod CoverLaws
 pub mod DefinedLaws
 pub mod DeterminedLaws
-pub mod DriveLaws
 pub mod IdleLaws
 pub mod KnownLaws
 pub mod LogicLaws
-pub mod PartRanks
 pub mod PlaceLaws
 pub mod RankLaws
 pub mod SolvedLaws

@@ -1,6 +1,6 @@
 -- Solutions that have a bit at each observed net.
 use Rattle.std.specs.Prelude.{◌≡◌, ℕ, ◌<◌, Bool, true, Option, Some}
-use Rattle.channel_parts.specs.OneSolution.{AreObserved}
+use Rattle.channel_parts.specs.OneSolution.{AreDetermined, AreObserved}
 use Rattle.vrt_model.specs.Known.{IsPlain, IsRanking}
 use Rattle.vrt_model.specs.Networks.{HasRanges}
 use Rattle.vrt_model.specs.Reading.{bare}
@@ -9,7 +9,6 @@ use Rattle.vrt_model.specs.Solution.{AlwaysResponds, IsSolution}
 use Rattle.vrt_model.specs.State.{Setting}
 use Rattle.vrt_model.specs.declared.circuit.Circuit.{Circuit}
 use Rattle.vrt_model.specs.declared.rules.Phase.{Phase}
-use Rattle.whole_ranks.specs.Solved.{AreDetermined}
 
 -- an assignment has a bit at a net
 abbrev pub HasBitAt : (ℕ → Option Bool) → ℕ → Type 0

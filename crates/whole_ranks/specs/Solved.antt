@@ -1,22 +1,15 @@
 -- Circuits with determined whole instances, whose nets have ranks, have one solution.
 use Rattle.std.specs.Prelude.{ℕ, Bool, Option}
-use Rattle.channel_parts.specs.OneSolution.{AreObserved, HasDrives, HasOneSolution, KnownStand}
+use Rattle.channel_parts.specs.OneSolution.{AreDetermined, AreObserved, HasDrives, HasOneSolution, KnownStand}
 use Rattle.known_nets.specs.KnownTables.{IsKnownTable}
 use Rattle.known_nets.specs.Wired.{AreOutputsPlain}
-use Rattle.vrt_model.specs.Determined.{IsDetermined}
 use Rattle.vrt_model.specs.Known.{HasArc, IsRanking}
-use Rattle.vrt_model.specs.Lists.{Among}
 use Rattle.vrt_model.specs.Networks.{HasRanges}
 use Rattle.vrt_model.specs.State.{Setting}
 use Rattle.vrt_model.specs.Unsupported.{IsAcyclic}
 use Rattle.vrt_model.specs.declared.circuit.Circuit.{Circuit}
 use Rattle.vrt_model.specs.declared.rules.Phase.{Phase}
-use Rattle.vrt_model.specs.declared.whole.Whole.{Whole}
 use Rattle.whole_ranks.specs.Ranks.{TestsArcs}
-
--- each whole instance is determined
-abbrev pub AreDetermined : Circuit → Phase → (ℕ → Bool) → Type 0
-AreDetermined c phase observed = (w : Whole) → Among c.wholes w → IsDetermined c phase observed w
 
 -- The law: known nets stand, as the law of one solution asks.
 abbrev pub KnownNetsStand : Type 0

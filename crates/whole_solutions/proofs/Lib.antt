@@ -4,7 +4,6 @@ pub mod KnownInsideLaws
 pub mod ObservedCases
 pub mod ObservedLaws
 pub mod PairedPortLaws
-pub mod PinWholes
 pub mod PortNets
 pub mod RankedBits
 pub mod RankedRegions

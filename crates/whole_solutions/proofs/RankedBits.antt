@@ -7,6 +7,7 @@ use Rattle.cell_inside.proofs.NetKinds.{is_plain_is, plain_is}
 use Rattle.cell_inside.proofs.RegionLaws.{region_is_local}
 use Rattle.cell_inside.specs.Regions.{ArePinsPlain, AreRegions}
 use Rattle.known_nets.proofs.NetKinds.{given_or_plain}
+use Rattle.known_nets.proofs.WiredLaws.{pin_of_whole}
 use Rattle.vrt_model.proofs.Decidable.{some_response}
 use Rattle.vrt_model.proofs.GatesGiven.{IsGiven, base_reading, given_once, plain_any}
 use Rattle.vrt_model.proofs.Networks.{network_finite}
@@ -20,7 +21,6 @@ use Rattle.vrt_model.specs.declared.circuit.Circuit.{Circuit}
 use Rattle.vrt_model.specs.declared.circuit.FlatNet.{FlatNet}
 use Rattle.vrt_model.specs.declared.rules.Phase.{Phase}
 use Rattle.whole_solutions.proofs.GivenShow.{given_shows}
-use Rattle.whole_solutions.proofs.PinWholes.{pin_of_whole}
 use Rattle.whole_solutions.proofs.RankedRegions.{net_in_region, ranks_give_regions, region_net}
 use Rattle.whole_solutions.specs.Ranked.{IsRanked, RankedSolutionsHaveBits, known_or_lower, up_to}
 

@@ -5,6 +5,7 @@ use Rattle.cell_inside.proofs.NetKinds.{is_plain_is, plain_is}
 use Rattle.cell_inside.specs.Regions.{HasBits}
 use Rattle.fault_places.proofs.PartRanks.{same_rank}
 use Rattle.known_nets.proofs.NetKinds.{given_or_plain}
+use Rattle.known_nets.proofs.WiredLaws.{pin_of_whole}
 use Rattle.vrt_model.proofs.Filtered.{device_among}
 use Rattle.vrt_model.proofs.GatesGiven.{IsGiven, given_once}
 use Rattle.vrt_model.proofs.Laws.{turned}
@@ -21,7 +22,6 @@ use Rattle.vrt_model.specs.declared.circuit.Device.{Device}
 use Rattle.vrt_model.specs.declared.ids.Net.{Net}
 use Rattle.vrt_model.specs.declared.rules.Phase.{Phase}
 use Rattle.vrt_model.specs.declared.whole.WholePin.{WholePin}
-use Rattle.whole_solutions.proofs.PinWholes.{pin_of_whole}
 use Rattle.whole_solutions.specs.Ranked.{IsRanked, RanksGiveRegions, known_or_lower, up_to}
 
 -- in two readings a given net has the same bit

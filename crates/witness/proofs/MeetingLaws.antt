@@ -1,19 +1,20 @@
 -- A solution and the values of all nets at its setting have the same bits where nothing of lower rank fights or floats; and
 -- there a net shows what it does in the solution.
-use Rattle.std.proofs.Common.{◌≡◌, ℕ, zero, suc, ◌<◌, ◌≤◌, ◌⊎◌, Bool, true, false, cond, List, None, Option, Some, length, slice_get, arith, ap, refl, sym, subst, ◌∙◌, inl, inr}
+use Rattle.std.proofs.Common.{◌≡◌, ℕ, zero, suc, ◌<◌, ◌⊎◌, Bool, true, false, cond, List, None, Option, Some, length, slice_get, arith, ap, refl, sym, subst, ◌∙◌, inl, inr}
 use Rattle.std.specs.Prelude.{option_map, unwrap_or}
 use Rattle.std.proofs.lemmas.Bool.{cases_Bool, cond-false, cond-true, false≢true}
 use Rattle.std.proofs.lemmas.Option.{none-some, same_Some}
+use Rattle.known_nets.proofs.KnownShow.{known_in_solution}
+use Rattle.known_nets.proofs.WiredLaws.{flat_wired}
 use Rattle.known_nets.proofs.NetKinds.{given_or_plain}
 use Rattle.vrt_model.proofs.Decidable.{some_response}
 use Rattle.vrt_model.proofs.Filtered.{device_among}
 use Rattle.vrt_model.proofs.GatesGiven.{IsGiven, base_reading, plain_any}
 use Rattle.vrt_model.proofs.Laws.{one_response}
 use Rattle.vrt_model.proofs.Lists.{at_there}
-use Rattle.vrt_model.proofs.Locality.{known_in_solution}
 use Rattle.vrt_model.proofs.Members.{all_among}
 use Rattle.vrt_model.proofs.Networks.{flat_ranges, network_finite}
-use Rattle.vrt_model.specs.Circuits.{IsDevice, IsFlat, IsHold}
+use Rattle.vrt_model.specs.Circuits.{IsDevice, IsFlat}
 use Rattle.vrt_model.specs.Constraints.{given_bit}
 use Rattle.vrt_model.specs.Known.{HasRankArc, IsInPart, IsKnown, IsPlain, IsUnknown, itself as alone}
 use Rattle.vrt_model.specs.Lists.{At, Among}
@@ -24,7 +25,6 @@ use Rattle.vrt_model.specs.State.{IsState, Setting, State, network_of}
 use Rattle.vrt_model.specs.declared.circuit.Circuit.{Circuit}
 use Rattle.vrt_model.specs.declared.circuit.Device.{Device}
 use Rattle.vrt_model.specs.declared.circuit.FlatNet.{FlatNet}
-use Rattle.vrt_model.specs.declared.circuit.Hold.{Hold}
 use Rattle.vrt_model.specs.declared.rules.Phase.{Phase}
 use Rattle.witness.proofs.LookLaws.{no_pin}
 use Rattle.witness.proofs.PartResponses.{given_response, same_response}
@@ -99,14 +99,8 @@ module _ (c : Circuit) (phase : Phase) (flat : IsFlat c) (observed : ℕ → Boo
 
   -- ---- known nets
 
-  weak : (d : Device) → Among (devices_of true c) d → d.level ≤ 7
-  weak d m = (all_among (IsDevice c) c.devices d flat.devices (device_among true c d m).0).level.1
-
-  small : (at : ℕ) (h : Hold) → At c.holds at h → h.size ≤ 3
-  small at h e = (all_among (IsHold c) c.holds h flat.holds (at, e)).size.1
-
   known_solved : (n : ℕ) (v : Bool) → observed n ≡ true → IsKnown c phase n v → a n ≡ Some v
-  known_solved n v o k = known_in_solution c phase flat.wholes weak small observed setting a solves (λ d m. gates d (device_among true c d m).0) n v k o
+  known_solved n v o k = known_in_solution c phase (flat_wired c flat) observed setting a solves (λ d m. gates d (device_among true c d m).0) n v k o
 
   -- ---- a state that agrees with the solution
 

@@ -4,14 +4,13 @@ use Rattle.std.proofs.Common.{◌≡◌, ℕ, zero, suc, ◌+◌, ◌<◌, ◌�
 use Rattle.std.specs.Prelude.{filter, option_map, unwrap_or}
 use Rattle.std.proofs.lemmas.Bool.{false≢true}
 use Rattle.std.proofs.lemmas.Option.{none-some, slice_get_within}
-use Rattle.known_nets.proofs.KnownOnce.{fixed_not_plain}
+use Rattle.known_nets.proofs.KnownShow.{fixed_not_plain, known_shows}
+use Rattle.known_nets.proofs.WiredLaws.{flat_wired}
 use Rattle.known_nets.proofs.NetKinds.{given_or_plain}
-use Rattle.known_nets.proofs.TableLaws.{flat_weak}
 use Rattle.known_nets.specs.KnownTables.{IsKnownTable, known_at}
 use Rattle.vrt_model.proofs.GatesGiven.{IsGiven}
 use Rattle.vrt_model.proofs.GivenNets.{clear_from_source, source_strength}
 use Rattle.vrt_model.proofs.Laws.{shows_from}
-use Rattle.vrt_model.proofs.Locality.{known_shows}
 use Rattle.vrt_model.proofs.Members.{all_among, at_none}
 use Rattle.vrt_model.proofs.Networks.{flat_outputs, flat_ranges, given_source, network_levels}
 use Rattle.vrt_model.proofs.Ranked.{plain_not_given, together_first}
@@ -27,7 +26,6 @@ use Rattle.vrt_model.specs.Variables.{is_input}
 use Rattle.vrt_model.specs.declared.circuit.Circuit.{Circuit}
 use Rattle.vrt_model.specs.declared.circuit.Device.{Device}
 use Rattle.vrt_model.specs.declared.circuit.FlatNet.{FlatNet}
-use Rattle.vrt_model.specs.declared.circuit.Hold.{Hold}
 use Rattle.vrt_model.specs.declared.circuit.NetKind.{NetKind}
 use Rattle.vrt_model.specs.declared.circuit.NetKind.TheVariants.{Supply, Clock, Input, Plain}
 use Rattle.vrt_model.specs.declared.rules.Phase.{Phase}
@@ -191,10 +189,7 @@ module _ (c : Circuit) (phase : Phase) (flat : IsFlat c) (held inputs : List Boo
     plain_seen : (n : ℕ) (v : Bool) → IsPlain c n → known_at bits n ≡ Some v → HasSeen c phase setting (known_at bits) true n (Bit v)
     plain_seen n v p e =
         let k : IsKnown c phase n v = (table n v).0 (sym (start_known n (plain_no_input n p)) ∙ (sym (at_start n (inside_nets n p.0 p.1)) ∙ e)) in
-        (known_open n v k, λ s is has. known_shows c phase flat.wholes (flat_weak c flat) small n v k p setting.inputs s.reading setting.held s.driven is.reading (λ d b a q. has d.gate.0 b (has_known d.gate.0 b q)))
-      where
-        small : (at : ℕ) (h : Hold) → At c.holds at h → h.size ≤ 3
-        small at h m = (all_among (IsHold c) c.holds h flat.holds (at, m)).size.1
+        (known_open n v k, λ s is has. known_shows c phase (flat_wired c flat) n v k setting.inputs setting.held s is.reading (λ d b a q. has d.gate.0 b (has_known d.gate.0 b q)))
 
     start_shown : (n : ℕ) (v : Bool) → known_at bits n ≡ Some v → HasSeen c phase setting (known_at bits) true n (Bit v)
     start_shown n v e =

@@ -21,6 +21,7 @@ use std::alloc::Global;
 use vrt_model::{Circuit, NoMemory, Phase, Seq};
 
 /// The parts of the kept circuit.
+#[tactic(auto, using(known_nets::proofs::WiredLaws::flat_wired))]
 fn kept_parts(alloc: Global, circuit: &Circuit, phase: &Phase) -> Result<Parts, NoMemory>
     requires { IsFlat circuit.now }
     ensures { IfOk result (λ kept. AreParts circuit.now phase.now false (λ n. 0) kept) }
@@ -74,6 +75,7 @@ fn values(
 /// its response, which is the same at every reading with the bits that nets show. The kept circuit has the same bits at
 /// its gates. A circuit is refused exactly where its arcs lead around, with the cycle that `parts` gives; beside this,
 /// nothing but want of memory refuses.
+#[tactic(auto, using(known_nets::proofs::WiredLaws::flat_wired))]
 pub fn replay(
     alloc: Global,
     circuit: &Circuit,

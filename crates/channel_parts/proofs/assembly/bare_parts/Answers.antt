@@ -5,14 +5,9 @@ use Rattle.channel_parts.proofs.OneSolution.{one_solution_of_ranked}
 use Rattle.channel_parts.proofs.PartLaws.{ranks_even}
 use Rattle.channel_parts.proofs.RankLaws.{at_some, some_map}
 use Rattle.channel_parts.specs.Ranks.{AreLeast}
-use Rattle.known_nets.proofs.WiredLaws.{flat_wired}
 use Rattle.known_nets.specs.KnownTables.{IsKnownTable, known_at}
-use Rattle.vrt_model.proofs.Networks.{flat_ranges}
 use Rattle.vrt_model.specs.Known.{HasArc, IsFirstCycle, IsRanking}
 use Rattle.channel_parts.proofs.assembly.bare_parts.Goals as goal
-
-pub known_nets-requires : goal.known_nets-requires
-known_nets-requires c = flat_wired c.args.circuit.now c.requires
 
 pub returns-in-Some : goal.returns-in-Some
 returns-in-Some c =
@@ -27,12 +22,12 @@ returns-in-Some c =
     let ranking : IsRanking circuit phase (slice_index ranks) =
     subst (λ (t : List ℕ). IsRanking circuit phase (slice_index t)) (sym c.as_slice.ensures.value)
     (at_some (λ t. IsRanking circuit phase (slice_index t.items)) c.in_ok-found.found c.in-Some.ranks c.in-Some.is
-    (some_map c.in_ok-found.found (λ x h. h phase table are) c.in_ok-found.ensures.ranked)) in (
+    (some_map c.in_ok-found.found (λ x h. h table are) c.in_ok-found.ensures.ranked)) in (
       slice_index ranks,
-      c.in_ok-parts-in-Some.ensures phase table are (ranks_even circuit phase (slice_index ranks) c.requires ranking),
+      c.in_ok-parts-in-Some.ensures phase table are (ranks_even circuit phase (slice_index ranks) ranking),
       ranking,
-      ranks_acyclic circuit phase (slice_index ranks) c.requires ranking,
-      λ observed setting seen. one_solution_of_ranked circuit phase setting (flat_ranges circuit c.requires) c.requires.wholes observed seen.gates seen.nets (known_at known) table (slice_index ranks) ranking,
+      ranks_acyclic circuit phase (slice_index ranks) ranking,
+      λ observed setting seen determined. one_solution_of_ranked circuit phase setting c.requires observed seen determined (known_at known) table (slice_index ranks) ranking,
     )
 
 pub unreachable-requires : goal.unreachable-requires
@@ -45,7 +40,7 @@ unreachable-requires c =
     subst (AreLeast circuit phase) (sym c.as_slice-least.ensures.value) (λ n p. c.in_ok-labels.ensures.least phase table n p) in
     let no_ranks : is_some c.in_ok-found.found ≡ false = ap is_some c.in-None.is in
     let no_cycle : is_some c.in_ok-around-in-None.around ≡ false = ap is_some c.in-None-around.is in
-    c.in_ok-found.ensures.around no_ranks phase table are (c.in_ok-around-in-None.ensures.none no_cycle phase table are)
+    c.in_ok-found.ensures.around no_ranks table are (c.in_ok-around-in-None.ensures.none no_cycle table are)
 
 pub returns-in-Some-around : goal.returns-in-Some-around
 returns-in-Some-around c =
@@ -57,5 +52,5 @@ returns-in-Some-around c =
     subst (AreLeast circuit phase) (sym c.as_slice-least.ensures.value) (λ n p. c.in_ok-labels.ensures.least phase table n p) in
     let cycle : IsFirstCycle (HasArc circuit phase) c.in-Some-around.cycle.items =
     at_some (λ t. IsFirstCycle (HasArc circuit phase) t.items) c.in_ok-around-in-None.around c.in-Some-around.cycle c.in-Some-around.is
-    (some_map c.in_ok-around-in-None.around (λ x h. h phase table are) c.in_ok-around-in-None.ensures.found) in
+    (some_map c.in_ok-around-in-None.around (λ x h. h table are) c.in_ok-around-in-None.ensures.found) in
     (refl, subst (IsFirstCycle (HasArc circuit phase)) (sym (c.in_ok-nets-in-Some-around.ensures ∙ c.as_slice-in-Some-around.ensures.value)) cycle)

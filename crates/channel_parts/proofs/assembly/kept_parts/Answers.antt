@@ -2,13 +2,9 @@ use Rattle.std.proofs.Common.{◌≡◌, ℕ, Bool, List, Option, false, slice_i
 use Rattle.channel_parts.proofs.PartLaws.{zero_ranks}
 use Rattle.channel_parts.specs.Labels.{IsLeastTogether}
 use Rattle.channel_parts.specs.PartLists.{AreParts}
-use Rattle.known_nets.proofs.WiredLaws.{flat_wired}
 use Rattle.known_nets.specs.KnownTables.{IsKnownTable, known_at}
 use Rattle.vrt_model.specs.Known.{IsPlain}
 use Rattle.channel_parts.proofs.assembly.kept_parts.Goals as goal
-
-pub known_nets-requires : goal.known_nets-requires
-known_nets-requires c = flat_wired c.args.circuit.now c.requires
 
 pub returns : goal.returns
 returns c =

@@ -1,14 +1,15 @@
 use Rattle.std.proofs.Common.{ℕ, false, subst, sym}
 use Rattle.std.proofs.lemmas.Result.{IfOk-weaker}
-use Rattle.channel_parts.specs.LinkedParts.{AreLinkedParts}
+use Rattle.channel_parts.specs.LinkedParts.{AreLinkedParts, channel_circuit}
 use Rattle.channel_parts.specs.PartLists.{AreParts}
 use Rattle.channel_parts.proofs.LinkedLaws.{channel_flat, parts_linked}
-use Rattle.vrt_model.specs.Circuits.{IsFlat}
+use Rattle.known_nets.proofs.WiredLaws.{flat_wired}
+use Rattle.known_nets.specs.Wired.{IsWired}
 use Rattle.vrt_model.specs.declared.circuit.Circuit.{Circuit}
 use Rattle.channel_parts.proofs.channels.linked_parts.Goals as goal
 
 pub kept_parts-requires : goal.kept_parts-requires
-kept_parts-requires c = subst IsFlat (sym c.in_ok-channels.ensures) (channel_flat c.args.circuit.now c.requires)
+kept_parts-requires c = subst IsWired (sym c.in_ok-channels.ensures) (flat_wired (channel_circuit c.args.circuit.now) (channel_flat c.args.circuit.now c.requires))
 
 pub returns : goal.returns
 returns c =

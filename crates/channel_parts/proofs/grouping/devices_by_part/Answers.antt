@@ -1,5 +1,7 @@
 use Rattle.std.proofs.Common.{◌≡◌, ℕ, Option, length, arith, ap, subst, ◌∙◌}
 use Rattle.vrt_model.proofs.Lists.{item_at}
+use Rattle.vrt_model.proofs.Members.{all_among}
+use Rattle.vrt_model.specs.Circuits.{IsDevice}
 use Rattle.channel_parts.proofs.GroupLaws.{device_placed, more_grouped, none_grouped, placed_as}
 use Rattle.channel_parts.specs.Groups.{AreGroups, device_owner_at}
 use Rattle.known_nets.specs.Placed.{IsPlaced}
@@ -11,6 +13,26 @@ loop-at-init c = record {
   len = c.in_ok-groups.ensures.len;
   groups = none_grouped (device_owner_at c.args.circuit.now c.args.known.now c.args.least.now c.args.bare) c.in_ok-groups.groups.items c.in_ok-groups.ensures.empty;
 }
+
+pub device_owner-owner-requires-clause-left : goal.device_owner-owner-requires-clause-left
+device_owner-owner-requires-clause-left c =
+    let circuit = c.args.circuit.now in
+    let at = c.loop-at.at in
+    let d = c.device-item.result in
+    let there : At circuit.devices at d = item_at circuit.devices c.as_slice-device-items.result.now at d c.as_slice-device-items.ensures c.loop-at-test.true c.device-item.is in
+    let inside = (all_among (IsDevice circuit) circuit.devices d c.requires.wired.ranges.devices (at, there)).left in
+    let nets = c.requires.nets in
+    omega (arith, inside, nets)
+
+pub device_owner-owner-requires-clause-right : goal.device_owner-owner-requires-clause-right
+device_owner-owner-requires-clause-right c =
+    let circuit = c.args.circuit.now in
+    let at = c.loop-at.at in
+    let d = c.device-item.result in
+    let there : At circuit.devices at d = item_at circuit.devices c.as_slice-device-items.result.now at d c.as_slice-device-items.ensures c.loop-at-test.true c.device-item.is in
+    let inside = (all_among (IsDevice circuit) circuit.devices d c.requires.wired.ranges.devices (at, there)).right in
+    let nets = c.requires.nets in
+    omega (arith, inside, nets)
 
 pub loop-at-preserved : goal.loop-at-preserved
 loop-at-preserved c =

@@ -3,9 +3,33 @@ use Rattle.std.proofs.lemmas.Option.{same_Some, slice_get_within}
 use Rattle.channel_parts.specs.Labels.{joins_plain_nets}
 use Rattle.channel_parts.specs.Unions.{Respects}
 use Rattle.vrt_model.proofs.Lists.{item_at}
+use Rattle.vrt_model.proofs.Members.{all_among}
+use Rattle.vrt_model.specs.Circuits.{IsDevice}
 use Rattle.vrt_model.specs.Lists.{At}
 use Rattle.vrt_model.specs.declared.circuit.Device.{Device}
 use Rattle.channel_parts.proofs.least.join_all.Goals as goal
+
+pub join_ends-requires-clause-left : goal.join_ends-requires-clause-left
+join_ends-requires-clause-left c =
+    let circuit = c.args.circuit.now in
+    let at = c.loop-device.device-index in
+    let d = c.device-item.result in
+    let there : At circuit.devices at d = item_at circuit.devices c.as_slice-device-items.result.now at d c.as_slice-device-items.ensures c.loop-device-test.true c.device-item.is in
+    let inside = (all_among (IsDevice circuit) circuit.devices d c.requires.wired.ranges.devices (at, there)).left in
+    let len = c.requires.len in
+    let same = c.loop-device.auto.parents in
+    omega (arith, inside, len, same)
+
+pub join_ends-requires-clause-right : goal.join_ends-requires-clause-right
+join_ends-requires-clause-right c =
+    let circuit = c.args.circuit.now in
+    let at = c.loop-device.device-index in
+    let d = c.device-item.result in
+    let there : At circuit.devices at d = item_at circuit.devices c.as_slice-device-items.result.now at d c.as_slice-device-items.ensures c.loop-device-test.true c.device-item.is in
+    let inside = (all_among (IsDevice circuit) circuit.devices d c.requires.wired.ranges.devices (at, there)).right in
+    let len = c.requires.len in
+    let same = c.loop-device.auto.parents in
+    omega (arith, inside, len, same)
 
 pub loop-device-preserved : goal.loop-device-preserved
 loop-device-preserved c =

@@ -1,4 +1,4 @@
-use Rattle.whole_ranks.proofs.PartRanks.{parts_have_one_rank}
+use Rattle.whole_ranks.proofs.RankLaws.{parts_have_one_rank}
 use Rattle.whole_ranks.proofs.ranks.parts_have_one_rank.Goals as goal
 
 pub returns : goal.returns

@@ -1,4 +1,4 @@
-use Rattle.whole_ranks.proofs.DriveLaws.{ranked_nets_have_drives}
+use Rattle.whole_ranks.proofs.SolvedLaws.{ranked_nets_have_drives}
 use Rattle.whole_ranks.proofs.solved.ranked_nets_have_drives.Goals as goal
 
 pub returns : goal.returns

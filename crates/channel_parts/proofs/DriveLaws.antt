@@ -1,7 +1,7 @@
 -- The bits that determined whole instances give their output pins, and on which nets they depend.
 use Rattle.std.proofs.Common.{◌≡◌, ℕ, Bool, true, false, Option, Some, None, slice_get, ap, subst, sym, refl, ◌∙◌, inl, inr}
 use Rattle.std.proofs.lemmas.Option.{none-some, same_Some}
-use Rattle.channel_parts.specs.OneSolution.{HasDrives, HasKnownBits, SameBelow}
+use Rattle.channel_parts.specs.OneSolution.{AreDetermined, HasDrives, HasKnownBits, SameBelow}
 use Rattle.known_nets.proofs.WiredLaws.{pin_of_whole}
 use Rattle.vrt_model.specs.Determined.{IsLinkedTo}
 use Rattle.vrt_model.specs.Known.{HasWholeArc, IsRanking, IsTogether}
@@ -11,7 +11,6 @@ use Rattle.vrt_model.specs.declared.circuit.Circuit.{Circuit}
 use Rattle.vrt_model.specs.declared.ids.Net.{Net}
 use Rattle.vrt_model.specs.declared.rules.Phase.{Phase}
 use Rattle.vrt_model.specs.declared.whole.WholePin.{WholePin}
-use Rattle.whole_ranks.specs.Solved.{AreDetermined, RankedNetsHaveDrives}
 
 -- two bits that are not different are the same
 pub same_bits : (u v : Bool) → ((u ≡ v → ⊥) → ⊥) → u ≡ v
@@ -71,5 +70,7 @@ module _ (c : Circuit) (phase : Phase) (observed : ℕ → Bool) (determined : A
           (λ input m linked seen. linked_same n r q okr okq same out (at, e) t input linked seen);
     }
 
-pub ranked_nets_have_drives : RankedNetsHaveDrives
-ranked_nets_have_drives c phase inputs observed rank determined ranks = (driven_by c phase observed determined, drives c phase observed determined inputs rank ranks)
+-- so the bit of each output pin depends on observed nets of lower rank alone
+pub determined_drives : (c : Circuit) (phase : Phase) (inputs observed : ℕ → Bool) (rank : ℕ → ℕ) → AreDetermined c phase observed → IsRanking c phase rank
+    → (driven : (ℕ → Bool) → ℕ → Bool) × HasDrives c phase inputs observed rank driven
+determined_drives c phase inputs observed rank determined ranks = (driven_by c phase observed determined, drives c phase observed determined inputs rank ranks)

@@ -2,14 +2,13 @@
 use Rattle.std.proofs.Common.{◌≡◌, ℕ, Bool, true, subst, refl, inl, inr}
 use Rattle.known_nets.proofs.KnownShow.{fixed_not_plain}
 use Rattle.vrt_model.proofs.Ranked.{together_first}
-use Rattle.vrt_model.specs.Known.{HasArc, HasGateArc, HasWholeArc, IsKnown, IsPlain, IsShut, IsTogether, fixed, itself, onward, settled}
+use Rattle.vrt_model.specs.Known.{HasArc, HasGateArc, HasWholeArc, IsKnown, IsPlain, IsShut, IsTogether, IsUnknown, fixed, itself, onward, settled}
 use Rattle.vrt_model.specs.Lists.{Among}
 use Rattle.vrt_model.specs.Path.{Joins}
 use Rattle.vrt_model.specs.Reading.{devices_of}
 use Rattle.vrt_model.specs.declared.circuit.Circuit.{Circuit}
 use Rattle.vrt_model.specs.declared.circuit.Device.{Device}
 use Rattle.vrt_model.specs.declared.rules.Phase.{Phase}
-use Rattle.whole_ranks.specs.KnownNets.{NoArcsToKnownNets}
 
 -- a shut set whose gates are known
 module _ (c : Circuit) (phase : Phase) (inside reading : ℕ → Bool) (shut : IsShut c phase inside reading)
@@ -37,7 +36,7 @@ module _ (c : Circuit) (phase : Phase) (inside reading : ℕ → Bool) (shut : I
       let here = part_inside m out.0.net.0 ins out.2 in
       (shut.plain out.0.net.0 here).2 (w, out.0, leads.0, (link.output, out.1), refl)
 
-pub no_arcs_to_known_nets : NoArcsToKnownNets
+pub no_arcs_to_known_nets : (c : Circuit) (phase : Phase) (n m : ℕ) → HasArc c phase n m → IsUnknown c phase m
 no_arcs_to_known_nets c phase n m arc v known = none known arc
   where
     first : HasGateArc c phase n m → IsPlain c m

@@ -1,0 +1,41 @@
+use Rattle.std.proofs.Common.{◌≡◌, ℕ, ◌<◌, length, arith, subst}
+use Rattle.channel_parts.proofs.AddsLaws.{more_below, none_below}
+use Rattle.channel_parts.specs.NetGraphs.{ArcsBelow}
+use Rattle.channel_parts.specs.Sources.{IsLinkBetween}
+use Rattle.known_nets.specs.Placed.{Adds}
+use Rattle.vrt_model.proofs.Lists.{item_at}
+use Rattle.vrt_model.proofs.Members.{all_among}
+use Rattle.vrt_model.specs.Circuits.{IsNet}
+use Rattle.vrt_model.specs.Lists.{At}
+use Rattle.vrt_model.specs.declared.whole.Link.{Link}
+use Rattle.channel_parts.proofs.sources.join_links.Goals as goal
+
+pub loop-link-init : goal.loop-link-init
+loop-link-init c = none_below c.args.whole.now.links (IsLinkBetween c.args.circuit.now c.args.phase.now c.args.known.now c.args.least.now c.args.whole.now) c.args.sources.now.items
+
+pub join_link-requires-clause-from : goal.join_link-requires-clause-from
+join_link-requires-clause-from c =
+    let circuit = c.args.circuit.now in
+    let w = c.args.whole.now in
+    let at = c.loop-link.link-index in
+    let link = c.link-item.result in
+    let there : At w.links at link = item_at w.links c.as_slice-link-items.result.now at link c.as_slice-link-items.ensures c.loop-link-test.true c.link-item.is in
+    let inside = (all_among (λ (l : Link). IsNet circuit l.from × (l.output < length w.outputs)) w.links link c.requires.whole.links (at, there)).0 in
+    let nets = c.requires.nets in
+    omega (arith, inside, nets)
+
+pub loop-link-preserved : goal.loop-link-preserved
+loop-link-preserved c =
+    let w = c.args.whole.now in
+    let at = c.loop-link.link-index in
+    let link = c.link-item.result in
+    let there : At w.links at link = item_at w.links c.as_slice-link-items.result.now at link c.as_slice-link-items.ensures c.loop-link-test.true c.link-item.is in
+    more_below w.links (IsLinkBetween c.args.circuit.now c.args.phase.now c.args.known.now c.args.least.now w) at link c.args.sources.now.items c.loop-link.sources.items c.join_link.new.sources.items there
+    c.loop-link.invariant c.in_ok-join_link.ensures
+
+pub returns : goal.returns
+returns c =
+    let w = c.args.whole.now in
+    let shown : length c.as_slice-link-items.result.now ≡ length w.links = cc (c.as_slice-link-items.ensures) in
+    let all : c.loop-link.link-index ≡ length w.links = omega (arith, c.loop-link-test.false, c.loop-link.auto.link-index-end, shown) in
+    subst (λ (n : ℕ). Adds (ArcsBelow w.links (IsLinkBetween c.args.circuit.now c.args.phase.now c.args.known.now c.args.least.now w) n) c.args.sources.now.items c.loop-link.sources.items) all c.loop-link.invariant
