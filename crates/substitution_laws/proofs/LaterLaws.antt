@@ -57,7 +57,7 @@ use Rattle.vrt_model.specs.declared.verdict.FaultKind.{FaultKind}
 use Rattle.vrt_model.specs.declared.verdict.FaultKind.TheVariants.{Fight, FightKept, Float, Unsettled, Constraint, Differs, Next, Apart, Enter}
 use Rattle.vrt_model.specs.declared.whole.CellFacts.{CellFacts}
 use Rattle.whole_ranks.proofs.DefinedLaws.{solutions_are_defined}
-use Rattle.whole_ranks.specs.Solved.{AreDetermined}
+use Rattle.channel_parts.specs.OneSolution.{AreDetermined}
 use Rattle.whole_solutions.proofs.ObservedCases.{gate_observed, instance_observed}
 
 -- ---- the order of stages

@@ -38,7 +38,7 @@ use Rattle.vrt_model.specs.declared.circuit.FlatNet.{FlatNet}
 use Rattle.vrt_model.specs.declared.circuit.Hold.{Hold}
 use Rattle.vrt_model.specs.declared.flat_model.FlatModel.{FlatModel}
 use Rattle.vrt_model.specs.declared.whole.CellFacts.{CellFacts}
-use Rattle.whole_ranks.specs.Solved.{AreDetermined}
+use Rattle.channel_parts.specs.OneSolution.{AreDetermined}
 use Rattle.whole_solutions.specs.Instances.{IsInstanceOf}
 
 -- a circuit without holds has no groups

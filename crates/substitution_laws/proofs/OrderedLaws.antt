@@ -49,7 +49,7 @@ use Rattle.vrt_model.specs.declared.rules.Expr.{Expr}
 use Rattle.vrt_model.specs.declared.whole.CellFacts.{CellFacts}
 use Rattle.whole_ranks.proofs.KnownLaws.{known_nets_are_solved}
 use Rattle.whole_ranks.proofs.PlaceLaws.{output_pin}
-use Rattle.whole_ranks.specs.Solved.{AreDetermined}
+use Rattle.channel_parts.specs.OneSolution.{AreDetermined}
 use Rattle.whole_solutions.proofs.ObservedCases.{gate_observed, instance_observed}
 
 -- ---- named ports

@@ -18,7 +18,7 @@ use Rattle.vrt_model.specs.declared.blif.Blif.{Blif}
 use Rattle.vrt_model.specs.declared.circuit.Circuit.{Circuit}
 use Rattle.vrt_model.specs.declared.whole.CellFacts.{CellFacts}
 use Rattle.vrt_model.specs.declared.whole.Whole.{Whole}
-use Rattle.whole_ranks.specs.Solved.{AreDetermined}
+use Rattle.channel_parts.specs.OneSolution.{AreDetermined}
 use Rattle.whole_ranks.specs.WholeCells.{StandsFor}
 
 -- The law: a whole instance of a circuit of the chain stands for its cell.
