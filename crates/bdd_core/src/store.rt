@@ -274,8 +274,10 @@ impl Store {
         self.memo.keep(entry, count);
     }
 
-    /// `ite`, by its form, by the memo, or part by part. It goes as deep as there are variables.
+    /// `ite`, by its form, by the memo, or part by part. It goes as deep as there are variables. It stands in `part` itself, so that only what is
+    /// not known takes a call.
     #[cycle(choose)]
+    #[inline(always)]
     fn choose(&mut self, f: H, g: H, h: H) -> Result<H, Spent>
         requires { IsLive self.old f × IsLive self.old g × IsLive self.old h }
         ensures { Makes self.old self.new (choice (function_of self.old f) (function_of self.old g) (function_of self.old h)) result }
