@@ -37,6 +37,7 @@ use Rattle.vrt_model.proofs.Decidable.{reaches_or_not}
 use Rattle.vrt_model.proofs.GatesGiven.{IsGiven}
 use Rattle.vrt_model.proofs.Lists.{at_map, map_at, map_among}
 use Rattle.vrt_model.proofs.Members.{all_among}
+use Rattle.vrt_model.proofs.Networks.{flat_ranges}
 use Rattle.vrt_model.proofs.Tests.{some_or_none}
 use Rattle.vrt_model.specs.Circuits.{IsHold, IsFlat}
 use Rattle.vrt_model.specs.Known.{IsKnown}
@@ -279,7 +280,7 @@ module _ (w : InPhase) (care : H) (roots gates : Span)
         shown : (v : Valuation) → function_of first care v ≡ true → (n : ℕ) → IsInside part n → observed n ≡ true → IsResponse (alone v) n (Shows (shows new gates n v))
         shown v met n i o =
             shows_bit (alone v) n (shows new gates n v) (p.bits n v i)
-            (reaches_or_not (alone v) (length c.nets) 8 (is_finite c part whole.is flat gates roots gates now v) n false)
+            (reaches_or_not (alone v) (length c.nets) 8 (is_finite c part whole.is (flat_ranges c flat) gates roots gates now v) n false)
             (λ f. p.clear n Fight v i (kept_care v ∙ met) f)
             (λ f. p.clear n Float v i (kept_care v ∙ met) (o, f))
 

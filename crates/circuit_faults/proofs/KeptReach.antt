@@ -18,6 +18,7 @@ use Rattle.path_fixpoint.proofs.Spreading.{device_ranges}
 use Rattle.path_fixpoint.specs.Parts.{IsPart}
 use Rattle.path_fixpoint.specs.Solved.{net_of, network_at}
 use Rattle.vrt_model.proofs.Members.{all_among, at_none}
+use Rattle.vrt_model.proofs.Networks.{flat_ranges}
 use Rattle.vrt_model.proofs.SameNetwork.{IsPartOf, reaches_same}
 use Rattle.vrt_model.specs.Circuits.{IsFlat, IsHold}
 use Rattle.vrt_model.specs.Lists.{At, Among}
@@ -47,7 +48,7 @@ module _ (c : Circuit) (part : Part) (flat : IsFlat c) (gates roots : Span) (one
       ]
     ];
     devices = λ d on.
-        (on.0, subst (λ (b : Bool). conducts_at d.kind b ≡ true) (same_gates d.gate.0 (device_ranges c part d flat on.0).gate) on.1);
+        (on.0, subst (λ (b : Bool). conducts_at d.kind b ≡ true) (same_gates d.gate.0 (device_ranges c part d (flat_ranges c flat) on.0).gate) on.1);
   }
 
 pub network_reaches : (c : Circuit) (part : Part) (flat : IsFlat c) (gates roots : Span) (one two : Diagrams) (v : Valuation)
