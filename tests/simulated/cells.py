@@ -1,5 +1,7 @@
-"""Cells of the usual kinds, each with its model and its rules, drawn by a source of random numbers: static, ratioed and pass gates,
-domino stages, latches, flip-flops, nets that share charge, and devices at random.
+"""Cells of the usual kinds, each with its rules, and with its model where it has latches, drawn by a source of random numbers.
+
+There are static, ratioed and pass gates, domino stages, latches, flip-flops, outputs of three states, nets that share charge, and
+devices at random.
 """
 
 from dataclasses import dataclass, field
@@ -53,11 +55,22 @@ def port(name):
     return Expression("port", (name,))
 
 
+# What the clock ports carry, by their names.
+CARRIED = {"clk": Reference("phi"), "clkb": Reference("phi", True), "clk2": Reference("psi")}
+
+
 def empty(name, inputs, outputs, clocks=()):
     """A cell without devices; its clock ports stand behind its inputs."""
-    references = {"clk": Reference("phi"), "clkb": Reference("phi", True), "clk2": Reference("psi")}
     cell = Cell(name, inputs + list(clocks) + outputs)
-    return Drawing(cell, inputs, outputs, clocks={clock: references[clock] for clock in clocks})
+    return Drawing(cell, inputs, outputs, clocks={clock: CARRIED[clock] for clock in clocks})
+
+
+def clocked(random, name, inputs, outputs, phases, share):
+    """A cell with a clock, and the clock's name: in this share of the cells it is a clock port, else an input."""
+    if len(phases) == 1 or random.random() > share:
+        return empty(name, inputs + ["clk"], outputs), "clk"
+    clock = random.choice([port for port in CARRIED if CARRIED[port].name in phases[0].bits])
+    return empty(name, inputs, outputs, [clock]), clock
 
 
 def random_tree(random, gates):
@@ -139,10 +152,9 @@ def domino_stage(random, name, phases):
 
 def latch(random, name, phases):
     """A pass device onto a net that keeps its charge, perhaps with a feedback of keepers; its clock may be an input."""
-    is_clocked = len(phases) > 1 and random.random() < 0.7
-    drawing = empty(name, ["d"] + ([] if is_clocked else ["clk"]), ["q"], ["clk"] if is_clocked else [])
+    drawing, clock = clocked(random, name, ["d"], ["q"], phases, 0.7)
     kind = random.choice(["n", "n", "p"])
-    drawing.device(kind, "d", "clk", "s")
+    drawing.device(kind, "d", clock, "s")
     drawing.inverter("s", "sb")
     stored = random.choice(["q", "l"])
     if stored == "q":
@@ -154,7 +166,7 @@ def latch(random, name, phases):
         drawing.keepers += drawing.inverter("sb", "s", random.choice([4, 6]))
     drawing.holds["s"] = random.choice([1, 2, 3])
     drawing.matches["s"] = Reference(stored)
-    drawing.model = Model(name, ["d", "clk"], ["q"], latches=[Latch("d", stored, "ah" if kind == "n" else "al", "clk")])
+    drawing.model = Model(name, ["d", clock], ["q"], latches=[Latch("d", stored, "ah" if kind == "n" else "al", clock)])
     if stored == "l":
         drawing.model.covers.append(random.choice([Cover(["l"], "q", ["0"]), Cover(["l"], "q", ["1"], 0)]))
     return drawing
@@ -162,39 +174,39 @@ def latch(random, name, phases):
 
 def flip_flop(random, name, phases):
     """A master that takes its input while the clock is 0, a slave while it is 1, or the other way round."""
-    is_clocked = len(phases) > 1 and random.random() < 0.8
-    drawing = empty(name, ["d"] + ([] if is_clocked else ["clk"]), ["q"], ["clk"] if is_clocked else [])
+    drawing, clock = clocked(random, name, ["d"], ["q"], phases, 0.8)
     rises = random.random() < 0.6
-    add_master_and_slave(random, drawing, "d", rises)
-    drawing.model = Model(name, ["d", "clk"], ["q"], latches=[Latch("d", "q", "re" if rises else "fe", "clk")])
+    add_master_and_slave(random, drawing, "d", clock, rises)
+    drawing.model = Model(name, ["d", clock], ["q"], latches=[Latch("d", "q", "re" if rises else "fe", clock)])
     return drawing
 
 
 def toggling_flip_flop(random, name, phases):
     """A flip-flop that takes the inverse of its output where it is not reset; only its clock cuts the way around."""
-    drawing = empty(name, ["r"], ["q"], ["clk"])
+    drawing, clock = clocked(random, name, ["r"], ["q"], phases, 1)
     rises = random.random() < 0.6
     drawing.network(("series", "q", "r"), "p", "vdd", "n")
     drawing.network(("parallel", "q", "r"), "n", "n", "gnd")
-    add_master_and_slave(random, drawing, "n", rises)
-    latch_of = Latch("n", "q", "re" if rises else "fe", "clk")
-    drawing.model = Model(name, ["r", "clk"], ["q"], [Cover(["q", "r"], "n", ["00"])], [latch_of])
+    add_master_and_slave(random, drawing, "n", clock, rises)
+    slave = Latch("n", "q", "re" if rises else "fe", clock)
+    drawing.model = Model(name, ["r", clock], ["q"], [Cover(["q", "r"], "n", ["00"])], [slave])
     return drawing
 
 
-def add_master_and_slave(random, drawing, source, rises):
+def add_master_and_slave(random, drawing, source, clock, rises):
     """The two stages of a flip-flop, with pass devices of both kinds, or of one kind and an inverter of the clock."""
     if random.random() < 0.5:
-        drawing.device("p" if rises else "n", source, "clk", "m")
-        drawing.device("n" if rises else "p", "mb", "clk", "s")
+        drawing.device("p" if rises else "n", source, clock, "m")
+        drawing.device("n" if rises else "p", "mb", clock, "s")
     else:
-        drawing.inverter("clk", "cn")
-        drawing.device("n", source, "cn" if rises else "clk", "m")
-        drawing.device("n", "mb", "clk" if rises else "cn", "s")
+        drawing.inverter(clock, "cn")
+        drawing.device("n", source, "cn" if rises else clock, "m")
+        drawing.device("n", "mb", clock if rises else "cn", "s")
     drawing.inverter("m", "mb")
     drawing.inverter("s", "q")
     if random.random() < 0.7:
-        drawing.keepers += drawing.inverter("mb", "m", random.choice([4, 6])) + drawing.inverter("q", "s", random.choice([4, 6]))
+        level = random.choice([4, 6])
+        drawing.keepers += drawing.inverter("mb", "m", level) + drawing.inverter("q", "s", level)
     drawing.holds.update(m=random.choice([1, 2]), s=random.choice([1, 2]))
     drawing.matches.update(m=Reference("q#m"), s=Reference("q", True))
 
@@ -212,11 +224,11 @@ def three_state(random, name, phases):
 
 
 def double_latch(random, name, phases):
-    """A latch that stores its bit in two nets, of which the second may be open at another input; or a cell above looks at both."""
+    """A latch that stores its bit in two nets, of which the second may be open at another input; it may have no model."""
     drawing = empty(name, ["d", "e"], ["q"])
-    drawing.is_skipped = random.random() < 0.4
+    drawing.is_skipped = random.random() < 0.6
     drawing.device("n", "d", "e", "s")
-    drawing.device("n", "d", random.choice("ed"), "t")
+    drawing.device("n", "d", random.choice("edd"), "t")
     drawing.inverter("s", "q")
     is_inverted = random.random() < 0.3
     drawing.holds.update(s=random.choice([1, 2]), t=random.choice([1, 2]))
@@ -252,7 +264,8 @@ def random_devices(random, name, phases):
     nets = inputs + clocks + inner + ["vdd", "gnd"]
     for _ in range(random.randrange(3, 9)):
         gate = random.choice(inputs + inputs + 3 * clocks + ["vdd", "gnd"] + inner[: random.choice([0, 1, 4])])
-        drawing.device(random.choice(["n", "p"]), random.choice(inner), gate, random.choice(nets), random.choice([4, 5, 6, 6, 6, 7]))
+        level = random.choice([4, 5, 6, 6, 6, 7])
+        drawing.device(random.choice(["n", "p"]), random.choice(inner), gate, random.choice(nets), level)
     for net in inner:
         if random.random() < 0.25:
             drawing.holds[net] = random.choice([1, 2, 3])

@@ -1,13 +1,13 @@
 """Random designs: a few cells of the usual kinds, cells of instances of these, and a model for each, most of them nearly right.
 
-A model without latches is what the circuit itself shows where it is simulated, or the models of the instances tied together; then one thing
-of the circuit, the rules or the model may be turned. The same seed gives the same design.
+A model without latches is what the circuit itself shows where it is simulated, or the models of the instances tied together; then
+one or two things of the circuit, the rules or the model may be turned. The same seed and number give the same design.
 """
 
 from itertools import product
 from random import Random
 
-from cells import CLOCKED, UNCLOCKED, empty, port
+from cells import CARRIED, CLOCKED, UNCLOCKED, empty, port
 from designs import SUPPLIES, Cover, Design, Expression, Instance, Model, Phase, Reference, Rules, SubModel
 from flat import flat_model
 from simulator import Cycle
@@ -178,14 +178,17 @@ class Maker:
         return shown
 
     def composite(self, name):
-        """A cell of instances of cells that are there. Each may take the outputs of those before it, but for some without a model."""
+        """A cell of instances of cells that are there. Each takes inputs, clocks, or outputs of those before it.
+
+        The outputs of an instance without a model may be read by none: what it holds is then seen by no output.
+        """
         inputs = ["a", "b", "c"][: self.random.choice([2, 2, 3])]
-        chosen = [self.random.choice(list(self.design.cells)) for _ in range(self.random.choice([1, 2, 2, 3]))]
+        chosen = self.random.choices(list(self.design.cells), k=self.random.choice([1, 2, 2, 3]))
         carried = {port for cell in chosen for port in self.design.rules.clocks_of(cell)}
-        clocks = [clock for clock in ("clk", "clkb", "clk2") if clock in carried]
+        clocks = [clock for clock in CARRIED if clock in carried]
         wires, instances = list(inputs), []
         for number, cell in enumerate(chosen):
-            is_unread = cell in self.design.rules.skipped and self.chance(0.5)
+            is_unread = cell in self.design.rules.skipped and self.chance(0.7)
             instances.append(self.instance(f"x{number}", cell, list(wires) if is_unread else wires, clocks))
         outputs = wires[len(inputs) :]
         outputs = outputs[-self.random.choice([1, 1, 2]) :] if self.chance(0.8) else outputs[:1]
@@ -202,16 +205,17 @@ class Maker:
             if formal in SUPPLIES or (cell, formal) in self.design.rules.clock_ports:
                 nets.append(formal)
             elif formal in self.design.models[cell].outputs:
-                nets.append(self.bus(wires) if self.chance(0.15) else f"{name}{formal}")
+                nets.append(self.bus(cell, formal) or f"{name}{formal}")
             else:
                 nets.append(self.random.choice(wires[-4:] + clocks[:1]))
-        outputs = self.design.models[cell].outputs
-        wires += [net for net, formal in zip(nets, self.design.cells[cell].ports) if formal in outputs and net not in wires]
+        formals = self.design.models[cell].outputs
+        outputs = [net for net, formal in zip(nets, self.design.cells[cell].ports) if formal in formals]
+        wires[:] = dict.fromkeys(wires + outputs)
         return Instance(name, nets, cell)
 
-    def bus(self, wires):
-        """An output that is there already, on which another output may drive; a net of its own where there is none."""
-        return wires[-1] if len(wires) > 3 else "bus"
+    def bus(self, cell, formal):
+        """A net at which several outputs may drive, those that keep their charge more often; None for a net of its own."""
+        return "bus" if self.chance(0.5 if (cell, formal) in self.design.rules.holds else 0.08) else None
 
     def can_tie_models(self, drawing):
         """Whether the models of the instances can be tied as the instances are, and stand for them."""

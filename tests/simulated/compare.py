@@ -71,7 +71,7 @@ def compare(count, seed, program):
                         print(f"    printed:   {line}\n    simulated: {other}")
     for verdict, times in sorted(verdicts.items()):
         print(f"{times:8} {verdict}")
-    told = f"{wrong} designs not as simulated" if wrong else "all as simulated"
+    told = f"{wrong} of them not as simulated" if wrong else "all as simulated"
     print(f"simulated: {count} designs, {verdicts.total()} cells, {told}")
     return 1 if wrong or not verdicts else 0
 

@@ -73,7 +73,7 @@ class Unroller:
 
     def visit(self, cell, path, ports):
         """Unrolls a cell at a place; the path has the instance and the cell around it for each step inward."""
-        nets = dict(SUPPLIES, **ports)
+        nets = {**ports, **SUPPLIES}
         prefix = "".join(f"{instance}/" for instance, _ in path)
         for name in cell.own_nets():
             nets[name] = self.new_net(prefix + name)
@@ -96,15 +96,15 @@ class Unroller:
     def add_holds(self, cell, path, nets):
         """The holds of a place. Of two lines for one flat net that of the outer place counts, and else the earlier one."""
         rules = self.design.rules
-        for (name, local), size in rules.holds.items():
-            if name != cell.name:
-                continue
+        own = [(local, size) for (name, local), size in rules.holds.items() if name == cell.name]
+        for local, size in own:
             net = nets[local]
             if len(path) >= self.depth_of_hold.get(net, len(path) + 1):
                 continue
             self.depth_of_hold[net] = len(path)
             end, is_inverted = self.end_of(cell.name, local, path, net)
-            enters = tuple((phase, bit) for (name, phase, held), bit in rules.enters.items() if (name, held) == (cell.name, local))
+            lines = [(name, held, phase, bit) for (name, phase, held), bit in rules.enters.items()]
+            enters = tuple((phase, bit) for name, held, phase, bit in lines if (name, held) == (cell.name, local))
             self.circuit.holds[net] = FlatHold(net, size, end, is_inverted, enters)
 
     def end_of(self, cell, local, path, net):
@@ -159,7 +159,10 @@ def flat_model(design, name):
     flat = FlatModel(top.inputs, top.outputs)
 
     def visit(model, prefix, ties):
+        """Adds the covers and the latches of a model at its place, and of those in it."""
+
         def signal(local):
+            """The flat name of a signal."""
             return ties.get(local, prefix + local)
 
         for cover in model.covers:

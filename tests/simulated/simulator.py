@@ -3,8 +3,8 @@ Transactions on Computers C-33, 1984), as docs/MODEL.md tells it. It speaks of o
 has no diagrams, and shares no code with the program that it is compared with.
 
 Left out: instances that are left whole, `.global` nets, `.model` cards, `defaultclock`, `port` lines and `pair` lines with a
-model, latches without a control, and the other modes of the program. Of the causes of `unsupported` it has `supplytie`, `unmatched`
-and `cycle`; what else the files may have wrong is not judged.
+model, latches without a control, latches or covers that lead around in a model, budgets, and the other modes of the program.
+Of the causes of `unsupported` there are `supplytie`, `unmatched` and `cycle`; what else may be wrong in the files is not judged.
 """
 
 from dataclasses import dataclass
@@ -20,7 +20,8 @@ def strengths(roots, channels):
     """The greatest level of a path that ends at each net.
 
     A path begins at a root with its level, and has the least level of its root and its devices. Roots are
-    (net, level, value), channels (net, net, level) of conducting devices.
+    (net, level, value), channels (net, net, level) of conducting devices. Each channel passes on what its ends have, in both
+    directions, until nothing grows: a way that passes a net twice is no stronger than the path that leaves out what is between.
     """
     strength = {}
     for net, level, _ in roots:
@@ -86,12 +87,13 @@ def joined(nets, channels):
     return sorted(sorted(nets) for nets in {id(nets): nets for nets in group.values()}.values())
 
 
-@dataclass
+@dataclass(eq=False)
 class Part:
     """Plain nets that channels join, with the devices whose channels meet them, and how deep it hangs at other nets."""
 
     nets: list
     devices: list
+    sources: set  # the plain nets, not known, that are gates of its devices
     rank: int = 0
 
 
@@ -116,6 +118,7 @@ class PhaseCircuit:
         while self.learn():
             pass
         self.parts = self.make_parts()
+        self.part_of = {net: part for part in self.parts for net in part.nets}
         self.rank_parts()
 
     def learn(self):
@@ -155,45 +158,40 @@ class PhaseCircuit:
         channels = [
             device for device in self.bare if device.gate not in self.known or device.conducts(self.known[device.gate])
         ]
+        hanging = set(self.plain) - set(self.known)
         parts = []
         for nets in joined(self.plain, [device.ends for device in channels]):
-            parts.append(Part(nets, [device for device in channels if not set(nets).isdisjoint(device.ends)]))
+            devices = [device for device in channels if not set(nets).isdisjoint(device.ends)]
+            parts.append(Part(nets, devices, {device.gate for device in devices} & hanging))
         return parts
 
+    def rank(self, net):
+        """The rank of a net: 0 of given nets, and of a plain net that of its part."""
+        return self.part_of[net].rank if net in self.part_of else 0
+
     def rank_parts(self):
-        """Gives each part the rank of one more than that of the unknown gates of its devices; given nets have 0."""
-        part_of = {net: part for part in self.parts for net in part.nets}
-        sources = {
-            id(part): sorted({device.gate for device in part.devices if device.gate in part_of and device.gate not in self.known})
-            for part in self.parts
-        }
-        waiting = list(self.parts)
+        """Gives each part a rank of one more than those of its sources. Where that ends, the gates lead around."""
+        waiting = self.parts
         while waiting:
-            ready = [part for part in waiting if all(part_of[net].rank for net in sources[id(part)])]
+            ready = [part for part in waiting if all(self.rank(net) for net in part.sources)]
             if not ready:
-                raise Cycle(self.least_on_cycle(part_of, sources))
+                raise Cycle(self.least_on_cycle())
             for part in ready:
-                part.rank = 1 + max((part_of[net].rank for net in sources[id(part)]), default=0)
+                part.rank = 1 + max((self.rank(net) for net in part.sources), default=0)
             waiting = [part for part in waiting if not part.rank]
-        self.rank = {net: part_of[net].rank if net in part_of else 0 for net in range(len(self.circuit.names))}
 
-    def least_on_cycle(self, part_of, sources):
-        """The least net from which arcs lead back to it: an arc leads from a gate to each net of the part of its device."""
-        for net in self.plain:
-            seen, ahead = set(), [part for part in self.parts if net in sources[id(part)]]
-            while ahead:
-                part = ahead.pop()
-                if part is part_of[net]:
-                    return net
-                seen.add(id(part))
-                for other in self.parts:
-                    if id(other) not in seen and set(sources[id(other)]) & set(part.nets):
-                        ahead.append(other)
-        raise AssertionError("no cycle")
+    def least_on_cycle(self):
+        """The least net from which arcs lead back to it: an arc leads from a source of a part to each net of the part."""
+        return next(net for net in self.plain if self.part_of[net] in self.parts_behind(net))
 
-    def steps(self):
-        """The parts in the order in which they are solved: by rank, and of one rank by their least nets."""
-        return sorted(self.parts, key=lambda part: (part.rank, part.nets[0]))
+    def parts_behind(self, net):
+        """The parts to which arcs lead from a net, over any number of parts."""
+        further = {part for part in self.parts if net in part.sources}
+        found = set()
+        while further:
+            found |= further
+            further = {part for part in self.parts if any(self.part_of[source] in found for source in part.sources)} - found
+        return found
 
     def roots(self, bits, held):
         """Where paths begin: the given nets with their bits, and the holds with what they hold."""
@@ -201,8 +199,10 @@ class PhaseCircuit:
         return given + [(net, self.circuit.holds[net].size, bit) for net, bit in held.items()]
 
     def part_responses(self, part, bits, held):
-        """What the nets of a part show, where each gate of its devices has a bit."""
-        return responses(part.nets, self.roots(bits, held), conducting(part.devices, bits))
+        """What the nets of a part show, where each gate of its devices has a bit; only roots at these devices or nets matter."""
+        at_part = set(part.nets).union(*(device.ends for device in part.devices))
+        roots = [root for root in self.roots(bits, held) if root[0] in at_part]
+        return responses(part.nets, roots, conducting(part.devices, bits))
 
     def kept_responses(self, bits, held):
         """What all plain nets show with the keepers."""

@@ -54,7 +54,8 @@ def turn_keeper(random, drawing):
     keepers = [device for device in drawing.cell.devices if device.name in drawing.keepers]
     if keepers and random.random() < 0.6:
         random.choice(keepers).level = random.choice([5, 6, 7])
-        random.choice(keepers).gate = random.choice(drawing.cell.ports + drawing.cell.own_nets() + list(SUPPLIES))
+        if random.random() < 0.5:
+            random.choice(keepers).gate = random.choice(drawing.outputs + drawing.cell.own_nets() + list(SUPPLIES))
     elif keepers and random.random() < 0.6:
         drawing.keepers.remove(random.choice(keepers).name)
     elif drawing.cell.devices:

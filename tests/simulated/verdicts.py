@@ -111,11 +111,20 @@ class PhaseCheck:
         self.in_phase = comparison.in_phase(phase)
         self.observed = comparison.observed(phase)
         self.free = [group for group in comparison.groups if group.element is None and group.entered(phase) is None]
+        self.steps = self.make_steps()
+
+    def make_steps(self):
+        """What is looked at in turn, with its place: rank by rank the parts by least net, then the constraints of instances."""
+        steps = [((part.rank, 0, part.nets[0]), part) for part in self.in_phase.parts]
+        for number, instance in enumerate(self.circuit.instances):
+            if self.comparison.rules.is_constrained(instance.cell):
+                steps.append(((self.constraint_rank(instance), 1, number), instance))
+        return sorted(steps, key=lambda item: item[0])
 
     def variable_names(self):
         """The inputs, then the elements, then the groups that reach no latch and enter with no constant."""
-        nets = self.comparison.inputs + self.comparison.model.elements() + [group.holds[0].net for group in self.free]
-        return [self.circuit.names[net] if isinstance(net, int) else net for net in nets]
+        inputs = [self.circuit.names[net] for net in self.comparison.inputs]
+        return inputs + self.comparison.model.elements() + [self.circuit.names[group.holds[0].net] for group in self.free]
 
     def settings(self):
         """Each valuation with what it gives, the lesser valuations first."""
@@ -148,8 +157,8 @@ class PhaseCheck:
     def faults(self, setting):
         """The faults at a valuation, in the order of their places.
 
-        What comes behind the first of them is not to be asked for: where none came before, each gate that is looked at has a bit, so
-        that all readings that agree conduct alike, and one of them tells what stands under every one.
+        Only the first of them is to be asked for. Where none came before, each gate that is looked at has a bit in the solution:
+        so all readings that agree with it conduct alike, and what one of them shows stands under every one.
         """
         bits = {**self.in_phase.known, **setting.inputs}
         yield from self.solved_faults(setting, bits)
@@ -159,11 +168,8 @@ class PhaseCheck:
         yield from self.enter_faults(bits)
 
     def solved_faults(self, setting, bits):
-        """Solves the bare circuit rank by rank: the parts by least net, then the constraints of instances of that rank."""
-        steps = [((part.rank, 0, part.nets[0]), part) for part in self.in_phase.steps()]
-        for number, instance in enumerate(self.circuit.instances):
-            steps.append(((self.constraint_rank(instance), 1, number), instance))
-        for place, step in sorted(steps, key=lambda item: item[0]):
+        """Solves the bare circuit step by step; the bits of the nets are added to those that are given."""
+        for place, step in self.steps:
             if isinstance(step, Part):
                 yield from self.part_faults(place, step, setting, bits)
             elif self.is_broken(step, bits):
@@ -190,7 +196,7 @@ class PhaseCheck:
         """The greatest rank of a port that a constraint of the instance names in this phase."""
         expressions, clocks = self.constraints(instance)
         named = set(clocks).union(*(expression.ports() for expression in expressions))
-        return max((self.in_phase.rank[instance.ports[port]] for port in named), default=0)
+        return max((self.in_phase.rank(instance.ports[port]) for port in named), default=0)
 
     def is_broken(self, instance, bits):
         """Whether an `assume` of the instance's cell is false, or a clock port has another bit than declared."""
