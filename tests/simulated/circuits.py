@@ -81,7 +81,7 @@ class Maker:
         return True
 
     def add_rules(self, drawing):
-        """Adds now and then an `assume` line, an `enter` line, or the supplies among the ports."""
+        """Adds now and then an `assume`, a `hold`, an `enter` or an `observe` line, or the supplies among the ports."""
         if self.chance(0.1):
             drawing.assumes.append((self.some_phase(), self.some_expression(drawing.inputs)))
         nets = drawing.outputs + drawing.cell.own_nets()
@@ -90,6 +90,10 @@ class Maker:
         if drawing.holds and self.chance(0.07):
             phase = self.random.choice(self.design.rules.phases)
             drawing.enters[(phase.name, self.random.choice(sorted(drawing.holds)))] = self.random.choice([0, 1])
+        if drawing.outputs and self.chance(0.07):
+            phases = [phase.name for phase in self.design.rules.phases if self.chance(0.6)]
+            if phases:
+                drawing.observed[self.random.choice(drawing.outputs)] = phases
         if self.chance(0.15):
             drawing.cell.ports += list(SUPPLIES)
 
