@@ -135,7 +135,8 @@ def domino_stage(random, name, phases):
     inputs = ["a", "b", "c"][: random.choice([1, 2, 3])]
     drawing = empty(name, inputs, ["y"], ["clk"])
     drawing.device("p", "d", "clk", "vdd")
-    drawing.network(("series", random_tree(random, inputs), "clk"), "n", "d", "gnd")
+    tree = random_tree(random, inputs)
+    drawing.network(random.choice([("series", tree, "clk"), ("series", "clk", tree)]), "n", "d", "gnd")
     drawing.inverter("d", "y")
     drawing.holds["d"] = random.choice([1, 2, 3])
     if random.random() < 0.7:
