@@ -1,0 +1,253 @@
+"""Random designs: a few cells of the usual kinds, cells of instances of these, and a model for each, most of them nearly right.
+
+A model without latches is what the circuit itself shows where it is simulated, or the models of the instances tied together; then
+one or two things of the circuit, the rules or the model may be turned. The same seed and number give the same design.
+"""
+
+from itertools import product
+from random import Random
+
+from cells import CARRIED, CLOCKED, UNCLOCKED, empty, port
+from designs import SUPPLIES, Cover, Design, Expression, Instance, Model, Phase, Reference, Rules, SubModel
+from flat import flat_model
+from simulator import Cycle
+from turns import TURNS, tidy
+from verdicts import Comparison, PhaseCheck
+
+# A cell with more is drawn anew, so that all its valuations can be tried.
+MOST_VARIABLES = 7
+MOST_NETS = 40
+
+
+def merged(rows):
+    """The rows with pairs that differ in one place put together, while there are any."""
+    rows = list(rows)
+    for left in rows:
+        for right in rows:
+            differ = [at for at in range(len(left)) if left[at] != right[at]]
+            if len(differ) == 1 and left < right:
+                rest = [row for row in rows if row not in (left, right)]
+                return merged(rest + [left[: differ[0]] + "-" + left[differ[0] + 1 :]])
+    return rows
+
+
+class Maker:
+    """Makes one design."""
+
+    def __init__(self, random):
+        self.random = random
+        self.design = Design(rules=self.clocked_rules())
+
+    def chance(self, share):
+        """True in this share of the cases."""
+        return self.random.random() < share
+
+    def clocked_rules(self):
+        """No clock, or one with two phases, or two with three phases."""
+        clocks = self.random.choice([[], [], ["phi"], ["phi"], ["phi"], ["phi", "psi"]])
+        if not clocks:
+            return Rules()
+        if len(clocks) == 1:
+            return Rules(clocks, [Phase("low", {"phi": 0}), Phase("high", {"phi": 1})])
+        bits = [(0, 0), (1, 0), (0, 1)]
+        return Rules(clocks, [Phase(f"p{number}", dict(zip(clocks, values))) for number, values in enumerate(bits)])
+
+    def make(self):
+        """Two to four cells without instances, then one to three with instances."""
+        names = [f"g{number}" for number in range(self.random.randrange(2, 5))]
+        for name in names:
+            kinds = CLOCKED if self.design.rules.clocks else UNCLOCKED
+            self.add(self.random.choice(kinds)(self.random, name, self.design.rules.phases))
+        for number in range(self.random.randrange(1, 4)):
+            for _ in range(10):
+                if self.add(self.composite(f"h{number}")):
+                    break
+        return self.design
+
+    def add(self, drawing):
+        """Finishes a cell and adds it, unless it is too large; whether it was added."""
+        self.add_rules(drawing)
+        if not self.entered(drawing):
+            return False
+        if drawing.model is None:
+            drawing.model = self.simulated_model(drawing)
+        self.withdraw(drawing.cell.name)
+        for _ in range(self.random.choice([0, 0, 0, 1, 1, 2])):
+            self.random.choice(TURNS)(self.random, drawing)
+        if not self.entered(drawing):
+            return False
+        if drawing.is_skipped or self.chance(0.05):
+            self.design.rules.skipped.add(drawing.cell.name)
+        return True
+
+    def add_rules(self, drawing):
+        """Adds now and then an `assume`, a `hold`, an `enter` or an `observe` line, or the supplies among the ports."""
+        if self.chance(0.1):
+            drawing.assumes.append((self.some_phase(), self.some_expression(drawing.inputs)))
+        nets = drawing.outputs + drawing.cell.own_nets()
+        if drawing.cell.instances and nets and self.chance(0.2):
+            drawing.holds[self.random.choice(nets)] = self.random.choice([1, 2, 3])
+        if drawing.holds and self.chance(0.07):
+            phase = self.random.choice(self.design.rules.phases)
+            drawing.enters[(phase.name, self.random.choice(sorted(drawing.holds)))] = self.random.choice([0, 1])
+        if drawing.outputs and self.chance(0.07):
+            phases = [phase.name for phase in self.design.rules.phases if self.chance(0.6)]
+            if phases:
+                drawing.observed[self.random.choice(drawing.outputs)] = phases
+        if self.chance(0.15):
+            drawing.cell.ports += list(SUPPLIES)
+
+    def entered(self, drawing):
+        """Puts a cell into the design, and takes it out again if it is too large; whether it is there."""
+        tidy(drawing)
+        self.enter(drawing)
+        if self.is_small(drawing):
+            return True
+        self.withdraw(drawing.cell.name)
+        return False
+
+    def some_phase(self):
+        """A phase, or none for all."""
+        return self.random.choice([None] + [phase.name for phase in self.design.rules.phases])
+
+    def some_expression(self, inputs):
+        """An operation on two inputs, one of which may be inverted."""
+        left, right = port(self.random.choice(inputs)), port(self.random.choice(inputs))
+        if self.chance(0.5):
+            left = Expression("!", (left,))
+        return Expression(self.random.choice("|||&^"), (left, right))
+
+    def enter(self, drawing):
+        """Puts a cell with its model and its rules into the design."""
+        name, rules = drawing.cell.name, self.design.rules
+        self.design.cells[name] = drawing.cell
+        self.design.models[name] = drawing.model or Model(name, drawing.inputs, [])
+        rules.clock_ports.update({(name, clock): carried for clock, carried in drawing.clocks.items()})
+        rules.holds.update({(name, net): size for net, size in drawing.holds.items()})
+        rules.keepers.update((name, device) for device in drawing.keepers)
+        rules.matches.update({(name, net): element for net, element in drawing.matches.items()})
+        rules.instance_matches.update({(name, *inner): element for inner, element in drawing.instance_matches.items()})
+        rules.enters.update({(name, *key): bit for key, bit in drawing.enters.items()})
+        rules.observed.update({(name, output): phases for output, phases in drawing.observed.items()})
+        rules.assumes += [(name, phase, expression) for phase, expression in drawing.assumes]
+
+    def withdraw(self, name):
+        """Takes a cell with its model and its rules out of the design."""
+        self.design.cells.pop(name)
+        self.design.models.pop(name)
+        rules = self.design.rules
+        for table in (rules.clock_ports, rules.holds, rules.matches, rules.instance_matches, rules.enters, rules.observed):
+            for key in [key for key in table if key[0] == name]:
+                del table[key]
+        rules.keepers = {key for key in rules.keepers if key[0] != name}
+        rules.assumes = [assumed for assumed in rules.assumes if assumed[0] != name]
+
+    def is_small(self, drawing):
+        """Whether the cell has few variables and nets."""
+        comparison = Comparison(self.design, drawing.cell.name)
+        free = sum(group.element is None for group in comparison.groups)
+        count = len(comparison.inputs) + len(comparison.model.elements()) + free
+        return count <= MOST_VARIABLES and len(comparison.circuit.names) <= MOST_NETS
+
+    def simulated_model(self, drawing):
+        """The model whose outputs are what the circuit shows, in the last phase in which they are observed."""
+        model = Model(drawing.cell.name, drawing.inputs, drawing.outputs)
+        self.design.models[drawing.cell.name] = model
+        observed = [phases[-1] for phases in drawing.observed.values()] or [self.design.rules.phases[-1].name]
+        phase = next(phase for phase in self.design.rules.phases if phase.name == observed[0])
+        comparison = Comparison(self.design, drawing.cell.name)
+        shown = self.shown(comparison, phase)
+        for output in drawing.outputs:
+            value = self.random.choice([0, 1, 1])
+            rows = ["".join(map(str, bits)) for bits, nets in shown.items() if nets[output] == value]
+            rows = merged(rows) if self.chance(0.5) else rows
+            model.covers.append(Cover(list(drawing.inputs), output, rows, value))
+        return model
+
+    def shown(self, comparison, phase):
+        """For each valuation of the inputs the bits of the outputs; a bit at random where an output shows none."""
+        shown = {}
+        try:
+            check = PhaseCheck(comparison, phase, phase)
+        except Cycle:
+            check = None
+        for _, setting in check.settings() if check else []:
+            bits = {**check.in_phase.known, **setting.inputs}
+            next(check.solved_faults(setting, bits), None)
+            inputs = tuple(setting.inputs.values())
+            outputs = {name: bits.get(net, self.random.choice([0, 1])) for name, net in comparison.outputs.items()}
+            shown.setdefault(inputs, outputs)
+        for inputs in product((0, 1), repeat=len(comparison.inputs)):
+            shown.setdefault(inputs, {name: self.random.choice([0, 1]) for name in comparison.outputs})
+        return shown
+
+    def composite(self, name):
+        """A cell of instances of cells that are there. Each takes inputs, clocks, or outputs of those before it.
+
+        The outputs of an instance without a model may be read by none: what it holds is then seen by no output.
+        """
+        inputs = ["a", "b", "c"][: self.random.choice([2, 2, 3])]
+        chosen = self.random.choices(list(self.design.cells), k=self.random.choice([1, 2, 2, 3]))
+        carried = {port for cell in chosen for port in self.design.rules.clocks_of(cell)}
+        clocks = [clock for clock in CARRIED if clock in carried]
+        wires, instances = list(inputs), []
+        for number, cell in enumerate(chosen):
+            is_unread = cell in self.design.rules.skipped and self.chance(0.7)
+            instances.append(self.instance(f"x{number}", cell, list(wires) if is_unread else wires, clocks))
+        outputs = wires[len(inputs) :]
+        outputs = outputs[-self.random.choice([1, 1, 2]) :] if self.chance(0.8) else outputs[:1]
+        drawing = empty(name, inputs, outputs, clocks)
+        drawing.cell.instances = instances
+        if self.can_tie_models(drawing):
+            drawing.model = self.tied_model(drawing)
+        return drawing
+
+    def instance(self, name, cell, wires, clocks):
+        """An instance whose inputs are wires that are there, the later ones more often; its outputs are wires more."""
+        nets = []
+        for formal in self.design.cells[cell].ports:
+            if formal in SUPPLIES or (cell, formal) in self.design.rules.clock_ports:
+                nets.append(formal)
+            elif formal in self.design.models[cell].outputs:
+                nets.append(self.bus(cell, formal) or f"{name}{formal}")
+            else:
+                nets.append(self.random.choice(wires[-4:] + clocks[:1]))
+        formals = self.design.models[cell].outputs
+        outputs = [net for net, formal in zip(nets, self.design.cells[cell].ports) if formal in formals]
+        wires[:] = dict.fromkeys(wires + outputs)
+        return Instance(name, nets, cell)
+
+    def bus(self, cell, formal):
+        """A net at which several outputs may drive, those that keep their charge more often; None for a net of its own."""
+        return "bus" if self.chance(0.5 if (cell, formal) in self.design.rules.holds else 0.08) else None
+
+    def can_tie_models(self, drawing):
+        """Whether the models of the instances can be tied as the instances are, and stand for them."""
+        driven = []
+        for instance in drawing.cell.instances:
+            if instance.cell in self.design.rules.skipped:
+                return False
+            driven += [net for net, formal in self.ties(instance) if formal in self.design.models[instance.cell].outputs]
+        return len(driven) == len(set(driven)) and self.chance(0.9)
+
+    def ties(self, instance):
+        """The nets of an instance with the ports to which they are tied."""
+        return list(zip(instance.nets, self.design.cells[instance.cell].ports))
+
+    def tied_model(self, drawing):
+        """The model of a cell of instances, from the models of these; its latches are said to be those of the instances."""
+        model = Model(drawing.cell.name, drawing.inputs + list(drawing.clocks), drawing.outputs)
+        for number, instance in enumerate(drawing.cell.instances):
+            inner = self.design.models[instance.cell]
+            ties = {formal: net for net, formal in self.ties(instance) if formal in inner.inputs + inner.outputs}
+            model.submodels.append(SubModel(inner.name, ties))
+            for element in flat_model(self.design, inner.name).elements():
+                output, mark, _ = element.partition("#m")
+                named = ties.get(output, f"{number}/{output}") + mark
+                drawing.instance_matches[(instance.name, element)] = Reference(named)
+        return model
+
+
+def random_design(seed, number):
+    """The design of a number among those of a seed."""
+    return Maker(Random(f"{seed} {number}")).make()

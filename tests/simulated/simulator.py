@@ -1,0 +1,209 @@
+"""A switch-level simulator, after R. E. Bryant, "A switch-level model and simulator for MOS digital systems" (IEEE
+Transactions on Computers C-33, 1984), as docs/MODEL.md tells it. It speaks of one valuation at a time, and searches: it
+has no diagrams, and shares no code with the program that it is compared with.
+
+Left out: instances that are left whole, `.global` nets, `.model` cards, `defaultclock`, `port` lines and `pair` lines with a
+model, latches without a control, latches or covers that lead around in a model, budgets, and the other modes of the program.
+Of the causes of `unsupported` there are `supplytie`, `unmatched` and `cycle`; what else may be wrong in the files is not judged.
+"""
+
+from dataclasses import dataclass
+
+# The level of a supply, an input and a clock port.
+SOURCE_LEVEL = 8
+
+FIGHT = "fight"
+FLOAT = "float"
+
+
+def strengths(roots, channels):
+    """The greatest level of a path that ends at each net.
+
+    A path begins at a root with its level, and has the least level of its root and its devices. Roots are
+    (net, level, value), channels (net, net, level) of conducting devices. Each channel passes on what its ends have, in both
+    directions, until nothing grows: a way that passes a net twice is no stronger than the path that leaves out what is between.
+    """
+    strength = {}
+    for net, level, _ in roots:
+        strength[net] = max(level, strength.get(net, 0))
+    changed = True
+    while changed:
+        changed = False
+        for left, right, level in channels:
+            for here, there in ((left, right), (right, left)):
+                passed = min(strength.get(here, 0), level)
+                if passed > strength.get(there, 0):
+                    strength[there] = passed
+                    changed = True
+    return strength
+
+
+def reached(value, roots, channels, strength):
+    """The nets at which a clear path from a root of this value ends.
+
+    A path is clear if each of its prefixes has the strength of the net at which it ends: else a stronger signal blocks it there.
+    """
+    marked = {net for net, level, bit in roots if bit == value and level == strength[net]}
+    changed = True
+    while changed:
+        changed = False
+        for left, right, level in channels:
+            for here, there in ((left, right), (right, left)):
+                if here in marked and there not in marked and min(strength[here], level) == strength[there]:
+                    marked.add(there)
+                    changed = True
+    return marked
+
+
+def responses(nets, roots, channels):
+    """What each net shows: a fight where both values reach it, float where neither does, and else the one that does."""
+    strength = strengths(roots, channels)
+    zeros = reached(0, roots, channels, strength)
+    ones = reached(1, roots, channels, strength)
+    shown = {}
+    for net in nets:
+        if net in zeros and net in ones:
+            shown[net] = FIGHT
+        elif net in zeros or net in ones:
+            shown[net] = 1 if net in ones else 0
+        else:
+            shown[net] = FLOAT
+    return shown
+
+
+def conducting(devices, bits):
+    """The channels of the devices that conduct, where each gate has a bit."""
+    return [device.ends + (device.level,) for device in devices if device.conducts(bits[device.gate])]
+
+
+def joined(nets, channels):
+    """The nets in groups that channels join, each group in order, and the groups by their least nets."""
+    group = {net: [net] for net in nets}
+    for left, right in channels:
+        if left in group and right in group and group[left] is not group[right]:
+            merged = group[left] + group[right]
+            for net in merged:
+                group[net] = merged
+    return sorted(sorted(nets) for nets in {id(nets): nets for nets in group.values()}.values())
+
+
+@dataclass(eq=False)
+class Part:
+    """Plain nets that channels join, with the devices whose channels meet them, and how deep it hangs at other nets."""
+
+    nets: list
+    devices: list
+    sources: set  # the plain nets, not known, that are gates of its devices
+    rank: int = 0
+
+
+class Cycle(Exception):
+    """The gates of a circuit lead around; the least net on any such cycle."""
+
+    def __init__(self, net):
+        super().__init__(net)
+        self.net = net
+
+
+class PhaseCircuit:
+    """A circuit in a phase: its known nets, its parts and their ranks. The bits of clock ports are those of the phase."""
+
+    def __init__(self, circuit, inputs, clock_bits):
+        self.circuit = circuit
+        self.fixed = {0: 0, 1: 1, **clock_bits}
+        self.plain = [net for net in range(len(circuit.names)) if net not in self.fixed and net not in inputs]
+        self.inputs = inputs
+        self.bare = [device for device in circuit.devices if not device.is_keeper]
+        self.known = dict(self.fixed)
+        while self.learn():
+            pass
+        self.parts = self.make_parts()
+        self.part_of = {net: part for part in self.parts for net in part.nets}
+        self.rank_parts()
+
+    def learn(self):
+        """Learns what the nets of shut regions show; whether a net was learned.
+
+        The region of a net is the plain nets that devices known to conduct join to it. It is shut where all gates at it are
+        known, it has no hold, and no such device joins it to an input: then what it shows hangs on nothing else.
+        """
+        channels = [device for device in self.bare if device.gate in self.known and device.conducts(self.known[device.gate])]
+        learned = False
+        for region in joined(self.plain, [device.ends for device in channels]):
+            if any(net not in self.known for net in region) and self.is_shut(set(region)):
+                shown = self.shown_in(region)
+                learned = learned or any(net not in self.known for net in shown)
+                self.known.update(shown)
+        return learned
+
+    def devices_at(self, nets):
+        """The devices of the bare circuit whose channels meet one of the nets."""
+        return [device for device in self.bare if not nets.isdisjoint(device.ends)]
+
+    def is_shut(self, region):
+        """Whether all gates at a region are known, and neither a hold nor an input is in it or joined to it."""
+        at_region = self.devices_at(region)
+        if any(device.gate not in self.known for device in at_region) or not region.isdisjoint(self.circuit.holds):
+            return False
+        return all(end not in self.inputs for left, right, _ in conducting(at_region, self.known) for end in (left, right))
+
+    def shown_in(self, region):
+        """The bits that the nets of a shut region show."""
+        roots = [(net, SOURCE_LEVEL, bit) for net, bit in self.fixed.items()]
+        shown = responses(region, roots, conducting(self.devices_at(set(region)), self.known))
+        return {net: bit for net, bit in shown.items() if bit in (0, 1)}
+
+    def make_parts(self):
+        """The channel-connected parts of the bare circuit. A device that is known not to conduct joins nothing."""
+        channels = [
+            device for device in self.bare if device.gate not in self.known or device.conducts(self.known[device.gate])
+        ]
+        hanging = set(self.plain) - set(self.known)
+        parts = []
+        for nets in joined(self.plain, [device.ends for device in channels]):
+            devices = [device for device in channels if not set(nets).isdisjoint(device.ends)]
+            parts.append(Part(nets, devices, {device.gate for device in devices} & hanging))
+        return parts
+
+    def rank(self, net):
+        """The rank of a net: 0 of given nets, and of a plain net that of its part."""
+        return self.part_of[net].rank if net in self.part_of else 0
+
+    def rank_parts(self):
+        """Gives each part a rank of one more than those of its sources. Where that ends, the gates lead around."""
+        waiting = self.parts
+        while waiting:
+            ready = [part for part in waiting if all(self.rank(net) for net in part.sources)]
+            if not ready:
+                raise Cycle(self.least_on_cycle())
+            for part in ready:
+                part.rank = 1 + max((self.rank(net) for net in part.sources), default=0)
+            waiting = [part for part in waiting if not part.rank]
+
+    def least_on_cycle(self):
+        """The least net from which arcs lead back to it: an arc leads from a source of a part to each net of the part."""
+        return next(net for net in self.plain if self.part_of[net] in self.parts_behind(net))
+
+    def parts_behind(self, net):
+        """The parts to which arcs lead from a net, over any number of parts."""
+        further = {part for part in self.parts if net in part.sources}
+        found = set()
+        while further:
+            found |= further
+            further = {part for part in self.parts if any(self.part_of[source] in found for source in part.sources)} - found
+        return found
+
+    def roots(self, bits, held):
+        """Where paths begin: the given nets with their bits, and the holds with what they hold."""
+        given = [(net, SOURCE_LEVEL, bits[net]) for net in list(self.fixed) + self.inputs]
+        return given + [(net, self.circuit.holds[net].size, bit) for net, bit in held.items()]
+
+    def part_responses(self, part, bits, held):
+        """What the nets of a part show, where each gate of its devices has a bit; only roots at these devices or nets matter."""
+        at_part = set(part.nets).union(*(device.ends for device in part.devices))
+        roots = [root for root in self.roots(bits, held) if root[0] in at_part]
+        return responses(part.nets, roots, conducting(part.devices, bits))
+
+    def kept_responses(self, bits, held):
+        """What all plain nets show with the keepers."""
+        return responses(self.plain, self.roots(bits, held), conducting(self.circuit.devices, bits))
