@@ -1,0 +1,4 @@
+-- The links of ports.
+pub mod ArcLaws
+pub mod CoverLaws
+pub mod ReachLaws

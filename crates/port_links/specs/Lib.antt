@@ -1,0 +1,3 @@
+pub mod CoverGraphs
+pub mod PhaseArcs
+pub mod Reached
