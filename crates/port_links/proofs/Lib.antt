@@ -1,4 +1,5 @@
 -- The links of ports.
 pub mod ArcLaws
 pub mod CoverLaws
+pub mod LinkLaws
 pub mod ReachLaws

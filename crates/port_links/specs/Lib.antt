@@ -1,3 +1,4 @@
 pub mod CoverGraphs
+pub mod Linked
 pub mod PhaseArcs
 pub mod Reached

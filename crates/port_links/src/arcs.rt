@@ -43,7 +43,7 @@ fn least_at(least: &[usize], net: usize) -> usize
 }
 
 /// The number of the part of a net.
-fn part_of(least: &[usize], net: u32) -> Result<u32, NoMemory>
+pub(crate) fn part_of(least: &[usize], net: u32) -> Result<u32, NoMemory>
     ensures { IfOk result (λ part. part ≡ part_of least.now net) }
 {
     let number = part_number(least, least_at(least, net as usize))?;

@@ -4,7 +4,9 @@
 
 mod arcs;
 mod cover_graph;
+mod links;
 mod net_graph;
 mod reaching;
 
 pub use arcs::{PhaseArcs, chains_to, phase_arcs};
+pub use links::{PortLink, phase_links};
