@@ -1,4 +1,5 @@
 pub mod CoverGraphs
 pub mod Linked
 pub mod PhaseArcs
+pub mod PortLinks
 pub mod Reached

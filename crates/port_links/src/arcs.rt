@@ -15,16 +15,20 @@ use vrt_model::{Circuit, NoMemory, Phase, Seq};
 
 /// The arcs of a circuit in a phase, as a graph of its nets and its parts.
 #[derive(Drop)]
-pub struct PhaseArcs {
+pub(crate) struct PhaseArcs {
     /// The least net of the part of each plain net, by net.
-    pub least: Vec<usize>,
+    pub(crate) least: Vec<usize>,
     /// The numbers from which arcs lead to each number: those of the nets come first, and behind them, in their order, the
     /// parts by their least nets.
-    pub graph: Vec<Seq<u32>>,
+    pub(crate) graph: Vec<Seq<u32>>,
 }
 
 /// The arcs of a circuit in a phase.
-pub fn phase_arcs(alloc: Global, circuit: &Circuit, phase: &Phase) -> Result<PhaseArcs, NoMemory>
+pub(crate) fn phase_arcs(
+    alloc: Global,
+    circuit: &Circuit,
+    phase: &Phase,
+) -> Result<PhaseArcs, NoMemory>
     requires { IsFlat circuit.now }
     ensures { IfOk result (λ arcs. ArePhaseArcs circuit.now phase.now arcs) }
 {
@@ -53,7 +57,7 @@ pub(crate) fn part_of(least: &[usize], net: u32) -> Result<u32, NoMemory>
 
 /// Marks at the nets from which chains of arcs lead to a net, and at the parts of which they lead from a net. Each arc is
 /// gone along once at most.
-pub fn chains_to(
+pub(crate) fn chains_to(
     alloc: Global,
     circuit: &Circuit,
     arcs: &PhaseArcs,

@@ -3,10 +3,13 @@
 #![tactic(auto)]
 
 mod arcs;
+mod cell_links;
 mod cover_graph;
 mod links;
+mod named;
 mod net_graph;
 mod reaching;
 
-pub use arcs::{PhaseArcs, chains_to, phase_arcs};
+pub use cell_links::port_links;
 pub use links::{PortLink, phase_links};
+pub use named::named_ports;
