@@ -2,6 +2,7 @@
 
 ghost use Rattle.std.specs.Prelude.{◌≡◌, ◌<◌, length, IfOk};
 ghost use Rattle.port_links.specs.PortLinks.{ArePortLinks};
+ghost use Rattle.rule_index.specs.Tables.{AreRuleTables};
 ghost use Rattle.vrt_model.specs.Circuits.{IsFlat};
 ghost use Rattle.vrt_model.specs.Comparison.{cell_at, phase_at};
 ghost use Rattle.vrt_model.specs.FlatModels.{IsFlatModel};
@@ -10,6 +11,7 @@ ghost use Rattle.vrt_model.specs.PairedPorts.{HasRoles};
 use crate::links::{PortLink, phase_links};
 use crate::named::named_ports;
 use phase_ports::ports_by;
+use rule_index::RuleIndex;
 use std::alloc::Global;
 use vrt_model::{Cell, Circuit, Design, FlatModel, NoMemory, Pairing, Phase, Rules, Seq};
 
@@ -33,6 +35,7 @@ fn phase_of(rules: &Rules, phase: u32) -> &Phase
 /// for each output.
 pub fn port_links(
     alloc: Global,
+    index: &RuleIndex,
     design: &Design,
     rules: &Rules,
     cell: u32,
@@ -41,6 +44,7 @@ pub fn port_links(
     model: &FlatModel,
     phase: u32,
 ) -> Result<Seq<PortLink>, NoMemory>
+    requires tables { AreRuleTables rules.now index.now }
     requires cell { cell < length design.now.cells }
     requires roles { HasRoles rules.now (cell_at design.now cell) pairing.now }
     requires phase { phase < length rules.now.phases }
@@ -50,7 +54,7 @@ pub fn port_links(
 {
     let own = cell_of(design, cell);
     let bits = phase_of(rules, phase);
-    let named = named_ports(alloc, rules, own, phase)?;
+    let named = named_ports(alloc, index, rules, own, phase)?;
     let marks = named.as_slice();
     let roles = pairing.ports.as_slice();
     let list = ports_by(alloc, roles)?;

@@ -47,7 +47,7 @@ fn both(one: bool, other: bool) -> bool
 }
 
 /// Whether one of two tests holds.
-fn either(one: bool, other: bool) -> bool
+pub(crate) fn either(one: bool, other: bool) -> bool
     ensures { result ≡ (one || other) }
 {
     one || other

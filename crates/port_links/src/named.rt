@@ -1,12 +1,16 @@
 //! The ports of a cell that its `assume` and `clockport` lines name in a phase.
 
-ghost use Rattle.std.specs.Prelude.{◌≡◌, ◌&&◌, ◌||◌, ◌++◌, ◌∷◌, [], map, bytes_eq, IfOk, OnOk};
+ghost use Rattle.std.specs.Prelude.{◌≡◌, ◌++◌, ◌∷◌, [], map, IfOk, OnOk};
 ghost use Rattle.std.specs.List.{list_any};
-ghost use Rattle.constraints.specs.Obliged.{is_asked, is_named_by, is_named_in};
+ghost use Rattle.constraints.specs.Obliged.{is_named_in};
+ghost use Rattle.port_links.specs.Named.{assumes_port, is_clock_line, passes_at};
+ghost use Rattle.rule_index.specs.Tables.{AreRuleTables};
+ghost use Rattle.vrt_model.specs.CellRules.{is_for};
 ghost use Rattle.vrt_model.specs.Expressions.{names_in};
 ghost use Rattle.vrt_model.specs.Lists.{has_name};
-ghost use Rattle.vrt_model.specs.declared.rules.ClockportRule.{ClockportRule as ClockportValue};
 
+use crate::links::either;
+use rule_index::RuleIndex;
 use std::alloc::Global;
 use vrt_model::{AssumeRule, Cell, ClockportRule, Expr, NoMemory, Rules};
 
@@ -36,69 +40,77 @@ fn names_port(e: &Expr, name: &[u8]) -> bool
     }
 }
 
-/// Whether an `assume` line is for a cell in a phase.
-fn is_asked(rule: &AssumeRule, cell: &[u8], phase: u32) -> bool
-    ensures { result ≡ is_asked cell.now phase rule.now }
+/// Whether an `assume` line is for a phase.
+fn is_for(rule: &AssumeRule, phase: u32) -> bool
+    ensures { result ≡ is_for rule.now.phase phase }
 {
-    let is_phase = match rule.phase {
+    match rule.phase {
         Some(other) => other == phase,
         None => true,
-    };
-    rule.cell.as_bytes() == cell && is_phase
+    }
 }
 
-/// Whether an `assume` line is for a cell in a phase and names a port.
-fn assumes_port(rule: &AssumeRule, cell: &[u8], phase: u32, name: &[u8]) -> bool
-    ensures { result ≡ is_named_by cell.now phase name.now rule.now }
+/// Whether an `assume` line is for a phase and names a port.
+fn assumes_port(rule: &AssumeRule, phase: u32, name: &[u8]) -> bool
+    ensures { result ≡ assumes_port phase name.now rule.now }
 {
     let names = names_port(&rule.expression, name);
-    is_asked(rule, cell, phase) && names
+    is_for(rule, phase) && names
 }
 
-/// Whether some `assume` line of a cell in a phase names a port.
-fn any_assumes(rules: &[AssumeRule], cell: &[u8], phase: u32, name: &[u8]) -> bool
-    ensures { result ≡ list_any (is_named_by cell.now phase name.now) rules.now }
+/// Whether the `assume` line at a place is for a phase and names a port.
+fn assumes_port_at(rules: &[AssumeRule], place: usize, phase: u32, name: &[u8]) -> bool
+    ensures { result ≡ passes_at (assumes_port phase name.now) rules.now place }
 {
-    for rule in rules {
-        if assumes_port(rule, cell, phase, name) {
+    match rules.get(place) {
+        Some(rule) => assumes_port(rule, phase, name),
+        None => false,
+    }
+}
+
+/// Whether some `assume` line at these places is for a phase and names a port.
+fn any_assumes(rules: &[AssumeRule], places: &[usize], phase: u32, name: &[u8]) -> bool
+    ensures { result ≡ list_any (passes_at (assumes_port phase name.now) rules.now) places.now }
+{
+    for place in places {
+        if assumes_port_at(rules, *place, phase, name) {
             return true;
         }
     }
     false
 }
 
-/// Whether a `clockport` line is for a port of a cell.
-fn is_clock(rule: &ClockportRule, cell: &[u8], name: &[u8]) -> bool
-    ensures { result ≡ (bytes_eq rule.now.cell cell.now && bytes_eq rule.now.port name.now) }
+/// Whether the `clockport` line at a place is for a port.
+fn is_clock_at(rules: &[ClockportRule], place: usize, name: &[u8]) -> bool
+    ensures { result ≡ passes_at (is_clock_line name.now) rules.now place }
 {
-    rule.cell.as_bytes() == cell && rule.port.as_bytes() == name
+    match rules.get(place) {
+        Some(rule) => rule.port.as_bytes() == name,
+        None => false,
+    }
 }
 
-/// Whether some `clockport` line is for a port of a cell.
-fn any_clock(rules: &[ClockportRule], cell: &[u8], name: &[u8]) -> bool
-    ensures { result ≡ list_any (λ (r : ClockportValue). bytes_eq r.cell cell.now && bytes_eq r.port name.now) rules.now }
+/// Whether some `clockport` line at these places is for a port.
+fn any_clock(rules: &[ClockportRule], places: &[usize], name: &[u8]) -> bool
+    ensures { result ≡ list_any (passes_at (is_clock_line name.now) rules.now) places.now }
 {
-    for rule in rules {
-        if is_clock(rule, cell, name) {
+    for place in places {
+        if is_clock_at(rules, *place, name) {
             return true;
         }
     }
     false
 }
 
-/// Whether one of two tests holds.
-fn either(one: bool, other: bool) -> bool
-    ensures { result ≡ (one || other) }
-{
-    one || other
-}
-
-/// Whether a line of a cell names a port in a phase.
-fn is_named(rules: &Rules, cell: &[u8], phase: u32, name: &[u8]) -> bool
+/// Whether a line of a cell names a port in a phase: only the lines of this cell are looked at.
+fn is_named(index: &RuleIndex, rules: &Rules, cell: &[u8], phase: u32, name: &[u8]) -> bool
+    requires tables { AreRuleTables rules.now index.now }
     ensures { result ≡ is_named_in rules.now cell.now phase name.now }
 {
-    let assumed = any_assumes(rules.assumes.as_slice(), cell, phase, name);
-    let clocked = any_clock(rules.clockports.as_slice(), cell, name);
+    let assumes = index.lines.ports.assumes.places(cell);
+    let clocks = index.lines.ports.clockports.places(cell);
+    let assumed = any_assumes(rules.assumes.as_slice(), assumes, phase, name);
+    let clocked = any_clock(rules.clockports.as_slice(), clocks, name);
     either(assumed, clocked)
 }
 
@@ -113,19 +125,21 @@ fn add(marks: &mut Vec<bool>, mark: bool) -> Result<(), NoMemory>
 }
 
 /// Whether each port of a cell is named in a phase by an `assume` line of the cell for it or by a `clockport` line, in the order
-/// of the ports.
+/// of the ports. Only the lines of this cell are looked at.
 pub fn named_ports(
     alloc: Global,
+    index: &RuleIndex,
     rules: &Rules,
     cell: &Cell,
     phase: u32,
 ) -> Result<Vec<bool>, NoMemory>
+    requires tables { AreRuleTables rules.now index.now }
     ensures { IfOk result (λ marks. marks.items ≡ map (is_named_in rules.now cell.now.name phase) cell.now.ports) }
 {
     let mut marks = Vec::new(alloc);
     let mut rest = cell.ports.as_slice();
     'ports: while let Some((port, behind)) = rest.split_first() {
-        let named = is_named(rules, cell.name.as_bytes(), phase, port.as_bytes());
+        let named = is_named(index, rules, cell.name.as_bytes(), phase, port.as_bytes());
         add(&mut marks, named)?;
         rest = behind;
     }

@@ -1,8 +1,9 @@
 use Rattle.std.proofs.Common.{◌≡◌, drop}
 use Rattle.std.specs.List.{list_any}
-use Rattle.constraints.specs.Obliged.{is_named_by}
+use Rattle.port_links.specs.Named.{assumes_port, passes_at}
 use Rattle.port_links.proofs.named.any_assumes.Given as goal
 
 -- none so far
-abbrev pub invariant-loop-rule : goal.invariant-loop-rule
-invariant-loop-rule l = list_any (is_named_by l.cell l.phase l.name) (drop l.rule-index l.rules) ≡ list_any (is_named_by l.cell l.phase l.name) l.rules
+abbrev pub invariant-loop-place : goal.invariant-loop-place
+invariant-loop-place l =
+    list_any (passes_at (assumes_port l.phase l.name) l.rules) (drop l.place-index l.places) ≡ list_any (passes_at (assumes_port l.phase l.name) l.rules) l.places

@@ -1,9 +1,8 @@
 use Rattle.std.proofs.Common.{◌≡◌, drop}
 use Rattle.std.specs.List.{list_any}
-use Rattle.std.specs.Prelude.{◌&&◌, bytes_eq}
-use Rattle.vrt_model.specs.declared.rules.ClockportRule.{ClockportRule}
+use Rattle.port_links.specs.Named.{is_clock_line, passes_at}
 use Rattle.port_links.proofs.named.any_clock.Given as goal
 
 -- none so far
-abbrev pub invariant-loop-rule : goal.invariant-loop-rule
-invariant-loop-rule l = list_any (λ (r : ClockportRule). bytes_eq r.cell l.cell && bytes_eq r.port l.name) (drop l.rule-index l.rules) ≡ list_any (λ (r : ClockportRule). bytes_eq r.cell l.cell && bytes_eq r.port l.name) l.rules
+abbrev pub invariant-loop-place : goal.invariant-loop-place
+invariant-loop-place l = list_any (passes_at (is_clock_line l.name) l.rules) (drop l.place-index l.places) ≡ list_any (passes_at (is_clock_line l.name) l.rules) l.places
