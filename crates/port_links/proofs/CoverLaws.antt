@@ -1,7 +1,8 @@
 -- The graph of a model's signals grows cover by cover.
-use Rattle.std.proofs.Common.{◌≡◌, ℕ, zero, suc, ◌+◌, ◌<◌, ◌⊎◌, ◌++◌, ◌∷◌, [], List, length, get_or, take, Some, arith, ap, subst, sym, refl, ◌∙◌, inl, inr}
+use Rattle.std.proofs.Common.{◌≡◌, ℕ, zero, suc, ◌+◌, ◌<◌, ◌++◌, ◌∷◌, [], List, length, get_or, take, Some, arith, ap, subst, sym, refl, inl, inr}
 use Rattle.std.proofs.lemmas.List.{take_more}
 use Rattle.std.proofs.lemmas.Option.{none-some, same_Some}
+use Rattle.channel_parts.proofs.NetGraphLaws.{more_adds}
 use Rattle.graphs.specs.Graphs.{AreInside, HasArcs}
 use Rattle.known_nets.proofs.PlaceLaws.{arc_row}
 use Rattle.known_nets.specs.Placed.{Adds, IsArc}
@@ -14,32 +15,6 @@ use Rattle.vrt_model.specs.WholeInstances.{CoverArc}
 use Rattle.vrt_model.specs.declared.flat_model.Cover.{Cover}
 use Rattle.vrt_model.specs.declared.flat_model.FlatModel.{FlatModel}
 
--- ---- arcs that are added
-
-pub none_more : (Arc : ℕ → ℕ → Type 0) (graph : List (List ℕ)) → ((from to : ℕ) → Arc from to → ⊥) → Adds Arc graph graph
-none_more Arc graph none = record {
-  count = refl;
-  only = λ f t arc. inl arc;
-  stays = λ f t arc. arc;
-  joined = λ f t arc lt. absurd (none f t arc);
-}
-
--- arcs of two kinds, one after the other
-then_more : (A B C : ℕ → ℕ → Type 0) (old mid new : List (List ℕ)) → ((from to : ℕ) → A from to → C from to) → ((from to : ℕ) → B from to → C from to)
-    → ((from to : ℕ) → C from to → A from to ⊎ B from to) → Adds A old mid → Adds B mid new → Adds C old new
-then_more A B C old mid new left right split first second = record {
-  count = second.count ∙ first.count;
-  only = λ f t arc. elim (second.only f t arc) [
-    | inl before ↦ elim (first.only f t before) [ inl o ↦ inl o | inr a ↦ inr (left f t a) ]
-    | inr b ↦ inr (right f t b)
-  ];
-  stays = λ f t arc. second.stays f t (first.stays f t arc);
-  joined = λ f t arc lt. elim (split f t arc) [
-    | inl a ↦ second.stays f t (first.joined f t a lt)
-    | inr b ↦ (let count = first.count in second.joined f t b (omega (arith, lt, count)))
-  ];
-}
-
 pub the_item : {X : Type 0} (x y : X) → Among (x ∷ []) y → x ≡ y
 the_item x y (zero, e) = same_Some x y e
 the_item x y (suc i, e) = absurd (none-some y e)
@@ -49,7 +24,7 @@ the_item x y (suc i, e) = absurd (none-some y e)
 one_input : (inputs : List ℕ) (output x : ℕ) (old mid new : List (List ℕ)) → Adds (IsInputArc inputs output) old mid → Adds (IsArc x output) mid new
     → Adds (IsInputArc (inputs ++ x ∷ []) output) old new
 one_input inputs output x old mid new =
-    then_more (IsInputArc inputs output) (IsArc x output) (IsInputArc (inputs ++ x ∷ []) output) old mid new
+    more_adds (IsInputArc inputs output) (IsArc x output) (IsInputArc (inputs ++ x ∷ []) output) old mid new
     (λ f t arc. (among_left inputs (x ∷ []) f arc.0, arc.1))
     (λ f t arc. (among_right inputs (x ∷ []) f (0, ap (λ (k : ℕ). Some k) (sym arc.0)), arc.1))
     (λ f t arc. elim (among_either inputs (x ∷ []) f arc.0) [ inl m ↦ inl (m, arc.1) | inr m ↦ inr (sym (the_item x f m), arc.1) ])
@@ -65,7 +40,7 @@ pub cover_turn : (covers : List Cover) (cover : Cover) (i : ℕ) (old mid new : 
     → Adds (IsInputArc cover.inputs cover.output) mid new → Adds (IsCoverArc (take (i + 1) covers)) old new
 cover_turn covers cover i old mid new there one two =
     subst (λ (xs : List Cover). Adds (IsCoverArc xs) old new) (sym (take_one covers i cover there))
-    (then_more (IsCoverArc (take i covers)) (IsInputArc cover.inputs cover.output) (IsCoverArc (take i covers ++ cover ∷ [])) old mid new
+    (more_adds (IsCoverArc (take i covers)) (IsInputArc cover.inputs cover.output) (IsCoverArc (take i covers ++ cover ∷ [])) old mid new
     (λ f t arc. (arc.0, among_left (take i covers) (cover ∷ []) arc.0 arc.1, arc.2, arc.3))
     (λ f t arc. (cover, among_right (take i covers) (cover ∷ []) cover (0, refl), arc.0, arc.1))
     (λ f t arc. elim (among_either (take i covers) (cover ∷ []) arc.0 arc.1) [

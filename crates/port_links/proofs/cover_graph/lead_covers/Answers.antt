@@ -1,13 +1,14 @@
 use Rattle.std.proofs.Common.{[], refl, subst}
 use Rattle.known_nets.specs.Placed.{Adds}
-use Rattle.port_links.proofs.CoverLaws.{cover_turn, none_more}
+use Rattle.channel_parts.proofs.NetGraphLaws.{none_adds}
+use Rattle.port_links.proofs.CoverLaws.{cover_turn}
 use Rattle.port_links.specs.CoverGraphs.{IsCoverArc, IsInputArc}
 use Rattle.vrt_model.proofs.Lists.{item_at}
 use Rattle.vrt_model.proofs.Members.{at_none}
 use Rattle.port_links.proofs.cover_graph.lead_covers.Goals as goal
 
 pub loop-cover-init : goal.loop-cover-init
-loop-cover-init c = none_more (IsCoverArc []) c.args.graph.now.items (λ f t arc. at_none arc.1.0 arc.0 arc.1.1)
+loop-cover-init c = none_adds (IsCoverArc []) c.args.graph.now.items (λ f t arc. at_none arc.1.0 arc.0 arc.1.1)
 
 pub loop-cover-preserved : goal.loop-cover-preserved
 loop-cover-preserved c =

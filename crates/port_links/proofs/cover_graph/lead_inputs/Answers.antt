@@ -1,11 +1,12 @@
 use Rattle.std.proofs.Common.{arith, []}
-use Rattle.port_links.proofs.CoverLaws.{input_turn, none_more}
+use Rattle.channel_parts.proofs.NetGraphLaws.{none_adds}
+use Rattle.port_links.proofs.CoverLaws.{input_turn}
 use Rattle.port_links.specs.CoverGraphs.{IsInputArc}
 use Rattle.vrt_model.proofs.Members.{at_none}
 use Rattle.port_links.proofs.cover_graph.lead_inputs.Goals as goal
 
 pub loop-input-init : goal.loop-input-init
-loop-input-init c = none_more (IsInputArc [] c.args.output) c.args.graph.now.items (λ f t arc. at_none arc.0.0 f arc.0.1)
+loop-input-init c = none_adds (IsInputArc [] c.args.output) c.args.graph.now.items (λ f t arc. at_none arc.0.0 f arc.0.1)
 
 pub loop-input-preserved : goal.loop-input-preserved
 loop-input-preserved c =
