@@ -3,34 +3,51 @@ use Rattle.std.proofs.Common.{◌≡◌, ℕ, ◌+◌, ◌<◌, ◌≤◌, Bool,
 use Rattle.std.specs.Prelude.{is_none}
 use Rattle.std.proofs.lemmas.Bool.{and_from, cases_lt, false≢true}
 use Rattle.std.proofs.lemmas.Option.{slice_get_within}
+use Rattle.channel_parts.proofs.AddsLaws.{none_adds}
+use Rattle.channel_parts.proofs.ArcLaws.{arc_to_plain}
 use Rattle.channel_parts.proofs.Labels.{together_further}
 use Rattle.channel_parts.proofs.NetGraphLaws.{graph_inside}
 use Rattle.channel_parts.proofs.PartLaws.{device_inside, inside_device, same_least_net}
-use Rattle.channel_parts.proofs.RankLaws.{arc_gate, same_part, together_back, unknown_entry, unknown_gate, unknown_parts}
+use Rattle.channel_parts.proofs.RankLaws.{same_part, together_back, unknown_entry, unknown_gate, unknown_parts}
 use Rattle.channel_parts.specs.Groups.{device_owner}
 use Rattle.channel_parts.specs.Labels.{AreBelow}
-use Rattle.channel_parts.specs.NetGraphs.{IsDeviceArcBelow, IsNetArc, IsNetGraph}
+use Rattle.channel_parts.specs.NetGraphs.{IsDeviceArcBelow, IsNetArc, IsNetGraph, IsWholeArcBelow}
 use Rattle.channel_parts.specs.Ranks.{AreLeast, has_unknown_gate}
 use Rattle.graphs.specs.Graphs.{ArcIn}
 use Rattle.known_nets.proofs.NetKinds.{is_plain_is, plain_is}
 use Rattle.known_nets.specs.KnownTables.{IsKnownTable, known_at}
+use Rattle.known_nets.specs.Placed.{Adds}
 use Rattle.port_links.specs.PhaseArcs.{AreArcs, AreChainMarks, IsPartChain, part_of}
 use Rattle.port_links.specs.Reached.{AreReaching}
 use Rattle.vrt_model.proofs.Filtered.{device_among}
-use Rattle.vrt_model.proofs.Members.{all_among}
+use Rattle.vrt_model.proofs.Members.{all_among, at_none}
+use Rattle.vrt_model.proofs.Networks.{flat_ranges}
 use Rattle.vrt_model.proofs.Ranked.{together_first, together_plain}
 use Rattle.vrt_model.specs.Circuits.{IsDevice, IsFlat}
-use Rattle.vrt_model.specs.Known.{HasArc, IsInPart, IsPlain, IsTogether, IsUnknown, IsWalk, is_plain_at}
-use Rattle.vrt_model.specs.Lists.{mark_at}
+use Rattle.vrt_model.specs.Known.{HasArc, HasGateArc, IsInPart, IsPlain, IsTogether, IsUnknown, IsWalk, is_plain_at}
+use Rattle.vrt_model.specs.Lists.{At, Among, mark_at}
 use Rattle.vrt_model.specs.Reading.{is_in}
 use Rattle.vrt_model.specs.WholeInstances.{IsChain}
 use Rattle.vrt_model.specs.declared.circuit.Circuit.{Circuit}
 use Rattle.vrt_model.specs.declared.circuit.Device.{Device}
 use Rattle.vrt_model.specs.declared.rules.Phase.{Phase}
+use Rattle.vrt_model.specs.declared.whole.Whole.{Whole}
 
 -- ---- arcs of a circuit without whole instances
 
--- an arc leads from a net of the circuit to a plain net
+no_whole : (c : Circuit) → IsFlat c → (w : Whole) → Among c.wholes w → ⊥
+no_whole c flat w m = at_none m.0 w (subst (λ (ws : List Whole). At ws m.0 w) flat.wholes m.1)
+
+-- all arcs are from gates
+arc_gate : (c : Circuit) (phase : Phase) → IsFlat c → (m n : ℕ) → HasArc c phase m n → HasGateArc c phase m n
+arc_gate c phase flat m n (inl gate) = gate
+arc_gate c phase flat m n (inr (w, link, leads)) = absurd (no_whole c flat w leads.0)
+
+-- so a graph has all arcs of whole instances
+pub no_whole_adds : (c : Circuit) (phase : Phase) (least : List ℕ) (graph : List (List ℕ)) → IsFlat c → Adds (IsWholeArcBelow c phase least (length c.wholes)) graph graph
+no_whole_adds c phase least graph flat = none_adds (IsWholeArcBelow c phase least (length c.wholes)) graph (λ f t arc. no_whole c flat arc.1 (arc.0, arc.3))
+
+-- an arc leads from a net of the circuit
 arc_from : (c : Circuit) (phase : Phase) → IsFlat c → (m n : ℕ) → HasArc c phase m n → m < length c.nets
 arc_from c phase flat m n arc =
     let gate = arc_gate c phase flat m n arc in
@@ -39,24 +56,30 @@ arc_from c phase flat m n arc =
     let same = gate.2 in
     omega (arith, inside, same)
 
-arc_plain : (c : Circuit) (phase : Phase) → IsFlat c → (m n : ℕ) → HasArc c phase m n → IsPlain c n
-arc_plain c phase flat m n arc = let gate = arc_gate c phase flat m n arc in together_first c phase true n gate.1.0 gate.1.2
-
-walk_plain : (c : Circuit) (phase : Phase) → IsFlat c → (nets : List ℕ) (m n to : ℕ) → HasArc c phase m n → IsWalk (HasArc c phase) n nets to → IsPlain c to
-walk_plain c phase flat [] m n to arc same = subst (IsPlain c) same (arc_plain c phase flat m n arc)
-walk_plain c phase flat (l ∷ nets) m n to arc walk = walk_plain c phase flat nets n l to walk.0 walk.1
+-- a chain leads to a plain net
+walk_plain : (c : Circuit) (phase : Phase) (nets : List ℕ) (m n to : ℕ) → HasArc c phase m n → IsWalk (HasArc c phase) n nets to → IsPlain c to
+walk_plain c phase [] m n to arc same = subst (IsPlain c) same (arc_to_plain c phase m n arc)
+walk_plain c phase (l ∷ nets) m n to arc walk = walk_plain c phase nets n l to walk.0 walk.1
 
 -- ---- nets and parts in turn
 
 module _ (c : Circuit) (phase : Phase) (known : List (Option Bool)) (least : List ℕ) (graph : List (List ℕ)) (flat : IsFlat c) (table : IsKnownTable c phase (known_at known)) (are : AreLeast c phase least)
-    (len : length least ≡ length c.nets) (below : AreBelow least) (is : IsNetGraph c known least graph) where
+    (len : length least ≡ length c.nets) (below : AreBelow least) (is : IsNetGraph c phase known least graph) where
   -- an arc to a net comes from its part
   to_net : (from to : ℕ) → ArcIn graph from to → to < length least → IsNetArc c least from to
-  to_net from to arc lt = elim (is.only from to arc) [ inl net ↦ net.1 | inr device ↦ (let part = device.4.part in absurd (omega (arith, part, lt))) ]
+  to_net from to arc lt = elim (is.only from to arc) [
+    | inl net ↦ net.1
+    | inr (inl device) ↦ (let part = device.4.part in absurd (omega (arith, part, lt)))
+    | inr (inr whole) ↦ absurd (no_whole c flat whole.1 (whole.0, whole.3))
+  ]
 
   -- an arc to a part comes from a gate
   to_part : (from to : ℕ) → ArcIn graph from to → length least ≤ to → IsDeviceArcBelow c known least (length c.devices) from to
-  to_part from to arc le = elim (is.only from to arc) [ inl net ↦ (let lt = net.0 in absurd (omega (arith, lt, le))) | inr device ↦ device ]
+  to_part from to arc le = elim (is.only from to arc) [
+    | inl net ↦ (let lt = net.0 in absurd (omega (arith, lt, le)))
+    | inr (inl device) ↦ device
+    | inr (inr whole) ↦ absurd (no_whole c flat whole.1 (whole.0, whole.3))
+  ]
 
   -- from a net arcs lead to parts
   from_net : (from to : ℕ) → ArcIn graph from to → from < length least → length least ≤ to
@@ -138,7 +161,7 @@ module _ (c : Circuit) (phase : Phase) (known : List (Option Bool)) (least : Lis
   up [] m n to arc same = (part_of least n, [], to_part_of m n arc, ap (part_of least) same)
   up (l ∷ nets) m n to arc walk =
       let rest = up nets n l to walk.0 walk.1 in
-      (part_of least n, n ∷ rest.0 ∷ rest.1, to_part_of m n arc, (own_arc n (arc_plain c phase flat m n arc), (rest.2, rest.3)))
+      (part_of least n, n ∷ rest.0 ∷ rest.1, to_part_of m n arc, (own_arc n (arc_to_plain c phase m n arc), (rest.2, rest.3)))
 
   down_part : (nodes : List ℕ) (from x to : ℕ) → IsPlain c from → IsPlain c to → ArcIn graph (part_of least from) x → IsWalk (ArcIn graph) x nodes (part_of least to) → IsPartChain c phase from to
   down_part [] from x to pf pt arc end =
@@ -161,7 +184,7 @@ module _ (c : Circuit) (phase : Phase) (known : List (Option Bool)) (least : Lis
   pub graph_has_arcs : AreArcs c phase least graph
   graph_has_arcs = record {
     count = len;
-    inside = graph_inside c known least graph flat len below is;
+    inside = graph_inside c phase known least graph (flat_ranges c flat) len below is;
     nets = λ from to lt p. (
       λ chain. down chain.1 from chain.0 to p (omega (arith, lt, len)) chain.2 chain.3,
       λ chain. up chain.1 from chain.0 to chain.2 chain.3,
@@ -196,7 +219,7 @@ no_chain_marks c phase least to flat other = record {
   parts = λ from pf. (λ e. absurd (false≢true e), λ chain. absurd (none chain.0 chain.2));
 } where
   none : (from : ℕ) → ¬ IsChain (HasArc c phase) from to
-  none from chain = false≢true (sym other ∙ is_plain_is c to (walk_plain c phase flat chain.1 from chain.0 to chain.2 chain.3))
+  none from chain = false≢true (sym other ∙ is_plain_is c to (walk_plain c phase chain.1 from chain.0 to chain.2 chain.3))
 
 pub net_chain : (c : Circuit) (phase : Phase) (least : List ℕ) (from to : ℕ) (marks : List Bool) → IsFlat c → AreChainMarks c phase least to marks → IsChain (HasArc c phase) from to
     → (from < length c.nets) × (mark_at marks from ≡ true)

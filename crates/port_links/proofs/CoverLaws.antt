@@ -2,7 +2,7 @@
 use Rattle.std.proofs.Common.{◌≡◌, ℕ, zero, suc, ◌+◌, ◌<◌, ◌++◌, ◌∷◌, [], List, length, get_or, take, Some, arith, ap, subst, sym, refl, inl, inr}
 use Rattle.std.proofs.lemmas.List.{take_more}
 use Rattle.std.proofs.lemmas.Option.{none-some, same_Some}
-use Rattle.channel_parts.proofs.NetGraphLaws.{more_adds}
+use Rattle.channel_parts.proofs.AddsLaws.{more_adds}
 use Rattle.graphs.specs.Graphs.{AreInside, HasArcs}
 use Rattle.known_nets.proofs.PlaceLaws.{arc_row}
 use Rattle.known_nets.specs.Placed.{Adds, IsArc}

@@ -24,6 +24,7 @@ pub(crate) struct PhaseArcs {
 }
 
 /// The arcs of a circuit in a phase.
+#[tactic(auto, using(known_nets::proofs::WiredLaws::flat_wired))]
 pub(crate) fn phase_arcs(
     alloc: Global,
     circuit: &Circuit,

@@ -9,6 +9,7 @@ ghost use Rattle.channel_parts.specs.NetGraphs.{IsDeviceArc, IsDeviceArcBelow, I
 ghost use Rattle.channel_parts.specs.Ranks.{has_unknown_gate};
 ghost use Rattle.known_nets.specs.Placed.{Adds};
 ghost use Rattle.vrt_model.specs.Circuits.{IsFlat};
+ghost use Rattle.vrt_model.specs.declared.rules.Phase.{Phase as PhaseValue};
 
 use known_nets::{conduction, is_plain, known_bit, lead, no_groups};
 use std::alloc::Global;
@@ -151,7 +152,7 @@ fn lead_devices(
     Ok(())
 }
 
-/// The graph of the nets and the parts of the bare circuit.
+/// The graph of the nets and the parts of the bare circuit, the same in each phase.
 pub(crate) fn net_graph(
     alloc: Global,
     circuit: &Circuit,
@@ -160,7 +161,7 @@ pub(crate) fn net_graph(
 ) -> Result<Vec<Seq<u32>>, NoMemory>
     requires flat { IsFlat circuit.now }
     requires nets { length least.now ≡ length circuit.now.nets }
-    ensures { IfOk result (λ t. IsNetGraph circuit.now known.now least.now t.items) }
+    ensures { IfOk result (λ t. (phase : PhaseValue) → IsNetGraph circuit.now phase known.now least.now t.items) }
 {
     let count = part_number(least, least.len())?;
     let mut graph = no_groups(alloc, count)?;

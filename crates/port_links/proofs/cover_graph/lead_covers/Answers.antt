@@ -1,6 +1,6 @@
 use Rattle.std.proofs.Common.{[], refl, subst}
 use Rattle.known_nets.specs.Placed.{Adds}
-use Rattle.channel_parts.proofs.NetGraphLaws.{none_adds}
+use Rattle.channel_parts.proofs.AddsLaws.{none_adds}
 use Rattle.port_links.proofs.CoverLaws.{cover_turn}
 use Rattle.port_links.specs.CoverGraphs.{IsCoverArc, IsInputArc}
 use Rattle.vrt_model.proofs.Lists.{item_at}

@@ -1,5 +1,5 @@
 use Rattle.std.proofs.Common.{arith, []}
-use Rattle.channel_parts.proofs.NetGraphLaws.{none_adds}
+use Rattle.channel_parts.proofs.AddsLaws.{none_adds}
 use Rattle.port_links.proofs.CoverLaws.{input_turn}
 use Rattle.port_links.specs.CoverGraphs.{IsInputArc}
 use Rattle.vrt_model.proofs.Members.{at_none}

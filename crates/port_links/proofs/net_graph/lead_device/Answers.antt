@@ -1,7 +1,8 @@
 use Rattle.std.proofs.Common.{sym, ◌∙◌}
 use Rattle.std.proofs.lemmas.Bool.{false≢true}
 use Rattle.std.proofs.lemmas.Option.{none-some}
-use Rattle.channel_parts.proofs.NetGraphLaws.{none_adds, one_device}
+use Rattle.channel_parts.proofs.AddsLaws.{none_adds}
+use Rattle.channel_parts.proofs.NetGraphLaws.{one_device}
 use Rattle.channel_parts.specs.NetGraphs.{IsDeviceArc}
 use Rattle.port_links.proofs.net_graph.lead_device.Goals as goal
 

@@ -1,6 +1,7 @@
 use Rattle.std.proofs.Common.{ap, sym, ◌∙◌}
 use Rattle.std.proofs.lemmas.Bool.{false≢true}
-use Rattle.channel_parts.proofs.NetGraphLaws.{none_adds, one_net}
+use Rattle.channel_parts.proofs.AddsLaws.{none_adds}
+use Rattle.channel_parts.proofs.NetGraphLaws.{one_net}
 use Rattle.channel_parts.specs.NetGraphs.{IsOneNetArc}
 use Rattle.known_nets.specs.Conduction.{is_plain_at}
 use Rattle.port_links.proofs.net_graph.lead_net.Goals as goal

@@ -1,5 +1,6 @@
 use Rattle.std.proofs.Common.{◌≡◌, ℕ, length, arith, subst}
-use Rattle.channel_parts.proofs.NetGraphLaws.{more_nets, none_adds}
+use Rattle.channel_parts.proofs.AddsLaws.{none_adds}
+use Rattle.channel_parts.proofs.NetGraphLaws.{more_nets}
 use Rattle.channel_parts.specs.NetGraphs.{IsNetArcBelow}
 use Rattle.known_nets.specs.Placed.{Adds}
 use Rattle.port_links.proofs.net_graph.lead_nets.Goals as goal
