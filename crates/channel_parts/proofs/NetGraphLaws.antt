@@ -1,4 +1,5 @@
--- The graph of nets and parts grows arc by arc, and its cycles are those of the arcs between nets.
+-- The graph of nets and parts grows arc by arc, two of its arcs in turn are one between nets, and its cycles are those of the
+-- arcs between nets.
 use Rattle.std.proofs.Common.{◌≡◌, ℕ, ◌+◌, ◌<◌, ◌≤◌, ◌⊎◌, Bool, true, List, [], ◌∷◌, ◌++◌, length, None, Option, Some, slice_index, arith, ap, subst, sym, refl, ◌∙◌, inl, inr}
 use Rattle.std.specs.Prelude.{bytes_eq, filter, is_none, nat_lt}
 use Rattle.std.proofs.lemmas.Bool.{and_from, cases_lt, cond-false, cond-true, le-ltb, lt-ltb}
@@ -26,7 +27,7 @@ use Rattle.vrt_model.proofs.Filtered.{device_among}
 use Rattle.vrt_model.proofs.Members.{all_among}
 use Rattle.vrt_model.proofs.Ranked.{together_first}
 use Rattle.vrt_model.specs.Circuits.{IsDevice}
-use Rattle.vrt_model.specs.Known.{HasArc, IsCycle, IsFirstCycle, IsInPart, IsUnknown, IsWalk, Leads}
+use Rattle.vrt_model.specs.Known.{HasArc, IsCycle, IsFirstCycle, IsInPart, IsPlain, IsUnknown, IsWalk, Leads}
 use Rattle.vrt_model.specs.Lists.{At}
 use Rattle.vrt_model.specs.Networks.{HasRanges}
 use Rattle.vrt_model.specs.Reading.{is_in}
@@ -125,6 +126,16 @@ graph_inside c phase known least graph ranges len below is from to arc =
       | inr other ↦ (let lt = part_inside c phase known least from to ranges len other in omega (arith, lt, size))
     ]
 
+-- an arc to a net comes from its part; from a net arcs lead to parts, and from a part to nets; over a part an arc of the circuit
+-- leads from net to net; and each arc of the circuit leads to the part of its net, from which one leads to that net
+pub record HasTurns (c : Circuit) (phase : Phase) (least : List ℕ) (graph : List (List ℕ)) : Type 0 where
+  pub to_net : (from to : ℕ) → ArcIn graph from to → to < length least → IsNetArc c least from to
+  pub from_net : (from to : ℕ) → ArcIn graph from to → from < length least → length least ≤ to
+  pub from_part : (from to : ℕ) → ArcIn graph from to → length least ≤ from → to < length least
+  pub over_part : (m x n : ℕ) → ArcIn graph m x → ArcIn graph x n → m < length least → HasArc c phase m n
+  pub by_part : (m n : ℕ) → HasArc c phase m n → ArcIn graph m (length least + slice_index least n)
+  pub own_part : (n : ℕ) → IsPlain c n → ArcIn graph (length least + slice_index least n) n
+
 module _ (c : Circuit) (phase : Phase) (known : List (Option Bool)) (least : List ℕ) (graph : List (List ℕ)) (ranges : HasRanges c) (table : IsKnownTable c phase (known_at known)) (are : AreLeast c phase least)
     (len : length least ≡ length c.nets) (below : AreBelow least) (is : IsNetGraph c phase known least graph) where
   abbrev IsPartArc : ℕ → ℕ → Type 0
@@ -151,7 +162,6 @@ module _ (c : Circuit) (phase : Phase) (known : List (Option Bool)) (least : Lis
   from_part from to arc le =
       elim (cases_lt to (length least)) [ inl low ↦ low | inr high ↦ (let low = gate_net from to (to_part from to arc high) in absurd (omega (arith, low, le))) ]
 
-  -- over a part an arc of the circuit leads from net to net
   over_device : (m x n : ℕ) → IsDeviceArcBelow c known least (length c.devices) m x → IsNetArc c least x n → HasArc c phase m n
   over_device m x n device net =
       let p = plain_is c n net.plain in
@@ -176,6 +186,7 @@ module _ (c : Circuit) (phase : Phase) (known : List (Option Bool)) (least : Lis
       let leads = target_leads c phase least n w link are p (whole.0, whole.3) (whole.4.0, whole.4.3) by.stands (by.owned ∙ ap (λ (k : ℕ). Some k) same) in
       inr (w, link, subst (λ (k : ℕ). Leads c phase w link k n) by.net leads)
 
+  -- over a part an arc of the circuit leads from net to net
   over_part : (m x n : ℕ) → ArcIn graph m x → ArcIn graph x n → m < length least → HasArc c phase m n
   over_part m x n up down lt =
       let high = from_net m x up lt in
@@ -202,18 +213,25 @@ module _ (c : Circuit) (phase : Phase) (known : List (Option Bool)) (least : Lis
       record { stands = (bytes_eq-Decides link.phase phase.name).1 leads.2; net = leads.3; owner = slice_index least n; owned = target; part = refl } in
       inr (leads.0.0, w, slice_get_within c.wholes leads.0.0 w leads.0.1, leads.0.1, (leads.1.0, link, slice_get_within w.links leads.1.0 link leads.1.1, leads.1.1, by))
 
-  by_part : (m n : ℕ) → HasArc c phase m n → (x : ℕ) × ArcIn graph m x × ArcIn graph x n
+  -- it leads to the part of its net
+  by_part : (m n : ℕ) → HasArc c phase m n → ArcIn graph m (length least + slice_index least n)
   by_part m n arc =
-      let p = arc_to_plain c phase m n arc in
       let k = slice_index least n in
+      let p = arc_to_plain c phase m n arc in
       let low = below n in
       let net = slice_get_within c.nets n p.0 p.1 in
       let size = is.size in
-      let inside : length least + k < length graph = omega (arith, low, net, size, len) in (
-        length least + k,
-        elim (part_arc m n arc) [ inl device ↦ is.devices m (length least + k) device inside | inr whole ↦ is.wholes m (length least + k) whole inside ],
-        is.nets (length least + k) n (omega (arith, net, len), record { plain = is_plain_is c n p; part = refl }),
-      )
+      let inside : length least + k < length graph = omega (arith, low, net, size, len) in
+      elim (part_arc m n arc) [ inl device ↦ is.devices m (length least + k) device inside | inr whole ↦ is.wholes m (length least + k) whole inside ]
+
+  -- and from the part of a plain net an arc leads to that net
+  own_part : (n : ℕ) → IsPlain c n → ArcIn graph (length least + slice_index least n) n
+  own_part n p =
+      let net = slice_get_within c.nets n p.0 p.1 in
+      is.nets (length least + slice_index least n) n (omega (arith, net, len), record { plain = is_plain_is c n p; part = refl })
+
+  pub graph_has_turns : HasTurns c phase least graph
+  graph_has_turns = record { to_net = to_net; from_net = from_net; from_part = from_part; over_part = over_part; by_part = by_part; own_part = own_part }
 
   -- ---- cycles
 
@@ -256,15 +274,15 @@ module _ (c : Circuit) (phase : Phase) (known : List (Option Bool)) (least : Lis
   graph_walk : (nets : List ℕ) (m last : ℕ) → IsWalk (HasArc c phase) m nets last → (nodes : List ℕ) × IsWalk (ArcIn graph) m nodes last
   graph_walk [] m last walk = ([], walk)
   graph_walk (n ∷ nets) m last walk =
-      let by = by_part m n walk.0 in
       let rest = graph_walk nets n last walk.1 in
-      (by.0 ∷ n ∷ rest.0, (by.1, (by.2, rest.1)))
+      ((length least + slice_index least n) ∷ n ∷ rest.0, (by_part m n walk.0, (own_part n (arc_to_plain c phase m n walk.0), rest.1)))
 
   graph_cycle : (m : ℕ) (nets : List ℕ) → IsCycle (HasArc c phase) (m ∷ nets) → (nodes : List ℕ) × IsCycle (ArcIn graph) (m ∷ nodes)
   graph_cycle m nets cycle =
       let walk = graph_walk nets m cycle.0 cycle.1 in
-      let by = by_part cycle.0 m cycle.2 in
-      (walk.0 ++ by.0 ∷ [], (by.0, walk_further (ArcIn graph) walk.0 m cycle.0 by.0 walk.1 by.1, by.2))
+      let part = length least + slice_index least m in
+      let up = by_part cycle.0 m cycle.2 in
+      (walk.0 ++ part ∷ [], (part, walk_further (ArcIn graph) walk.0 m cycle.0 part walk.1 up, own_part m (arc_to_plain c phase cycle.0 m cycle.2)))
 
   -- the least number on any cycle is that of a net
   first_net : (m : ℕ) (nodes : List ℕ) → IsCycle (ArcIn graph) (m ∷ nodes) → ((k : ℕ) (others : List ℕ) → IsCycle (ArcIn graph) (k ∷ others) → m ≤ k) → m < length least

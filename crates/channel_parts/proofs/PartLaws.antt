@@ -1,5 +1,5 @@
 -- Parts that are made of groups, by the least nets of parts in their order, are the parts of the circuit in their order.
-use Rattle.std.proofs.Common.{◌≡◌, ℕ, zero, suc, ◌<◌, ◌≤◌, ◌⊎◌, Bool, true, false, cond, List, [], ◌∷◌, ◌++◌, ◌+◌, length, None, Option, Some, get_or, replicate, slice_index, arith, ap, subst, sym, refl, ◌∙◌, inl, inr}
+use Rattle.std.proofs.Common.{◌≡◌, ℕ, zero, suc, ◌<◌, ◌≤◌, ◌⊎◌, Bool, true, false, cond, List, [], ◌∷◌, ◌++◌, length, None, Option, Some, get_or, replicate, slice_index, arith, ap, subst, sym, refl, ◌∙◌, inl, inr}
 use Rattle.std.specs.Prelude.{◌↔◌, ◌&&◌, filter, option_map, slice_get, unwrap_or}
 use Rattle.std.specs.List.{IsDistinct, AllByRecursion}
 use Rattle.std.specs.List.Sorted.{IsSorted}

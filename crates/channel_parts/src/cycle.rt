@@ -7,7 +7,7 @@ ghost use Rattle.known_nets.specs.KnownTables.{IsKnownTable, known_at};
 ghost use Rattle.known_nets.specs.Wired.{IsWired};
 ghost use Rattle.vrt_model.specs.Known.{HasArc, IsCycle, IsFirstCycle};
 
-use crate::net_graph::net_graph;
+use crate::net_arcs::net_graph;
 use graphs::first_cycle;
 use std::alloc::Global;
 use vrt_model::{Circuit, NoMemory, Phase};

@@ -1,4 +1,4 @@
-use Rattle.std.proofs.Common.{ℕ, Option, true, subst, sym, ◌∙◌}
+use Rattle.std.proofs.Common.{ℕ, Option, subst, sym, ◌∙◌}
 use Rattle.std.specs.Prelude.{bytes_eq}
 use Rattle.std.proofs.lemmas.Bool.{and_from, and_parts, false≢true}
 use Rattle.std.proofs.lemmas.Result.{on_ok_weaker}

@@ -6,7 +6,7 @@ use Rattle.vrt_model.proofs.Lists.{item_at}
 use Rattle.vrt_model.proofs.Members.{all_among}
 use Rattle.vrt_model.specs.Circuits.{IsDevice}
 use Rattle.vrt_model.specs.Lists.{At}
-use Rattle.channel_parts.proofs.net_graph.lead_devices.Goals as goal
+use Rattle.channel_parts.proofs.net_arcs.lead_devices.Goals as goal
 
 pub loop-device-init : goal.loop-device-init
 loop-device-init c =

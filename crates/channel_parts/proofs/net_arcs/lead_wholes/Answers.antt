@@ -6,7 +6,7 @@ use Rattle.vrt_model.proofs.Lists.{item_at}
 use Rattle.vrt_model.proofs.Members.{all_among}
 use Rattle.vrt_model.specs.Circuits.{IsWhole}
 use Rattle.vrt_model.specs.Lists.{At}
-use Rattle.channel_parts.proofs.net_graph.lead_wholes.Goals as goal
+use Rattle.channel_parts.proofs.net_arcs.lead_wholes.Goals as goal
 
 pub loop-whole-init : goal.loop-whole-init
 loop-whole-init c = none_below c.args.circuit.now.wholes (IsWholeArc c.args.circuit.now c.args.phase.now c.args.least.now) c.args.graph.now.items

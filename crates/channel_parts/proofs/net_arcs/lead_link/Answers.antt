@@ -4,7 +4,7 @@ use Rattle.std.proofs.lemmas.Option.{none-some}
 use Rattle.channel_parts.proofs.AddsLaws.{none_adds}
 use Rattle.channel_parts.proofs.NetGraphLaws.{one_link}
 use Rattle.channel_parts.specs.NetGraphs.{IsLinkArc}
-use Rattle.channel_parts.proofs.net_graph.lead_link.Goals as goal
+use Rattle.channel_parts.proofs.net_arcs.lead_link.Goals as goal
 
 pub returns-then-not-stands : goal.returns-then-not-stands
 returns-then-not-stands c =

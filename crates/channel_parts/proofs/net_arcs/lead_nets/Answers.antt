@@ -3,7 +3,7 @@ use Rattle.channel_parts.proofs.AddsLaws.{none_adds}
 use Rattle.channel_parts.proofs.NetGraphLaws.{more_nets}
 use Rattle.channel_parts.specs.NetGraphs.{IsNetArcBelow}
 use Rattle.known_nets.specs.Placed.{Adds}
-use Rattle.channel_parts.proofs.net_graph.lead_nets.Goals as goal
+use Rattle.channel_parts.proofs.net_arcs.lead_nets.Goals as goal
 
 pub loop-net-init : goal.loop-net-init
 loop-net-init c = none_adds (IsNetArcBelow c.args.circuit.now c.args.least.now 0) c.args.graph.now.items (λ f t arc. let lt = arc.0 in omega (arith, lt))

@@ -4,7 +4,7 @@ use Rattle.std.proofs.lemmas.Option.{none-some}
 use Rattle.channel_parts.proofs.AddsLaws.{none_adds}
 use Rattle.channel_parts.proofs.NetGraphLaws.{one_device}
 use Rattle.channel_parts.specs.NetGraphs.{IsDeviceArc}
-use Rattle.channel_parts.proofs.net_graph.lead_device.Goals as goal
+use Rattle.channel_parts.proofs.net_arcs.lead_device.Goals as goal
 
 pub returns-then-not-has_unknown_gate : goal.returns-then-not-has_unknown_gate
 returns-then-not-has_unknown_gate c =

@@ -4,7 +4,7 @@ use Rattle.channel_parts.specs.NetGraphs.{ArcsBelow, IsLinkArc}
 use Rattle.known_nets.specs.Placed.{Adds}
 use Rattle.vrt_model.proofs.Lists.{item_at}
 use Rattle.vrt_model.specs.Lists.{At}
-use Rattle.channel_parts.proofs.net_graph.lead_links.Goals as goal
+use Rattle.channel_parts.proofs.net_arcs.lead_links.Goals as goal
 
 pub loop-link-init : goal.loop-link-init
 loop-link-init c = none_below c.args.whole.now.links (IsLinkArc c.args.circuit.now c.args.phase.now c.args.least.now c.args.whole.now) c.args.graph.now.items

@@ -1,6 +1,6 @@
 use Rattle.std.proofs.Common.{◌∙◌}
 use Rattle.channel_parts.proofs.NetGraphLaws.{adds_graph}
-use Rattle.channel_parts.proofs.net_graph.net_graph.Goals as goal
+use Rattle.channel_parts.proofs.net_arcs.net_graph.Goals as goal
 
 pub returns : goal.returns
 returns c =

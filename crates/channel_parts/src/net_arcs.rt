@@ -15,8 +15,8 @@ use known_nets::{is_plain, lead, no_groups};
 use std::alloc::Global;
 use vrt_model::{Circuit, Device, Link, NoMemory, Phase, Seq, Whole};
 
-/// The number of a part, behind those of the nets.
-fn part_number(least: &[usize], part: usize) -> Result<usize, NoMemory>
+/// The number of a part in the graph of nets and parts, behind those of the nets. Only want of memory refuses.
+pub fn part_number(least: &[usize], part: usize) -> Result<usize, NoMemory>
     ensures { IfOk result (λ n. n ≡ length least.now + part) }
 {
     match least.len().checked_add(part) {
@@ -158,8 +158,9 @@ fn lead_wholes(
     Ok(())
 }
 
-/// The graph of the nets and the parts of the bare circuit in a phase.
-pub(crate) fn net_graph(
+/// The graph of the nets and the parts of the bare circuit in a phase: at each number those from which arcs lead to it, with the
+/// nets from 0 and behind them the parts by their least nets. Only want of memory refuses.
+pub fn net_graph(
     alloc: Global,
     circuit: &Circuit,
     phase: &Phase,

@@ -4,7 +4,7 @@ use Rattle.channel_parts.proofs.AddsLaws.{none_adds}
 use Rattle.channel_parts.proofs.NetGraphLaws.{one_net}
 use Rattle.channel_parts.specs.NetGraphs.{IsOneNetArc}
 use Rattle.known_nets.specs.Conduction.{is_plain_at}
-use Rattle.channel_parts.proofs.net_graph.lead_net.Goals as goal
+use Rattle.channel_parts.proofs.net_arcs.lead_net.Goals as goal
 
 pub returns-then-not-is_plain : goal.returns-then-not-is_plain
 returns-then-not-is_plain c =
