@@ -110,8 +110,23 @@ fn clear(pairs: &mut Vec<Pair>)
     }
 }
 
-/// Puts an entry first at its place, if it is not empty. Of the two that were there the newer one stays.
+/// Puts an entry first at its place. Of the two that were there the newer one stays.
 fn put(pairs: &mut Vec<Pair>, mask: u32, entry: Entry)
+    requires { length pairs.old.items ≡ mask + 1 }
+    ensures only { HoldsOnlyAlso entry pairs.old.items pairs.new.items }
+    ensures len { length pairs.new.items ≡ length pairs.old.items }
+    ensures capacity { vec_capacity pairs.new ≡ vec_capacity pairs.old }
+{
+    let slot = slot_at(mask, entry.f, entry.g, entry.h) as usize;
+    let before = pairs[slot];
+    pairs[slot] = Pair {
+        newer: entry,
+        older: before.newer,
+    };
+}
+
+/// Puts an entry at the place that it has now, if it is not empty.
+fn put_again(pairs: &mut Vec<Pair>, mask: u32, entry: Entry)
     requires { length pairs.old.items ≡ mask + 1 }
     ensures only { HoldsOnlyAlso entry pairs.old.items pairs.new.items }
     ensures len { length pairs.new.items ≡ length pairs.old.items }
@@ -120,12 +135,7 @@ fn put(pairs: &mut Vec<Pair>, mask: u32, entry: Entry)
     if entry.f == 0 {
         return;
     }
-    let slot = slot_at(mask, entry.f, entry.g, entry.h) as usize;
-    let before = pairs[slot];
-    pairs[slot] = Pair {
-        newer: entry,
-        older: before.newer,
-    };
+    put(pairs, mask, entry);
 }
 
 /// Moves the entries of a pair to the places that they have now.
@@ -138,8 +148,8 @@ fn put_anew(pairs: &mut Vec<Pair>, at: usize, mask: u32)
 {
     let pair = pairs[at];
     pairs[at] = NO_PAIR;
-    put(pairs, mask, pair.older);
-    put(pairs, mask, pair.newer);
+    put_again(pairs, mask, pair.older);
+    put_again(pairs, mask, pair.newer);
 }
 
 /// Moves the entries of each of the first pairs to the places that they have now.

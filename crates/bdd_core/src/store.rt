@@ -290,7 +290,11 @@ impl Store {
         if let Some(r) = self.recalled(f, high, low) {
             return Ok(r);
         }
-        self.part(f, high, low)
+        let r = match self.part(f, high, low) {
+            Ok(r) => r,
+            Err(_spent) => return Err(Spent { nodes: self.budget }),
+        };
+        Ok(r)
     }
 
     /// `ite` part by part, where `f` is no constant. It is a call of its own, so that what is known at once costs little.

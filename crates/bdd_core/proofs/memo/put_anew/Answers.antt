@@ -13,5 +13,5 @@ returns-clause-only c =
     let here : pair ≡ pair_at old at = get_or_read old at _ c.requires.within c.index-pair.ensures no_pair in
     let newer : Holds old pair.newer = record { at = at; within = c.requires.within; is = inl (ap (λ p. p.newer) (sym here)) } in
     let older : Holds old pair.older = record { at = at; within = c.requires.within; is = inr (ap (λ p. p.older) (sym here)) } in
-    let first = only_also old (set old at no_pair) c.put.new.pairs.items pair.older older (emptied old at c.requires.within) c.put.ensures.only in
-    only_also old c.put.new.pairs.items c.put-2.new.pairs.items pair.newer newer first c.put-2.ensures.only
+    let first = only_also old (set old at no_pair) c.put_again.new.pairs.items pair.older older (emptied old at c.requires.within) c.put_again.ensures.only in
+    only_also old c.put_again.new.pairs.items c.put_again-2.new.pairs.items pair.newer newer first c.put_again-2.ensures.only

@@ -32,7 +32,17 @@ choose-returns t c =
     let a = c.args.self.now.nodes in
     let f : ℕ = c.args.f.0 in
     let whole : Function = ite_of a f c.in-Asks.high.0 c.in-Asks.low.0 in
-    makes_same _ _ whole (ite_of a f c.args.g.0 c.args.h.0) c.part.result (c.in-Asks.ensures.same a) c.part.ensures
+    makes_same _ _ whole (ite_of a f c.args.g.0 c.args.h.0) (Ok c.in-Ok.r) (c.in-Asks.ensures.same a) c.in-Ok.ensures
+
+pub choose-returns-in-Err : goal.choose-returns-in-Err
+choose-returns-in-Err t c =
+    let a = c.args.self.now.nodes in
+    let f : ℕ = c.args.f.0 in
+    let whole : Function = ite_of a f c.in-Asks.high.0 c.in-Asks.low.0 in
+    let asked : Function = ite_of a f c.args.g.0 c.args.h.0 in
+    let made = makes_same _ _ whole asked (Err c.in-Err._spent) (c.in-Asks.ensures.same a) c.in-Err.ensures in
+    let number = made.spent.number ∙ sym (ap (λ d. d.budget) c.self-2.view_is) in
+    subst (λ n. Makes c.args.self.now c.part.new.self asked (Err (record { nodes = n }))) number made
 
 pub part-branches-requires-clause-within : goal.part-branches-requires-clause-within
 part-branches-requires-clause-within t c =
