@@ -1,22 +1,16 @@
 -- Chains of the graph of nets and parts are chains of arcs.
-use Rattle.std.proofs.Common.{◌≡◌, ℕ, ◌+◌, ◌<◌, ◌≤◌, Bool, true, false, List, [], ◌∷◌, length, None, Option, Some, slice_index, arith, ap, subst, sym, refl, ◌∙◌, inl, inr}
-use Rattle.std.specs.Prelude.{is_none}
-use Rattle.std.proofs.lemmas.Bool.{and_from, cases_lt, false≢true}
-use Rattle.std.proofs.lemmas.Option.{slice_get_within}
-use Rattle.channel_parts.proofs.AddsLaws.{none_adds}
+use Rattle.std.proofs.Common.{◌≡◌, ℕ, ◌+◌, ◌<◌, Bool, true, false, List, [], ◌∷◌, length, Option, slice_index, arith, ap, subst, sym, refl, ◌∙◌, inl, inr}
+use Rattle.std.proofs.lemmas.Bool.{false≢true}
 use Rattle.channel_parts.proofs.ArcLaws.{arc_to_plain}
-use Rattle.channel_parts.proofs.Labels.{together_further}
-use Rattle.channel_parts.proofs.NetGraphLaws.{graph_inside}
-use Rattle.channel_parts.proofs.PartLaws.{device_inside, inside_device, same_least_net}
-use Rattle.channel_parts.proofs.RankLaws.{same_part, together_back, unknown_entry, unknown_gate, unknown_parts}
-use Rattle.channel_parts.specs.Groups.{device_owner}
+use Rattle.channel_parts.proofs.NetGraphLaws.{HasTurns, graph_has_turns, graph_inside}
+use Rattle.channel_parts.proofs.PartLaws.{same_least_net}
+use Rattle.channel_parts.proofs.RankLaws.{same_part}
 use Rattle.channel_parts.specs.Labels.{AreBelow}
-use Rattle.channel_parts.specs.NetGraphs.{IsDeviceArcBelow, IsNetArc, IsNetGraph, IsWholeArcBelow}
-use Rattle.channel_parts.specs.Ranks.{AreLeast, has_unknown_gate}
+use Rattle.channel_parts.specs.NetGraphs.{IsNetGraph}
+use Rattle.channel_parts.specs.Ranks.{AreLeast}
 use Rattle.graphs.specs.Graphs.{ArcIn}
 use Rattle.known_nets.proofs.NetKinds.{is_plain_is, plain_is}
 use Rattle.known_nets.specs.KnownTables.{IsKnownTable, known_at}
-use Rattle.known_nets.specs.Placed.{Adds}
 use Rattle.port_links.specs.PhaseArcs.{AreArcs, AreChainMarks, IsPartChain, part_of}
 use Rattle.port_links.specs.Reached.{AreReaching}
 use Rattle.vrt_model.proofs.Filtered.{device_among}
@@ -24,12 +18,10 @@ use Rattle.vrt_model.proofs.Members.{all_among, at_none}
 use Rattle.vrt_model.proofs.Networks.{flat_ranges}
 use Rattle.vrt_model.proofs.Ranked.{together_first, together_plain}
 use Rattle.vrt_model.specs.Circuits.{IsDevice, IsFlat}
-use Rattle.vrt_model.specs.Known.{HasArc, HasGateArc, IsInPart, IsPlain, IsTogether, IsUnknown, IsWalk, is_plain_at}
+use Rattle.vrt_model.specs.Known.{HasArc, HasGateArc, IsPlain, IsTogether, IsWalk, is_plain_at}
 use Rattle.vrt_model.specs.Lists.{At, Among, mark_at}
-use Rattle.vrt_model.specs.Reading.{is_in}
 use Rattle.vrt_model.specs.WholeInstances.{IsChain}
 use Rattle.vrt_model.specs.declared.circuit.Circuit.{Circuit}
-use Rattle.vrt_model.specs.declared.circuit.Device.{Device}
 use Rattle.vrt_model.specs.declared.rules.Phase.{Phase}
 use Rattle.vrt_model.specs.declared.whole.Whole.{Whole}
 
@@ -42,10 +34,6 @@ no_whole c flat w m = at_none m.0 w (subst (λ (ws : List Whole). At ws m.0 w) f
 arc_gate : (c : Circuit) (phase : Phase) → IsFlat c → (m n : ℕ) → HasArc c phase m n → HasGateArc c phase m n
 arc_gate c phase flat m n (inl gate) = gate
 arc_gate c phase flat m n (inr (w, link, leads)) = absurd (no_whole c flat w leads.0)
-
--- so a graph has all arcs of whole instances
-pub no_whole_adds : (c : Circuit) (phase : Phase) (least : List ℕ) (graph : List (List ℕ)) → IsFlat c → Adds (IsWholeArcBelow c phase least (length c.wholes)) graph graph
-no_whole_adds c phase least graph flat = none_adds (IsWholeArcBelow c phase least (length c.wholes)) graph (λ f t arc. no_whole c flat arc.1 (arc.0, arc.3))
 
 -- an arc leads from a net of the circuit
 arc_from : (c : Circuit) (phase : Phase) → IsFlat c → (m n : ℕ) → HasArc c phase m n → m < length c.nets
@@ -61,115 +49,40 @@ walk_plain : (c : Circuit) (phase : Phase) (nets : List ℕ) (m n to : ℕ) → 
 walk_plain c phase [] m n to arc same = subst (IsPlain c) same (arc_to_plain c phase m n arc)
 walk_plain c phase (l ∷ nets) m n to arc walk = walk_plain c phase nets n l to walk.0 walk.1
 
--- ---- nets and parts in turn
+-- ---- chains
 
 module _ (c : Circuit) (phase : Phase) (known : List (Option Bool)) (least : List ℕ) (graph : List (List ℕ)) (flat : IsFlat c) (table : IsKnownTable c phase (known_at known)) (are : AreLeast c phase least)
     (len : length least ≡ length c.nets) (below : AreBelow least) (is : IsNetGraph c phase known least graph) where
-  -- an arc to a net comes from its part
-  to_net : (from to : ℕ) → ArcIn graph from to → to < length least → IsNetArc c least from to
-  to_net from to arc lt = elim (is.only from to arc) [
-    | inl net ↦ net.1
-    | inr (inl device) ↦ (let part = device.4.part in absurd (omega (arith, part, lt)))
-    | inr (inr whole) ↦ absurd (no_whole c flat whole.1 (whole.0, whole.3))
-  ]
-
-  -- an arc to a part comes from a gate
-  to_part : (from to : ℕ) → ArcIn graph from to → length least ≤ to → IsDeviceArcBelow c known least (length c.devices) from to
-  to_part from to arc le = elim (is.only from to arc) [
-    | inl net ↦ (let lt = net.0 in absurd (omega (arith, lt, le)))
-    | inr (inl device) ↦ device
-    | inr (inr whole) ↦ absurd (no_whole c flat whole.1 (whole.0, whole.3))
-  ]
-
-  -- from a net arcs lead to parts
-  from_net : (from to : ℕ) → ArcIn graph from to → from < length least → length least ≤ to
-  from_net from to arc lt =
-      elim (cases_lt to (length least)) [ inl low ↦ (let part = (to_net from to arc low).part in absurd (omega (arith, part, lt))) | inr le ↦ le ]
-
-  -- and from a part to nets
-  from_part : (from to : ℕ) → ArcIn graph from to → length least ≤ from → to < length least
-  from_part from to arc le = elim (cases_lt to (length least)) [
-    | inl low ↦ low
-    | inr high ↦
-        let device = to_part from to arc high in
-        let inside = (all_among (IsDevice c) c.devices device.1 flat.devices (device.0, device.3)).gate in
-        let gate = device.4.gate in
-        absurd (omega (arith, inside, gate, len, le))
-  ]
-
-  -- over a part an arc of the circuit leads from net to net
-  over_part : (m x n : ℕ) → ArcIn graph m x → ArcIn graph x n → m < length least → HasArc c phase m n
-  over_part m x n up down lt =
-      let high = from_net m x up lt in
-      let net = to_net x n down (from_part x n down high) in
-      let p = plain_is c n net.plain in
-      let device = to_part m x up high in
-      let d : Device = device.1 in
-      let one = net.part in
-      let two = device.4.part in
-      let same : device.4.owner ≡ slice_index least n = omega (arith, one, two) in
-      let owned : device_owner c known least true d ≡ Some (slice_index least n) = device.4.owned ∙ ap (λ (k : ℕ). Some k) same in
-      let inside = device_inside c phase known least true table are (slice_index least n) d (device.0, device.3) owned in
-      let here : IsInPart c phase true n d = (inside.0, inside.1, together_further c phase true n (slice_index least n) inside.0 (are n p).together inside.2, inside.3, inside.4) in
-      inl (d, here, device.4.gate, subst (IsUnknown c phase) device.4.gate (unknown_gate c phase known d.gate.0 table (unknown_parts known d device.4.unknown).1))
-
-  -- the arc to a plain net from its part
-  own_arc : (n : ℕ) → IsPlain c n → ArcIn graph (part_of least n) n
-  own_arc n p = let net = slice_get_within c.nets n p.0 p.1 in is.nets (part_of least n) n (omega (arith, net, len), record { plain = is_plain_is c n p; part = refl })
-
-  -- each arc of the circuit leads to the part of its net
-  to_part_of : (m n : ℕ) → HasArc c phase m n → ArcIn graph m (part_of least n)
-  to_part_of m n arc =
-      let gate = arc_gate c phase flat m n arc in
-      let d : Device = gate.0 in
-      let inside = gate.1 in
-      let p = together_first c phase true n inside.0 inside.2 in
-      let k = slice_index least n in
-      let own : slice_index least k ≡ k = sym (same_least_net c phase known least true table are n k (are n p).together) in
-      let here : IsInPart c phase true k d = (inside.0, inside.1, together_further c phase true k n inside.0 (together_back c phase true n k (are n p).together) inside.2, inside.3, inside.4) in
-      let owner : device_owner c known least true d ≡ Some k = inside_device c phase known least true table are k d own here in
-      let there = device_among true c d inside.3.0 in
-      let none : known_at known d.gate.0 ≡ None = unknown_entry c phase known d.gate.0 table (known_at known d.gate.0) refl (subst (IsUnknown c phase) (sym gate.2) gate.3) in
-      let unknown : has_unknown_gate known d ≡ true = and_from (is_in true d) (is_none (known_at known d.gate.0)) there.1 (ap is_none none) in
-      let low = below n in
-      let net = slice_get_within c.nets n p.0 p.1 in
-      let size = is.size in
-      is.devices m (length least + k) (
-        there.0.0,
-        d,
-        slice_get_within c.devices there.0.0 d there.0.1,
-        there.0.1,
-        record { unknown = unknown; gate = gate.2; owner = k; owned = owner; part = refl },
-      ) (omega (arith, low, net, size, len))
-
-  -- ---- chains
+  -- nets and parts in turn
+  turns : HasTurns c phase least graph
+  turns = graph_has_turns c phase known least graph (flat_ranges c flat) table are len below is
 
   -- a chain of the graph from a net to the part of a plain net, without its parts, and with that net
   down : (nodes : List ℕ) (m x to : ℕ) → IsPlain c to → m < length least → ArcIn graph m x → IsWalk (ArcIn graph) x nodes (part_of least to) → IsChain (HasArc c phase) m to
-  down [] m x to p lt arc same = (to, [], over_part m x to arc (subst (λ (y : ℕ). ArcIn graph y to) (sym same) (own_arc to p)) lt, refl)
+  down [] m x to p lt arc same = (to, [], turns.over_part m x to arc (subst (λ (y : ℕ). ArcIn graph y to) (sym same) (turns.own_part to p)) lt, refl)
   down (n ∷ []) m x to p lt arc walk =
-      let low = from_part x n walk.0 (from_net m x arc lt) in
+      let low = turns.from_part x n walk.0 (turns.from_net m x arc lt) in
       let end = walk.1 in
       absurd (omega (arith, low, end))
   down (n ∷ y ∷ nodes) m x to p lt arc walk =
-      let low = from_part x n walk.0 (from_net m x arc lt) in
+      let low = turns.from_part x n walk.0 (turns.from_net m x arc lt) in
       let rest = down nodes n y to p low walk.1.0 walk.1.1 in
-      (n, rest.0 ∷ rest.1, over_part m x n arc walk.0 lt, (rest.2, rest.3))
+      (n, rest.0 ∷ rest.1, turns.over_part m x n arc walk.0 lt, (rest.2, rest.3))
 
   -- and a chain of arcs with the parts between its nets
   up : (nets : List ℕ) (m n to : ℕ) → HasArc c phase m n → IsWalk (HasArc c phase) n nets to → IsChain (ArcIn graph) m (part_of least to)
-  up [] m n to arc same = (part_of least n, [], to_part_of m n arc, ap (part_of least) same)
+  up [] m n to arc same = (part_of least n, [], turns.by_part m n arc, ap (part_of least) same)
   up (l ∷ nets) m n to arc walk =
       let rest = up nets n l to walk.0 walk.1 in
-      (part_of least n, n ∷ rest.0 ∷ rest.1, to_part_of m n arc, (own_arc n (arc_to_plain c phase m n arc), (rest.2, rest.3)))
+      (part_of least n, n ∷ rest.0 ∷ rest.1, turns.by_part m n arc, (turns.own_part n (arc_to_plain c phase m n arc), (rest.2, rest.3)))
 
   down_part : (nodes : List ℕ) (from x to : ℕ) → IsPlain c from → IsPlain c to → ArcIn graph (part_of least from) x → IsWalk (ArcIn graph) x nodes (part_of least to) → IsPartChain c phase from to
   down_part [] from x to pf pt arc end =
-      let low = from_part (part_of least from) x arc (omega arith) in
+      let low = turns.from_part (part_of least from) x arc (omega arith) in
       absurd (omega (arith, low, end))
   down_part (y ∷ nodes) from x to pf pt arc walk =
-      let low = from_part (part_of least from) x arc (omega arith) in
-      let net = to_net (part_of least from) x arc low in
+      let low = turns.from_part (part_of least from) x arc (omega arith) in
+      let net = turns.to_net (part_of least from) x arc low in
       let part = net.part in
       let same : slice_index least from ≡ slice_index least x = omega (arith, part) in
       (x, same_part c phase least from x are pf (plain_is c x net.plain) same, down nodes x y to pt low walk.0 walk.1)
@@ -177,7 +90,7 @@ module _ (c : Circuit) (phase : Phase) (known : List (Option Bool)) (least : Lis
   up_part : (from m to : ℕ) → IsTogether c phase true from m → IsChain (HasArc c phase) m to → IsChain (ArcIn graph) (part_of least from) (part_of least to)
   up_part from m to together chain =
       let same = same_least_net c phase known least true table are from m together in
-      let arc = subst (λ (k : ℕ). ArcIn graph (length least + k) m) (sym same) (own_arc m (together_plain c phase true from m together)) in
+      let arc = subst (λ (k : ℕ). ArcIn graph (length least + k) m) (sym same) (turns.own_part m (together_plain c phase true from m together)) in
       let rest = up chain.1 m chain.0 to chain.2 chain.3 in
       (m, rest.0 ∷ rest.1, arc, (rest.2, rest.3))
 

@@ -6,9 +6,8 @@ ghost use Rattle.port_links.specs.PhaseArcs.{AreChainMarks, ArePhaseArcs, part_o
 ghost use Rattle.vrt_model.specs.Circuits.{IsFlat};
 ghost use Rattle.vrt_model.specs.declared.rules.Phase.{Phase as PhaseValue};
 
-use crate::net_graph::{net_graph, part_number};
 use crate::reaching::reaching;
-use channel_parts::least_nets;
+use channel_parts::{least_nets, net_graph, part_number};
 use known_nets::{is_plain, known_nets, short_number};
 use std::alloc::Global;
 use vrt_model::{Circuit, NoMemory, Phase, Seq};
@@ -36,7 +35,7 @@ pub(crate) fn phase_arcs(
     let table = known_nets(alloc, circuit, phase)?;
     let known = table.as_slice();
     let least = least_nets(alloc, circuit, known, true)?;
-    let graph = net_graph(alloc, circuit, known, least.as_slice())?;
+    let graph = net_graph(alloc, circuit, phase, known, least.as_slice())?;
     Ok(PhaseArcs { least, graph })
 }
 

@@ -7,7 +7,6 @@ mod cell_links;
 mod cover_graph;
 mod links;
 mod named;
-mod net_graph;
 mod reaching;
 
 pub use cell_links::port_links;

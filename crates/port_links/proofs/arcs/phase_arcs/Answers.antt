@@ -15,5 +15,5 @@ returns c =
     let table : IsKnownTable circuit phase (known_at known) =
     subst (λ (t : List (Option Bool)). IsKnownTable circuit phase (known_at t)) (sym c.as_slice-known.ensures.value) c.in_ok-table.ensures.known in
     let are : AreLeast circuit phase least = λ n p. c.in_ok-least.ensures.least phase table n p in
-    let is : IsNetGraph circuit phase known least graph = subst (λ (t : List ℕ). IsNetGraph circuit phase known t graph) c.as_slice.ensures.value (c.in_ok-graph.ensures phase) in
+    let is : IsNetGraph circuit phase known least graph = subst (λ (t : List ℕ). IsNetGraph circuit phase known t graph) c.as_slice.ensures.value c.in_ok-graph.ensures in
     graph_has_arcs circuit phase known least graph c.requires table are (let len = c.in_ok-least.ensures.len in omega (arith, len)) c.in_ok-least.ensures.below is
