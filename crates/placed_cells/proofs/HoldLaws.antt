@@ -1,20 +1,16 @@
 -- Holds of the flat circuit, and the rules that fall on nets.
-use Rattle.std.proofs.Common.{◌≡◌, ◌<◌, ◌≤◌, ◌+◌, ◌∷◌, ◌⊎◌, [], ℕ, zero, suc, not, cond, List, Bool, true, false, map, flat_map, length, Option, Some, None, refl, ap, sym, ◌∙◌, subst, arith, get_or, inl, inr}
-use Rattle.std.specs.Prelude.{bytes_eq, filter_map, find, nat_lt, option_map, position, slice_get, unwrap_or, ◌==◌}
-use Rattle.std.specs.List.{enumerate_from, list_any, position_or_len}
+use Rattle.std.proofs.Common.{◌≡◌, ◌<◌, ◌+◌, ◌∷◌, ◌⊎◌, [], ℕ, zero, suc, not, cond, List, Bool, true, false, length, Option, Some, None, refl, ap, sym, ◌∙◌, subst, arith, inl, inr}
+use Rattle.std.specs.Prelude.{bytes_eq, filter_map, find, nat_lt, option_map}
+use Rattle.std.specs.List.{enumerate_from, list_any}
 use Rattle.std.proofs.lemmas.Bool.{ltb-true}
-use Rattle.std.proofs.lemmas.Bool.Decides.{nat_tests}
-use Rattle.std.proofs.lemmas.List.Quantifiers.{position-Some}
-use Rattle.std.proofs.lemmas.Option.{none-some, same_Some, slice_get-get_or}
-use Rattle.std.proofs.lemmas.Slice.Eq.{bytes_eq-Decides}
-use Rattle.cell_inside.proofs.ShiftedPlaces.{prefix_below}
+use Rattle.std.proofs.lemmas.Option.{none-some, same_Some}
 use Rattle.placed_cells.proofs.CellNames.{cell_of_name}
 use Rattle.placed_cells.proofs.DepthLaws.{named_inside}
-use Rattle.placed_cells.proofs.ListLaws.{enumerated, in_enumerated}
+use Rattle.placed_cells.proofs.ListLaws.{in_enumerated}
 use Rattle.placed_cells.specs.Rows.{own_size}
 use Rattle.placed_cells.specs.Splits.{is_net_in}
 use Rattle.vrt_model.proofs.Lists.{among_filter_map, at_there, filter_map_among}
-use Rattle.vrt_model.proofs.Members.{among_any, among_flat_map, any_among, find_among, find_none, flat_map_among}
+use Rattle.vrt_model.proofs.Members.{among_flat_map, any_among, find_among, find_none, flat_map_among}
 use Rattle.vrt_model.proofs.Tests.{some_or_none}
 use Rattle.vrt_model.specs.Comparison.{cell_at}
 use Rattle.vrt_model.specs.FlatCircuit.{Ruled, falls_on, flat_circuit_of, flat_hold, flat_holds, flat_nets, is_outermost, rule_on, rules_on}
@@ -25,7 +21,6 @@ use Rattle.vrt_model.specs.Lists.{Among, At}
 use Rattle.vrt_model.specs.Unrolled.{Place, Top, all_places, cell_named, deepest, instances_at, instances_from, own_count, places_in, top_place}
 use Rattle.vrt_model.specs.declared.circuit.FlatNet.{FlatNet}
 use Rattle.vrt_model.specs.declared.circuit.Hold.{Hold}
-use Rattle.vrt_model.specs.declared.design.Cell.{Cell}
 use Rattle.vrt_model.specs.declared.design.Design.{Design}
 use Rattle.vrt_model.specs.declared.design.InstanceCard.{InstanceCard}
 use Rattle.vrt_model.specs.declared.rules.HoldRule.{HoldRule}

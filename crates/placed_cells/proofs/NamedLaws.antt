@@ -1,10 +1,9 @@
 -- Where no name in the rules is missing, each line names what is there.
-use Rattle.std.proofs.Common.{◌≡◌, ◌<◌, [], ◌∷◌, ◌++◌, ◌&&◌, ◌⊎◌, ℕ, zero, suc, not, cond, List, Bool, true, false, map, length, Option, Some, None, refl, ap, sym, ◌∙◌, subst, arith, inl, inr}
-use Rattle.std.specs.Prelude.{bytes_eq, filter_map, find, nat_lt, option_map, position}
+use Rattle.std.proofs.Common.{◌≡◌, ◌<◌, [], ◌∷◌, ◌&&◌, ◌⊎◌, ℕ, zero, suc, not, cond, List, Bool, true, false, map, Option, Some, None, refl, ap, sym, subst, arith, inl, inr}
+use Rattle.std.specs.Prelude.{bytes_eq, filter_map, find, nat_lt, option_map}
 use Rattle.std.specs.List.{list_any}
 use Rattle.std.proofs.lemmas.Bool.{and_parts, ltb-true}
 use Rattle.std.proofs.lemmas.Option.{none-some, same_Some}
-use Rattle.std.proofs.lemmas.Slice.Eq.{bytes_eq-Decides}
 use Rattle.placed_cells.proofs.CellNames.{cell_of_name, position_there}
 use Rattle.placed_cells.specs.Named.{AssumedPortsAreThere, HoldNetsAreThere}
 use Rattle.vrt_model.proofs.Lists.{among_filter_map, filter_map_among, map_among}
@@ -13,9 +12,8 @@ use Rattle.vrt_model.proofs.Tests.{some_or_none}
 use Rattle.vrt_model.specs.CellRules.{assumed, is_for}
 use Rattle.vrt_model.specs.Comparison.{cell_at}
 use Rattle.vrt_model.specs.Expressions.{names_in}
-use Rattle.vrt_model.specs.Hierarchy.{Asked, IsOrdered, Missing, asked, first_missing, is_cell, is_net, is_port, missing_name, missing_names}
+use Rattle.vrt_model.specs.Hierarchy.{Asked, IsOrdered, Missing, asked, first_missing, is_cell, is_net, is_port, missing_names}
 use Rattle.vrt_model.specs.Lists.{Among, has_name, place_of}
-use Rattle.vrt_model.specs.Unrolled.{cell_named}
 use Rattle.vrt_model.specs.declared.design.Design.{Design}
 use Rattle.vrt_model.specs.declared.rules.AssumeRule.{AssumeRule}
 use Rattle.vrt_model.specs.declared.rules.Expr.{Expr}

@@ -1,19 +1,14 @@
 -- Choices of instances by facts that say of no output how strongly it drives: each chosen instance meets gates alone.
-use Rattle.std.specs.Prelude.{◌≡◌, ℕ, suc, ◌<◌, true, List, Some, length}
+use Rattle.std.specs.Prelude.{◌≡◌, ℕ, suc, ◌<◌, true, List, length}
 use Rattle.replaced_instances.specs.Steps.{IsSoundNetlist, IsStepAtGates, compared_at}
 use Rattle.substitution_laws.specs.Formed.{IsFormed}
-use Rattle.vrt_model.specs.CellRules.{assumed}
 use Rattle.vrt_model.specs.Checked.{IsChoice}
-use Rattle.vrt_model.specs.Comparison.{cell_at}
 use Rattle.vrt_model.specs.Cut.{Cut, NumberedPlace, numbered_places}
-use Rattle.vrt_model.specs.Expressions.{names_in}
 use Rattle.vrt_model.specs.Facts.{IsTrueOf}
 use Rattle.vrt_model.specs.Inputs.{AreRules}
-use Rattle.vrt_model.specs.Lists.{Among, At, place_of}
-use Rattle.vrt_model.specs.Unrolled.{Top}
+use Rattle.vrt_model.specs.Lists.{At}
 use Rattle.vrt_model.specs.Unsupported.{IsSupported, comparison_of}
 use Rattle.vrt_model.specs.declared.blif.Blif.{Blif}
-use Rattle.vrt_model.specs.declared.rules.Expr.{Expr}
 use Rattle.vrt_model.specs.declared.whole.CellFacts.{CellFacts}
 use Rattle.vrt_model.specs.declared.whole.Drive.{Drive}
 use Rattle.vrt_model.specs.declared.whole.Drive.TheVariants.{Soft}
