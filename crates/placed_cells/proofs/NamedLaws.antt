@@ -32,7 +32,7 @@ no_first all zero m none there low = absurd (omega (arith, low))
 no_first all (suc bound) m none there low =
     let lower =
     any_among (λ (other : Missing). nat_lt other.line m.line) all
-        (passed (list_any (λ (other : Missing). nat_lt other.line m.line) all) (find_none (λ (a : Missing). not (list_any (λ (other : Missing). nat_lt other.line a.line) all)) all m none there)) in
+    (passed (list_any (λ (other : Missing). nat_lt other.line m.line) all) (find_none (λ (a : Missing). not (list_any (λ (other : Missing). nat_lt other.line a.line) all)) all m none there)) in
     let less = ltb-true lower.0.line m.line lower.2 in
     no_first all bound lower.0 none lower.1 (omega (arith, low, less))
 
