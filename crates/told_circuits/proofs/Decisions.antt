@@ -42,6 +42,10 @@ not_decided P (inr none) = inl none
 pub same_number : (m n : ℕ) → IsDecided (m ≡ n)
 same_number m n = cases_eq m n
 
+pub none_decided : {X : Type 0} (o : Option X) → IsDecided (o ≡ None)
+none_decided None = inl refl
+none_decided (Some x) = inr (λ e. none-some x (sym e))
+
 pub same_name : (a b : List ℕ) → IsDecided (a ≡ b)
 same_name a b = decided_by (a ≡ b) (bytes_eq a b) (bytes_eq-Decides a b)
 
