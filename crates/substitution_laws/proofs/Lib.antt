@@ -9,6 +9,7 @@ pub mod LaterLaws
 pub mod LogicCells
 pub mod OneMoreLaws
 pub mod OrderedLaws
+pub mod OriginalLaws
 pub mod PrintedBits
 pub mod SeenNets
 pub mod StepDownLaws
