@@ -1,4 +1,5 @@
 pub mod BrokenTold
+pub mod BudgetLaws
 pub mod ChainLaws
 pub mod ChosenLaws
 pub mod EndsLaws
@@ -14,6 +15,7 @@ pub mod PrintedBits
 pub mod SeenNets
 pub mod StepDownLaws
 pub mod SubstitutionLaws
+pub mod VerdictLaws
 pub mod WholeCells
 pub mod WholePins
 pub mod WholeRanges
