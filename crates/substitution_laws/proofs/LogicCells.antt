@@ -14,7 +14,7 @@ use Rattle.replaced_instances.proofs.StepInstances.{port_of_net}
 use Rattle.replaced_instances.proofs.StepPorts.{keeps_free, no_holds, place_there, port_listed, told}
 use Rattle.replaced_instances.specs.Steps.{IsStepAtGates, compared_at}
 use Rattle.substitution_laws.specs.Chosen.{ChosenCellsAreLogic}
-use Rattle.substitution_laws.specs.Formed.{IsFormed}
+use Rattle.formed_cells.specs.Formed.{IsFormed}
 use Rattle.vrt_model.proofs.Filtered.{among_kept, device_among}
 use Rattle.vrt_model.proofs.Lists.{among_filter_map}
 use Rattle.vrt_model.proofs.Members.{at_all}

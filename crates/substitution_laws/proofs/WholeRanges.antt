@@ -12,7 +12,7 @@ use Rattle.replaced_instances.specs.Steps.{IsStepAtGates, compared_at}
 use Rattle.substitution_laws.proofs.ChosenLaws.{chosen_steps_are_at_gates, output_soft}
 use Rattle.substitution_laws.proofs.WholeCells.{front_of, whole_chosen}
 use Rattle.substitution_laws.specs.Chosen.{IsSoftChoice}
-use Rattle.substitution_laws.specs.Formed.{IsFormed}
+use Rattle.formed_cells.specs.Formed.{IsFormed}
 use Rattle.substitution_laws.specs.Wholes.{CircuitsHaveRanges}
 use Rattle.vrt_model.proofs.Filtered.{filter_among}
 use Rattle.vrt_model.proofs.Lists.{among_filter_map, at_there, filter_map_among, map_among}

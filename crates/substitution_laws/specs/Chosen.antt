@@ -1,7 +1,7 @@
 -- Choices of instances by facts that say of no output how strongly it drives: each chosen instance meets gates alone.
 use Rattle.std.specs.Prelude.{◌≡◌, ℕ, suc, ◌<◌, true, List, Some, length}
 use Rattle.replaced_instances.specs.Steps.{IsSoundNetlist, IsStepAtGates, compared_at}
-use Rattle.substitution_laws.specs.Formed.{IsFormed}
+use Rattle.formed_cells.specs.Formed.{IsFormed}
 use Rattle.vrt_model.specs.CellRules.{assumed}
 use Rattle.vrt_model.specs.Checked.{IsChoice}
 use Rattle.vrt_model.specs.Comparison.{cell_at}
