@@ -5,7 +5,7 @@ use Rattle.std.proofs.lemmas.Bool.{and_parts, eqb-true, true≢false}
 use Rattle.std.proofs.lemmas.List.Quantifiers.{position-Some}
 use Rattle.std.proofs.lemmas.List.{length-map}
 use Rattle.std.proofs.lemmas.Option.{none-some, same_Some}
-use Rattle.cell_compare.proofs.PortLists.{net_for_each}
+use Rattle.paired_ports.proofs.PortLists.{net_for_each}
 use Rattle.vrt_model.proofs.Lists.{at_there}
 use Rattle.vrt_model.proofs.Members.{among_flat_map, among_later, find_none, flat_map_among}
 use Rattle.vrt_model.specs.Comparison.{cell_at}

@@ -1,13 +1,9 @@
-pub mod CarriedClocks
 pub mod Causes
 pub mod CheckLaws
 pub mod CompleteLaws
-pub mod FreePorts
-pub mod GivenLists
 pub mod InstanceLaws
 pub mod PairedInputs
 pub mod Passing
-pub mod PortLists
 pub mod ReadyLaws
 pub mod SizeLaws
 pub mod StepLaws

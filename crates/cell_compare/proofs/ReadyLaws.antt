@@ -5,7 +5,7 @@ use Rattle.std.proofs.lemmas.List.Quantifiers.{position-Some}
 use Rattle.std.proofs.lemmas.List.{length-map}
 use Rattle.std.proofs.lemmas.Option.{none-some}
 use Rattle.cell_compare.proofs.InstanceLaws.{all_sound}
-use Rattle.cell_compare.proofs.PairedInputs.{circuit_nets, output_among, paired_inputs, port_of}
+use Rattle.cell_compare.proofs.PairedInputs.{circuit_nets, output_below, paired_inputs}
 use Rattle.cell_compare.specs.Compared.{AreInputs, IsFlattened, comparison}
 use Rattle.cell_compare.specs.declared.flattened.Flattened.{Flattened}
 use Rattle.constraints.proofs.OrderedLaws.{are_named}
@@ -13,7 +13,7 @@ use Rattle.flatten.proofs.CellTests.{cell_there}
 use Rattle.phase_ports.proofs.RangeLaws.{ports_below}
 use Rattle.phase_terms.specs.Ready.{HasPairedInputs, IsNamedInstance, IsReady}
 use Rattle.run_laws.specs.WellFormed.{IsWellFormed}
-use Rattle.vrt_model.proofs.Members.{all_among, all_by, among_map}
+use Rattle.vrt_model.proofs.Members.{all_by, among_map}
 use Rattle.vrt_model.specs.Elements.{element_names}
 use Rattle.vrt_model.specs.FlatCircuit.{flat_circuit_of, flat_instance, flat_instances, net_id}
 use Rattle.vrt_model.specs.Groups.{Placed, element_of, group_of, groups_of, holds_by_net, leaders}
@@ -89,9 +89,7 @@ module _ (design : Design) (blif : Blif) (rules : Rules) (cell m : ℕ) (f : Fla
     model = is.model;
     roles = is.roles;
     ports = ports_below top f.circuit (circuit_nets design cell f rules is.circuit_is);
-    outputs = λ at port signal there e.
-        all_among (λ (s : ℕ). s < length f.model.signals) f.model.outputs signal is.model.outputs
-        (output_among design rules cell m f is.ports is.outputs is.pairing_is is.circuit_is at port signal (port_of design rules cell m f is.ports is.outputs is.pairing_is is.circuit_is at port there) e);
+    outputs = output_below design rules cell m f is.ports is.outputs is.pairing_is is.circuit_is is.model;
     inputs = paired;
     groups = is.groups;
     elements = λ g e m some. group_low f.circuit f.model g e (subst (λ (gs : List Group). Among gs g) is.groups_are m) some;

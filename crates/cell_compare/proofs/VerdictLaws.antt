@@ -4,12 +4,12 @@ use Rattle.std.specs.Prelude.{◌↔◌, filter, option_map}
 use Rattle.std.proofs.lemmas.Bool.{true≢false}
 use Rattle.cell_compare.proofs.Causes.{by_variables, comparison_is}
 use Rattle.cell_compare.proofs.Passing.{may_pass}
-use Rattle.cell_compare.proofs.PortLists.{net_for_each}
 use Rattle.cell_compare.proofs.ReadyLaws.{well_formed}
 use Rattle.cell_compare.specs.Cells.{HasEarlyLine, HasFacts, HasLine, HasRuns, IsEarly}
 use Rattle.cell_compare.specs.Compared.{AreInputs, IsFlattened, comparison}
 use Rattle.cell_compare.specs.Works.{AreSoft, IsChecked, IsPlanned, IsTold, IsToldEarly, IsToldWhy, is_output_role}
 use Rattle.cell_compare.specs.declared.flattened.Flattened.{Flattened}
+use Rattle.paired_ports.proofs.PortLists.{net_for_each}
 use Rattle.run_laws.proofs.WellFormed.{equal_runs}
 use Rattle.vrt_model.proofs.Members.{all_among}
 use Rattle.vrt_model.specs.Comparison.{CellPort, Comparison, cell_at, port_nets, ports_from}

@@ -13,6 +13,7 @@ use Rattle.known_nets.specs.Wired.{IsWired}
 use Rattle.placed_cells.specs.Above.{net_above}
 use Rattle.replaced_instances.specs.Steps.{compared_at, fresh_place, is_inside_at, is_outside_at}
 use Rattle.substitution_laws.proofs.ChainLaws.{is_itself, step_at}
+use Rattle.substitution_laws.proofs.FormedCells.{formed_cell}
 use Rattle.substitution_laws.proofs.LogicCells.{logic_cell}
 use Rattle.substitution_laws.proofs.StepDownLaws.{steps_go_down}
 use Rattle.substitution_laws.proofs.ToldLaws.{cell_wired}
@@ -59,7 +60,7 @@ module _ (k : Comparison) (cut : Cut) (blif : Blif) (facts : List CellFacts) (c 
 
     rank_is : (rank : ℕ → ℕ) × IsCellRanked q.circuit (phase_at t.rules phase) (is_observed q phase) known.0 together.0 rank
     rank_is =
-        let cell = logic_cell cut blif facts i p m s.step.at_gates s.step.supported (s.step.choice.formed p.at.cell m s.step.supported) phase lt in
+        let cell = logic_cell cut blif facts i p m s.step.at_gates s.step.supported (formed_cell cut blif facts p.at.cell m s.step.choice s.step.supported) phase lt in
         let ranks = acyclic_nets_have_ranks q.circuit (phase_at t.rules phase) wired (s.step.supported.acyclic phase lt).0 in (
           ranks.0,
           record {

@@ -1,13 +1,12 @@
 -- Choices of instances by facts that say of no output how strongly it drives: each chosen instance meets gates alone.
 use Rattle.std.specs.Prelude.{◌≡◌, ℕ, suc, ◌<◌, true, List, length}
 use Rattle.replaced_instances.specs.Steps.{IsSoundNetlist, IsStepAtGates, compared_at}
-use Rattle.substitution_laws.specs.Formed.{IsFormed}
+use Rattle.formed_cells.specs.Formed.{AreRead}
 use Rattle.vrt_model.specs.Checked.{IsChoice}
 use Rattle.vrt_model.specs.Cut.{Cut, NumberedPlace, numbered_places}
 use Rattle.vrt_model.specs.Facts.{IsTrueOf}
-use Rattle.vrt_model.specs.Inputs.{AreRules}
 use Rattle.vrt_model.specs.Lists.{At}
-use Rattle.vrt_model.specs.Unsupported.{IsSupported, comparison_of}
+use Rattle.vrt_model.specs.Unsupported.{IsSupported}
 use Rattle.vrt_model.specs.declared.blif.Blif.{Blif}
 use Rattle.vrt_model.specs.declared.whole.CellFacts.{CellFacts}
 use Rattle.vrt_model.specs.declared.whole.Drive.{Drive}
@@ -18,12 +17,10 @@ use Rattle.whole_ranks.specs.WholeCells.{IsLogicCell}
 abbrev pub AreSoft : List CellFacts → Type 0
 AreSoft facts = (cell j : ℕ) (f : CellFacts) (drive : Drive) → At facts cell f → At f.drives j drive → drive ≡ Soft
 
--- a netlist and its rules as readers give them, each supported cell of which has a well-formed comparison; true facts without drives;
--- and the instances that are chosen by these, one by one
+-- a netlist, models and rules as readers give them; true facts without drives; and the instances that are chosen by these, one by one
 pub record IsSoftChoice (cut : Cut) (blif : Blif) (facts : List CellFacts) : Type 0 where
   pub netlist : IsSoundNetlist cut.top
-  pub rules : AreRules cut.top.rules
-  pub formed : (cell m : ℕ) → IsSupported cut.top.design blif cut.top.rules cell m → IsFormed (comparison_of cut.top.design blif cut.top.rules cell m)
+  pub read : AreRead blif cut.top.rules
   pub told : (cell : ℕ) (f : CellFacts) → At facts cell f → IsTrueOf cut.top.design blif cut.top.rules cell f
   pub soft : AreSoft facts
   pub tried : IsChoice cut blif facts

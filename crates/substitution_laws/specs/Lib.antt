@@ -3,7 +3,6 @@ pub mod Chosen
 pub mod Ends
 pub mod FirmDown
 pub mod FirstFaults
-pub mod Formed
 pub mod LaterFaults
 pub mod Pins
 pub mod StepDowns

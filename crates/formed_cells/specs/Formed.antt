@@ -5,9 +5,15 @@ use Rattle.vrt_model.specs.Assignment.{Tied}
 use Rattle.vrt_model.specs.Circuits.{IsCircuit}
 use Rattle.vrt_model.specs.Comparison.{CellPort, Comparison, cell_at, tied_inputs}
 use Rattle.vrt_model.specs.FlatModels.{IsFlatModel}
+use Rattle.vrt_model.specs.Inputs.{AreRules, IsBlif}
 use Rattle.vrt_model.specs.Lists.{Among}
+use Rattle.vrt_model.specs.Models.{AreModels}
 use Rattle.vrt_model.specs.PairedPorts.{HasRoles}
+use Rattle.vrt_model.specs.Unsupported.{IsSupported, comparison_of}
+use Rattle.vrt_model.specs.declared.blif.Blif.{Blif}
+use Rattle.vrt_model.specs.declared.design.Design.{Design}
 use Rattle.vrt_model.specs.declared.pairing.ClockedSignal.{ClockedSignal}
+use Rattle.vrt_model.specs.declared.rules.Rules.{Rules}
 use Rattle.whole_ranks.specs.Logic.{IsClocked, IsTied}
 use Rattle.whole_ranks.specs.WholeCells.{IsOutputAt}
 
@@ -33,3 +39,16 @@ pub record IsFormed (k : Comparison) : Type 0 where
   pub model : IsFlatModel k.model
   pub roles : HasRoles k.rules (cell_at k.design k.cell) k.pairing
   pub signals : HasPairedSignals k
+
+-- models and rules as their readers give them
+pub record AreRead (blif : Blif) (rules : Rules) : Type 0 where
+  pub names : IsBlif blif
+  pub models : AreModels blif
+  pub valid : AreRules rules
+
+-- The law: the comparison of each supported cell is well formed.
+abbrev pub SupportedCellsAreFormed : Type 0
+SupportedCellsAreFormed =
+    (design : Design) (blif : Blif) (rules : Rules) (cell m : ℕ)
+    → AreRead blif rules → IsSupported design blif rules cell m
+    → IsFormed (comparison_of design blif rules cell m)

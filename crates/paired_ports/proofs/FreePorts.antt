@@ -3,7 +3,8 @@ use Rattle.std.proofs.Common.{◌≡◌, ℕ, ◌⊎◌, ◌&&◌, ◌||◌, Boo
 use Rattle.std.specs.Prelude.{bytes_eq, count_by, filter, find, is_none, is_some, option_map, slice_get, unwrap_or}
 use Rattle.std.proofs.lemmas.Bool.{false≢true, or_parts}
 use Rattle.std.proofs.lemmas.Option.{none-some}
-use Rattle.cell_compare.proofs.GivenLists.{GivesAll, among_number, given_among, given_once, is_number, number_among}
+use Rattle.paired_ports.proofs.GivenLists.{GivesAll, among_number, given_once, is_number, number_among}
+use Rattle.vrt_model.proofs.Lists.{filter_map_among}
 use Rattle.vrt_model.proofs.Members.{among_either, among_filter, find_among, find_none}
 use Rattle.vrt_model.proofs.Tests.{map_none, neither}
 use Rattle.vrt_model.specs.CellRules.{clock_of_port, supply_of}
@@ -86,16 +87,24 @@ input_role flat None None (Some t) s e = by_test (has_number flat.outputs t) ref
         let same : t ≡ s = cc in
         record { plain = refl; free = refl; is = ap Some same; apart = subst (λ (n : ℕ). has_number flat.outputs n ≡ false) same h }
 
--- the signal of an output is one of the model
+-- what a role says of an output
+record IsOutputRole (flat : FlatModel) (supply : Option Bool) (signal : Option ℕ) (s : ℕ) : Type 0 where
+  plain : supply ≡ None
+  is : signal ≡ Some s
+  there : has_number flat.outputs s ≡ true
+
+-- what the role of an output says
 output_role : (flat : FlatModel) (supply : Option Bool) (clock : Option ClockRef) (signal : Option ℕ) (s : ℕ) → role_by flat supply clock signal ≡ Some (Output s)
-    → has_number flat.outputs s ≡ true
+    → IsOutputRole flat supply signal s
 output_role flat (Some value) clock signal s e = cc
 output_role flat None (Some clock) signal s e = cc
 output_role flat None None None s e = cc
 output_role flat None None (Some t) s e = by_test (has_number flat.outputs t) refl e
   where
-    by_test : (b : Bool) → has_number flat.outputs t ≡ b → Some (cond b (Output t) (Input t)) ≡ Some (Output s) → has_number flat.outputs s ≡ true
-    by_test true h f = let same : t ≡ s = cc in subst (λ (n : ℕ). has_number flat.outputs n ≡ true) same h
+    by_test : (b : Bool) → has_number flat.outputs t ≡ b → Some (cond b (Output t) (Input t)) ≡ Some (Output s) → IsOutputRole flat None (Some t) s
+    by_test true h f =
+        let same : t ≡ s = cc in
+        record { plain = refl; is = ap Some same; there = subst (λ (n : ℕ). has_number flat.outputs n ≡ true) same h }
     by_test false h f = cc
 
 -- ---- the signals of the interface
@@ -175,10 +184,16 @@ module _ (flat : FlatModel) (rules : Rules) (cell : Cell) (free : AreFree flat r
         there = no_output s (signal_there flat rules cell.name port s r.is) r.apart;
       }
 
+  -- the signal of an output's port
+  pub record IsOutputPort (port : List ℕ) (s : ℕ) : Type 0 where
+    pub paired : paired_signal flat rules cell.name port ≡ Some s
+    pub there : Among flat.outputs s
+
   -- the port of an output pairs with an output
-  pub output_port : (port : List ℕ) (s : ℕ) → role_of flat rules cell.name port ≡ Some (Output s) → Among flat.outputs s
+  pub output_port : (port : List ℕ) (s : ℕ) → role_of flat rules cell.name port ≡ Some (Output s) → IsOutputPort port s
   output_port port s e =
-      number_among flat.outputs s (output_role flat (supply_of rules port) (clock_of_port rules cell.name port) (signal_of_port flat rules cell.name port) s e)
+      let r = output_role flat (supply_of rules port) (clock_of_port rules cell.name port) (signal_of_port flat rules cell.name port) s e in
+      record { paired = paired_from flat rules cell.name port s r.plain r.is; there = number_among flat.outputs s r.there }
 
   -- two ports do not pair with one signal
   pub one_port : (i j : ℕ) (p q : List ℕ) (s : ℕ) → At cell.ports i p → At cell.ports j q → signal_at p ≡ Some s → signal_at q ≡ Some s → i ≡ j
@@ -192,7 +207,7 @@ module _ (flat : FlatModel) (rules : Rules) (cell : Cell) (free : AreFree flat r
   -- a port pairs with the signal
   pub paired_there : (at : ℕ) (port : List ℕ) (s : ℕ) → At cell.ports at port → paired_signal flat rules cell.name port ≡ Some s → has_number (paired_signals flat rules cell) s ≡ true
   paired_there at port s a e =
-      among_number (paired_signals flat rules cell) s (given_among (paired_signal flat rules cell.name) cell.ports port s (at, a) e)
+      among_number (paired_signals flat rules cell) s (filter_map_among (paired_signal flat rules cell.name) cell.ports at port s a e)
 
   -- the signal of a clock port is no output
   pub clock_apart : (at : ℕ) (port : List ℕ) (clock : ClockRef) (s : ℕ) → At cell.ports at port → clock_of_port rules cell.name port ≡ Some clock

@@ -3,10 +3,10 @@ use Rattle.std.proofs.Common.{◌≡◌, ℕ, ◌⊎◌, ◌&&◌, Bool, true, f
 use Rattle.std.specs.Prelude.{filter, filter_map, option_and_then, option_map}
 use Rattle.std.proofs.lemmas.Bool.{false≢true}
 use Rattle.std.proofs.lemmas.Option.{none-some, same_Some}
-use Rattle.cell_compare.proofs.FreePorts.{AreFree, IsInputPort, clock_apart, no_output, one_port, paired_parts, paired_there, signal_there}
-use Rattle.cell_compare.proofs.GivenLists.{given_among, number_among}
+use Rattle.paired_ports.proofs.FreePorts.{AreFree, IsInputPort, clock_apart, no_output, one_port, paired_parts, paired_there, signal_there}
+use Rattle.paired_ports.proofs.GivenLists.{number_among}
 use Rattle.vrt_model.proofs.Filtered.{filter_among}
-use Rattle.vrt_model.proofs.Lists.{among_filter_map}
+use Rattle.vrt_model.proofs.Lists.{among_filter_map, filter_map_among}
 use Rattle.vrt_model.proofs.Members.{among_either, among_left, among_map}
 use Rattle.vrt_model.specs.CellRules.{clock_of_port, supply_of}
 use Rattle.vrt_model.specs.Elements.{signal_name}
@@ -147,7 +147,7 @@ module _ (flat : FlatModel) (rules : Rules) (cell : Cell) (free : AreFree flat r
             one,
             among_left (filter_map (clocked_port flat rules cell.name) cell.ports)
                 (filter_map (clocked_by_name flat rules) (filter (λ (n : ℕ). not (has_number (paired_signals flat rules cell) n)) (flat.inputs ++ flat.clocks))) one
-                (given_among (clocked_port flat rules cell.name) cell.ports port one (at, here) (ap₂ clock_by e paired)),
+                (filter_map_among (clocked_port flat rules cell.name) cell.ports at port one here (ap₂ clock_by e paired)),
             refl,
           )
 

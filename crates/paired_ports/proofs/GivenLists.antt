@@ -1,6 +1,6 @@
 -- What a function gives of the items of a list, by their places.
 use Rattle.std.proofs.Common.{◌≡◌, ℕ, zero, suc, ◌+◌, ◌<◌, ◌≤◌, Bool, true, false, cond, eqb, List, [], ◌∷◌, Option, Some, None, nat_lt, arith, ap, subst, sym, refl, ◌∙◌, inl, inr}
-use Rattle.std.specs.Prelude.{count_by, filter_map, slice_get}
+use Rattle.std.specs.Prelude.{count_by, filter_map, length, slice_get}
 use Rattle.std.specs.List.{cons_option}
 use Rattle.std.proofs.lemmas.Bool.{cases_lt, eq-eqb, eqb-true, false≢true, lt-ltb}
 use Rattle.std.proofs.lemmas.List.Sums.{sum_by-cons}
@@ -23,16 +23,12 @@ given_at {X} {Y} f (z ∷ zs) (suc i) x y h here e =
     subst (λ (o : Option Y). slice_get (cons_option o (filter_map f zs)) (suc i) ≡ Some y) (sym (h z (0, refl)).1)
     (given_at f zs i x y (λ w m. h w (among_later z zs w m)) here e)
 
--- what an item gives is given
-pub given_among : {X Y : Type 0} (f : X → Option Y) (xs : List X) (x : X) (y : Y) → Among xs x → f x ≡ Some y → Among (filter_map f xs) y
-given_among f [] x y m e = absurd (none-some x m.1)
-given_among {X} {Y} f (z ∷ zs) x y (zero, here) e =
-    (0, subst (λ (o : Option Y). slice_get (cons_option o (filter_map f zs)) 0 ≡ Some y) (sym (ap f (same_Some z x here) ∙ e)) refl)
-given_among {X} {Y} f (z ∷ zs) x y (suc i, here) e = behind (f z) (given_among f zs x y (i, here) e)
-  where
-    behind : (o : Option Y) → Among (filter_map f zs) y → Among (cons_option o (filter_map f zs)) y
-    behind None m = m
-    behind (Some w) m = among_later w (filter_map f zs) y m
+-- there is one for each item
+pub given_length : {X Y : Type 0} (f : X → Option Y) (xs : List X) → GivesAll f xs → length (filter_map f xs) ≡ length xs
+given_length f [] h = refl
+given_length {X} {Y} f (x ∷ xs) h =
+    ap (λ (o : Option Y). length (cons_option o (filter_map f xs))) (h x (0, refl)).1
+    ∙ ap suc (given_length f xs (λ w m. h w (among_later x xs w m)))
 
 -- ---- numbers
 

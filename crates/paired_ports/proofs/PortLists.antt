@@ -94,8 +94,9 @@ net_for_each rules next (name ∷ names) =
 
 -- ---- the ports of a comparison
 
--- a port has its name, its net and its role at its place
-pub record IsPortAt (names : List (List ℕ)) (nets : List ℕ) (roles : List PortRole) (i : ℕ) (port : CellPort) : Type 0 where
+-- a port at a place from a first one on has its name, its net and its role there
+pub record IsPortAt (first : ℕ) (names : List (List ℕ)) (nets : List ℕ) (roles : List PortRole) (i : ℕ) (port : CellPort) : Type 0 where
+  pub place : port.place ≡ first + i
   pub name : At names i port.name
   pub net : At nets i port.net
   pub role : At roles i port.role
@@ -106,15 +107,21 @@ port_with at name net role = record { place = at; name = name; net = net; role =
 
 -- each port of the list has them
 pub port_parts : (at : ℕ) (names : List (List ℕ)) (nets : List ℕ) (roles : List PortRole) (i : ℕ) (port : CellPort) → At (ports_from at names nets roles) i port
-    → IsPortAt names nets roles i port
+    → IsPortAt at names nets roles i port
 port_parts at [] nets roles i port e = absurd (none-some port e)
 port_parts at (x ∷ names) [] roles i port e = absurd (none-some port e)
 port_parts at (x ∷ names) (n ∷ nets) [] i port e = absurd (none-some port e)
 port_parts at (x ∷ names) (n ∷ nets) (r ∷ roles) zero port e =
     let same = same_Some (port_with at x n r) port e in
-    record { name = ap (λ (p : CellPort). Some p.name) same; net = ap (λ (p : CellPort). Some p.net) same; role = ap (λ (p : CellPort). Some p.role) same }
+    record {
+      place = (let first : at ≡ port.place = ap (λ (p : CellPort). p.place) same in omega (arith, first));
+      name = ap (λ (p : CellPort). Some p.name) same;
+      net = ap (λ (p : CellPort). Some p.net) same;
+      role = ap (λ (p : CellPort). Some p.role) same;
+    }
 port_parts at (x ∷ names) (n ∷ nets) (r ∷ roles) (suc i) port e =
-    let h = port_parts (suc at) names nets roles i port e in record { name = h.name; net = h.net; role = h.role }
+    let h = port_parts (suc at) names nets roles i port e in
+    record { place = (let place = h.place in omega (arith, place)); name = h.name; net = h.net; role = h.role }
 
 -- a name, a net and a role at one place make a port there
 pub record IsMade (ports : List CellPort) (i : ℕ) (net : ℕ) (role : PortRole) : Type 0 where

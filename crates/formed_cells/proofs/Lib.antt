@@ -1,0 +1,2 @@
+pub mod FormedLaws
+pub mod SupportedLaws
