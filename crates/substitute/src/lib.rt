@@ -1,0 +1,8 @@
+//! Instances that are left whole, for which the models of their cells stand.
+#![tactic(auto)]
+
+mod links;
+mod pins;
+
+pub use links::whole_links;
+pub use pins::{driven_pins, input_pins};
