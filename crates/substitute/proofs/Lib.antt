@@ -1,2 +1,4 @@
+pub mod InsideLaws
 pub mod LinkLaws
+pub mod ListLaws
 pub mod PinLaws

@@ -1,5 +1,5 @@
 -- The links of an instance are those that its cell's ports have, taken to the nets and output pins of the instance.
-use Rattle.std.proofs.Common.{◌≡◌, ℕ, zero, suc, ◌+◌, ◌<◌, Bool, true, false, List, [], ◌∷◌, length, Option, Some, None, ap, ap₂, refl, subst, sym, ◌∙◌, arith, inl, inr}
+use Rattle.std.proofs.Common.{◌≡◌, ℕ, zero, suc, ◌<◌, Bool, true, false, List, [], ◌∷◌, length, Option, Some, None, ap, ap₂, refl, subst, sym, ◌∙◌, arith, inl, inr}
 use Rattle.std.specs.Prelude.{◌==◌, cond, flat_map, option_and_then, option_map, slice_get, unwrap_or}
 use Rattle.std.specs.List.{enumerate_from}
 use Rattle.std.proofs.lemmas.Bool.{eq-eqb, eqb-true}
@@ -10,6 +10,7 @@ use Rattle.phase_ports.specs.Ports.{unnamed}
 use Rattle.phase_ports.specs.declared.port_list.Port.{Port}
 use Rattle.port_links.specs.PortLinks.{port_link}
 use Rattle.port_links.specs.declared.links.PortLink.{PortLink}
+use Rattle.substitute.proofs.ListLaws.{placed}
 use Rattle.substitute.specs.Links.{ArePhaseLinks, link_to, links_by, links_from, links_over, over_of, signal_at}
 use Rattle.substitute.specs.Pins.{IsAtPorts}
 use Rattle.substitute.specs.declared.links.Over.{Over}
@@ -25,7 +26,7 @@ use Rattle.vrt_model.specs.declared.rules.Phase.{Phase}
 use Rattle.vrt_model.specs.declared.whole.Link.{Link}
 use Rattle.vrt_model.specs.declared.whole.WholePin.{WholePin}
 
--- ---- options and numbered lists
+-- ---- options
 
 then_some : {X Y : Type 0} (f : X → Option Y) (o : Option X) (y : Y) → option_and_then f o ≡ Some y → (x : X) × (o ≡ Some x) × (f x ≡ Some y)
 then_some f None y e = absurd (none-some y e)
@@ -34,14 +35,6 @@ then_some f (Some x) y e = (x, refl, e)
 mapped : {X Y : Type 0} (f : X → Y) (o : Option X) (y : Y) → option_map f o ≡ Some y → (x : X) × (o ≡ Some x) × (f x ≡ y)
 mapped f None y e = absurd (none-some y e)
 mapped f (Some x) y e = (x, refl, same_Some (f x) y e)
-
-enumerated_at : {X : Type 0} (n : ℕ) (xs : List X) (i : ℕ) (x : X) → At xs i x → At (enumerate_from n xs) i (n + i, x)
-enumerated_at n [] i x e = absurd (none-some x e)
-enumerated_at {X} n (y ∷ xs) zero x e =
-    let number : n ≡ n + 0 = omega arith in ap₂ (λ (k : ℕ) (z : X). let q : ℕ × X = (k, z) in Some q) number (same_Some y x e)
-enumerated_at {X} n (y ∷ xs) (suc i) x e =
-    let number : (n + 1) + i ≡ n + suc i = omega arith in
-    enumerated_at (n + 1) xs i x e ∙ ap (λ (k : ℕ). let q : ℕ × X = (k, x) in Some q) number
 
 -- ---- over one link of two ports
 
@@ -107,7 +100,7 @@ module _ (name : List ℕ) (ports : List Port) (nets : List Net) (outputs : List
       → Among (links_over name ports nets outputs l) (record { phase = name; from = from; output = j; named = l.named })
   over_among from to s pin j at_from at_to role at_pin same =
       subst (λ (o : Option Over). Among (links_from name outputs o) (record { phase = name; from = from; output = j; named = l.named })) (sym over_is)
-      (filter_map_among (link_to name over) (enumerate_from 0 outputs) j (j, pin) (linked over (j, pin)) at_number hit)
+      (filter_map_among (link_to name over) (enumerate_from 0 outputs) j (j, pin) (linked over (j, pin)) (placed outputs j pin at_pin) hit)
     where
       over : Over
       over = record { from = from; signal = s; named = l.named }
@@ -117,9 +110,6 @@ module _ (name : List ℕ) (ports : List Port) (nets : List Net) (outputs : List
           ap (λ (o : Option ℕ). option_and_then (λ (k : ℕ). option_map (λ (net : Net). let one : Over = record { from = net; signal = k; named = l.named } in one) (slice_get nets l.from)) o)
           (ap (λ (o : Option Port). option_and_then (λ (p : Port). output_signal p.role) o) at_to ∙ role)
           ∙ ap (λ (o : Option Net). option_map (λ (net : Net). let one : Over = record { from = net; signal = s; named = l.named } in one) o) at_from
-
-      at_number : At (enumerate_from 0 outputs) j (j, pin)
-      at_number = let number : 0 + j ≡ j = omega arith in subst (λ (n : ℕ). At (enumerate_from 0 outputs) j (n, pin)) number (enumerated_at 0 outputs j pin at_pin)
 
       hit : link_to name over (j, pin) ≡ Some (linked over (j, pin))
       hit = ap (λ (b : Bool). cond b (Some (linked over (j, pin))) None) (eq-eqb pin.signal s same)
