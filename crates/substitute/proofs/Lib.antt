@@ -1,4 +1,6 @@
+pub mod HoldLaws
 pub mod InsideLaws
 pub mod LinkLaws
 pub mod ListLaws
 pub mod PinLaws
+pub mod ShownLaws

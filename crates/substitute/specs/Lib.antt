@@ -1,3 +1,5 @@
 pub mod Insides
 pub mod Links
+pub mod MovedHolds
 pub mod Pins
+pub mod Shown

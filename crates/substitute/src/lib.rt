@@ -1,10 +1,18 @@
 //! Instances that are left whole, for which the models of their cells stand.
 #![tactic(auto)]
 
+mod holds;
 mod inside;
 mod links;
+mod marks;
+mod owners;
 mod pins;
+mod shown;
 
+pub use holds::moved_holds;
 pub use inside::inside_marks;
 pub use links::whole_links;
+pub use marks::Marks;
+pub use owners::device_places;
 pub use pins::{driven_pins, input_pins};
+pub use shown::{shown_devices, shown_instances};
