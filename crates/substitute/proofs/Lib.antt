@@ -4,3 +4,4 @@ pub mod LinkLaws
 pub mod ListLaws
 pub mod PinLaws
 pub mod ShownLaws
+pub mod WholeLaws

@@ -3,3 +3,4 @@ pub mod Links
 pub mod MovedHolds
 pub mod Pins
 pub mod Shown
+pub mod WholeCells

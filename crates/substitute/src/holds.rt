@@ -9,9 +9,10 @@ ghost use Rattle.vrt_model.specs.Circuits.{IsHold};
 ghost use Rattle.vrt_model.specs.Cut.{Cut};
 ghost use Rattle.vrt_model.specs.FlatCircuit.{flat_holds, flat_instances};
 
+use crate::copies::copy_items;
 use crate::marks::Marks;
 use std::alloc::Global;
-use vrt_model::{Circuit, Enter, Hold, HoldEnd, NoMemory, Seq, Text};
+use vrt_model::{Circuit, Hold, HoldEnd, NoMemory, Seq, Text};
 
 /// Adds a number at the end.
 fn add(numbers: &mut Vec<u32>, number: u32) -> Result<(), NoMemory>
@@ -95,23 +96,12 @@ fn end_by(alloc: Global, moved: &[u32], end: &HoldEnd) -> Result<HoldEnd, NoMemo
     }
 }
 
-/// A copy of the values of `enter` lines.
-fn copy_enters(alloc: Global, enters: &[Enter]) -> Result<Seq<Enter>, NoMemory>
-    ensures { IfOk result (λ copy. copy ≡ enters.now) }
-{
-    let mut copy = Seq::new(alloc);
-    for enter in enters {
-        copy.append(*enter)?;
-    }
-    Ok(copy)
-}
-
 /// A hold, with the number of the instance at its end by a table.
 fn hold_by(alloc: Global, moved: &[u32], hold: &Hold) -> Result<Hold, NoMemory>
     ensures { IfOk result (λ h. h ≡ hold_by moved.now hold.now) }
 {
     let end = end_by(alloc, moved, &hold.end)?;
-    let enters = copy_enters(alloc, hold.enters.as_slice())?;
+    let enters = copy_items(alloc, hold.enters.as_slice())?;
     Ok(Hold {
         net: hold.net,
         size: hold.size,

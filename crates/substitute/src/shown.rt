@@ -6,11 +6,12 @@ ghost use Rattle.vrt_model.specs.CheckedParts.{checked_devices, checked_instance
 ghost use Rattle.vrt_model.specs.Cut.{Cut};
 ghost use Rattle.vrt_model.specs.FlatCircuit.{flat_devices, flat_instances};
 
+use crate::copies::copy_items;
 use crate::marks::{Marks, is_left_at};
 use crate::owners::one_more;
 use known_nets::is_marked;
 use std::alloc::Global;
-use vrt_model::{Device, FlatInstance, Net, NoMemory, Seq, Text};
+use vrt_model::{Device, FlatInstance, NoMemory, Seq, Text};
 
 /// A copy of a device.
 fn copy_device(alloc: Global, device: &Device) -> Result<Device, NoMemory>
@@ -68,23 +69,12 @@ pub fn shown_devices(
     Ok(shown)
 }
 
-/// A copy of nets.
-fn copy_nets(alloc: Global, nets: &[Net]) -> Result<Seq<Net>, NoMemory>
-    ensures { IfOk result (λ copy. copy ≡ nets.now) }
-{
-    let mut copy = Seq::new(alloc);
-    for net in nets {
-        copy.append(*net)?;
-    }
-    Ok(copy)
-}
-
 /// A copy of an instance.
 fn copy_instance(alloc: Global, instance: &FlatInstance) -> Result<FlatInstance, NoMemory>
     ensures { IfOk result (λ copy. copy ≡ instance.now) }
 {
     let path = Text::from_bytes(alloc, instance.path.as_bytes())?;
-    let ports = copy_nets(alloc, instance.ports.as_slice())?;
+    let ports = copy_items(alloc, instance.ports.as_slice())?;
     Ok(FlatInstance {
         path,
         cell: instance.cell,
