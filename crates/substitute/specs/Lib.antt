@@ -1,0 +1,6 @@
+pub mod Insides
+pub mod Links
+pub mod MovedHolds
+pub mod Pins
+pub mod Shown
+pub mod WholeCells

@@ -1,0 +1,23 @@
+//! Instances that are left whole, for which the models of their cells stand.
+#![tactic(auto)]
+
+mod copies;
+mod holds;
+mod inside;
+mod instance;
+mod links;
+mod marks;
+mod owners;
+mod pins;
+mod shown;
+mod whole_cell;
+
+pub use holds::moved_holds;
+pub use inside::inside_marks;
+pub use instance::whole_at;
+pub use links::whole_links;
+pub use marks::Marks;
+pub use owners::device_places;
+pub use pins::{driven_pins, input_pins};
+pub use shown::{shown_devices, shown_instances};
+pub use whole_cell::WholeCell;
