@@ -32,10 +32,8 @@ use Rattle.vrt_model.specs.declared.whole.WholePin.{WholePin}
 
 -- ---- whole instances
 
--- the second whole instance is the first one: the same instance with the same model, inputs and outputs, to which at least the same is linked
+-- the second whole instance is the first one: it has the same model, inputs and outputs, to which at least the same is linked
 pub record IsSameWhole (phase : Phase) (w v : Whole) : Type 0 where
-  pub path : v.path ≡ w.path
-  pub cell : v.cell ≡ w.cell
   pub model : v.model ≡ w.model
   pub clocked : v.clocked ≡ w.clocked
   pub inputs : v.inputs ≡ w.inputs

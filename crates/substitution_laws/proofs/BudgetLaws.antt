@@ -2,7 +2,7 @@
 use Rattle.std.proofs.Common.{◌≡◌, ℕ, zero, suc, ◌+◌, ◌*◌, ◌^◌, ◌≤◌, not, Bool, true, false, cond, List, [], ◌∷◌, drop, length, map, refl, ap, sym, ◌∙◌, arith, inl, inr}
 use Rattle.std.specs.Prelude.{filter}
 use Rattle.std.specs.List.{sum_by}
-use Rattle.std.proofs.lemmas.Bool.{and_parts, cases_Bool, false≢true, or_cases, or_left, or_right}
+use Rattle.std.proofs.lemmas.Bool.{and_parts, cases_Bool, false≢true, not-true, or_cases, or_left, or_right}
 use Rattle.std.proofs.lemmas.List.Concat.{length-flat_map}
 use Rattle.std.proofs.lemmas.List.Sums.{sum_by-cons}
 use Rattle.std.proofs.lemmas.Nat.{mul-le}
@@ -54,16 +54,12 @@ whole_of_all : (cut : Cut) (n j : ℕ) → is_whole (before cut n).choice j ≡ 
 whole_of_all cut n zero e = e
 whole_of_all cut n (suc j) e = (and_parts (cut.choice j) _ e).0
 
-from_not : (b : Bool) → not b ≡ true → b ≡ false
-from_not true e = absurd (false≢true e)
-from_not false e = refl
-
 -- what is shown in the circuit is shown where fewer instances are whole
 shown_of_fewer : (cut : Cut) (n : ℕ) (p : NumberedPlace) → not (is_left_out cut p) ≡ true → not (is_left_out (before cut n) p) ≡ true
 shown_of_fewer cut n p e =
     elim (cases_Bool (is_left_out (before cut n) p)) [
       | inr stays ↦ ap not stays
-      | inl out ↦ absurd (false≢true (sym (from_not (is_left_out cut p) e) ∙ more out))
+      | inl out ↦ absurd (false≢true (sym (not-true (is_left_out cut p) e) ∙ more out))
     ]
   where
     more : is_left_out (before cut n) p ≡ true → is_left_out cut p ≡ true
@@ -102,7 +98,7 @@ module _ (k : Comparison) (blif : Blif) (facts : List CellFacts) (cut : Cut) (c 
       weaker r e =
           elim (cases_Bool (is_inside_whole (before cut 0) r)) [
             | inr stays ↦ ap not stays
-            | inl inside ↦ absurd (false≢true (sym (from_not (is_inside_whole cut r) e) ∙ inside_of_all cut 0 r inside))
+            | inl inside ↦ absurd (false≢true (sym (not-true (is_inside_whole cut r) e) ∙ inside_of_all cut 0 r inside))
           ]
 
       by_places : (f : FlatInstance → ℕ) → sum_by f (checked_instances cut) ≤ sum_by f (checked_instances (before cut 0))

@@ -105,8 +105,6 @@ module _ (phase : Phase) where
         let f = made_is (before cut b) blif facts p m v paired other in
         record {
           same = record {
-            path = ap (λ (x : Whole). x.path) (sym f) ∙ ap (λ (x : Whole). x.path) e;
-            cell = ap (λ (x : Whole). x.cell) (sym f) ∙ ap (λ (x : Whole). x.cell) e;
             model = ap (λ (x : Whole). x.model) (sym f) ∙ ap (λ (x : Whole). x.model) e;
             clocked = ap (λ (x : Whole). x.clocked) (sym f) ∙ ap (λ (x : Whole). x.clocked) e;
             inputs = ap (λ (x : Whole). x.inputs) (sym f) ∙ ap (λ (x : Whole). x.inputs) e;

@@ -1,0 +1,400 @@
+-- The premises of the laws of substitution can be met together, by a buffer of two inverters whose first one is left whole.
+use Rattle.std.proofs.Common.{◌≡◌, ℕ, zero, suc, ◌<◌, Bool, true, false, List, [], ◌∷◌, length, Option, Some, refl, ap, sym, ◌∙◌, subst, arith, inl, inr}
+use Rattle.std.specs.Prelude.{codes}
+use Rattle.std.specs.List.{AllZip}
+use Rattle.std.proofs.lemmas.Bool.{false≢true}
+use Rattle.std.proofs.lemmas.Option.{none-some, same_Some}
+use Rattle.checked_chain.proofs.EndLaws.{chain_begins_flat, chain_ends_checked}
+use Rattle.replaced_cells.specs.Agreement.{AgreesWith}
+use Rattle.substitution_laws.proofs.ExampleCells.{blif, buffer_is, checked, checked_is, cut, design, facts, flat, flat_is, inverter_is, model, of_buffer, of_inverter, own}
+use Rattle.substitution_laws.proofs.ExampleFormed.{buffer_early, buffer_formed, flat_circuit, inverter_early, inverter_formed, own_model}
+use Rattle.substitution_laws.proofs.ExampleInverter.{each_of_two, inverter_is_equal, port_a, port_y, the_cover}
+use Rattle.substitution_laws.proofs.ExampleNetlist.{netlist_is_sound, rules_are}
+use Rattle.substitution_laws.proofs.ExampleTold.{checked_told, each_of_one, flat_acyclic, flat_parted, inverter_acyclic, inverter_parted, link_is, lone_checked, order, pin_a, pin_y, pins, rises_at_gates, the_output}
+use Rattle.substitution_laws.proofs.LoneNets.{alone, gate_arc, rising_arcs_are_acyclic}
+use Rattle.substitution_laws.proofs.SubstitutionLaws.{substitution_holds}
+use Rattle.substitution_laws.specs.Agreement.{CanBeTold, IsChainTold, IsCheckedSoftly}
+use Rattle.substitution_laws.specs.Chosen.{IsSoftChoice}
+use Rattle.substitution_laws.specs.FirmDown.{AreCellsParted, CanBeParted}
+use Rattle.substitution_laws.specs.Formed.{IsFormed}
+use Rattle.substitution_laws.specs.Substitution.{FirstStands}
+use Rattle.vrt_model.proofs.Cells.{base}
+use Rattle.vrt_model.specs.Checked.{HasArcWith, IsChoice, IsCircuitWith, MayBeWhole, before, circuit_with, is_cell_allowed, with_circuit, with_one}
+use Rattle.vrt_model.specs.CheckedParts.{checked_devices}
+use Rattle.vrt_model.specs.Circuits.{IsCircuit}
+use Rattle.vrt_model.specs.Comparison.{CellPort, Comparison, default_clock_bit, is_observed, phase_at}
+use Rattle.vrt_model.specs.Cut.{Cut, NumberedPlace, is_inside_whole, numbered_places, whole_places}
+use Rattle.vrt_model.specs.Facts.{IsTrueFor, IsTrueOf, IsTrueDrive}
+use Rattle.vrt_model.specs.FlatBlif.{all_models, flat_model_of, signals_of}
+use Rattle.vrt_model.specs.FlatCircuit.{flat_circuit_of, net_id}
+use Rattle.vrt_model.specs.Groups.{groups_of}
+use Rattle.vrt_model.specs.Known.{HasArc, HasGateArc, IsHeld, IsPlain, IsTogether}
+use Rattle.vrt_model.specs.Lists.{Among, At}
+use Rattle.vrt_model.specs.ModelArcs.{HasModelArc, carried_bits}
+use Rattle.vrt_model.specs.PairedPorts.{Model, paired_model, pairing_of}
+use Rattle.vrt_model.specs.Unrolled.{all_places, global_nets, net_at, own_nets}
+use Rattle.vrt_model.specs.Unsupported.{CircuitArc, IsAcyclic, IsSupported, ModelArc, comparison_of}
+use Rattle.vrt_model.specs.WholeInstances.{HasLinks, IsWholeAt, Links, OutputAt, Pin, all_outputs, is_named_port, is_output_allowed, outputs_of_place, pins_of, whole_at}
+use Rattle.vrt_model.specs.declared.circuit.Circuit.{Circuit}
+use Rattle.vrt_model.specs.declared.flat_model.Cover.{Cover}
+use Rattle.vrt_model.specs.declared.whole.CellFacts.{CellFacts}
+use Rattle.vrt_model.specs.declared.whole.Drive.{Drive}
+use Rattle.vrt_model.specs.declared.whole.Drive.TheVariants.{Soft}
+use Rattle.vrt_model.specs.declared.whole.Link.{Link}
+use Rattle.vrt_model.specs.declared.whole.Whole.{Whole}
+use Rattle.vrt_model.specs.declared.whole.WholePin.{WholePin}
+
+-- ---- the place of the instance
+
+abbrev the_place : NumberedPlace
+the_place = record { number = 1; at = record { cell = 0; path = record { instance = codes "x"; within = codes "b" } ∷ []; ports = 2 ∷ 4 ∷ []; base = 5 } }
+
+abbrev first_place : NumberedPlace
+first_place = record { number = 0; at = record { cell = 1; path = []; ports = 2 ∷ 3 ∷ []; base = 4 } }
+
+places_are : numbered_places cut.top ≡ first_place ∷ the_place ∷ []
+unfolding all_places net_at own_nets global_nets
+places_are = refl
+
+whole_places_are : whole_places cut ≡ the_place ∷ []
+unfolding all_places net_at own_nets global_nets
+whole_places_are = refl
+
+place_is : (i : ℕ) (p : NumberedPlace) → At (numbered_places cut.top) (suc i) p → (0 ≡ i) × (the_place ≡ p)
+place_is i p e = by_number i (subst (λ (ps : List NumberedPlace). At ps (suc i) p) places_are e)
+  where
+    by_number : (j : ℕ) → At (first_place ∷ the_place ∷ []) (suc j) p → (0 ≡ j) × (the_place ≡ p)
+    by_number zero f = (refl, same_Some the_place p f)
+    by_number (suc j) f = absurd (none-some p f)
+
+-- ---- the cut with this instance alone
+
+abbrev one_cut : Cut
+one_cut = with_one (before cut 0) 0
+
+one_whole_are : whole_places one_cut ≡ the_place ∷ []
+unfolding all_places net_at own_nets global_nets
+one_whole_are = refl
+
+one_circuit_is : circuit_with one_cut blif facts ≡ checked []
+unfolding circuit_with is_observed flat_circuit_of all_places net_at own_nets global_nets flat_model_of all_models signals_of pairing_of groups_of
+one_circuit_is = refl
+
+pins_are : pins_of of_inverter the_place.at ≡ pins
+pins_are = refl
+
+own_is : whole_at cut blif facts the_place ≡ Some (own [])
+unfolding is_observed flat_circuit_of all_places net_at own_nets global_nets flat_model_of all_models signals_of pairing_of groups_of
+own_is = refl
+
+outputs_are : outputs_of_place cut.top blif facts the_place ≡ record { instance = 1; output = 0; pin = the_output } ∷ []
+unfolding is_observed flat_circuit_of all_places net_at own_nets global_nets flat_model_of all_models signals_of pairing_of groups_of
+outputs_are = refl
+
+inverter_model : (m : ℕ) → paired_model design blif base 0 ≡ Model m → m ≡ 0
+inverter_model m paired = elim (own_model 0 m paired) [ inl both ↦ both.1 | inr both ↦ absurd (let no = both.0 in omega (arith, no)) ]
+
+-- ---- the inverter is supported
+
+model_acyclic : (row : List ℕ) (given : ℕ → Option Bool) (default_clock : Option Bool) → IsAcyclic (HasModelArc (model row) given default_clock)
+model_acyclic row given default_clock = rising_arcs_are_acyclic (HasModelArc (model row) given default_clock) (λ n. n) rises
+  where
+    at_input : (n m j : ℕ) → At (0 ∷ []) j n → m ≡ 1 → n < m
+    at_input n m zero f to = (let same = same_Some 0 n f in omega (arith, same, to))
+    at_input n m (suc j) f to = absurd (none-some n f)
+
+    at_cover : (n m i j : ℕ) (cover : Cover) → At (model row).covers i cover → At cover.inputs j n → m ≡ cover.output → n < m
+    at_cover n m zero j cover e f to = at_input n m j (subst (λ (ns : List ℕ). At ns j n) (ap (λ (c : Cover). c.inputs) (sym (same_Some _ cover e))) f) (to ∙ ap (λ (c : Cover). c.output) (sym (same_Some _ cover e)))
+    at_cover n m (suc i) j cover e f to = absurd (none-some cover e)
+
+    rises : (n m : ℕ) → HasModelArc (model row) given default_clock n m → n < m
+    rises n m (inl (cover, on, there, to)) = at_cover n m on.0 there.0 cover on.1 there.1 to
+    rises n m (inr (inl latched)) = absurd (none-some latched.0 latched.1.1)
+    rises n m (inr (inr (inl latched))) = absurd (none-some latched.0 latched.1.1)
+    rises n m (inr (inr (inr latched))) = absurd (none-some latched.0 latched.1.1)
+
+pub inverter_supported : IsSupported design blif base 0 0
+inverter_supported = record {
+  paired = refl;
+  early = inverter_early;
+  acyclic = λ p lt.
+      subst (λ (k : Comparison). IsAcyclic (CircuitArc k p) × IsAcyclic (ModelArc k p)) (sym inverter_is)
+      (inverter_acyclic (phase_at base p), model_acyclic (codes "0") (carried_bits (phase_at base p) []) (default_clock_bit base (phase_at base p)));
+}
+
+-- ---- the facts are true
+
+abbrev the_facts : CellFacts
+the_facts = record { equal = true; stateless = true; drives = Soft ∷ [] }
+
+true_for : (k : Comparison) → of_inverter ≡ k → (f : CellFacts) → the_facts ≡ f → IsTrueFor k f
+true_for k same f is =
+    subst (λ (x : Comparison). IsTrueFor x f) same
+    (subst (λ (x : CellFacts). IsTrueFor of_inverter x) is (record { equal = λ e. inverter_is_equal; stateless = λ e. (refl, refl); drives = λ j port drive on here. soft_drive j port drive here }))
+  where
+    soft_drive : (j : ℕ) (port : CellPort) (drive : Drive) → At (Soft ∷ []) j drive → IsTrueDrive of_inverter port drive
+    soft_drive zero port drive e = subst (IsTrueDrive of_inverter port) (same_Some Soft drive e) tt
+    soft_drive (suc j) port drive e = absurd (none-some drive e)
+
+facts_are_true : (cell : ℕ) (f : CellFacts) → At facts cell f → IsTrueOf design blif base cell f
+facts_are_true zero f e = record {
+  supported = λ is. (0, inverter_supported);
+  compared = λ m paired.
+      let number = inverter_model m paired in
+      true_for (comparison_of design blif base 0 m) (sym inverter_is ∙ ap (comparison_of design blif base 0) (sym number)) f (same_Some the_facts f e);
+}
+facts_are_true (suc cell) f e = absurd (none-some f e)
+
+facts_are_soft : (cell j : ℕ) (f : CellFacts) (drive : Drive) → At facts cell f → At f.drives j drive → drive ≡ Soft
+facts_are_soft zero j f drive e here = by_place j (subst (λ (x : CellFacts). At x.drives j drive) (sym (same_Some the_facts f e)) here)
+  where
+    by_place : (i : ℕ) → At (Soft ∷ []) i drive → drive ≡ Soft
+    by_place zero q = sym (same_Some Soft drive q)
+    by_place (suc i) q = absurd (none-some drive q)
+facts_are_soft (suc cell) j f drive e here = absurd (none-some f e)
+
+-- ---- the instance may be whole
+
+arc_rises : (phase n m : ℕ) → HasArcWith one_cut blif facts phase n m → order n < order m
+arc_rises phase n m (inl gate) =
+    let d = gate_arc (checked []) (phase_at base phase) (lone_checked (phase_at base phase) []) n m (subst (λ (c : Circuit). HasGateArc c (phase_at base phase) n m) one_circuit_is gate) in
+    let up = rises_at_gates d.0 d.1 in
+    let low = ap order d.2 in
+    let high = ap order d.3 in
+    omega (arith, up, low, high)
+arc_rises phase n m (inr (p, j, pin, out, on, paired, (from, to, link), net, together)) =
+    let place = each_of_one (λ (x : NumberedPlace). the_place ≡ x) the_place refl p (subst (λ (ps : List NumberedPlace). Among ps p) one_whole_are on) in
+    let number = inverter_model j (subst (λ (x : NumberedPlace). paired_model design blif base x.at.cell ≡ Model j) (sym place) paired) in
+    let same : comparison_of design blif base p.at.cell j ≡ of_inverter =
+    ap (λ (x : NumberedPlace). comparison_of design blif base x.at.cell j) (sym place) ∙ ap (comparison_of design blif base 0) number ∙ inverter_is in
+    let there : (q : Pin) → Among (pins_of (comparison_of design blif base p.at.cell j) p.at) q → Among pins q =
+    λ q here. subst (λ (x : NumberedPlace). Among (pins_of of_inverter x.at) q) (sym place) (subst (λ (k : Comparison). Among (pins_of k p.at) q) same here) in
+    let is = link_is phase pin out (there pin from) (there out to) (subst (λ (k : Comparison). Links k phase pin.port out.port) same link) in
+    let at : m ≡ out.net.0 = alone (checked []) (phase_at base phase) (lone_checked (phase_at base phase) []) m out.net.0 (subst (λ (c : Circuit). IsTogether c (phase_at base phase) true m out.net.0) one_circuit_is together) in
+    let low = ap order (sym net ∙ is.0) in
+    let high = ap order (at ∙ is.1) in
+    omega (arith, low, high)
+
+abbrev the_out : OutputAt
+the_out = record { instance = 1; output = 0; pin = the_output }
+
+cell_allowed : is_cell_allowed cut.top facts (comparison_of design blif base 0 0) ≡ true
+unfolding is_observed flat_circuit_of all_places net_at own_nets global_nets flat_model_of all_models signals_of pairing_of groups_of
+cell_allowed = refl
+
+out_allowed : is_output_allowed (checked_devices one_cut) (all_outputs one_cut blif facts) the_out ≡ true
+unfolding is_observed flat_circuit_of all_places net_at own_nets global_nets flat_model_of all_models signals_of pairing_of groups_of
+out_allowed = refl
+
+out_is : (o : OutputAt) → Among (outputs_of_place cut.top blif facts the_place) o → the_out ≡ o
+out_is o on = each_of_one (λ (x : OutputAt). the_out ≡ x) the_out refl o (subst (λ (os : List OutputAt). Among os o) outputs_are on)
+
+out_plain : IsPlain (circuit_with one_cut blif facts) 4 × (¬ IsHeld (circuit_with one_cut blif facts) 4)
+out_plain = subst (λ (c : Circuit). IsPlain c 4 × (¬ IsHeld c 4)) (sym one_circuit_is) ((_, refl, refl), λ held. none-some held.0 held.1.1)
+
+may_be_whole : MayBeWhole (before cut 0) blif facts 0 the_place 0
+may_be_whole = record {
+  place = subst (λ (ps : List NumberedPlace). At ps 1 the_place) (sym places_are) refl;
+  paired = refl;
+  cell = cell_allowed;
+  plain = λ o on. subst (λ (x : OutputAt). IsPlain (circuit_with one_cut blif facts) x.pin.net.0 × (¬ IsHeld (circuit_with one_cut blif facts) x.pin.net.0)) (out_is o on) out_plain;
+  allowed = λ o on. subst (λ (x : OutputAt). is_output_allowed (checked_devices one_cut) (all_outputs one_cut blif facts) x ≡ true) (out_is o on) out_allowed;
+  acyclic = λ phase lt. rising_arcs_are_acyclic (HasArcWith one_cut blif facts phase) order (arc_rises phase);
+  flat_acyclic = λ phase lt. subst (λ (c : Circuit). IsAcyclic (HasArc c (phase_at base phase))) (sym flat_is) (flat_acyclic (phase_at base phase));
+}
+
+not_inside : is_inside_whole (before cut 0) the_place.at ≡ false
+unfolding all_places net_at own_nets global_nets
+not_inside = refl
+
+chosen : IsChoice cut blif facts
+chosen i p at = (
+  λ e.
+      let is = place_is i p at in
+      subst (λ (x : NumberedPlace). (is_inside_whole (before cut i) x.at ≡ false) × ((m : ℕ) × MayBeWhole (before cut i) blif facts i x m)) is.1
+      (subst (λ (n : ℕ). (is_inside_whole (before cut n) the_place.at ≡ false) × ((m : ℕ) × MayBeWhole (before cut n) blif facts n the_place m)) is.0 (not_inside, (0, may_be_whole))),
+  λ both. refl,
+)
+
+-- ---- the choice
+
+formed : (cell m : ℕ) → IsSupported design blif base cell m → IsFormed (comparison_of design blif base cell m)
+formed cell m supported =
+    elim (own_model cell m supported.paired) [
+      | inl both ↦
+          subst (λ (c : ℕ). IsFormed (comparison_of design blif base c m)) (sym both.0)
+          (subst (λ (j : ℕ). IsFormed (comparison_of design blif base 0 j)) (sym both.1) (subst (λ (k : Comparison). IsFormed k) (sym inverter_is) inverter_formed))
+      | inr both ↦
+          subst (λ (c : ℕ). IsFormed (comparison_of design blif base c m)) (sym both.0)
+          (subst (λ (j : ℕ). IsFormed (comparison_of design blif base 1 j)) (sym both.1) (subst (λ (k : Comparison). IsFormed k) (sym buffer_is) buffer_formed))
+    ]
+
+soft_choice : IsSoftChoice cut blif facts
+soft_choice = record {
+  netlist = netlist_is_sound;
+  rules = rules_are;
+  assumed = λ cell phase e name on there. absurd (none-some e on.1);
+  formed = formed;
+  told = facts_are_true;
+  soft = facts_are_soft;
+  tried = chosen;
+}
+
+-- ---- the checked circuit
+
+abbrev the_link : Link
+the_link = record { phase = codes "all"; from = record { 0 = 2 }; output = 0; named = false }
+
+abbrev links : List Link
+links = the_link ∷ []
+
+linked : (q : ℕ) → Links of_inverter q port_a port_y
+linked q = inl (0, 1, inl (refl, refl, inr (1, [], (the_cover, (0, refl), (0, refl), refl), refl)))
+
+has_links : HasLinks of_inverter pins (the_output ∷ []) links
+has_links = record {
+  sound = λ link on.
+      let same = each_of_one (λ (x : Link). the_link ≡ x) the_link refl link on in (
+        0,
+        pin_a,
+        pin_y,
+        the_output,
+        omega arith,
+        ap (λ (x : Link). x.phase) (sym same),
+        (0, refl),
+        (1, refl),
+        linked 0,
+        ap (λ (x : Link). x.from) (sym same),
+        subst (λ (x : Link). At (the_output ∷ []) x.output the_output) same refl,
+        refl,
+        λ named. absurd (false≢true (ap (λ (x : Link). x.named) same ∙ named)),
+      );
+  full = λ phase from to pin at lt one two link here signal. full phase from to pin at lt one two link here;
+}
+  where
+    phase_name : (phase : ℕ) → phase < 1 → codes "all" ≡ (phase_at base phase).name
+    phase_name zero lt = refl
+    phase_name (suc p) lt = absurd (omega (arith, lt))
+
+    at_first : (at : ℕ) (pin : WholePin) → At (the_output ∷ []) at pin → 0 ≡ at
+    at_first zero pin e = refl
+    at_first (suc at) pin e = absurd (none-some pin e)
+
+    full : (phase : ℕ) (from to : Pin) (pin : WholePin) (at : ℕ) → phase < 1 → Among pins from → Among pins to → Links of_inverter phase from.port to.port → At (the_output ∷ []) at pin
+        → (link : Link) × Among links link × (link.phase ≡ (phase_at base phase).name) × (link.from ≡ from.net) × (link.output ≡ at) × (is_named_port of_inverter phase from.port ≡ true → link.named ≡ true)
+    full phase from to pin at lt one two link here =
+        let is = link_is phase from to one two link in (
+          the_link,
+          (0, refl),
+          phase_name phase lt,
+          ap net_id (sym is.0),
+          at_first at pin here,
+          each_of_two (λ (x : Pin). is_named_port of_inverter phase x.port ≡ true → false ≡ true) pin_a pin_y (λ e. e) (λ e. e) from one,
+        )
+
+links_at : (m : ℕ) → paired_model design blif base 0 ≡ Model m → HasLinks (comparison_of design blif base 0 m) (pins_of (comparison_of design blif base 0 m) the_place.at) (the_output ∷ []) links
+links_at m paired =
+    let number = inverter_model m paired in
+    subst (λ (k : Comparison). HasLinks k (pins_of k the_place.at) (the_output ∷ []) links) (sym inverter_is ∙ ap (comparison_of design blif base 0) (sym number)) has_links
+
+whole_there : IsWholeAt cut blif facts the_place (own links)
+whole_there = record { whole = own_is; links = links_at }
+
+circuit_is : IsCircuitWith cut blif facts (checked links)
+unfolding circuit_with
+circuit_is = record {
+  nets = ap (λ (c : Circuit). c.nets) (sym checked_is);
+  devices = ap (λ (c : Circuit). c.devices) (sym checked_is);
+  holds = ap (λ (c : Circuit). c.holds) (sym checked_is);
+  instances = ap (λ (c : Circuit). c.instances) (sym checked_is);
+  wholes = subst (λ (ps : List NumberedPlace). AllZip (IsWholeAt cut blif facts) ps (own links ∷ [])) (sym whole_places_are) (whole_there, tt);
+}
+
+groups_are : [] ≡ groups_of flat of_buffer.model
+unfolding groups_of
+groups_are = refl
+
+checked_softly : IsCheckedSoftly of_buffer cut blif facts (checked links)
+checked_softly = record {
+  choice = soft_choice;
+  top = refl;
+  flat = sym flat_is;
+  groups = groups_are;
+  formed = subst (λ (c : Circuit). IsCircuit c) (sym flat_is) flat_circuit;
+  acyclic = λ phase lt. subst (λ (c : Circuit). IsAcyclic (HasArc c (phase_at base phase))) (sym flat_is) (flat_acyclic (phase_at base phase));
+  circuit = circuit_is;
+}
+
+-- ---- what can be told
+
+one_beside : (ws : List Whole) → AllZip (IsWholeAt cut blif facts) (the_place ∷ []) ws → (w : Whole) × (ws ≡ w ∷ []) × IsWholeAt cut blif facts the_place w
+one_beside [] h = absurd h
+one_beside (w ∷ []) h = (w, refl, h.0)
+one_beside (w ∷ v ∷ ws) h = absurd h.1
+
+-- each circuit with this choice is such a one, with links of its own
+shape : (d : Circuit) → IsCircuitWith cut blif facts d → (ls : List Link) × (checked ls ≡ d) × HasLinks of_inverter pins (the_output ∷ []) ls
+unfolding circuit_with
+shape d h =
+    let one = one_beside d.wholes (subst (λ (ps : List NumberedPlace). AllZip (IsWholeAt cut blif facts) ps d.wholes) whole_places_are h.wholes) in
+    let w : Whole = one.0 in
+    let bare_whole : own [] ≡ record w { links = [] } = same_Some (own []) (record w { links = [] }) (sym own_is ∙ one.2.whole) in
+    let whole : own w.links ≡ w = ap (λ (x : Whole). let y : Whole = record x { links = w.links } in y) bare_whole in
+    let nets = ap (λ (c : Circuit). c.nets) (sym checked_is) ∙ sym h.nets in
+    let devices = ap (λ (c : Circuit). c.devices) (sym checked_is) ∙ sym h.devices in
+    let holds = ap (λ (c : Circuit). c.holds) (sym checked_is) ∙ sym h.holds in
+    let instances = ap (λ (c : Circuit). c.instances) (sym checked_is) ∙ sym h.instances in
+    let wholes : own w.links ∷ [] ≡ d.wholes = ap (λ (x : Whole). x ∷ []) whole ∙ sym one.1 in
+    let there : HasLinks of_inverter (pins_of of_inverter the_place.at) w.outputs w.links =
+    subst (λ (k : Comparison). HasLinks k (pins_of k the_place.at) w.outputs w.links) inverter_is (one.2.links 0 refl) in (
+      w.links,
+      λ i. record { nets = nets i; devices = devices i; holds = holds i; instances = instances i; wholes = wholes i },
+      subst (λ (outs : List WholePin). HasLinks of_inverter pins outs w.links) (ap (λ (x : Whole). x.outputs) (sym whole)) there,
+    )
+
+two_places : length (all_places cut.top) ≡ 2
+unfolding all_places net_at own_nets global_nets
+two_places = refl
+
+chain_told : IsChainTold cut blif facts
+chain_told zero phase d circuit lt =
+    subst (λ (c : Circuit). CanBeTold c (phase_at base phase)) (sym ((chain_begins_flat cut blif facts d).0 circuit ∙ flat_is)) (flat_parted (phase_at base phase)).told
+chain_told (suc i) phase d circuit lt =
+    let count = two_places in
+    let is = shape d ((chain_ends_checked cut blif facts d (suc i) (omega (arith, count))).0 circuit) in
+    subst (λ (c : Circuit). CanBeTold c (phase_at base phase)) is.1 (checked_told is.0 phase lt is.2)
+
+cells_parted : AreCellsParted cut blif
+cells_parted cell m phase supported lt =
+    elim (own_model cell m supported.paired) [
+      | inl both ↦
+          subst (λ (c : ℕ). CanBeParted (comparison_of design blif base c m).circuit (phase_at base phase)) (sym both.0)
+          (subst (λ (j : ℕ). CanBeParted (comparison_of design blif base 0 j).circuit (phase_at base phase)) (sym both.1)
+          (subst (λ (k : Comparison). CanBeParted k.circuit (phase_at base phase)) (sym inverter_is) (inverter_parted (phase_at base phase))))
+      | inr both ↦
+          subst (λ (c : ℕ). CanBeParted (comparison_of design blif base c m).circuit (phase_at base phase)) (sym both.0)
+          (subst (λ (j : ℕ). CanBeParted (comparison_of design blif base 1 j).circuit (phase_at base phase)) (sym both.1)
+          (subst (λ (k : Comparison). CanBeParted k.circuit (phase_at base phase)) (sym buffer_is) (flat_parted (phase_at base phase))))
+    ]
+
+-- ---- all together
+
+-- the compared cell is supported, and one of its instances is whole
+pub buffer_supported : IsSupported design blif base 1 1
+buffer_supported = record {
+  paired = refl;
+  early = buffer_early;
+  acyclic = λ p lt.
+      subst (λ (k : Comparison). IsAcyclic (CircuitArc k p) × IsAcyclic (ModelArc k p)) (sym buffer_is)
+      (flat_acyclic (phase_at base p), model_acyclic (codes "1") (carried_bits (phase_at base p) []) (default_clock_bit base (phase_at base p)));
+}
+
+pub instance_is_whole : Among (checked links).wholes (own links)
+instance_is_whole = (0, refl)
+
+pub premises_are_met : IsCheckedSoftly of_buffer cut blif facts (checked links) × IsChainTold cut blif facts × AreCellsParted cut blif
+premises_are_met = (checked_softly, chain_told, cells_parted)
+
+-- so the law speaks of it
+pub buffer_is_checked : AgreesWith of_buffer (with_circuit of_buffer (checked links)) × FirstStands of_buffer cut (with_circuit of_buffer (checked links))
+buffer_is_checked = substitution_holds of_buffer cut blif facts (checked links) checked_softly chain_told cells_parted
