@@ -2,9 +2,9 @@ pub mod FirstFirm
 pub mod InnerRegions
 pub mod InnerSettled
 pub mod RankOrder
+pub mod SamePlaces
 pub mod SettledLaws
 pub mod ShutRegions
-pub mod StepChainLaws
 pub mod StepLaws
 pub mod StepPartLaws
 pub mod StepStates

@@ -6,7 +6,4 @@ mod ground;
 mod step;
 
 pub use ground::{firm_ground_stands, first_fault_is_firm, settled_nets_stand};
-pub use step::{
-    firm_ground_goes_all_down, firm_ground_goes_down, first_fault_stands_below,
-    replaced_instances_step_down,
-};
+pub use step::{firm_ground_goes_down, replaced_instances_step_down};

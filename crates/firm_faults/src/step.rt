@@ -1,6 +1,5 @@
 //! Circuits with one instance more that is left whole.
 
-ghost use Rattle.firm_faults.specs.StepChain.{FirmGroundGoesAllDown, FirstFaultStandsBelow};
 ghost use Rattle.firm_faults.specs.StepDown.{FirmGroundGoesDown};
 ghost use Rattle.firm_faults.specs.StepParts.{ReplacedInstancesStepDown};
 
@@ -14,15 +13,4 @@ pub fn firm_ground_goes_down()
 /// instances gone.
 pub fn replaced_instances_step_down()
     ensures { ReplacedInstancesStepDown }
-{}
-
-/// What is on firm ground goes down all circuits of a chain, each of which has one instance more left whole than the one before it.
-pub fn firm_ground_goes_all_down()
-    ensures { FirmGroundGoesAllDown }
-{}
-
-/// The first fault in the last circuit of such a chain stands in the first one, with each solution, where it is a fight, a float or a broken
-/// constraint.
-pub fn first_fault_stands_below()
-    ensures { FirstFaultStandsBelow }
 {}

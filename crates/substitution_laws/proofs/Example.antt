@@ -1,47 +1,42 @@
 -- The premises of the laws of substitution can be met together, by a buffer of two inverters whose first one is left whole.
-use Rattle.std.proofs.Common.{◌≡◌, ℕ, zero, suc, ◌<◌, Bool, true, false, List, [], ◌∷◌, length, Option, Some, refl, ap, sym, ◌∙◌, subst, arith, inl, inr}
+use Rattle.std.proofs.Common.{◌≡◌, ℕ, zero, suc, ◌<◌, true, false, List, [], ◌∷◌, Some, refl, ap, sym, ◌∙◌, subst, arith, inl, inr}
 use Rattle.std.specs.Prelude.{codes}
 use Rattle.std.specs.List.{AllZip}
 use Rattle.std.proofs.lemmas.Bool.{false≢true}
 use Rattle.std.proofs.lemmas.Option.{none-some, same_Some}
-use Rattle.checked_chain.proofs.EndLaws.{chain_begins_flat, chain_ends_checked}
 use Rattle.replaced_cells.specs.Agreement.{AgreesWith}
-use Rattle.substitution_laws.proofs.ExampleCells.{blif, buffer_is, checked, checked_is, cut, design, facts, flat, flat_is, inverter_is, model, of_buffer, of_inverter, own}
-use Rattle.substitution_laws.proofs.ExampleFormed.{buffer_early, buffer_formed, flat_circuit, inverter_early, inverter_formed, own_model}
+use Rattle.substitution_laws.proofs.ExampleArcs.{checked_supplied, each_of_one, flat_acyclic, link_is, order, pin_a, pin_y, pins, rises_at_gates, the_output}
+use Rattle.substitution_laws.proofs.ExampleCells.{blif, buffer_is, checked, checked_is, cut, design, facts, flat, flat_is, inverter_is, of_buffer, of_inverter, own}
 use Rattle.substitution_laws.proofs.ExampleInverter.{each_of_two, inverter_is_equal, port_a, port_y, the_cover}
-use Rattle.substitution_laws.proofs.ExampleNetlist.{netlist_is_sound, rules_are}
-use Rattle.substitution_laws.proofs.ExampleTold.{checked_told, each_of_one, flat_acyclic, flat_parted, inverter_acyclic, inverter_parted, link_is, lone_checked, order, pin_a, pin_y, pins, rises_at_gates, the_output}
+use Rattle.substitution_laws.proofs.ExampleNetlist.{netlist_is_sound, texts_are_read}
+use Rattle.substitution_laws.proofs.ExampleSupported.{buffer_supported, inverter_supported, own_model}
+use Rattle.substitution_laws.proofs.FormedCells.{formed_cell}
 use Rattle.substitution_laws.proofs.LoneNets.{alone, gate_arc, rising_arcs_are_acyclic}
 use Rattle.substitution_laws.proofs.SubstitutionLaws.{substitution_holds}
-use Rattle.substitution_laws.specs.Agreement.{CanBeTold, IsChainTold, IsCheckedSoftly}
+use Rattle.substitution_laws.specs.Agreement.{IsCheckedSoftly}
 use Rattle.substitution_laws.specs.Chosen.{IsSoftChoice}
-use Rattle.substitution_laws.specs.FirmDown.{AreCellsParted, CanBeParted}
-use Rattle.substitution_laws.specs.Formed.{IsFormed}
 use Rattle.substitution_laws.specs.Substitution.{FirstStands}
 use Rattle.vrt_model.proofs.Cells.{base}
 use Rattle.vrt_model.specs.Checked.{HasArcWith, IsChoice, IsCircuitWith, MayBeWhole, before, circuit_with, is_cell_allowed, with_circuit, with_one}
 use Rattle.vrt_model.specs.CheckedParts.{checked_devices}
 use Rattle.vrt_model.specs.Circuits.{IsCircuit}
-use Rattle.vrt_model.specs.Comparison.{CellPort, Comparison, default_clock_bit, is_observed, phase_at}
+use Rattle.vrt_model.specs.Comparison.{CellPort, Comparison, is_observed, phase_at}
 use Rattle.vrt_model.specs.Cut.{Cut, NumberedPlace, is_inside_whole, numbered_places, whole_places}
-use Rattle.vrt_model.specs.Facts.{IsTrueFor, IsTrueOf, IsTrueDrive}
+use Rattle.vrt_model.specs.Facts.{IsTrueDrive, IsTrueFor, IsTrueOf}
 use Rattle.vrt_model.specs.FlatBlif.{all_models, flat_model_of, signals_of}
 use Rattle.vrt_model.specs.FlatCircuit.{flat_circuit_of, net_id}
 use Rattle.vrt_model.specs.Groups.{groups_of}
 use Rattle.vrt_model.specs.Known.{HasArc, HasGateArc, IsHeld, IsPlain, IsTogether}
 use Rattle.vrt_model.specs.Lists.{Among, At}
-use Rattle.vrt_model.specs.ModelArcs.{HasModelArc, carried_bits}
 use Rattle.vrt_model.specs.PairedPorts.{Model, paired_model, pairing_of}
 use Rattle.vrt_model.specs.Unrolled.{all_places, global_nets, net_at, own_nets}
-use Rattle.vrt_model.specs.Unsupported.{CircuitArc, IsAcyclic, IsSupported, ModelArc, comparison_of}
+use Rattle.vrt_model.specs.Unsupported.{IsAcyclic, comparison_of}
 use Rattle.vrt_model.specs.WholeInstances.{HasLinks, IsWholeAt, Links, OutputAt, Pin, all_outputs, is_named_port, is_output_allowed, outputs_of_place, pins_of, whole_at}
 use Rattle.vrt_model.specs.declared.circuit.Circuit.{Circuit}
-use Rattle.vrt_model.specs.declared.flat_model.Cover.{Cover}
 use Rattle.vrt_model.specs.declared.whole.CellFacts.{CellFacts}
 use Rattle.vrt_model.specs.declared.whole.Drive.{Drive}
 use Rattle.vrt_model.specs.declared.whole.Drive.TheVariants.{Soft}
 use Rattle.vrt_model.specs.declared.whole.Link.{Link}
-use Rattle.vrt_model.specs.declared.whole.Whole.{Whole}
 use Rattle.vrt_model.specs.declared.whole.WholePin.{WholePin}
 
 -- ---- the place of the instance
@@ -94,34 +89,6 @@ outputs_are = refl
 inverter_model : (m : ℕ) → paired_model design blif base 0 ≡ Model m → m ≡ 0
 inverter_model m paired = elim (own_model 0 m paired) [ inl both ↦ both.1 | inr both ↦ absurd (let no = both.0 in omega (arith, no)) ]
 
--- ---- the inverter is supported
-
-model_acyclic : (row : List ℕ) (given : ℕ → Option Bool) (default_clock : Option Bool) → IsAcyclic (HasModelArc (model row) given default_clock)
-model_acyclic row given default_clock = rising_arcs_are_acyclic (HasModelArc (model row) given default_clock) (λ n. n) rises
-  where
-    at_input : (n m j : ℕ) → At (0 ∷ []) j n → m ≡ 1 → n < m
-    at_input n m zero f to = (let same = same_Some 0 n f in omega (arith, same, to))
-    at_input n m (suc j) f to = absurd (none-some n f)
-
-    at_cover : (n m i j : ℕ) (cover : Cover) → At (model row).covers i cover → At cover.inputs j n → m ≡ cover.output → n < m
-    at_cover n m zero j cover e f to = at_input n m j (subst (λ (ns : List ℕ). At ns j n) (ap (λ (c : Cover). c.inputs) (sym (same_Some _ cover e))) f) (to ∙ ap (λ (c : Cover). c.output) (sym (same_Some _ cover e)))
-    at_cover n m (suc i) j cover e f to = absurd (none-some cover e)
-
-    rises : (n m : ℕ) → HasModelArc (model row) given default_clock n m → n < m
-    rises n m (inl (cover, on, there, to)) = at_cover n m on.0 there.0 cover on.1 there.1 to
-    rises n m (inr (inl latched)) = absurd (none-some latched.0 latched.1.1)
-    rises n m (inr (inr (inl latched))) = absurd (none-some latched.0 latched.1.1)
-    rises n m (inr (inr (inr latched))) = absurd (none-some latched.0 latched.1.1)
-
-pub inverter_supported : IsSupported design blif base 0 0
-inverter_supported = record {
-  paired = refl;
-  early = inverter_early;
-  acyclic = λ p lt.
-      subst (λ (k : Comparison). IsAcyclic (CircuitArc k p) × IsAcyclic (ModelArc k p)) (sym inverter_is)
-      (inverter_acyclic (phase_at base p), model_acyclic (codes "0") (carried_bits (phase_at base p) []) (default_clock_bit base (phase_at base p)));
-}
-
 -- ---- the facts are true
 
 abbrev the_facts : CellFacts
@@ -157,7 +124,7 @@ facts_are_soft (suc cell) j f drive e here = absurd (none-some f e)
 
 arc_rises : (phase n m : ℕ) → HasArcWith one_cut blif facts phase n m → order n < order m
 arc_rises phase n m (inl gate) =
-    let d = gate_arc (checked []) (phase_at base phase) (lone_checked (phase_at base phase) []) n m (subst (λ (c : Circuit). HasGateArc c (phase_at base phase) n m) one_circuit_is gate) in
+    let d = gate_arc (checked []) (phase_at base phase) (checked_supplied []) n m (subst (λ (c : Circuit). HasGateArc c (phase_at base phase) n m) one_circuit_is gate) in
     let up = rises_at_gates d.0 d.1 in
     let low = ap order d.2 in
     let high = ap order d.3 in
@@ -170,7 +137,7 @@ arc_rises phase n m (inr (p, j, pin, out, on, paired, (from, to, link), net, tog
     let there : (q : Pin) → Among (pins_of (comparison_of design blif base p.at.cell j) p.at) q → Among pins q =
     λ q here. subst (λ (x : NumberedPlace). Among (pins_of of_inverter x.at) q) (sym place) (subst (λ (k : Comparison). Among (pins_of k p.at) q) same here) in
     let is = link_is phase pin out (there pin from) (there out to) (subst (λ (k : Comparison). Links k phase pin.port out.port) same link) in
-    let at : m ≡ out.net.0 = alone (checked []) (phase_at base phase) (lone_checked (phase_at base phase) []) m out.net.0 (subst (λ (c : Circuit). IsTogether c (phase_at base phase) true m out.net.0) one_circuit_is together) in
+    let at : m ≡ out.net.0 = alone (checked []) (phase_at base phase) (checked_supplied []) m out.net.0 (subst (λ (c : Circuit). IsTogether c (phase_at base phase) true m out.net.0) one_circuit_is together) in
     let low = ap order (sym net ∙ is.0) in
     let high = ap order (at ∙ is.1) in
     omega (arith, low, high)
@@ -218,23 +185,10 @@ chosen i p at = (
 
 -- ---- the choice
 
-formed : (cell m : ℕ) → IsSupported design blif base cell m → IsFormed (comparison_of design blif base cell m)
-formed cell m supported =
-    elim (own_model cell m supported.paired) [
-      | inl both ↦
-          subst (λ (c : ℕ). IsFormed (comparison_of design blif base c m)) (sym both.0)
-          (subst (λ (j : ℕ). IsFormed (comparison_of design blif base 0 j)) (sym both.1) (subst (λ (k : Comparison). IsFormed k) (sym inverter_is) inverter_formed))
-      | inr both ↦
-          subst (λ (c : ℕ). IsFormed (comparison_of design blif base c m)) (sym both.0)
-          (subst (λ (j : ℕ). IsFormed (comparison_of design blif base 1 j)) (sym both.1) (subst (λ (k : Comparison). IsFormed k) (sym buffer_is) buffer_formed))
-    ]
-
 soft_choice : IsSoftChoice cut blif facts
 soft_choice = record {
   netlist = netlist_is_sound;
-  rules = rules_are;
-  assumed = λ cell phase e name on there. absurd (none-some e on.1);
-  formed = formed;
+  read = texts_are_read;
   told = facts_are_true;
   soft = facts_are_soft;
   tried = chosen;
@@ -314,87 +268,23 @@ groups_are : [] ≡ groups_of flat of_buffer.model
 unfolding groups_of
 groups_are = refl
 
-checked_softly : IsCheckedSoftly of_buffer cut blif facts (checked links)
-checked_softly = record {
+-- ---- all together
+
+-- an instance is whole
+pub instance_is_whole : Among (checked links).wholes (own links)
+instance_is_whole = (0, refl)
+
+pub premises_are_met : IsCheckedSoftly of_buffer cut blif facts (checked links)
+premises_are_met = record {
   choice = soft_choice;
   top = refl;
   flat = sym flat_is;
   groups = groups_are;
-  formed = subst (λ (c : Circuit). IsCircuit c) (sym flat_is) flat_circuit;
+  formed = subst (λ (c : Circuit). IsCircuit c) (ap (λ (k : Comparison). k.circuit) buffer_is ∙ sym flat_is) (formed_cell cut blif facts 1 1 soft_choice buffer_supported).circuit;
   acyclic = λ phase lt. subst (λ (c : Circuit). IsAcyclic (HasArc c (phase_at base phase))) (sym flat_is) (flat_acyclic (phase_at base phase));
   circuit = circuit_is;
 }
 
--- ---- what can be told
-
-one_beside : (ws : List Whole) → AllZip (IsWholeAt cut blif facts) (the_place ∷ []) ws → (w : Whole) × (ws ≡ w ∷ []) × IsWholeAt cut blif facts the_place w
-one_beside [] h = absurd h
-one_beside (w ∷ []) h = (w, refl, h.0)
-one_beside (w ∷ v ∷ ws) h = absurd h.1
-
--- each circuit with this choice is such a one, with links of its own
-shape : (d : Circuit) → IsCircuitWith cut blif facts d → (ls : List Link) × (checked ls ≡ d) × HasLinks of_inverter pins (the_output ∷ []) ls
-unfolding circuit_with
-shape d h =
-    let one = one_beside d.wholes (subst (λ (ps : List NumberedPlace). AllZip (IsWholeAt cut blif facts) ps d.wholes) whole_places_are h.wholes) in
-    let w : Whole = one.0 in
-    let bare_whole : own [] ≡ record w { links = [] } = same_Some (own []) (record w { links = [] }) (sym own_is ∙ one.2.whole) in
-    let whole : own w.links ≡ w = ap (λ (x : Whole). let y : Whole = record x { links = w.links } in y) bare_whole in
-    let nets = ap (λ (c : Circuit). c.nets) (sym checked_is) ∙ sym h.nets in
-    let devices = ap (λ (c : Circuit). c.devices) (sym checked_is) ∙ sym h.devices in
-    let holds = ap (λ (c : Circuit). c.holds) (sym checked_is) ∙ sym h.holds in
-    let instances = ap (λ (c : Circuit). c.instances) (sym checked_is) ∙ sym h.instances in
-    let wholes : own w.links ∷ [] ≡ d.wholes = ap (λ (x : Whole). x ∷ []) whole ∙ sym one.1 in
-    let there : HasLinks of_inverter (pins_of of_inverter the_place.at) w.outputs w.links =
-    subst (λ (k : Comparison). HasLinks k (pins_of k the_place.at) w.outputs w.links) inverter_is (one.2.links 0 refl) in (
-      w.links,
-      λ i. record { nets = nets i; devices = devices i; holds = holds i; instances = instances i; wholes = wholes i },
-      subst (λ (outs : List WholePin). HasLinks of_inverter pins outs w.links) (ap (λ (x : Whole). x.outputs) (sym whole)) there,
-    )
-
-two_places : length (all_places cut.top) ≡ 2
-unfolding all_places net_at own_nets global_nets
-two_places = refl
-
-chain_told : IsChainTold cut blif facts
-chain_told zero phase d circuit lt =
-    subst (λ (c : Circuit). CanBeTold c (phase_at base phase)) (sym ((chain_begins_flat cut blif facts d).0 circuit ∙ flat_is)) (flat_parted (phase_at base phase)).told
-chain_told (suc i) phase d circuit lt =
-    let count = two_places in
-    let is = shape d ((chain_ends_checked cut blif facts d (suc i) (omega (arith, count))).0 circuit) in
-    subst (λ (c : Circuit). CanBeTold c (phase_at base phase)) is.1 (checked_told is.0 phase lt is.2)
-
-cells_parted : AreCellsParted cut blif
-cells_parted cell m phase supported lt =
-    elim (own_model cell m supported.paired) [
-      | inl both ↦
-          subst (λ (c : ℕ). CanBeParted (comparison_of design blif base c m).circuit (phase_at base phase)) (sym both.0)
-          (subst (λ (j : ℕ). CanBeParted (comparison_of design blif base 0 j).circuit (phase_at base phase)) (sym both.1)
-          (subst (λ (k : Comparison). CanBeParted k.circuit (phase_at base phase)) (sym inverter_is) (inverter_parted (phase_at base phase))))
-      | inr both ↦
-          subst (λ (c : ℕ). CanBeParted (comparison_of design blif base c m).circuit (phase_at base phase)) (sym both.0)
-          (subst (λ (j : ℕ). CanBeParted (comparison_of design blif base 1 j).circuit (phase_at base phase)) (sym both.1)
-          (subst (λ (k : Comparison). CanBeParted k.circuit (phase_at base phase)) (sym buffer_is) (flat_parted (phase_at base phase))))
-    ]
-
--- ---- all together
-
--- the compared cell is supported, and one of its instances is whole
-pub buffer_supported : IsSupported design blif base 1 1
-buffer_supported = record {
-  paired = refl;
-  early = buffer_early;
-  acyclic = λ p lt.
-      subst (λ (k : Comparison). IsAcyclic (CircuitArc k p) × IsAcyclic (ModelArc k p)) (sym buffer_is)
-      (flat_acyclic (phase_at base p), model_acyclic (codes "1") (carried_bits (phase_at base p) []) (default_clock_bit base (phase_at base p)));
-}
-
-pub instance_is_whole : Among (checked links).wholes (own links)
-instance_is_whole = (0, refl)
-
-pub premises_are_met : IsCheckedSoftly of_buffer cut blif facts (checked links) × IsChainTold cut blif facts × AreCellsParted cut blif
-premises_are_met = (checked_softly, chain_told, cells_parted)
-
 -- so the law speaks of it
 pub buffer_is_checked : AgreesWith of_buffer (with_circuit of_buffer (checked links)) × FirstStands of_buffer cut (with_circuit of_buffer (checked links))
-buffer_is_checked = substitution_holds of_buffer cut blif facts (checked links) checked_softly chain_told cells_parted
+buffer_is_checked = substitution_holds of_buffer cut blif facts (checked links) premises_are_met

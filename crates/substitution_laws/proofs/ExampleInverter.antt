@@ -78,7 +78,7 @@ no_keepers : (d : Device) → Among inverter.devices d → d.keeper ≡ false
 no_keepers = each_of_two (λ d. d.keeper ≡ false) p_device n_device refl refl
 
 -- its one plain net is that of the output
-pub not_plain : (kind : NetKind) (net : FlatNet) → is_plain_kind kind ≡ false → kind ≡ net.kind → net.kind ≡ Plain → ⊥
+not_plain : (kind : NetKind) (net : FlatNet) → is_plain_kind kind ≡ false → kind ≡ net.kind → net.kind ≡ Plain → ⊥
 not_plain kind net e is plain = false≢true (sym e ∙ ap is_plain_kind (is ∙ plain))
 
 pub plain_is_output : (n : ℕ) → IsPlain inverter n → n ≡ 3

@@ -1,19 +1,25 @@
--- The netlist and the rules of the example are as readers give them.
-use Rattle.std.proofs.Common.{◌≡◌, ℕ, zero, suc, ◌<◌, ◌≤◌, Bool, true, false, List, [], ◌∷◌, length, None, refl, ap, sym, ◌∙◌, subst, arith}
+-- The netlist, the models and the rules of the example are as readers give them.
+use Rattle.std.proofs.Common.{◌≡◌, ◌⊎◌, ℕ, zero, suc, ◌<◌, ◌≤◌, Bool, true, false, List, [], ◌∷◌, length, None, refl, ap, sym, ◌∙◌, subst, arith, inl, inr}
 use Rattle.std.specs.Prelude.{bytes_eq, codes, slice_get, unwrap_or}
 use Rattle.std.proofs.lemmas.Bool.{false≢true}
 use Rattle.std.proofs.lemmas.List.Elements.{All-cons, All-nil}
 use Rattle.std.proofs.lemmas.Option.{none-some, same_Some}
+use Rattle.formed_cells.specs.Formed.{AreRead}
 use Rattle.replaced_instances.specs.Steps.{IsSoundNetlist}
-use Rattle.substitution_laws.proofs.ExampleCells.{cut, design}
+use Rattle.substitution_laws.proofs.ExampleCells.{blif, cut, design}
 use Rattle.substitution_laws.proofs.ExampleInverter.{each_of_two}
-use Rattle.vrt_model.proofs.Cells.{base}
+use Rattle.vrt_model.proofs.Cells.{base, cover, model_of}
+use Rattle.vrt_model.specs.FlatModels.{IsRow}
 use Rattle.vrt_model.specs.Hierarchy.{IsOrdered, cells_in, depth_of_cell}
-use Rattle.vrt_model.specs.Inputs.{AllApart, AreRules, IsCell, IsDesign, IsLevel}
+use Rattle.vrt_model.specs.Inputs.{AllApart, AreRules, IsBlif, IsCell, IsCoverLine, IsDesign, IsLevel, IsModel}
 use Rattle.vrt_model.specs.Lists.{Among, At}
+use Rattle.vrt_model.specs.Models.{AreModels, depth_of_model, models_within}
 use Rattle.vrt_model.specs.Nesting.{IsWithin, directly, further}
 use Rattle.vrt_model.specs.Unrolled.{all_places, deepest, global_nets, net_at, own_nets}
 use Rattle.vrt_model.specs.Unsupported.{supply_tie}
+use Rattle.vrt_model.specs.declared.blif.BlifModel.{BlifModel}
+use Rattle.vrt_model.specs.declared.blif.CoverLine.{CoverLine}
+use Rattle.vrt_model.specs.declared.blif.LatchLine.{LatchLine}
 use Rattle.vrt_model.specs.declared.design.Cell.{Cell}
 use Rattle.vrt_model.specs.declared.design.InstanceCard.{InstanceCard}
 use Rattle.vrt_model.specs.declared.design.Kind.TheVariants.{N, P}
@@ -117,11 +123,71 @@ unfolding all_places net_at own_nets global_nets
 no_tie = refl
 
 pub netlist_is_sound : IsSoundNetlist cut.top
-netlist_is_sound = record { design = design_is; ordered = ordered; hold_nets = λ r on. absurd (none-some r on.1); there = omega arith; ties = no_tie }
+netlist_is_sound = record { design = design_is; ordered = ordered; there = omega arith; ties = no_tie }
+
+-- ---- the models
+
+-- a row's byte is 0, 1 or -
+abbrev IsRowByte : ℕ → Type 0
+IsRowByte byte = (byte ≡ 48) ⊎ (byte ≡ 49) ⊎ (byte ≡ 45)
+
+zero_row : IsRow 1 (codes "0")
+zero_row = record { length = refl; bytes = All-cons IsRowByte 48 [] (inl refl) (All-nil IsRowByte) }
+
+one_row : IsRow 1 (codes "1")
+one_row = record { length = refl; bytes = All-cons IsRowByte 49 [] (inr (inl refl)) (All-nil IsRowByte) }
+
+-- a model of one input, one output and one cover of one row
+module _ (name row : List ℕ) (fit : IsRow 1 row) where
+  abbrev the_cover : CoverLine
+  the_cover = cover (codes "a" ∷ []) (codes "y") true (row ∷ [])
+
+  abbrev the_model : BlifModel
+  the_model = model_of name (codes "a" ∷ []) (codes "y" ∷ []) (the_cover ∷ []) [] []
+
+  model_is : IsModel the_model
+  model_is = record {
+    inputs = apart_one bytes_eq (codes "a");
+    clocks = apart_none bytes_eq;
+    outputs = apart_one bytes_eq (codes "y");
+    input_lines = refl;
+    clock_lines = refl;
+    output_lines = refl;
+    covers = All-cons IsCoverLine the_cover [] (record { input_limit = omega arith; rows = All-cons (IsRow 1) row [] fit (All-nil (IsRow 1)); empty = λ e. refl }) (All-nil IsCoverLine);
+    latches = All-nil (λ (l : LatchLine). l.init ≤ 3);
+  }
+
+blif_is : IsBlif blif
+blif_is =
+    let one = the_model (codes "i") (codes "0") zero_row in
+    let two = the_model (codes "b") (codes "1") one_row in
+    record {
+      model_limit = omega arith;
+      names = apart_two (λ (a b : BlifModel). bytes_eq a.name b.name) one two refl refl;
+      models = All-cons IsModel one (two ∷ []) (model_is (codes "i") (codes "0") zero_row) (All-cons IsModel two [] (model_is (codes "b") (codes "1") one_row) (All-nil IsModel));
+    }
+
+-- no model stands in another
+none_within : (m i n : ℕ) → At (models_within blif m) i n → ⊥
+none_within zero i n e = none-some n e
+none_within (suc zero) i n e = none-some n e
+none_within (suc (suc m)) i n e = none-some n e
+
+none_inside : (n m : ℕ) → IsWithin (models_within blif) n m → ⊥
+none_inside n m (directly on) = none_within m on.0 n on.1
+none_inside n m (further {l} on inside) = none_within m on.0 l on.1
+
+models_shallow : (n : ℕ) → n < length blif.models → depth_of_model blif n ≤ deepest
+models_shallow zero lt = omega arith
+models_shallow (suc zero) lt = omega arith
+models_shallow (suc (suc n)) lt = absurd (omega (arith, lt))
+
+models_are : AreModels blif
+models_are = record { subs = refl; well_founded = λ n lt self. none_inside n n self; shallow = models_shallow; drivers = refl }
 
 -- ---- the rules
 
-pub rules_are : AreRules base
+rules_are : AreRules base
 rules_are = record {
   clock_limit = omega arith;
   clocks = apart_none bytes_eq;
@@ -161,3 +227,8 @@ rules_are = record {
 
     p_rule : DeviceRule
     p_rule = record { line = 4; model = codes "p"; kind = P; level = 6 }
+
+-- ---- together
+
+pub texts_are_read : AreRead blif base
+texts_are_read = record { names = blif_is; models = models_are; valid = rules_are }

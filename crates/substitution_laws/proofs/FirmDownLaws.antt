@@ -5,7 +5,7 @@ use Rattle.checked_chain.proofs.AcyclicLaws.{no_place}
 use Rattle.checked_chain.proofs.EndLaws.{chain_begins_flat}
 use Rattle.checked_chain.proofs.StepLaws.{none_more_is_same}
 use Rattle.checked_chain.proofs.ThereLaws.{chain_is_there}
-use Rattle.firm_faults.proofs.StepChainLaws.{own_place, same_on}
+use Rattle.firm_faults.proofs.SamePlaces.{own_place, same_on}
 use Rattle.firm_faults.proofs.StepLaws.{firm_ground_goes_down}
 use Rattle.firm_faults.specs.FirmGround.{IsFoundByRank, IsOnFirmGround}
 use Rattle.firm_faults.specs.StepDown.{IsCellRanked, IsSamePlaceIn}
@@ -85,9 +85,10 @@ module _ (k : Comparison) (cut : Cut) (blif : Blif) (facts : List CellFacts) (c 
       → (m : ℕ) × IsSamePlaceIn d k.circuit kind l m × IsOnFirmGround k [] phase setting kind m
   down_at zero d l low circuit ground =
       let same = (chain_begins_flat cut blif facts d).0 circuit ∙ sym h.flat in
+      let flat_ground =
+      subst (λ (own : List FlatInstance). IsOnFirmGround (with_circuit k d) own phase setting kind l) (ap (map (λ (p : NumberedPlace). flat_instance p.at)) (no_place cut)) ground in
       subst (λ (x : Comparison). (m : ℕ) × IsSamePlaceIn d x.circuit kind l m × IsOnFirmGround x [] phase setting kind m) (sym (is_itself k cut blif facts c h d same))
-      (own_place k phase setting (λ j. d) (λ j. []) kind ok d [] l
-      (subst (λ (own : List FlatInstance). IsOnFirmGround (with_circuit k d) own phase setting kind l) (ap (map (λ (p : NumberedPlace). flat_instance p.at)) (no_place cut)) ground))
+      (l, own_place (with_circuit k d) [] phase setting kind l ok flat_ground, flat_ground)
   down_at (suc i) d l low circuit ground =
       elim (cases_Bool (cut.choice i)) [
         | inr not_chosen ↦ down_at i d l (omega (arith, low)) (subst (λ (x : Cut). IsCircuitWith x blif facts d) (none_more_is_same cut i not_chosen) circuit)

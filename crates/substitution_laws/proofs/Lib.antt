@@ -4,11 +4,11 @@ pub mod ChainLaws
 pub mod ChosenLaws
 pub mod EndsLaws
 pub mod Example
+pub mod ExampleArcs
 pub mod ExampleCells
-pub mod ExampleFormed
 pub mod ExampleInverter
 pub mod ExampleNetlist
-pub mod ExampleTold
+pub mod ExampleSupported
 pub mod FirmDownLaws
 pub mod FirstLaws
 pub mod FormedCells

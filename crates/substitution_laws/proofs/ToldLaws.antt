@@ -6,6 +6,7 @@ use Rattle.checked_chain.specs.Holds.{AreEndsShown, IsEndShown}
 use Rattle.known_nets.proofs.WiredLaws.{flat_wired}
 use Rattle.known_nets.specs.Wired.{IsWired}
 use Rattle.substitution_laws.proofs.EndsLaws.{chosen_ends_are_shown}
+use Rattle.substitution_laws.proofs.FormedCells.{formed_cell}
 use Rattle.substitution_laws.proofs.WholeCells.{inside_of_all, wholes_are_determined}
 use Rattle.substitution_laws.proofs.WholeRanges.{circuits_have_ranges}
 use Rattle.substitution_laws.specs.Agreement.{IsCheckedSoftly}
@@ -60,5 +61,5 @@ pub cell_wired : (cut : Cut) (blif : Blif) (facts : List CellFacts) (cell m : â„
     â†’ IsWired (comparison_of cut.top.design blif cut.top.rules cell m).circuit
 unfolding flat_circuit_of
 cell_wired cut blif facts cell m h supported =
-    let formed = (h.formed cell m supported).circuit in
+    let formed = (formed_cell cut blif facts cell m h supported).circuit in
     flat_wired (comparison_of cut.top.design blif cut.top.rules cell m).circuit (record { wholes = refl; devices = formed.devices; holds = formed.holds })
