@@ -2,7 +2,7 @@
 use Rattle.std.proofs.Common.{◌≡◌, ℕ, zero, suc, ◌<◌, ◌&&◌, ◌||◌, ◌⊎◌, Bool, true, false, not, cond, List, [], ◌∷◌, map, arith, subst, sym, refl, ◌∙◌, ap, inl, inr}
 use Rattle.std.specs.Prelude.{nat_lt, ◌==◌}
 use Rattle.std.specs.List.{enumerate_from}
-use Rattle.std.proofs.lemmas.Bool.{and_from, and_left, and_parts, cases_Bool, cases_lt, false_from_ne_true, false≢true, or_from, or_parts}
+use Rattle.std.proofs.lemmas.Bool.{and_from, and_left, and_parts, cases_Bool, cases_lt, false_from_ne_true, false≢true, not-true, or_from, or_parts}
 use Rattle.std.proofs.lemmas.Bool.Decides.{nat_tests}
 use Rattle.checked_chain.proofs.ChoiceLaws.{numbered_at}
 use Rattle.checked_chain.specs.Drives.{DrivesStay, StandsForDevices}
@@ -148,11 +148,7 @@ module _ (cut : Cut) (blif : Blif) (facts : List CellFacts) (i : ℕ) (p : Numbe
       let h = among_flat_map cards (shown later) d m in
       let q = filter_among (λ x. not (is_left_out later x)) (numbered_places cut.top) h.0 h.1 in
       flat_map_among cards (shown earlier) h.0 d
-      (among_kept (λ x. not (is_left_out earlier x)) (numbered_places cut.top) h.0 q.0 (ap not (shown_less h.0 (from_not (is_left_out later h.0) q.1)))) h.2
-    where
-      from_not : (b : Bool) → not b ≡ true → b ≡ false
-      from_not true e = absurd (false≢true e)
-      from_not false e = refl
+      (among_kept (λ x. not (is_left_out earlier x)) (numbered_places cut.top) h.0 q.0 (ap not (shown_less h.0 (not-true (is_left_out later h.0) q.1)))) h.2
 
   -- ---- what meets gates alone
 

@@ -32,7 +32,7 @@ beside {A} {B} R (z ∷ xs) (y ∷ ys) x h (zero, e) = (y, subst (λ (w : A). R 
 beside R (z ∷ xs) (y ∷ ys) x h (suc i, e) = beside R xs ys x h.1 (i, e)
 
 -- an instance that is whole before another is whole
-whole_before : (cut : Cut) (i n : ℕ) → is_whole (before cut i).choice n ≡ true → is_whole cut.choice n ≡ true
+pub whole_before : (cut : Cut) (i n : ℕ) → is_whole (before cut i).choice n ≡ true → is_whole cut.choice n ≡ true
 whole_before cut i zero e = absurd (false≢true e)
 whole_before cut i (suc n) e = (and_parts (cut.choice n) (nat_lt n i) e).0
 

@@ -2,10 +2,10 @@
 use Rattle.std.proofs.Common.{◌≡◌, ◌<◌, ◌+◌, ◌-◌, ◌++◌, ◌∷◌, ◌&&◌, ◌||◌, [], ℕ, zero, suc, not, List, Bool, true, false, map, length, Option, Some, None, refl, ap, ap₂, sym, ◌∙◌, subst, arith, inl, inr, length-append}
 use Rattle.std.specs.Prelude.{bytes_eq, drop, nat_le, nat_lt}
 use Rattle.std.specs.List.{enumerate_from}
-use Rattle.std.proofs.lemmas.Bool.{and_from, and_parts, cases_lt, false≢true, le-leb, lt-ltb, ltb-true}
+use Rattle.std.proofs.lemmas.Bool.{and_from, and_parts, cases_lt, false_from_ne_true, false≢true, le-leb, lt-ltb, ltb-true}
 use Rattle.std.proofs.lemmas.Option.{none-some, same_Some}
 use Rattle.placed_cells.proofs.ListLaws.{enumerated, in_enumerated, zip_right}
-use Rattle.placed_cells.proofs.PathLaws.{drop_front, not_so, path_on}
+use Rattle.placed_cells.proofs.PathLaws.{drop_front, path_on}
 use Rattle.placed_cells.specs.Cuts.{AreBefore, CutShowsInside}
 use Rattle.placed_cells.specs.Instances.{ShowsInside}
 use Rattle.placed_cells.specs.Splits.{IsSplit, leads_through}
@@ -96,7 +96,7 @@ inside_around r p o steps on apart e =
 
 -- ---- the pins of whole instances
 
-pin_among : (ports : List CellPort) (nets : List ℕ) (pin : Pin) → Among (pins_from ports nets) pin → Among nets pin.net.0
+pub pin_among : (ports : List CellPort) (nets : List ℕ) (pin : Pin) → Among (pins_from ports nets) pin → Among nets pin.net.0
 pin_among [] nets pin m = absurd (none-some pin m.1)
 pin_among (port ∷ ports) [] pin m = absurd (none-some pin m.1)
 pin_among (port ∷ ports) (n ∷ nets) pin (zero, e) = (0, ap (λ (q : Pin). Some q.net.0) (same_Some _ pin e))
@@ -196,7 +196,7 @@ module _ (cut : Cut) (i : ℕ) (p : Place) (depth : ℕ) (before behind : List P
   -- no place in it is in a whole instance
   not_inside : (r : Place) → Among (places_in t depth p) r → is_inside_whole cut r ≡ false
   not_inside r m =
-      not_so (is_inside_whole cut r)
+      false_from_ne_true (is_inside_whole cut r)
       (λ e.
       let found = any_among (λ (o : NumberedPlace). is_whole cut.choice o.number && is_inside r o.at) (numbered_places t) e in
       let o = found.0 in
@@ -213,7 +213,7 @@ module _ (cut : Cut) (i : ℕ) (p : Place) (depth : ℕ) (before behind : List P
       let number : length before + j ≡ suc (i + j) = let is = split.number_is in omega (arith, is) in
       let at : At (all_places t) (suc (i + j)) r = subst (λ (ps : List Place). At ps (suc (i + j)) r) (sym split.whole)
       (subst (λ (k : ℕ). At (before ++ (places_in t depth p ++ behind)) k r) number (at_back before (places_in t depth p ++ behind) j r (at_front (places_in t depth p) behind j r e))) in
-      let whole : cut.choice (i + j) ≡ false = not_so (cut.choice (i + j)) (λ is. let lt = chosen (i + j) is in absurd (omega (arith, lt))) in
+      let whole : cut.choice (i + j) ≡ false = false_from_ne_true (cut.choice (i + j)) (λ is. let lt = chosen (i + j) is in absurd (omega (arith, lt))) in
       among_kept (λ (o : NumberedPlace). not (is_left_out cut o)) (numbered_places t) (record { number = suc (i + j); at = r }) (at_numbered (suc (i + j)) r at)
       (ap₂ (λ (a b : Bool). not (a || b)) whole (not_inside r (j, e)))
 

@@ -1,7 +1,7 @@
 -- Paths that lead through a place: those to the places in it, and no others where the instances of each cell have different names.
-use Rattle.std.proofs.Common.{◌≡◌, ◌<◌, ◌≤◌, ◌+◌, ◌-◌, ◌++◌, ◌∷◌, [], ℕ, zero, suc, List, Bool, true, false, map, flat_map, length, Option, Some, None, refl, ap, sym, ◌∙◌, subst, arith, inl, inr, append_assoc, length-append}
+use Rattle.std.proofs.Common.{◌≡◌, ◌<◌, ◌≤◌, ◌+◌, ◌-◌, ◌++◌, ◌∷◌, [], ℕ, zero, suc, List, Bool, true, false, map, flat_map, length, Option, Some, None, refl, ap, sym, ◌∙◌, subst, arith, append_assoc, length-append}
 use Rattle.std.specs.Prelude.{bytes_eq, drop, nat_le, slice_get, unwrap_or}
-use Rattle.std.proofs.lemmas.Bool.{and_from, and_parts, cases_Bool, false≢true, le-leb, leb-true}
+use Rattle.std.proofs.lemmas.Bool.{and_from, and_parts, false_from_ne_true, false≢true, le-leb, leb-true}
 use Rattle.std.proofs.lemmas.Option.{none-some, same_Some}
 use Rattle.std.proofs.lemmas.Slice.Eq.{bytes_eq-Decides}
 use Rattle.placed_cells.specs.Rows.{own_size}
@@ -73,20 +73,17 @@ leads r p steps e =
     and_from (nat_le (length p.path) (length r.path)) (same_path (drop (length r.path - length p.path) r.path) p.path) (le-leb (length p.path) (length r.path) (omega (arith, count)))
     (ap (λ (s : List Step). same_path s p.path) behind ∙ same_self p.path)
 
-pub not_so : (b : Bool) → (b ≡ true → ⊥) → b ≡ false
-not_so b never = elim (cases_Bool b) [ inl t ↦ absurd (never t) | inr f ↦ f ]
-
 -- a shorter path does not
 pub leads_not_short : (r p : Place) → length r.path < length p.path → leads_through r p ≡ false
 leads_not_short r p lt =
-    not_so (leads_through r p)
+    false_from_ne_true (leads_through r p)
     (λ e.
     let le = leb-true (length p.path) (length r.path) (and_parts (nat_le (length p.path) (length r.path)) (same_path (drop (length r.path - length p.path) r.path) p.path) e).0 in
     absurd (omega (arith, le, lt)))
 
 -- nor does one over another step from the same place
 pub leads_not_past : (r p : Place) (a b : List Step) (x y : Step) (rest : List Step) → r.path ≡ a ++ x ∷ rest → p.path ≡ b ++ y ∷ rest → (bytes_eq x.instance y.instance ≡ true → ⊥) → leads_through r p ≡ false
-leads_not_past r p a b x y rest er ep apart = not_so (leads_through r p) (λ e. apart (by (length r.path - length p.path) (and_parts (nat_le (length p.path) (length r.path)) (same_path (drop (length r.path - length p.path) r.path) p.path) e).1))
+leads_not_past r p a b x y rest er ep apart = false_from_ne_true (leads_through r p) (λ e. apart (by (length r.path - length p.path) (and_parts (nat_le (length p.path) (length r.path)) (same_path (drop (length r.path - length p.path) r.path) p.path) e).1))
   where
     by : (n : ℕ) → same_path (drop n r.path) p.path ≡ true → bytes_eq x.instance y.instance ≡ true
     by n e = same_behind n a b x y rest (subst (λ (s : List Step). same_path (drop n s) (b ++ y ∷ rest) ≡ true) er (subst (λ (s : List Step). same_path (drop n r.path) s ≡ true) ep e))

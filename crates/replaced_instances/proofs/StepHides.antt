@@ -1,12 +1,13 @@
 -- Which nets an instance that comes to be whole hides, and that all others stay.
-use Rattle.std.proofs.Common.{◌≡◌, ◌+◌, ◌<◌, ◌&&◌, ◌||◌, ◌∷◌, [], ℕ, zero, suc, not, List, Bool, true, false, length, Option, Some, None, refl, ap, sym, ◌∙◌, subst, arith, inl, inr}
+use Rattle.std.proofs.Common.{◌≡◌, ◌+◌, ◌<◌, ◌&&◌, ◌||◌, ◌∷◌, [], ℕ, zero, suc, not, List, Bool, true, length, Option, Some, None, refl, ap, sym, ◌∙◌, subst, arith, inl, inr}
 use Rattle.std.specs.Prelude.{drop, filter, is_none, is_some, nat_le, nat_lt, option_map, ◌==◌}
 use Rattle.std.specs.List.{enumerate_from, list_all, list_any}
-use Rattle.std.proofs.lemmas.Bool.{and_from, cases_lt, eq-eqb, false≢true, leb-true, ltb-true, or_cases, or_left, or_right}
+use Rattle.std.proofs.lemmas.Bool.{and_from, cases_lt, eq-eqb, false≢true, leb-true, ltb-true, not-false, or_cases, or_left, or_right}
 use Rattle.std.proofs.lemmas.Option.{none-some, same_Some}
 use Rattle.checked_chain.proofs.ChoiceLaws.{numbered}
 use Rattle.checked_chain.proofs.WholeLaws.{unlinked, whole_beside}
 use Rattle.placed_cells.proofs.DepthLaws.{ordered_is_within_depth}
+use Rattle.placed_cells.proofs.CutLaws.{pin_among}
 use Rattle.placed_cells.proofs.InstanceLaws.{net_inside}
 use Rattle.placed_cells.proofs.AboveLaws.{net_high}
 use Rattle.placed_cells.proofs.ListLaws.{in_enumerated, zip_right}
@@ -34,7 +35,7 @@ use Rattle.vrt_model.specs.Lists.{Among, At}
 use Rattle.vrt_model.specs.PairedPorts.{Paired, Model, Skipped, Missing, paired_model}
 use Rattle.vrt_model.specs.Unrolled.{Place, Top, all_places, places_in}
 use Rattle.vrt_model.specs.Variables.{places}
-use Rattle.vrt_model.specs.WholeInstances.{IsWholeAt, Pin, all_outputs, input_pins, pins_from, pins_of, whole_at}
+use Rattle.vrt_model.specs.WholeInstances.{IsWholeAt, Pin, all_outputs, input_pins, pins_of, whole_at}
 use Rattle.vrt_model.specs.declared.blif.Blif.{Blif}
 use Rattle.vrt_model.specs.declared.circuit.Circuit.{Circuit}
 use Rattle.vrt_model.specs.declared.circuit.Device.{Device}
@@ -56,12 +57,6 @@ port_net_among first (x ∷ xs) [] roles port m = absurd (none-some port m.1)
 port_net_among first (x ∷ xs) (n ∷ ns) [] port m = absurd (none-some port m.1)
 port_net_among first (x ∷ xs) (n ∷ ns) (r ∷ rs) port (zero, e) = (0, ap (λ (q : CellPort). Some q.net) (same_Some _ port e))
 port_net_among first (x ∷ xs) (n ∷ ns) (r ∷ rs) port (suc i, e) = among_later n ns port.net (port_net_among (suc first) xs ns rs port (i, e))
-
-pin_net_among : (ports : List CellPort) (nets : List ℕ) (pin : Pin) → Among (pins_from ports nets) pin → Among nets pin.net.0
-pin_net_among [] nets pin m = absurd (none-some pin m.1)
-pin_net_among (port ∷ ports) [] pin m = absurd (none-some pin m.1)
-pin_net_among (port ∷ ports) (n ∷ ns) pin (zero, e) = (0, ap (λ (q : Pin). Some q.net.0) (same_Some _ pin e))
-pin_net_among (port ∷ ports) (n ∷ ns) pin (suc i, e) = among_later n ns pin.net.0 (pin_net_among ports ns pin (i, e))
 
 -- an input pin is that of a port
 pub input_pin : (k : Comparison) (at : Place) (pin : WholePin) → Among (input_pins k at) pin → (q : Pin) × Among (pins_of k at) q × (q.net ≡ pin.net) × (is_observed k 0 q.port.net ≡ pin.observed) × (is_some (input_signal q.port.role) ≡ true)
@@ -92,7 +87,7 @@ input_among cut blif facts q w pin e m =
     let inputs = inputs_at cut blif facts q w e in
     let k = compared_at cut.top blif q inputs.0 in
     let from = input_pin k q.at pin (subst (λ (pins : List WholePin). Among pins pin) inputs.2 m) in
-    subst (λ (n : Net). Among q.at.ports n.0) from.2 (pin_net_among (ports_of k) q.at.ports from.0 from.1)
+    subst (λ (n : Net). Among q.at.ports n.0) from.2 (pin_among (ports_of k) q.at.ports from.0 from.1)
 
 -- ---- places
 
@@ -241,7 +236,7 @@ module _ (cut : Cut) (blif : Blif) (facts : List CellFacts) (i : ℕ) (p : Numbe
   pub hides : (k : Comparison) (whole_circuit : Circuit) (phase : ℕ) → t ≡ top_of k → phase < length t.rules.phases → IsCircuitWith later blif facts whole_circuit
       → HidesItsNets k q phase whole_circuit at (is_outside_at t depth p.at) (λ n. not (is_inside_at q.circuit at n))
   hides k whole_circuit phase same lt after = record {
-    hidden = λ n e. let j = inside_is q.circuit at n (from_not (is_inside_at q.circuit at n) e) in (j.0, sym j.2, j.1);
+    hidden = λ n e. let j = inside_is q.circuit at n (not-false (is_inside_at q.circuit at n) e) in (j.0, sym j.2, j.1);
     outputs = λ j plain stays. output_seen phase j lt plain stays;
     ports = λ port on.
         let net = port_net_among 0 (cell_at k.design k.cell).ports (port_nets k.rules (cell_at k.design k.cell).ports) k.pairing.ports port on in
@@ -255,10 +250,6 @@ module _ (cut : Cut) (blif : Blif) (facts : List CellFacts) (i : ℕ) (p : Numbe
         let from = zip_right (IsWholeAt later blif facts) (whole_places later) whole_circuit.wholes w after.wholes on in
         outside_is t depth p.at pin.net.0 (whole_outside from.0 pin.net.0 from.1 (input_among later blif facts from.0 w pin from.2.whole there));
   }
-    where
-      from_not : (b : Bool) → not b ≡ false → b ≡ true
-      from_not true e = refl
-      from_not false e = absurd (false≢true (sym e))
 
 pub step_hides_its_nets : StepHidesItsNets
 step_hides_its_nets k cut blif facts i p m depth front back whole_circuit phase same lt step split after =

@@ -2,7 +2,7 @@
 use Rattle.std.proofs.Common.{◌≡◌, ◌⊎◌, ◌+◌, ◌-◌, ◌++◌, ◌<◌, ◌&&◌, ◌||◌, ◌∷◌, [], ℕ, zero, suc, not, List, Bool, true, false, map, length, Option, Some, None, refl, ap, sym, ◌∙◌, subst, arith, inl, inr}
 use Rattle.std.specs.Prelude.{bytes_eq, drop, filter, find, is_some, nat_lt, option_map, ◌==◌}
 use Rattle.std.specs.List.{AllZip, list_any}
-use Rattle.std.proofs.lemmas.Bool.{and_from, and_parts, cases_Bool, cases_lt, false≢true, ltb-true, or_cases, or_left, or_parts, or_right}
+use Rattle.std.proofs.lemmas.Bool.{and_from, and_parts, cases_Bool, cases_lt, false≢true, ltb-true, not-true, or_cases, or_left, or_parts, or_right}
 use Rattle.std.proofs.lemmas.Option.{none-some, same_Some, slice_get_within}
 use Rattle.std.proofs.lemmas.Simd.{map-map}
 use Rattle.cell_inside.specs.Regions.{IsGivenNet}
@@ -59,10 +59,6 @@ use Rattle.vrt_model.specs.declared.whole.WholePin.{WholePin}
 use Rattle.whole_solutions.proofs.PairedPortLaws.{clock_role, of_clock}
 use Rattle.whole_solutions.specs.Observed.{HasLeftInstances, IsInstanceImage}
 
-from_not : (b : Bool) → not b ≡ true → b ≡ false
-from_not true e = absurd (false≢true e)
-from_not false e = refl
-
 -- ---- lists that fit
 
 pub zip_at_right : {X Y : Type 0} (R : X → Y → Type 0) (xs : List X) (ys : List Y) (j : ℕ) (y : Y) → AllZip R xs ys → At ys j y → (x : X) × At xs j x × R x y
@@ -77,7 +73,7 @@ zip_at_left R (z ∷ xs) [] j x h e = absurd h
 zip_at_left {X} {Y} R (z ∷ xs) (y ∷ ys) zero x h e = (y, refl, subst (λ (w : X). R w y) (same_Some z x e) h.0)
 zip_at_left R (z ∷ xs) (y ∷ ys) (suc j) x h e = zip_at_left R xs ys j x h.1 e
 
-front_of : {X : Type 0} (xs : List X) (j : ℕ) (x : X) → At xs (suc j) x → At (drop 1 xs) j x
+pub front_of : {X : Type 0} (xs : List X) (j : ℕ) (x : X) → At xs (suc j) x → At (drop 1 xs) j x
 front_of [] j x e = absurd (none-some x e)
 front_of (y ∷ ys) j x e = e
 
@@ -209,7 +205,7 @@ module _ (cut : Cut) (blif : Blif) (facts : List CellFacts) (i : ℕ) (p : Numbe
             inr (subst (λ (y : FlatInstance). Among (checked_instances later) y) from.2
             (map_among flat_instance (filter (is_shown later) (drop 1 (all_places t))) from.0 (among_kept (is_shown later) (drop 1 (all_places t)) from.0 kept.0 (ap not out))))
         | inl inside ↦
-            let r = place_inside kept.0.0 from.0 (behind_first (all_places t) kept.0.0 from.0 kept.0.1) (inside_now from.0 (from_not (is_inside_whole earlier from.0) kept.1) inside) in
+            let r = place_inside kept.0.0 from.0 (behind_first (all_places t) kept.0.0 from.0 kept.0.1) (inside_now from.0 (not-true (is_inside_whole earlier from.0) kept.1) inside) in
             let s = zip_at_right FitsPlace (all_places own) (places_in t depth p.at) (suc r.0) from.0 fitting r.1 in
             inl (
               flat_instance s.0,

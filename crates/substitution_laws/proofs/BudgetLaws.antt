@@ -1,13 +1,14 @@
 -- A circuit some instances of which are whole needs no more nodes than the flat one.
-use Rattle.std.proofs.Common.{◌≡◌, ℕ, zero, suc, ◌+◌, ◌*◌, ◌^◌, ◌≤◌, not, Bool, true, false, cond, List, [], ◌∷◌, drop, length, map, refl, ap, sym, ◌∙◌, arith, inl, inr}
+use Rattle.std.proofs.Common.{◌≡◌, ℕ, ◌+◌, ◌*◌, ◌^◌, ◌≤◌, not, Bool, true, false, cond, List, [], ◌∷◌, drop, length, map, refl, ap, sym, ◌∙◌, arith, inl, inr}
 use Rattle.std.specs.Prelude.{filter}
 use Rattle.std.specs.List.{sum_by}
-use Rattle.std.proofs.lemmas.Bool.{and_parts, cases_Bool, false≢true, not-true, or_cases, or_left, or_right}
+use Rattle.std.proofs.lemmas.Bool.{cases_Bool, false≢true, not-true, or_cases, or_left, or_right}
 use Rattle.std.proofs.lemmas.List.Concat.{length-flat_map}
 use Rattle.std.proofs.lemmas.List.Sums.{sum_by-cons}
 use Rattle.std.proofs.lemmas.Nat.{mul-le}
 use Rattle.checked_chain.proofs.EndLaws.{chain_begins_flat}
 use Rattle.checked_chain.proofs.SettingLaws.{settings_are_same}
+use Rattle.checked_chain.proofs.ThereLaws.{whole_before}
 use Rattle.checked_chain.specs.Holds.{IsOfChain}
 use Rattle.substitution_laws.proofs.WholeCells.{inside_of_all}
 use Rattle.substitution_laws.specs.Verdicts.{ChainNeedsNoMore}
@@ -50,10 +51,6 @@ sum_of_mapped {X} {Y} f g (x ∷ xs) =
 
 -- ---- what is left out
 
-whole_of_all : (cut : Cut) (n j : ℕ) → is_whole (before cut n).choice j ≡ true → is_whole cut.choice j ≡ true
-whole_of_all cut n zero e = e
-whole_of_all cut n (suc j) e = (and_parts (cut.choice j) _ e).0
-
 -- what is shown in the circuit is shown where fewer instances are whole
 shown_of_fewer : (cut : Cut) (n : ℕ) (p : NumberedPlace) → not (is_left_out cut p) ≡ true → not (is_left_out (before cut n) p) ≡ true
 shown_of_fewer cut n p e =
@@ -65,7 +62,7 @@ shown_of_fewer cut n p e =
     more : is_left_out (before cut n) p ≡ true → is_left_out cut p ≡ true
     more out =
         elim (or_cases (is_whole (before cut n).choice p.number) (is_inside_whole (before cut n) p.at) out) [
-          | inl whole ↦ or_left (is_whole cut.choice p.number) (is_inside_whole cut p.at) (whole_of_all cut n p.number whole)
+          | inl whole ↦ or_left (is_whole cut.choice p.number) (is_inside_whole cut p.at) (whole_before cut n p.number whole)
           | inr inside ↦ or_right (is_whole cut.choice p.number) (is_inside_whole cut p.at) (inside_of_all cut n p.at inside)
         ]
 

@@ -2,11 +2,11 @@
 use Rattle.std.proofs.Common.{◌≡◌, ℕ, zero, suc, ◌<◌, ◌&&◌, Bool, true, false, not, List, [], ◌∷◌, map, length, Option, Some, None, cond, refl, ap, sym, ◌∙◌, subst, arith, inl, inr}
 use Rattle.std.specs.Prelude.{drop, filter, nat_lt, option_map, unwrap_or}
 use Rattle.std.proofs.lemmas.Bool.{and_from, and_parts, cases_Bool, false≢true}
-use Rattle.std.proofs.lemmas.Option.{none-some}
 use Rattle.std.proofs.lemmas.Simd.{map-map}
 use Rattle.cell_inside.specs.Placed.{IsSupply}
 use Rattle.checked_chain.proofs.ChoiceLaws.{numbered_at}
 use Rattle.checked_chain.proofs.OrderLaws.{chosen_are_apart}
+use Rattle.checked_chain.proofs.ThereLaws.{whole_before}
 use Rattle.placed_cells.proofs.AboveLaws.{instances_are_shifted}
 use Rattle.placed_cells.proofs.HoldLaws.{cells_there}
 use Rattle.placed_cells.proofs.ListLaws.{zip_right}
@@ -15,7 +15,7 @@ use Rattle.placed_cells.specs.Above.{net_above}
 use Rattle.replaced_cells.proofs.BrokenLaws.{assumes_constrain, clocks_constrain}
 use Rattle.replaced_cells.specs.OneMoreWhole.{all_bits}
 use Rattle.replaced_instances.proofs.StepHides.{inputs_at}
-use Rattle.replaced_instances.proofs.StepInstances.{pin_of_input}
+use Rattle.replaced_instances.proofs.StepInstances.{front_of, pin_of_input}
 use Rattle.replaced_instances.proofs.StepPorts.{may, no_holds, place_there, tied}
 use Rattle.replaced_instances.specs.Steps.{IsStepAtGates, compared_at}
 use Rattle.substitution_laws.proofs.ChosenLaws.{chosen_steps_are_at_gates}
@@ -120,15 +120,7 @@ inside_of_all cut n r e =
     let w = any_among (λ (o : NumberedPlace). is_whole (before cut n).choice o.number && is_inside r o.at) (numbered_places cut.top) e in
     let both = and_parts (is_whole (before cut n).choice w.0.number) (is_inside r w.0.at) w.2 in
     among_any (λ (o : NumberedPlace). is_whole cut.choice o.number && is_inside r o.at) (numbered_places cut.top) w.0 w.1
-    (and_from (is_whole cut.choice w.0.number) (is_inside r w.0.at) (chosen w.0.number both.0) both.1)
-  where
-    chosen : (j : ℕ) → is_whole (before cut n).choice j ≡ true → is_whole cut.choice j ≡ true
-    chosen zero e = e
-    chosen (suc j) e = (and_parts (cut.choice j) (nat_lt j n) e).0
-
-pub front_of : {X : Type 0} (xs : List X) (j : ℕ) (x : X) → At xs (suc j) x → At (drop 1 xs) j x
-front_of [] j x e = absurd (none-some x e)
-front_of (y ∷ ys) j x e = e
+    (and_from (is_whole cut.choice w.0.number) (is_inside r w.0.at) (whole_before cut n w.0.number both.0) both.1)
 
 -- an instance that is chosen, with its place
 pub record IsChosenAt (cut : Cut) (i : ℕ) (p : NumberedPlace) : Type 0 where

@@ -7,10 +7,11 @@ use Rattle.checked_chain.proofs.ChoiceLaws.{numbered_at}
 use Rattle.checked_chain.proofs.InstanceLaws.{instances_move}
 use Rattle.checked_chain.specs.Holds.{AreEndsShown, IsEndShown}
 use Rattle.placed_cells.proofs.ListLaws.{zip_right}
+use Rattle.replaced_instances.proofs.StepInstances.{front_of}
 use Rattle.replaced_instances.proofs.StepPorts.{place_there}
 use Rattle.replaced_instances.specs.Steps.{IsStepAtGates, compared_at}
 use Rattle.substitution_laws.proofs.ChosenLaws.{chosen_steps_are_at_gates, output_soft}
-use Rattle.substitution_laws.proofs.WholeCells.{front_of, whole_chosen}
+use Rattle.substitution_laws.proofs.WholeCells.{whole_chosen}
 use Rattle.substitution_laws.specs.Chosen.{IsSoftChoice}
 use Rattle.formed_cells.specs.Formed.{IsFormed}
 use Rattle.substitution_laws.proofs.FormedCells.{formed_cell}
