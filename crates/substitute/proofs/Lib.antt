@@ -1,3 +1,4 @@
+pub mod FlatLaws
 pub mod HoldLaws
 pub mod InsideLaws
 pub mod LinkLaws
@@ -5,3 +6,4 @@ pub mod ListLaws
 pub mod PinLaws
 pub mod ShownLaws
 pub mod WholeLaws
+pub mod ZipLaws

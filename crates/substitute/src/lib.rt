@@ -1,6 +1,7 @@
 //! Instances that are left whole, for which the models of their cells stand.
 #![tactic(auto)]
 
+mod assembly;
 mod copies;
 mod holds;
 mod inside;
@@ -11,7 +12,9 @@ mod owners;
 mod pins;
 mod shown;
 mod whole_cell;
+mod wholes;
 
+pub use assembly::circuit_with;
 pub use holds::moved_holds;
 pub use inside::inside_marks;
 pub use instance::whole_at;
@@ -21,3 +24,4 @@ pub use owners::device_places;
 pub use pins::{driven_pins, input_pins};
 pub use shown::{shown_devices, shown_instances};
 pub use whole_cell::WholeCell;
+pub use wholes::wholes_of;
