@@ -3,6 +3,7 @@ pub mod HoldLaws
 pub mod InsideLaws
 pub mod LinkLaws
 pub mod ListLaws
+pub mod OutputLaws
 pub mod PinLaws
 pub mod ShownLaws
 pub mod WholeLaws

@@ -1,6 +1,7 @@
 pub mod Insides
 pub mod Links
 pub mod MovedHolds
+pub mod Outputs
 pub mod Pins
 pub mod Shown
 pub mod WholeCells
