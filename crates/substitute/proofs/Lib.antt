@@ -1,3 +1,5 @@
+pub mod ArcLaws
+pub mod CellLaws
 pub mod FlatLaws
 pub mod HoldLaws
 pub mod InsideLaws

@@ -1,3 +1,5 @@
+pub mod Acyclic
+pub mod CellTests
 pub mod Insides
 pub mod Links
 pub mod MovedHolds

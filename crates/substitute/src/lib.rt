@@ -1,7 +1,9 @@
 //! Instances that are left whole, for which the models of their cells stand.
 #![tactic(auto)]
 
+mod acyclic;
 mod assembly;
+mod cell_tests;
 mod copies;
 mod holds;
 mod inside;
@@ -16,7 +18,9 @@ mod shown;
 mod whole_cell;
 mod wholes;
 
+pub use acyclic::are_acyclic;
 pub use assembly::circuit_with;
+pub use cell_tests::{keeps_inputs_free, names_no_global};
 pub use holds::moved_holds;
 pub use inside::inside_marks;
 pub use instance::whole_at;
