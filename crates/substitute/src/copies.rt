@@ -3,7 +3,7 @@
 ghost use Rattle.std.specs.Prelude.{◌≡◌, IfOk};
 
 use std::alloc::Global;
-use vrt_model::{Cover, FlatModel, NoMemory, Seq, Text};
+use vrt_model::{Cover, FlatModel, FlatNet, NoMemory, Seq, Text};
 
 /// A copy of a list.
 pub(crate) fn copy_items<T: Copy + Drop>(alloc: Global, items: &[T]) -> Result<Seq<T>, NoMemory>
@@ -72,4 +72,19 @@ pub(crate) fn copy_model(alloc: Global, model: &FlatModel) -> Result<FlatModel, 
         covers,
         latches,
     })
+}
+
+/// A copy of nets.
+pub(crate) fn copy_nets(alloc: Global, nets: &[FlatNet]) -> Result<Seq<FlatNet>, NoMemory>
+    ensures { IfOk result (λ copy. copy ≡ nets.now) }
+{
+    let mut copy = Seq::new(alloc);
+    for net in nets {
+        let name = Text::from_bytes(alloc, net.name.as_bytes())?;
+        copy.append(FlatNet {
+            name,
+            kind: net.kind,
+        })?;
+    }
+    Ok(copy)
 }
