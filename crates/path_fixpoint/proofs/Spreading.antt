@@ -18,7 +18,9 @@ use Rattle.vrt_model.specs.declared.circuit.Device.{Device}
 use Rattle.vrt_model.specs.declared.ids.Dev.{Dev}
 use Rattle.vrt_model.specs.declared.ids.Net.{Net}
 use Rattle.channel_parts.specs.declared.part.Part.{Part}
-use Rattle.path_fixpoint.specs.Parts.{IsGiven, IsOnSide, IsPart, IsVisited, is_on_side, part_devices, turned}
+use Rattle.path_fixpoint.specs.declared.direction.Direction.{Direction}
+use Rattle.path_fixpoint.specs.declared.direction.Direction.TheVariants.{Backward, Forward}
+use Rattle.path_fixpoint.specs.Parts.{IsGiven, IsOnSide, IsPart, IsVisited, is_on_side, part_devices, visited_place}
 use Rattle.path_fixpoint.specs.Strengths.{HasWords, IsStrong, Passes, Spreads, StandsAt, strong_end}
 use Rattle.bdd_core.specs.Words.{Writes, word_at}
 use Rattle.path_fixpoint.proofs.RoundLaws.{stands_kept, words_kept}
@@ -29,42 +31,42 @@ pub device_of_circuit : (c : Circuit) (part : Part) (d : Device) → Among (part
 device_of_circuit c part d m = let r = among_filter_map (λ (x : Dev). slice_get c.devices x.0) part.devices d m in (r.0.0, r.2)
 
 -- a device that a round visits in its first steps
-abbrev pub Visited : Circuit → Part → Bool → ℕ → Device → Type 0
-Visited c part forward count d = (step : ℕ) × (step < count) × IsVisited c part forward step d
+abbrev pub Visited : Circuit → Part → Direction → ℕ → Device → Type 0
+Visited c part direction count d = (step : ℕ) × (step < count) × IsVisited c part direction step d
 
-pub visited_more : (c : Circuit) (part : Part) (forward : Bool) (i : ℕ) (device : Device) → IsVisited c part forward i device
-    → (d : Device) → Visited c part forward (i + 1) d → Visited c part forward i d ⊎ (d ≡ device)
-visited_more c part forward i device is d x =
+pub visited_more : (c : Circuit) (part : Part) (direction : Direction) (i : ℕ) (device : Device) → IsVisited c part direction i device
+    → (d : Device) → Visited c part direction (i + 1) d → Visited c part direction i d ⊎ (d ≡ device)
+visited_more c part direction i device is d x =
     elim (cases_lt x.0 i) [
       | inl low ↦ inl (x.0, low, x.2)
       | inr ge ↦
           let here : x.0 ≡ i = omega (arith, ge, x.1) in
-          let there : IsVisited c part forward i d = subst (λ (k : ℕ). IsVisited c part forward k d) here x.2 in
+          let there : IsVisited c part direction i d = subst (λ (k : ℕ). IsVisited c part direction k d) here x.2 in
           let same : there.0 ≡ is.0 = same_Some there.0 is.0 (sym there.1 ∙ is.1) in
           inr (same_Some d device (sym there.2 ∙ subst (λ (y : Dev). At c.devices y.0 device) (sym same) is.2))
     ]
 
-turned_in : (forward : Bool) (count at : ℕ) → at < count → turned forward count at < count
-turned_in true count at lt = lt
-turned_in false count at lt = omega (arith, lt)
+visited_in : (direction : Direction) (count at : ℕ) → at < count → visited_place direction count at < count
+visited_in Forward count at lt = lt
+visited_in Backward count at lt = omega (arith, lt)
 
-turned_twice : (forward : Bool) (count at : ℕ) → at < count → turned forward count (turned forward count at) ≡ at
-turned_twice true count at lt = refl
-turned_twice false count at lt = omega (arith, lt)
+visited_twice : (direction : Direction) (count at : ℕ) → at < count → visited_place direction count (visited_place direction count at) ≡ at
+visited_twice Forward count at lt = refl
+visited_twice Backward count at lt = omega (arith, lt)
 
-pub all_visited : (c : Circuit) (part : Part) (forward : Bool) (count : ℕ) → length part.devices ≤ count → (d : Device) → Among (part_devices c part) d → Visited c part forward count d
-all_visited c part forward count le d m =
+pub all_visited : (c : Circuit) (part : Part) (direction : Direction) (count : ℕ) → length part.devices ≤ count → (d : Device) → Among (part_devices c part) d → Visited c part direction count d
+all_visited c part direction count le d m =
     let r = among_filter_map (λ (x : Dev). slice_get c.devices x.0) part.devices d m in
     let size = length part.devices in
     let inside : r.1.0 < size = slice_get_within part.devices r.1.0 r.0 r.1.1 in
-    let step = turned forward size r.1.0 in
-    let back : turned forward size step ≡ r.1.0 = turned_twice forward size r.1.0 inside in
-    (step, omega (arith, le, turned_in forward size r.1.0 inside), (r.0, subst (λ (k : ℕ). At part.devices k r.0) (sym back) r.1.1, r.2))
+    let step = visited_place direction size r.1.0 in
+    let back : visited_place direction size step ≡ r.1.0 = visited_twice direction size r.1.0 inside in
+    (step, omega (arith, le, visited_in direction size r.1.0 inside), (r.0, subst (λ (k : ℕ). At part.devices k r.0) (sym back) r.1.1, r.2))
 
 -- a device that a round visits is one of the part
-pub visited_among : (c : Circuit) (part : Part) (forward : Bool) (step : ℕ) (d : Device) → IsVisited c part forward step d → Among (part_devices c part) d
-visited_among c part forward step d is =
-    filter_map_among (λ (x : Dev). slice_get c.devices x.0) part.devices (turned forward (length part.devices) step) is.0 d is.1 is.2
+pub visited_among : (c : Circuit) (part : Part) (direction : Direction) (step : ℕ) (d : Device) → IsVisited c part direction step d → Among (part_devices c part) d
+visited_among c part direction step d is =
+    filter_map_among (λ (x : Dev). slice_get c.devices x.0) part.devices (visited_place direction (length part.devices) step) is.0 d is.1 is.2
 
 pub device_ranges : (c : Circuit) (part : Part) (d : Device) → HasRanges c → Among (part_devices c part) d → IsDevice c d
 device_ranges c part d in_range m = all_among (IsDevice c) c.devices d in_range.devices (device_of_circuit c part d m)

@@ -3,6 +3,7 @@
 //! Bryant, A switch-level model and simulator for MOS digital systems, IEEE Transactions on Computers C-33, 1984).
 #![tactic(auto)]
 
+mod direction;
 mod levels;
 mod opening;
 mod ranges;

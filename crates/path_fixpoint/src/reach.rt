@@ -14,6 +14,7 @@ ghost use Rattle.bdd_ops.specs.Counting.{IsSpanWithin};
 ghost use Rattle.path_fixpoint.specs.Spending.{Spends};
 
 use crate::Part;
+use crate::direction::Direction;
 use crate::opening::is_idle;
 use crate::signals::{fitting, offers, slot};
 use crate::steps::{
@@ -129,7 +130,7 @@ fn round(
     out: Span,
     value: bool,
     inside: bool,
-    forward: bool,
+    direction: Direction,
 ) -> Result<bool, Spent>
     requires part { IsPartOf circuit.now part.now rising }
     requires words { HasRootWords circuit.now part.now gates roots out store.old }
@@ -141,7 +142,7 @@ fn round(
     store.sound();
     let mut changed = false;
     for step in 0..part.devices.len() {
-        let device = visited(circuit, part, forward, step);
+        let device = visited(circuit, part, direction, step);
         let grew = match visit(
             store, circuit, part, rising, gates, roots, out, device, value, inside,
         ) {
@@ -173,11 +174,11 @@ pub(crate) fn settle(
     ensures few { (u : ℕ) → IsSpanWithin u store.old gates → IsSpanWithin u store.old roots → IsSpanWithin u store.old out → Spends u (length part.now.nets * (length part.now.devices * 38)) out store.old store.new result }
 {
     store.sound();
-    let mut forward = false;
+    let mut direction = Direction::Backward;
     'rounds: for count in 0..part.nets.len() {
         let inside = is_behind_first(count);
         let changed = match round(
-            store, circuit, part, rising, gates, roots, out, value, inside, forward,
+            store, circuit, part, rising, gates, roots, out, value, inside, direction,
         ) {
             Ok(changed) => changed,
             Err(spent) => return Err(spent),
@@ -185,7 +186,7 @@ pub(crate) fn settle(
         if is_settled(inside, changed) {
             return Ok(());
         }
-        forward = !forward;
+        direction = direction.turned();
     }
     Ok(())
 }

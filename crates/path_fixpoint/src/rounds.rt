@@ -13,6 +13,7 @@ ghost use Rattle.bdd_ops.specs.Counting.{IsSpanWithin};
 ghost use Rattle.path_fixpoint.specs.Spending.{Spends};
 
 use crate::Part;
+use crate::direction::Direction;
 use crate::opening::is_idle;
 use crate::steps::{
     blocks, is_behind_first, is_full, is_settled, offered, place, strength, through, visited,
@@ -121,7 +122,7 @@ fn round(
     out: Span,
     level: u32,
     inside: bool,
-    forward: bool,
+    direction: Direction,
 ) -> Result<bool, Spent>
     requires part { IsPartOf circuit.now part.now rising }
     requires words { HasWords circuit.now part.now gates out store.old }
@@ -134,7 +135,7 @@ fn round(
     store.sound();
     let mut changed = false;
     for step in 0..part.devices.len() {
-        let device = visited(circuit, part, forward, step);
+        let device = visited(circuit, part, direction, step);
         let grew = match visit(
             store, circuit, part, rising, gates, out, device, level, inside,
         ) {
@@ -166,11 +167,11 @@ pub(crate) fn settle(
     ensures few { (u : ℕ) → IsSpanWithin u store.old gates → IsSpanWithin u store.old out → Spends u (length part.now.nets * (length part.now.devices * 4)) out store.old store.new result }
 {
     store.sound();
-    let mut forward = false;
+    let mut direction = Direction::Backward;
     'rounds: for count in 0..part.nets.len() {
         let inside = is_behind_first(count);
         let changed = match round(
-            store, circuit, part, rising, gates, out, level, inside, forward,
+            store, circuit, part, rising, gates, out, level, inside, direction,
         ) {
             Ok(changed) => changed,
             Err(spent) => return Err(spent),
@@ -178,7 +179,7 @@ pub(crate) fn settle(
         if is_settled(inside, changed) {
             return Ok(());
         }
-        forward = !forward;
+        direction = direction.turned();
     }
     Ok(())
 }

@@ -3,7 +3,7 @@
 ghost use Rattle.std.specs.Prelude.{IsTrue, ◌≡◌, ◌≢◌, ℕ, ◌+◌, ◌-◌, ◌*◌, ◌^◌, ◌<◌, ◌≤◌, ◌⊎◌, ◌||◌, Bool, true, false, cond, eqb, length, IfOk, IfSome, IsNone, option_map};
 ghost use Rattle.bdd_core.specs.Diagram.{Valuation, IsReduced, IsWithin, meaning};
 ghost use Rattle.bdd_core.specs.Store.{IsLive, IsSpan, Makes, function_of};
-ghost use Rattle.path_fixpoint.specs.Parts.{IsPart, IsPlace, IsVisited, Rises, is_on_side, turned};
+ghost use Rattle.path_fixpoint.specs.Parts.{IsPart, IsPlace, IsVisited, Rises, is_on_side};
 ghost use Rattle.path_fixpoint.specs.Strengths.{strong_end, word_of, net_words};
 ghost use Rattle.bdd_core.specs.Words.{IsFilled, Writes, shows, word_at};
 ghost use Rattle.path_fixpoint.specs.Passed.{blocking, gated, IsWider};
@@ -11,6 +11,7 @@ ghost use Rattle.bdd_ops.specs.Counting.{IsSpanWithin};
 ghost use Rattle.path_fixpoint.specs.Spending.{Spends};
 
 use crate::Part;
+use crate::direction::Direction;
 use crate::words::net_words;
 use bdd_core::{H, ONE, Spent, Store, ZERO};
 use bdd_ops::{and, or};
@@ -56,28 +57,19 @@ pub(crate) fn place(part: &Part, rising: bool, net: Net) -> Option<usize>
         .position(|other| other.0 == net.0)
 }
 
-/// The place to which a round over so many places comes at a step: from the first one on, or back from the last one.
-fn turned(forward: bool, count: usize, step: usize) -> usize
-    requires { step < count }
-    ensures is { result ≡ turned forward count step }
-    ensures inside { result < count }
-{
-    if forward { step } else { count - 1 - step }
-}
-
 /// The device of a part that a round visits at a step.
 pub(crate) fn visited<'a>(
     circuit: &'a Circuit,
     part: &Part,
-    forward: bool,
+    direction: Direction,
     step: usize,
 ) -> &'a Device
     requires part { IsPart circuit.now part.now }
     requires step { step < length part.now.devices }
-    ensures { IsVisited circuit.now part.now forward step result.now }
+    ensures { IsVisited circuit.now part.now direction step result.now }
 {
     let devices = part.devices.as_slice();
-    let dev = devices[turned(forward, devices.len(), step)];
+    let dev = devices[direction.place(devices.len(), step)];
     let Some(device) = circuit.devices.get(dev.0 as usize) else {
         unreachable!();
     };
