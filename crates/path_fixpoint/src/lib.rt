@@ -9,6 +9,7 @@ mod opening;
 mod ranges;
 mod reach;
 mod rounds;
+mod side;
 mod signals;
 mod solve;
 mod sources;

@@ -1,9 +1,9 @@
 //! Single steps: what a conducting device passes on, and the word that it is added to.
 
-ghost use Rattle.std.specs.Prelude.{IsTrue, ◌≡◌, ◌≢◌, ℕ, ◌+◌, ◌-◌, ◌*◌, ◌^◌, ◌<◌, ◌≤◌, ◌⊎◌, ◌||◌, Bool, true, false, cond, eqb, length, IfOk, IfSome, IsNone, option_map};
+ghost use Rattle.std.specs.Prelude.{IsTrue, ◌≡◌, ◌≢◌, ℕ, ◌+◌, ◌-◌, ◌*◌, ◌^◌, ◌<◌, ◌≤◌, ◌⊎◌, ◌||◌, Bool, true, false, eqb, length, IfOk, IfSome, IsNone, option_map};
 ghost use Rattle.bdd_core.specs.Diagram.{Valuation, IsReduced, IsWithin, meaning};
 ghost use Rattle.bdd_core.specs.Store.{IsLive, IsSpan, Makes, function_of};
-ghost use Rattle.path_fixpoint.specs.Parts.{IsPart, IsPlace, IsVisited, Rises, is_on_side};
+ghost use Rattle.path_fixpoint.specs.Parts.{IsPart, IsPlace, IsVisited, Rises};
 ghost use Rattle.path_fixpoint.specs.Strengths.{strong_end, word_of, net_words};
 ghost use Rattle.bdd_core.specs.Words.{IsFilled, Writes, shows, word_at};
 ghost use Rattle.path_fixpoint.specs.Passed.{blocking, gated, IsWider};
@@ -99,41 +99,6 @@ pub(crate) fn strength(store: &Store, out: Span, place: Option<usize>, level: u3
         Some(place) => H(store.read(out, word(place, level))),
         None => ONE,
     }
-}
-
-/// Whether an end of a channel is in the part or outside it, as is asked.
-pub(crate) fn is_on_side(inside: bool, place: Option<usize>) -> bool
-    ensures { result ≡ is_on_side inside place }
-{
-    match place {
-        Some(_) => inside,
-        None => !inside,
-    }
-}
-
-/// What an end of a channel offers to the other one: its signal, where the end is on the side that is asked, else nothing.
-pub(crate) fn offered(inside: bool, place: Option<usize>, signal: H) -> H
-    ensures { result.0 ≡ cond (is_on_side inside place) signal.0 0 }
-{
-    if is_on_side(inside, place) {
-        return signal;
-    }
-    ZERO
-}
-
-/// Whether a round is behind the first one, by how many there were before it.
-pub(crate) fn is_behind_first(before: usize) -> bool
-    ensures first { result ≡ false → before ≡ 0 }
-    ensures later { result ≡ true → 1 ≤ before }
-{
-    before > 0
-}
-
-/// Whether a round inside the part changed nothing, so that none behind it does.
-pub(crate) fn is_settled(inside: bool, changed: bool) -> bool
-    ensures { result ≡ true → (inside ≡ true) × (changed ≡ false) }
-{
-    inside && !changed
 }
 
 /// Whether a gate is the constant that keeps a device from conducting.

@@ -37,7 +37,7 @@ loop-step-preserved c =
     record {
       writes = writes_then out first old new i.writes c.in-Ok.ensures.writes;
       apart = λ k away. c.in-Ok.ensures.apart k away ∙ i.apart k away;
-      spreads = spreads_value_then circuit part c.requires.part.1 c.requires.part.0 c.args.gates c.args.roots out c.args.value c.args.inside (Visited circuit part c.args.direction at) (λ d. d ≡ device) (Visited circuit part c.args.direction (at + 1))
+      spreads = spreads_value_then circuit part c.requires.part.1 c.requires.part.0 c.args.gates c.args.roots out c.args.value c.args.side (Visited circuit part c.args.direction at) (λ d. d ≡ device) (Visited circuit part c.args.direction (at + 1))
           c.loop-step.changed c.in-Ok.grew first old new c.requires.words i.writes i.apart (visited_more circuit part c.args.direction at device c.visited-device.ensures) i.spreads c.in-Ok.ensures.spreads;
       few = λ u gates roots all.
           let q = i.few u gates roots all in
@@ -49,7 +49,7 @@ pub returns-clause-spreads : goal.returns-clause-spreads
 returns-clause-spreads c =
     let circuit = c.args.circuit.now in
     let part = c.args.part.now in
-    spreads_value_less circuit part c.requires.part.1 c.requires.part.0 c.args.gates c.args.roots c.args.out c.args.value c.args.inside (Visited circuit part c.args.direction c.loop-step.step) (Among (part_devices circuit part))
+    spreads_value_less circuit part c.requires.part.1 c.requires.part.0 c.args.gates c.args.roots c.args.out c.args.value c.args.side (Visited circuit part c.args.direction c.loop-step.step) (Among (part_devices circuit part))
     c.loop-step.changed c.args.store.now c.loop-step.store (all_visited circuit part c.args.direction c.loop-step.step (omega (arith, c.len-step-end.ensures, c.loop-step-test.false))) c.loop-step.invariant.spreads
 
 pub returns-in-Err-clause-few : goal.returns-in-Err-clause-few
