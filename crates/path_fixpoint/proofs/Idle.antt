@@ -18,10 +18,12 @@ use Rattle.vrt_model.specs.declared.design.Kind.{Kind}
 use Rattle.vrt_model.specs.declared.design.Kind.TheVariants.{N, P}
 use Rattle.vrt_model.specs.declared.ids.Net.{Net}
 use Rattle.channel_parts.specs.declared.part.Part.{Part}
+use Rattle.path_fixpoint.specs.declared.side.Side.{Side}
+use Rattle.path_fixpoint.specs.declared.side.Side.TheVariants.{Outside}
 use Rattle.path_fixpoint.specs.Parts.{IsGiven, IsOnSide, IsPart, IsWithoutGivenEnd, part_devices}
 use Rattle.path_fixpoint.specs.Passed.{blocking}
 use Rattle.path_fixpoint.specs.Reaching.{PassesSignal, SpreadsValue, slot_of}
-use Rattle.path_fixpoint.specs.Strengths.{Passes, Spreads, StandsAt, strong, strong_end, word_of}
+use Rattle.path_fixpoint.specs.Strengths.{Passes, Spreads, StandsAt, strong, word_of}
 use Rattle.path_fixpoint.proofs.Spreading.{device_ranges}
 
 -- at the constant that blocks it no device conducts
@@ -39,16 +41,16 @@ module _ (c : Circuit) (part : Part) (in_range : HasRanges c) (gates out : Span)
       ap (λ (h : ℕ). meaning s.nodes h v) (sym gate_is) ∙ st.reading d.gate.0 (device_ranges c part d in_range member).gate in
       false≢true (sym (blocked s.nodes d.kind v) ∙ ap (λ (b : Bool). conducts_at d.kind b) reads ∙ conducts_d)
 
-  pub spreads_off : (level : ℕ) (inside : Bool) → Spreads c part gates out level inside (λ x. x ≡ d) false s s
-  spreads_off level inside = record {
+  pub spreads_off : (level : ℕ) (side : Side) → Spreads c part gates out level side (λ x. x ≡ d) false s s
+  spreads_off level side = record {
     grown = λ i lt v e. e;
     passed = λ x is v w st on. absurd (never_on x is v w st on);
     paths = λ v w st paths. paths;
     same = λ e. refl;
   }
 
-  pub spreads_value_off : (roots : Span) (value inside : Bool) → SpreadsValue c part gates roots out value inside (λ x. x ≡ d) false s s
-  spreads_value_off roots value inside = record {
+  pub spreads_value_off : (roots : Span) (value : Bool) (side : Side) → SpreadsValue c part gates roots out value side (λ x. x ≡ d) false s s
+  spreads_value_off roots value side = record {
     grown = λ i lt v e. e;
     passed = λ x is v w t st on. absurd (never_on x is v w st.stands on);
     paths = λ v w t st paths. paths;
@@ -57,31 +59,31 @@ module _ (c : Circuit) (part : Part) (in_range : HasRanges c) (gates out : Span)
 
 -- both ends are in the part, so nothing comes from outside over the device
 module _ (c : Circuit) (part : Part) (is_part : IsPart c part) (gates out : Span) (d : Device) (member : Among (part_devices c part) d) (s : Diagrams)
-    (inside : Bool) (no_given : IsWithoutGivenEnd c d) (outer : inside ≡ false) where
-  in_part : (net : Net) → Among part.nets net ⊎ IsGiven c net.0 → (IsGiven c net.0 → ⊥) → IsOnSide part false net.0 → ⊥
+    (side : Side) (no_given : IsWithoutGivenEnd c d) (outer : side ≡ Outside) where
+  in_part : (net : Net) → Among part.nets net ⊎ IsGiven c net.0 → (IsGiven c net.0 → ⊥) → IsOnSide part Outside net.0 → ⊥
   in_part net (inl p) none away = away p.0 (net, p.1, refl)
   in_part net (inr given) none away = none given
 
-  no_end : (x : Device) → x ≡ d → (m n : ℕ) → Joins x m n → IsOnSide part inside m → ⊥
-  no_end x is m n j side =
-      let away : IsOnSide part false m = subst (λ (b : Bool). IsOnSide part b m) outer side in
+  no_end : (x : Device) → x ≡ d → (m n : ℕ) → Joins x m n → IsOnSide part side m → ⊥
+  no_end x is m n j lies =
+      let away : IsOnSide part Outside m = subst (λ (other : Side). IsOnSide part other m) outer lies in
       elim (subst (λ (y : Device). Joins y m n) is j) [
-        | inl q ↦ in_part d.left (is_part.left d member) no_given.0 (subst (IsOnSide part false) (sym q.0) away)
-        | inr q ↦ in_part d.right (is_part.right d member) no_given.1 (subst (IsOnSide part false) (sym q.1) away)
+        | inl q ↦ in_part d.left (is_part.left d member) no_given.0 (subst (IsOnSide part Outside) (sym q.0) away)
+        | inr q ↦ in_part d.right (is_part.right d member) no_given.1 (subst (IsOnSide part Outside) (sym q.1) away)
       ]
 
-  pub spreads_idle : (level : ℕ) → Spreads c part gates out level inside (λ x. x ≡ d) false s s
+  pub spreads_idle : (level : ℕ) → Spreads c part gates out level side (λ x. x ≡ d) false s s
   spreads_idle level = record {
     grown = λ i lt v e. e;
-    passed = λ x is v w st on le m n j side str. absurd (no_end x is m n j side);
+    passed = λ x is v w st on le m n j lies str. absurd (no_end x is m n j lies);
     paths = λ v w st paths. paths;
     same = λ e. refl;
   }
 
-  pub spreads_value_idle : (roots : Span) (value : Bool) → SpreadsValue c part gates roots out value inside (λ x. x ≡ d) false s s
+  pub spreads_value_idle : (roots : Span) (value : Bool) → SpreadsValue c part gates roots out value side (λ x. x ≡ d) false s s
   spreads_value_idle roots value = record {
     grown = λ i lt v e. e;
-    passed = λ x is v w t st on m n j fits side r. absurd (no_end x is m n j side);
+    passed = λ x is v w t st on m n j fits lies r. absurd (no_end x is m n j lies);
     paths = λ v w t st paths. paths;
     same = λ e. refl;
   }

@@ -1,6 +1,5 @@
 -- One device: what it passes on in one direction, and in both.
 use Rattle.std.proofs.Common.{◌≡◌, ◌≢◌, ℕ, ◌+◌, ◌<◌, ◌≤◌, Bool, true, false, cond, not, ◌||◌, ◌&&◌, List, Option, Some, None, Ok, get_or, ap, ap₂, refl, sym, subst, ◌∙◌, inl, inr}
-use Rattle.std.specs.Prelude.{IfSome, IsNone}
 use Rattle.std.proofs.lemmas.Bool.{cases_eq, or_cases, and_parts, or_left, or_right, and_from}
 use Rattle.std.proofs.lemmas.Option.{same_Some}
 use Rattle.node_pool.specs.declared.region.Span.{Span}
@@ -98,8 +97,8 @@ module _ (c : Circuit) (part : Part) (is_part : IsPart c part) (gates out : Span
             (arrives_on w (RootHas level) (HopHas level) m n d (from added.2) (there, on added.1) joins le)
       ]
 
--- what stands at the end of a channel, where it is on the side that is asked: at a marked net the mark, and where the mark is seen a path ends
-module _ (part : Part) (out : Span) (level : ℕ) (inside : Bool) (d : Diagrams) (v : Valuation) where
+-- what stands at the end of a channel: at a marked net the mark, and where the mark is seen a path ends
+module _ (part : Part) (out : Span) (level : ℕ) (d : Diagrams) (v : Valuation) where
   pub end_marked : (place : Option ℕ) (n : ℕ) → EndIs part place n → IsStrong part out level d v n → strong_end d out level place v ≡ true
   end_marked (Some i) n e s = s i e.some
   end_marked None n e s = refl

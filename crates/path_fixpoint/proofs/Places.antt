@@ -1,5 +1,5 @@
 -- The places of a part, and their words.
-use Rattle.std.proofs.Common.{◌≡◌, ℕ, ◌+◌, ◌*◌, ◌<◌, ◌≤◌, ◌⊎◌, ◌==◌, Bool, true, false, length, Option, Some, None, arith, ap, refl, sym, ◌∙◌, inl, inr}
+use Rattle.std.proofs.Common.{◌≡◌, ℕ, ◌+◌, ◌*◌, ◌<◌, ◌≤◌, ◌⊎◌, ◌==◌, true, length, Option, Some, None, arith, ap, refl, sym, ◌∙◌, inl, inr}
 use Rattle.std.specs.Prelude.{IfSome, IsNone}
 use Rattle.std.specs.List.{list_any}
 use Rattle.std.proofs.lemmas.Bool.{cases_Bool, eq-eqb, eqb-true, false≢true}
@@ -10,6 +10,8 @@ use Rattle.vrt_model.proofs.Members.{among_any, any_among}
 use Rattle.vrt_model.specs.declared.circuit.Circuit.{Circuit}
 use Rattle.vrt_model.specs.declared.ids.Net.{Net}
 use Rattle.channel_parts.specs.declared.part.Part.{Part}
+use Rattle.path_fixpoint.specs.declared.side.Side.{Side}
+use Rattle.path_fixpoint.specs.declared.side.Side.TheVariants.{Inside, Outside}
 use Rattle.path_fixpoint.specs.Parts.{IsOnSide, IsPlace, is_on_side}
 use Rattle.path_fixpoint.specs.Strengths.{HasWords, word_of}
 
@@ -18,8 +20,13 @@ pub record EndIs (part : Part) (place : Option ℕ) (n : ℕ) : Type 0 where
   pub some : IfSome place (λ i. IsPlace part i n)
   pub none : IsNone place → (i : ℕ) → IsPlace part i n → ⊥
 
+-- a side is one of the two
+pub cases_Side : (side : Side) → (side ≡ Inside) ⊎ (side ≡ Outside)
+cases_Side Inside = inl refl
+cases_Side Outside = inr refl
+
 -- a net is in the part or outside it
-pub on_a_side : (part : Part) (n : ℕ) → IsOnSide part true n ⊎ IsOnSide part false n
+pub on_a_side : (part : Part) (n : ℕ) → IsOnSide part Inside n ⊎ IsOnSide part Outside n
 on_a_side part n =
     elim (cases_Bool (list_any (λ (net : Net). net.0 == n) part.nets)) [
       | inl there ↦ let found = any_among (λ (net : Net). net.0 == n) part.nets there in inl (found.1.0, (found.0, found.1.1, eqb-true found.0.0 n found.2))
@@ -27,11 +34,11 @@ on_a_side part n =
     ]
 
 -- the place of a net tells on which side it is
-pub side_of : (part : Part) (inside : Bool) (place : Option ℕ) (n : ℕ) → EndIs part place n → IsOnSide part inside n → is_on_side inside place ≡ true
-side_of part true (Some i) n e side = refl
-side_of part true None n e side = absurd (e.none refl side.0 side.1)
-side_of part false (Some i) n e side = absurd (side i e.some)
-side_of part false None n e side = refl
+pub side_of : (part : Part) (side : Side) (place : Option ℕ) (n : ℕ) → EndIs part place n → IsOnSide part side n → is_on_side side place ≡ true
+side_of part Inside (Some i) n e lies = refl
+side_of part Inside None n e lies = absurd (e.none refl lies.0 lies.1)
+side_of part Outside (Some i) n e lies = absurd (lies i e.some)
+side_of part Outside None n e lies = refl
 
 pub place_in : (part : Part) (i n : ℕ) → IsPlace part i n → i < length part.nets
 place_in part i n p = slice_get_within part.nets i p.0 p.1

@@ -24,6 +24,8 @@ use Rattle.vrt_model.specs.declared.circuit.FlatNet.{FlatNet}
 use Rattle.vrt_model.specs.declared.circuit.Hold.{Hold}
 use Rattle.vrt_model.specs.declared.whole.WholePin.{WholePin}
 use Rattle.channel_parts.specs.declared.part.Part.{Part}
+use Rattle.path_fixpoint.specs.declared.side.Side.{Side}
+use Rattle.path_fixpoint.specs.declared.side.Side.TheVariants.{Inside, Outside}
 use Rattle.path_fixpoint.specs.Parts.{IsGiven, IsPart, IsPlace, is_on_side, part_devices}
 use Rattle.path_fixpoint.specs.Reaching.{FitsAt, HasReach, HasReachPaths, HasReachPassed, HasReachRoots, HasRootWords, IsReached, PassesSignal, SolvedAt, offered_end, reached_end, slot_of}
 use Rattle.path_fixpoint.specs.Strengths.{ChangesLevel, StandsAt, StrongGrows, strong, strong_end, word_of}
@@ -110,9 +112,9 @@ module _ (c : Circuit) (part : Part) (is_part : IsPart c part) (in_range : HasRa
   end_kept old new v None n words wr same is lt =
       ap (λ (b : Bool). differ (not value) b) (shows_beside out roots old new n v wr words.roots_apart words.roots_live (omega (arith, lt, words.roots_len)))
 
-  pub offered_kept : (old new : Diagrams) (v : Valuation) (inside : Bool) (o : Option ℕ) (n : ℕ) → HasRootWords c part gates roots out old → Writes out old new → new.words ≡ old.words
-      → EndIs part o n → n < length c.nets → offered_end new roots out value inside o n v ≡ offered_end old roots out value inside o n v
-  offered_kept old new v inside o n words wr same is lt = ap (λ (b : Bool). is_on_side inside o && b) (end_kept old new v o n words wr same is lt)
+  pub offered_kept : (old new : Diagrams) (v : Valuation) (side : Side) (o : Option ℕ) (n : ℕ) → HasRootWords c part gates roots out old → Writes out old new → new.words ≡ old.words
+      → EndIs part o n → n < length c.nets → offered_end new roots out value side o n v ≡ offered_end old roots out value side o n v
+  offered_kept old new v side o n words wr same is lt = ap (λ (b : Bool). is_on_side side o && b) (end_kept old new v o n words wr same is lt)
 
   -- ---- where a device fits the strengths
 
@@ -222,10 +224,10 @@ module _ (c : Circuit) (part : Part) (is_part : IsPart c part) (in_range : HasRa
 
   -- what devices pass on from outside the part is marked
   abbrev pub IsReachEntered : Diagrams → Valuation → Network → (ℕ → ℕ) → Type 0
-  IsReachEntered d v w s = (dev : Device) → Among (part_devices c part) dev → HasReachPassed c part out value false dev d d v w s
+  IsReachEntered d v w s = (dev : Device) → Among (part_devices c part) dev → HasReachPassed c part out value Outside dev d d v w s
 
   pub reach_closed : (d : Diagrams) (v : Valuation) (w : Network) (s : ℕ → ℕ) → w.devices ≡ part_devices c part → HasReachRoots c part out value d v w s → IsReachEntered d v w s
-      → ((dev : Device) → Among (part_devices c part) dev → HasReachPassed c part out value true dev d d v w s) → HasAllReached d v w s
+      → ((dev : Device) → Among (part_devices c part) dev → HasReachPassed c part out value Inside dev d d v w s) → HasAllReached d v w s
   reach_closed d v w s devices rooted entered passed n r =
       subst (IsReached c part out value d v w) r.4
       (closed_end w (RootFits s value) (HopFits s) (IsReached c part out value d v w) rooted
@@ -235,7 +237,7 @@ module _ (c : Circuit) (part : Part) (is_part : IsPart c part) (in_range : HasRa
 
   -- what was passed on from outside stays, since no mark stands there
   pub reach_entered : (old new : Diagrams) (v : Valuation) (w : Network) (s : ℕ → ℕ) → HasRootWords c part gates roots out old → StrongGrows out (slot_of value) old new
-      → ((dev : Device) → Among (part_devices c part) dev → HasReachPassed c part out value false dev old old v w s ⊎ HasReachPassed c part out value false dev old new v w s)
+      → ((dev : Device) → Among (part_devices c part) dev → HasReachPassed c part out value Outside dev old old v w s ⊎ HasReachPassed c part out value Outside dev old new v w s)
       → IsReachEntered new v w s
   reach_entered old new v w s words grown passed dev among on m k j fits away q =
       let before : IsReached c part out value old v w m = (λ i p. absurd (away i p), q.1) in
@@ -276,7 +278,7 @@ module _ (c : Circuit) (part : Part) (is_part : IsPart c part) (in_range : HasRa
 
   pub reach_progress : (rounds : ℕ) (old new : Diagrams) (v : Valuation) (w : Network) (s : ℕ → ℕ) → HasRootWords c part gates roots out old → w.devices ≡ part_devices c part
       → StrongGrows out (slot_of value) old new → IsReachEntered c part is_part in_range gates roots out value old v w s
-      → ((dev : Device) → Among (part_devices c part) dev → HasReachPassed c part out value true dev old new v w s)
+      → ((dev : Device) → Among (part_devices c part) dev → HasReachPassed c part out value Inside dev old new v w s)
       → HasReachRoots c part out value old v w s → HasReachProgress c part out value rounds old v w s → HasReachProgress c part out value (rounds + 1) new v w s
   reach_progress rounds old new v w s words devices grown entered passed rooted (inl all) =
       inl (λ n r. reached_grown c part is_part in_range gates roots out value old new v w n words grown (all n r))

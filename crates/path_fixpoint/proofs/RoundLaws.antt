@@ -1,6 +1,6 @@
 -- Rounds of one level of strength, taken at each valuation by itself: they end where the marks are at exactly the nets at
 -- which a path of at least this level ends.
-use Rattle.std.proofs.Common.{◌≡◌, ◌≢◌, ℕ, ◌+◌, ◌<◌, ◌≤◌, ◌⊎◌, true, false, List, length, get_or, arith, ap, sym, subst, ◌∙◌, inl, inr}
+use Rattle.std.proofs.Common.{◌≡◌, ◌≢◌, ℕ, ◌+◌, ◌<◌, ◌≤◌, ◌⊎◌, List, length, get_or, arith, ap, sym, subst, ◌∙◌, inl, inr}
 use Rattle.std.proofs.lemmas.Bool.{cases_lt}
 use Rattle.node_pool.specs.declared.region.Span.{Span}
 use Rattle.bdd_core.specs.Diagram.{Valuation}
@@ -12,6 +12,7 @@ use Rattle.vrt_model.specs.Path.{Network}
 use Rattle.vrt_model.specs.declared.circuit.Circuit.{Circuit}
 use Rattle.vrt_model.specs.declared.circuit.Device.{Device}
 use Rattle.channel_parts.specs.declared.part.Part.{Part}
+use Rattle.path_fixpoint.specs.declared.side.Side.TheVariants.{Inside, Outside}
 use Rattle.path_fixpoint.specs.Parts.{part_devices}
 use Rattle.path_fixpoint.specs.Strengths.{ChangesLevel, HasLevel, HasPassed, HasPaths, HasRoots, HasSpans, HasWords, IsStrong, StandsAt, StrongGrows, TellsStrengths, strong, word_of}
 use Rattle.bdd_core.specs.Words.{Writes}
@@ -29,7 +30,7 @@ HasProgress part out level rounds d v w = HasAll part out level d v w ⊎ (round
 
 -- what devices pass on from outside the part is marked
 abbrev pub IsEntered : Circuit → Part → Span → ℕ → Diagrams → Valuation → Network → Type 0
-IsEntered c part out level d v w = (dev : Device) → Among (part_devices c part) dev → HasPassed part out level false dev d d v w
+IsEntered c part out level d v w = (dev : Device) → Among (part_devices c part) dev → HasPassed part out level Outside dev d d v w
 
 module _ (c : Circuit) (part : Part) (gates out : Span) where
   pub words_kept : (old new : Diagrams) → HasWords c part gates out old → Writes out old new → HasWords c part gates out new
@@ -91,7 +92,7 @@ module _ (c : Circuit) (part : Part) (gates out : Span) where
         (words.out_live (word_of level i) (word_in c part gates out old level i words low high lt))
 
     pub closed_all : (d : Diagrams) (v : Valuation) (w : Network) → w.devices ≡ part_devices c part → HasRoots part out level d v w
-        → IsEntered c part out level d v w → ((dev : Device) → Among (part_devices c part) dev → HasPassed part out level true dev d d v w) → HasAll part out level d v w
+        → IsEntered c part out level d v w → ((dev : Device) → Among (part_devices c part) dev → HasPassed part out level Inside dev d d v w) → HasAll part out level d v w
     closed_all d v w devices roots entered passed n r =
         subst (IsStrong part out level d v) r.4
         (closed_end w (RootHas level) (HopHas level) (IsStrong part out level d v) roots
@@ -101,7 +102,7 @@ module _ (c : Circuit) (part : Part) (gates out : Span) where
 
     -- what was passed on from outside stays, since no mark stands there
     pub entered_more : (old new : Diagrams) (v : Valuation) (w : Network) → HasWords c part gates out old → StrongGrows out level old new
-        → ((dev : Device) → Among (part_devices c part) dev → HasPassed part out level false dev old old v w ⊎ HasPassed part out level false dev old new v w) → IsEntered c part out level new v w
+        → ((dev : Device) → Among (part_devices c part) dev → HasPassed part out level Outside dev old old v w ⊎ HasPassed part out level Outside dev old new v w) → IsEntered c part out level new v w
     entered_more old new v w words grown passed dev among on le m k j away s =
         elim (passed dev among) [
           | inl stays ↦ (λ i p. grown i (place_word c part gates out old level i k words low high p) v (stays on le m k j away (λ x q. absurd (away x q)) i p))
@@ -119,7 +120,7 @@ module _ (c : Circuit) (part : Part) (gates out : Span) where
         ]
 
     pub progress_more : (rounds : ℕ) (old new : Diagrams) (v : Valuation) (w : Network) → HasWords c part gates out old → w.devices ≡ part_devices c part
-        → StrongGrows out level old new → IsEntered c part out level old v w → ((dev : Device) → Among (part_devices c part) dev → HasPassed part out level true dev old new v w)
+        → StrongGrows out level old new → IsEntered c part out level old v w → ((dev : Device) → Among (part_devices c part) dev → HasPassed part out level Inside dev old new v w)
         → HasRoots part out level old v w → HasProgress part out level rounds old v w → HasProgress part out level (rounds + 1) new v w
     progress_more rounds old new v w words devices grown entered passed roots (inl all) = inl (λ n r i p. grown i (place_word c part gates out old level i n words low high p) v (all n r i p))
     progress_more rounds old new v w words devices grown entered passed roots (inr le) =

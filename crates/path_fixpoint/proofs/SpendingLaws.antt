@@ -18,6 +18,7 @@ use Rattle.vrt_model.specs.Lists.{differ}
 use Rattle.vrt_model.specs.Reading.{conducts_at}
 use Rattle.vrt_model.specs.declared.design.Kind.{Kind}
 use Rattle.path_fixpoint.specs.Passed.{gated}
+use Rattle.path_fixpoint.specs.declared.side.Side.{Side}
 use Rattle.path_fixpoint.specs.Parts.{is_on_side}
 use Rattle.path_fixpoint.specs.Reaching.{bit_is, offered_end, reached_end, slot_of}
 use Rattle.path_fixpoint.specs.Strengths.{word_of}
@@ -60,10 +61,10 @@ module _ (u : ℕ) where
   reached_within d roots out value None n lt fits roots_in all = λ v w same. ap (λ (b : Bool). differ (not value) b) (roots_in n lt v w same)
   reached_within d roots out value (Some i) n lt fits roots_in all = all (word_of (slot_of value) i) (omega (arith, fits, slot_low value, slot_high value))
 
-  -- the same where the end is on the side that is asked
-  pub offered_within : (d : Diagrams) (roots out : Span) (value inside : Bool) (place : Option ℕ) (n : ℕ) → n < roots.len → IfSome place (λ i. 10 * i + 10 ≤ out.len)
-      → IsSpanWithin u d roots → IsSpanWithin u d out → IsWithin u (λ v. offered_end d roots out value inside place n v)
-  offered_within d roots out value inside place n lt fits roots_in all = λ v w same. ap (λ (b : Bool). is_on_side inside place && b) (reached_within d roots out value place n lt fits roots_in all v w same)
+  -- the same where the end is on a side
+  pub offered_within : (d : Diagrams) (roots out : Span) (value : Bool) (side : Side) (place : Option ℕ) (n : ℕ) → n < roots.len → IfSome place (λ i. 10 * i + 10 ≤ out.len)
+      → IsSpanWithin u d roots → IsSpanWithin u d out → IsWithin u (λ v. offered_end d roots out value side place n v)
+  offered_within d roots out value side place n lt fits roots_in all = λ v w same. ap (λ (b : Bool). is_on_side side place && b) (reached_within d roots out value place n lt fits roots_in all v w same)
 
   module _ (out : Span) where
     pub rewrites_none : (d : Diagrams) → IsSpanWithin u d out → Rewrites u out d d

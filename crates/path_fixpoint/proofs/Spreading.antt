@@ -18,7 +18,10 @@ use Rattle.vrt_model.specs.declared.circuit.Device.{Device}
 use Rattle.vrt_model.specs.declared.ids.Dev.{Dev}
 use Rattle.vrt_model.specs.declared.ids.Net.{Net}
 use Rattle.channel_parts.specs.declared.part.Part.{Part}
-use Rattle.path_fixpoint.specs.Parts.{IsGiven, IsOnSide, IsPart, IsVisited, is_on_side, part_devices, turned}
+use Rattle.path_fixpoint.specs.declared.direction.Direction.{Direction}
+use Rattle.path_fixpoint.specs.declared.direction.Direction.TheVariants.{Backward, Forward}
+use Rattle.path_fixpoint.specs.declared.side.Side.{Side}
+use Rattle.path_fixpoint.specs.Parts.{IsGiven, IsOnSide, IsPart, IsVisited, is_on_side, part_devices, visited_place}
 use Rattle.path_fixpoint.specs.Strengths.{HasWords, IsStrong, Passes, Spreads, StandsAt, strong_end}
 use Rattle.bdd_core.specs.Words.{Writes, word_at}
 use Rattle.path_fixpoint.proofs.RoundLaws.{stands_kept, words_kept}
@@ -29,42 +32,42 @@ pub device_of_circuit : (c : Circuit) (part : Part) (d : Device) → Among (part
 device_of_circuit c part d m = let r = among_filter_map (λ (x : Dev). slice_get c.devices x.0) part.devices d m in (r.0.0, r.2)
 
 -- a device that a round visits in its first steps
-abbrev pub Visited : Circuit → Part → Bool → ℕ → Device → Type 0
-Visited c part forward count d = (step : ℕ) × (step < count) × IsVisited c part forward step d
+abbrev pub Visited : Circuit → Part → Direction → ℕ → Device → Type 0
+Visited c part direction count d = (step : ℕ) × (step < count) × IsVisited c part direction step d
 
-pub visited_more : (c : Circuit) (part : Part) (forward : Bool) (i : ℕ) (device : Device) → IsVisited c part forward i device
-    → (d : Device) → Visited c part forward (i + 1) d → Visited c part forward i d ⊎ (d ≡ device)
-visited_more c part forward i device is d x =
+pub visited_more : (c : Circuit) (part : Part) (direction : Direction) (i : ℕ) (device : Device) → IsVisited c part direction i device
+    → (d : Device) → Visited c part direction (i + 1) d → Visited c part direction i d ⊎ (d ≡ device)
+visited_more c part direction i device is d x =
     elim (cases_lt x.0 i) [
       | inl low ↦ inl (x.0, low, x.2)
       | inr ge ↦
           let here : x.0 ≡ i = omega (arith, ge, x.1) in
-          let there : IsVisited c part forward i d = subst (λ (k : ℕ). IsVisited c part forward k d) here x.2 in
+          let there : IsVisited c part direction i d = subst (λ (k : ℕ). IsVisited c part direction k d) here x.2 in
           let same : there.0 ≡ is.0 = same_Some there.0 is.0 (sym there.1 ∙ is.1) in
           inr (same_Some d device (sym there.2 ∙ subst (λ (y : Dev). At c.devices y.0 device) (sym same) is.2))
     ]
 
-turned_in : (forward : Bool) (count at : ℕ) → at < count → turned forward count at < count
-turned_in true count at lt = lt
-turned_in false count at lt = omega (arith, lt)
+visited_in : (direction : Direction) (count at : ℕ) → at < count → visited_place direction count at < count
+visited_in Forward count at lt = lt
+visited_in Backward count at lt = omega (arith, lt)
 
-turned_twice : (forward : Bool) (count at : ℕ) → at < count → turned forward count (turned forward count at) ≡ at
-turned_twice true count at lt = refl
-turned_twice false count at lt = omega (arith, lt)
+visited_twice : (direction : Direction) (count at : ℕ) → at < count → visited_place direction count (visited_place direction count at) ≡ at
+visited_twice Forward count at lt = refl
+visited_twice Backward count at lt = omega (arith, lt)
 
-pub all_visited : (c : Circuit) (part : Part) (forward : Bool) (count : ℕ) → length part.devices ≤ count → (d : Device) → Among (part_devices c part) d → Visited c part forward count d
-all_visited c part forward count le d m =
+pub all_visited : (c : Circuit) (part : Part) (direction : Direction) (count : ℕ) → length part.devices ≤ count → (d : Device) → Among (part_devices c part) d → Visited c part direction count d
+all_visited c part direction count le d m =
     let r = among_filter_map (λ (x : Dev). slice_get c.devices x.0) part.devices d m in
     let size = length part.devices in
     let inside : r.1.0 < size = slice_get_within part.devices r.1.0 r.0 r.1.1 in
-    let step = turned forward size r.1.0 in
-    let back : turned forward size step ≡ r.1.0 = turned_twice forward size r.1.0 inside in
-    (step, omega (arith, le, turned_in forward size r.1.0 inside), (r.0, subst (λ (k : ℕ). At part.devices k r.0) (sym back) r.1.1, r.2))
+    let step = visited_place direction size r.1.0 in
+    let back : visited_place direction size step ≡ r.1.0 = visited_twice direction size r.1.0 inside in
+    (step, omega (arith, le, visited_in direction size r.1.0 inside), (r.0, subst (λ (k : ℕ). At part.devices k r.0) (sym back) r.1.1, r.2))
 
 -- a device that a round visits is one of the part
-pub visited_among : (c : Circuit) (part : Part) (forward : Bool) (step : ℕ) (d : Device) → IsVisited c part forward step d → Among (part_devices c part) d
-visited_among c part forward step d is =
-    filter_map_among (λ (x : Dev). slice_get c.devices x.0) part.devices (turned forward (length part.devices) step) is.0 d is.1 is.2
+pub visited_among : (c : Circuit) (part : Part) (direction : Direction) (step : ℕ) (d : Device) → IsVisited c part direction step d → Among (part_devices c part) d
+visited_among c part direction step d is =
+    filter_map_among (λ (x : Dev). slice_get c.devices x.0) part.devices (visited_place direction (length part.devices) step) is.0 d is.1 is.2
 
 pub device_ranges : (c : Circuit) (part : Part) (d : Device) → HasRanges c → Among (part_devices c part) d → IsDevice c d
 device_ranges c part d in_range m = all_among (IsDevice c) c.devices d in_range.devices (device_of_circuit c part d m)
@@ -76,13 +79,13 @@ outside_given c part None net e (inr g) none = g
 outside_given c part (Some i) net e h none = absurd (cc none)
 
 -- one device, in both directions
-module _ (c : Circuit) (part : Part) (is_part : IsPart c part) (in_range : HasRanges c) (gates out : Span) (level : ℕ) (low : 1 ≤ level) (high : level ≤ 8) (inside : Bool)
+module _ (c : Circuit) (part : Part) (is_part : IsPart c part) (in_range : HasRanges c) (gates out : Span) (level : ℕ) (low : 1 ≤ level) (high : level ≤ 8) (side : Side)
     (d : Device) (member : Among (part_devices c part) d) where
   -- too weak for the level
-  pub spreads_weak : (s : Diagrams) → d.level < level → Spreads c part gates out level inside (λ x. x ≡ d) false s s
+  pub spreads_weak : (s : Diagrams) → d.level < level → Spreads c part gates out level side (λ x. x ≡ d) false s s
   spreads_weak s weak = record {
     grown = λ i lt v e. e;
-    passed = λ x is v w st on le m n j side str. absurd (let same : x.level ≡ d.level = ap (λ (y : Device). y.level) is in omega (arith, le, weak, same));
+    passed = λ x is v w st on le m n j lies str. absurd (let same : x.level ≡ d.level = ap (λ (y : Device). y.level) is in omega (arith, le, weak, same));
     paths = λ v w st paths. paths;
     same = λ e. refl;
   }
@@ -90,8 +93,8 @@ module _ (c : Circuit) (part : Part) (is_part : IsPart c part) (in_range : HasRa
   module _ (left right : Option ℕ) (left_is : EndIs part left d.left.0) (right_is : EndIs part right d.right.0) (le : level ≤ d.level)
       (old mid new : Diagrams) (gate there here : ℕ) (forth back : Bool) (words : HasWords c part gates out old) (gate_is : gate ≡ word_at old gates d.gate.0)
       (here_live : here < length old.nodes)
-      (there_is : (v : Valuation) → meaning old.nodes there v ≡ (is_on_side inside left && strong_end old out level left v))
-      (here_is : (v : Valuation) → meaning old.nodes here v ≡ (is_on_side inside right && strong_end old out level right v))
+      (there_is : (v : Valuation) → meaning old.nodes there v ≡ (is_on_side side left && strong_end old out level left v))
+      (here_is : (v : Valuation) → meaning old.nodes here v ≡ (is_on_side side right && strong_end old out level right v))
       (first : Writes out old mid) (second : Writes out mid new)
       (onward : Passes out level d.kind gate there right forth old mid) (backward : Passes out level d.kind gate here left back mid new) where
     gate_in : d.gate.0 < length c.nets
@@ -113,49 +116,49 @@ module _ (c : Circuit) (part : Part) (is_part : IsPart c part) (in_range : HasRa
     on_mid v w st on = ap (λ (b : Bool). conducts_at d.kind b) (gate_mid v w st) ∙ on
 
     -- what stands at the right end was read before the device passed anything on
-    here_mid : (v : Valuation) → meaning mid.nodes here v ≡ (is_on_side inside right && strong_end old out level right v)
+    here_mid : (v : Valuation) → meaning mid.nodes here v ≡ (is_on_side side right && strong_end old out level right v)
     here_mid v = first.adds.kept here here_live v ∙ here_is v
 
     -- a mark at the end of a channel, on its side
-    offered : (place : Option ℕ) (n : ℕ) (v : Valuation) → EndIs part place n → IsOnSide part inside n → IsStrong part out level old v n
-        → (is_on_side inside place && strong_end old out level place v) ≡ true
-    offered place n v e side s = and_from (is_on_side inside place) (strong_end old out level place v) (side_of part inside place n e side) (end_marked part out level inside old v place n e s)
+    offered : (place : Option ℕ) (n : ℕ) (v : Valuation) → EndIs part place n → IsOnSide part side n → IsStrong part out level old v n
+        → (is_on_side side place && strong_end old out level place v) ≡ true
+    offered place n v e lies s = and_from (is_on_side side place) (strong_end old out level place v) (side_of part side place n e lies) (end_marked part out level old v place n e s)
 
-    both_ways : (v : Valuation) (w : Network) → StandsAt c part gates old v w → conducts w.reading d ≡ true → (m n : ℕ) → Joins d m n → IsOnSide part inside m
+    both_ways : (v : Valuation) (w : Network) → StandsAt c part gates old v w → conducts w.reading d ≡ true → (m n : ℕ) → Joins d m n → IsOnSide part side m
         → IsStrong part out level old v m → IsStrong part out level new v n
-    both_ways v w st on m n (inl j) side s =
+    both_ways v w st on m n (inl j) lies s =
         let q : IsStrong part out level mid v d.right.0 =
         over c part is_part gates out level low high d.kind gate there forth d.left.0 d.right.0 right old mid right_is onward v (on_old v w st on)
-        (there_is v ∙ offered left d.left.0 v left_is (subst (IsOnSide part inside) (sym j.0) side) (subst (IsStrong part out level old v) (sym j.0) s)) in
+        (there_is v ∙ offered left d.left.0 v left_is (subst (IsOnSide part side) (sym j.0) lies) (subst (IsStrong part out level old v) (sym j.0) s)) in
         subst (IsStrong part out level new v) j.1 (λ i p. backward.grown i (place_word c part gates out old level i d.right.0 words low high p) v (q i p))
-    both_ways v w st on m n (inr j) side s =
+    both_ways v w st on m n (inr j) lies s =
         subst (IsStrong part out level new v) j.0
         (over c part is_part gates out level low high d.kind gate here back d.right.0 d.left.0 left mid new left_is backward v (on_mid v w st on)
-        (here_mid v ∙ offered right d.right.0 v right_is (subst (IsOnSide part inside) (sym j.1) side) (subst (IsStrong part out level old v) (sym j.1) s)))
+        (here_mid v ∙ offered right d.right.0 v right_is (subst (IsOnSide part side) (sym j.1) lies) (subst (IsStrong part out level old v) (sym j.1) s)))
 
-    pub spreads_both : Spreads c part gates out level inside (λ x. x ≡ d) (forth || back) old new
+    pub spreads_both : Spreads c part gates out level side (λ x. x ≡ d) (forth || back) old new
     spreads_both = record {
       grown = λ i lt v e. backward.grown i lt v (onward.grown i lt v e);
-      passed = λ x is v w st on le' m n j side s.
-          both_ways v w st (subst (λ (y : Device). conducts w.reading y ≡ true) is on.1) m n (subst (λ (y : Device). Joins y m n) is j) side s;
+      passed = λ x is v w st on le' m n j lies s.
+          both_ways v w st (subst (λ (y : Device). conducts w.reading y ≡ true) is on.1) m n (subst (λ (y : Device). Joins y m n) is j) lies s;
       paths = λ v w st paths.
           let on : Among w.devices d = subst (λ (ds : List Device). Among ds d) (sym st.devices) member in
           over_paths c part is_part gates out level low high d.kind gate here back d.right.0 d.left.0 left mid new d w v (words_kept c part gates out old mid words first) left_is backward
-          (λ e. end_path part out level inside old v w right d.right.0 right_is
+          (λ e. end_path part out level old v w right d.right.0 right_is
           (λ none. given_path c w level d.right.0 st.nets st.source high (outside_given c part right d.right right_is (is_part.right d member) none)) paths
-          (and_parts (is_on_side inside right) (strong_end old out level right v) (sym (here_mid v) ∙ e)).1)
+          (and_parts (is_on_side side right) (strong_end old out level right v) (sym (here_mid v) ∙ e)).1)
           on (λ e. ap (λ (b : Bool). conducts_at d.kind b) (sym (gate_mid v w st)) ∙ e) le (inr (refl, refl))
           (over_paths c part is_part gates out level low high d.kind gate there forth d.left.0 d.right.0 right old mid d w v words right_is onward
-          (λ e. end_path part out level inside old v w left d.left.0 left_is
+          (λ e. end_path part out level old v w left d.left.0 left_is
           (λ none. given_path c w level d.left.0 st.nets st.source high (outside_given c part left d.left left_is (is_part.left d member) none)) paths
-          (and_parts (is_on_side inside left) (strong_end old out level left v) (sym (there_is v) ∙ e)).1)
+          (and_parts (is_on_side side left) (strong_end old out level left v) (sym (there_is v) ∙ e)).1)
           on (λ e. ap (λ (b : Bool). conducts_at d.kind b) (sym (gate_old v w st)) ∙ e) le (inl (refl, refl)) paths);
       same = λ e. let h = or_parts forth back e in backward.same h.1 ∙ onward.same h.0;
     }
 
 -- one step after another
-module _ (c : Circuit) (part : Part) (gates out : Span) (level : ℕ) (low : 1 ≤ level) (high : level ≤ 8) (inside : Bool) where
-  pub spreads_none : (IsPassed : Device → Type 0) (s : Diagrams) → ((d : Device) → IsPassed d → ⊥) → Spreads c part gates out level inside IsPassed false s s
+module _ (c : Circuit) (part : Part) (gates out : Span) (level : ℕ) (low : 1 ≤ level) (high : level ≤ 8) (side : Side) where
+  pub spreads_none : (IsPassed : Device → Type 0) (s : Diagrams) → ((d : Device) → IsPassed d → ⊥) → Spreads c part gates out level side IsPassed false s s
   spreads_none IsPassed s none = record {
     grown = λ i lt v e. e;
     passed = λ d is. absurd (none d is);
@@ -163,16 +166,16 @@ module _ (c : Circuit) (part : Part) (gates out : Span) (level : ℕ) (low : 1 �
     same = λ e. refl;
   }
 
-  pub spreads_less : (P R : Device → Type 0) (a : Bool) (x y : Diagrams) → ((d : Device) → R d → P d) → Spreads c part gates out level inside P a x y → Spreads c part gates out level inside R a x y
+  pub spreads_less : (P R : Device → Type 0) (a : Bool) (x y : Diagrams) → ((d : Device) → R d → P d) → Spreads c part gates out level side P a x y → Spreads c part gates out level side R a x y
   spreads_less P R a x y less s = record { grown = s.grown; passed = λ d is. s.passed d (less d is); paths = s.paths; same = s.same }
 
   pub spreads_then : (P Q R : Device → Type 0) (a b : Bool) (x y z : Diagrams) → HasWords c part gates out x → Writes out x y
-      → ((d : Device) → R d → P d ⊎ Q d) → Spreads c part gates out level inside P a x y → Spreads c part gates out level inside Q b y z → Spreads c part gates out level inside R (a || b) x z
+      → ((d : Device) → R d → P d ⊎ Q d) → Spreads c part gates out level side P a x y → Spreads c part gates out level side Q b y z → Spreads c part gates out level side R (a || b) x z
   spreads_then P Q R a b x y z words writes either f s = record {
     grown = λ i lt v e. s.grown i lt v (f.grown i lt v e);
-    passed = λ d is v w st on le m n j side str. elim (either d is) [
-      | inl p ↦ (λ i q. s.grown i (place_word c part gates out x level i n words low high q) v (f.passed d p v w st on le m n j side str i q))
-      | inr p ↦ s.passed d p v w (stands_kept c part gates out x y v w words writes st) on le m n j side
+    passed = λ d is v w st on le m n j lies str. elim (either d is) [
+      | inl p ↦ (λ i q. s.grown i (place_word c part gates out x level i n words low high q) v (f.passed d p v w st on le m n j lies str i q))
+      | inr p ↦ s.passed d p v w (stands_kept c part gates out x y v w words writes st) on le m n j lies
           (λ i q. f.grown i (place_word c part gates out x level i m words low high q) v (str i q))
     ];
     paths = λ v w st paths. s.paths v w (stands_kept c part gates out x y v w words writes st) (f.paths v w st paths);

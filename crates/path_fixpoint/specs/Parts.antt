@@ -1,5 +1,5 @@
 -- What a channel-connected part is in its circuit.
-use Rattle.std.specs.Prelude.{◌≡◌, ℕ, ◌-◌, ◌<◌, ◌⊎◌, Bool, IsTrue, true, false, not, List, [], Option, Some, None, cond, length, slice_get, filter_map, All}
+use Rattle.std.specs.Prelude.{◌≡◌, ℕ, ◌-◌, ◌<◌, ◌⊎◌, Bool, IsTrue, true, List, [], Option, is_none, is_some, length, slice_get, filter_map, All}
 use Rattle.vrt_model.specs.Circuits.{IsNet}
 use Rattle.vrt_model.specs.Networks.{HasRanges}
 use Rattle.vrt_model.specs.Lists.{At, Among}
@@ -11,18 +11,23 @@ use Rattle.vrt_model.specs.declared.ids.Dev.{Dev}
 use Rattle.vrt_model.specs.declared.ids.Net.{Net}
 use Rattle.vrt_model.specs.declared.whole.WholePin.{WholePin}
 use Rattle.channel_parts.specs.declared.part.Part.{Part}
+use Rattle.path_fixpoint.specs.declared.direction.Direction.{Direction}
+use Rattle.path_fixpoint.specs.declared.direction.Direction.TheVariants.{Backward, Forward}
+use Rattle.path_fixpoint.specs.declared.side.Side.{Side}
+use Rattle.path_fixpoint.specs.declared.side.Side.TheVariants.{Inside, Outside}
 
 -- the devices of a part
 abbrev pub part_devices : Circuit → Part → List Device
 part_devices c part = filter_map (λ (d : Dev). slice_get c.devices d.0) part.devices
 
--- the place to which a round over so many places comes at a step, forward or backward
-abbrev pub turned : Bool → ℕ → ℕ → ℕ
-turned forward count step = cond forward step (count - 1 - step)
+-- the place that a round over so many places visits at a step: from the first one on, or back from the last one
+abbrev pub visited_place : Direction → ℕ → ℕ → ℕ
+visited_place Forward count step = step
+visited_place Backward count step = count - 1 - step
 
 -- the device of a part that a round visits at a step
-abbrev pub IsVisited : Circuit → Part → Bool → ℕ → Device → Type 0
-IsVisited c part forward step d = (dev : Dev) × At part.devices (turned forward (length part.devices) step) dev × At c.devices dev.0 d
+abbrev pub IsVisited : Circuit → Part → Direction → ℕ → Device → Type 0
+IsVisited c part direction step d = (dev : Dev) × At part.devices (visited_place direction (length part.devices) step) dev × At c.devices dev.0 d
 
 -- the output pins of whole instances at the nets of a part: circuits without whole instances have none
 abbrev pub part_pins : Circuit → Part → List WholePin
@@ -32,15 +37,15 @@ part_pins c part = []
 abbrev pub IsPlace : Part → ℕ → ℕ → Type 0
 IsPlace part i n = (net : Net) × At part.nets i net × (net.0 ≡ n)
 
--- the net n is in the part, or outside it, as is asked
-abbrev pub IsOnSide : Part → Bool → ℕ → Type 0
-IsOnSide part true n = (i : ℕ) × IsPlace part i n
-IsOnSide part false n = (i : ℕ) → IsPlace part i n → ⊥
+-- the net n is in the part, or outside it
+abbrev pub IsOnSide : Part → Side → ℕ → Type 0
+IsOnSide part Inside n = (i : ℕ) × IsPlace part i n
+IsOnSide part Outside n = (i : ℕ) → IsPlace part i n → ⊥
 
--- whether the end of a channel, by its place in the part, is on the side that is asked
-abbrev pub is_on_side : Bool → Option ℕ → Bool
-is_on_side inside (Some i) = inside
-is_on_side inside None = not inside
+-- whether the end of a channel is on a side, by its place in the part
+abbrev pub is_on_side : Side → Option ℕ → Bool
+is_on_side Inside place = is_some place
+is_on_side Outside place = is_none place
 
 -- a supply, an input or a clock port
 abbrev pub IsGiven : Circuit → ℕ → Type 0

@@ -15,6 +15,7 @@ use Rattle.vrt_model.specs.declared.circuit.Device.{Device}
 use Rattle.vrt_model.specs.declared.circuit.Hold.{Hold}
 use Rattle.vrt_model.specs.declared.design.Kind.{Kind}
 use Rattle.channel_parts.specs.declared.part.Part.{Part}
+use Rattle.path_fixpoint.specs.declared.side.Side.{Side}
 use Rattle.path_fixpoint.specs.Parts.{IsGiven, IsOnSide, IsPlace, is_on_side}
 use Rattle.path_fixpoint.specs.Strengths.{HasLevel, HasWords, StandsAt, StrongGrows, net_words, strong, strong_end, word_of}
 use Rattle.bdd_core.specs.Words.{IsApart, IsFilled, shows}
@@ -32,9 +33,9 @@ abbrev pub reached_end : Diagrams → Span → Span → Bool → Option ℕ → 
 reached_end d roots out value (Some i) n v = strong d out (slot_of value) i v
 reached_end d roots out value None n v = differ (not value) (shows d roots n v)
 
--- the same where the end is on the side that is asked, in the part or outside it; on the other side nothing
-abbrev pub offered_end : Diagrams → Span → Span → Bool → Bool → Option ℕ → ℕ → Valuation → Bool
-offered_end d roots out value inside place n v = is_on_side inside place && reached_end d roots out value place n v
+-- the same where the end is on a side, in the part or outside it; on the other side nothing
+abbrev pub offered_end : Diagrams → Span → Span → Bool → Side → Option ℕ → ℕ → Valuation → Bool
+offered_end d roots out value side place n v = is_on_side side place && reached_end d roots out value place n v
 
 -- the spans of the handles of the gates and the roots, one for each net, and of the words of a part
 pub record HasRootWords (c : Circuit) (part : Part) (gates roots out : Span) (d : Diagrams) : Type 0 where
@@ -70,9 +71,9 @@ abbrev pub HasReachRoots : Circuit → Part → Span → Bool → Diagrams → V
 HasReachRoots c part out value d v w s = (root : Root) → IsRoot w root → RootFits s value root → IsReached c part out value d v w root.net
 
 -- what a device passes on from the marks in `old` of nets on one side, in the part or outside it, is marked in `new`
-abbrev pub HasReachPassed : Circuit → Part → Span → Bool → Bool → Device → Diagrams → Diagrams → Valuation → Network → (ℕ → ℕ) → Type 0
-HasReachPassed c part out value inside d old new v w s =
-    IsOn w d → (m n : ℕ) → Joins d m n → HopFits s m d n → IsOnSide part inside m → IsReached c part out value old v w m → IsReached c part out value new v w n
+abbrev pub HasReachPassed : Circuit → Part → Span → Bool → Side → Device → Diagrams → Diagrams → Valuation → Network → (ℕ → ℕ) → Type 0
+HasReachPassed c part out value side d old new v w s =
+    IsOn w d → (m n : ℕ) → Joins d m n → HopFits s m d n → IsOnSide part side m → IsReached c part out value old v w m → IsReached c part out value new v w n
 
 -- the marks are at exactly the nets that the value reaches
 abbrev pub HasReach : Part → Span → Bool → Diagrams → Valuation → Network → Type 0
@@ -89,8 +90,8 @@ pub record PassesSignal (out : Span) (value : Bool) (kind : Kind) (gate signal :
   pub same : changed ≡ false → new.words ≡ old.words
 
 -- what a step over devices does to the marks of a value, from nets on one side, whatever the valuation
-pub record SpreadsValue (c : Circuit) (part : Part) (gates roots out : Span) (value inside : Bool) (IsPassed : Device → Type 0) (changed : Bool) (old new : Diagrams) : Type 0 where
+pub record SpreadsValue (c : Circuit) (part : Part) (gates roots out : Span) (value : Bool) (side : Side) (IsPassed : Device → Type 0) (changed : Bool) (old new : Diagrams) : Type 0 where
   pub grown : StrongGrows out (slot_of value) old new
-  pub passed : (d : Device) → IsPassed d → (v : Valuation) (w : Network) (s : ℕ → ℕ) → SolvedAt c part gates roots out old v w s → HasReachPassed c part out value inside d old new v w s
+  pub passed : (d : Device) → IsPassed d → (v : Valuation) (w : Network) (s : ℕ → ℕ) → SolvedAt c part gates roots out old v w s → HasReachPassed c part out value side d old new v w s
   pub paths : (v : Valuation) (w : Network) (s : ℕ → ℕ) → SolvedAt c part gates roots out old v w s → HasReachPaths part out value old v w s → HasReachPaths part out value new v w s
   pub same : changed ≡ false → new.words ≡ old.words

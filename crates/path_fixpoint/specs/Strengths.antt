@@ -12,6 +12,7 @@ use Rattle.vrt_model.specs.declared.circuit.Circuit.{Circuit}
 use Rattle.vrt_model.specs.declared.circuit.Device.{Device}
 use Rattle.vrt_model.specs.declared.design.Kind.{Kind}
 use Rattle.channel_parts.specs.declared.part.Part.{Part}
+use Rattle.path_fixpoint.specs.declared.side.Side.{Side}
 use Rattle.path_fixpoint.specs.Parts.{IsOnSide, IsPlace, part_devices, part_pins}
 use Rattle.bdd_core.specs.Words.{IsApart, IsFilled, shows, word_at}
 
@@ -84,9 +85,9 @@ abbrev pub HasRoots : Part → Span → ℕ → Diagrams → Valuation → Netwo
 HasRoots part out level d v w = (root : Root) → IsRoot w root → level ≤ root.level → IsStrong part out level d v root.net
 
 -- what a device passes on from the marks in `old` of nets on one side, in the part or outside it, is marked in `new`
-abbrev pub HasPassed : Part → Span → ℕ → Bool → Device → Diagrams → Diagrams → Valuation → Network → Type 0
-HasPassed part out level inside d old new v w =
-    IsOn w d → level ≤ d.level → (m n : ℕ) → Joins d m n → IsOnSide part inside m → IsStrong part out level old v m → IsStrong part out level new v n
+abbrev pub HasPassed : Part → Span → ℕ → Side → Device → Diagrams → Diagrams → Valuation → Network → Type 0
+HasPassed part out level side d old new v w =
+    IsOn w d → level ≤ d.level → (m n : ℕ) → Joins d m n → IsOnSide part side m → IsStrong part out level old v m → IsStrong part out level new v n
 
 -- the marks are at exactly the nets at which a path of at least this level ends
 abbrev pub HasLevel : Part → Span → ℕ → Diagrams → Valuation → Network → Type 0
@@ -101,9 +102,9 @@ pub record Passes (out : Span) (level : ℕ) (kind : Kind) (gate signal : ℕ) (
   pub same : changed ≡ false → new.words ≡ old.words
 
 -- what a step over devices does to the marks of a level, from nets on one side, whatever the valuation
-pub record Spreads (c : Circuit) (part : Part) (gates out : Span) (level : ℕ) (inside : Bool) (IsPassed : Device → Type 0) (changed : Bool) (old new : Diagrams) : Type 0 where
+pub record Spreads (c : Circuit) (part : Part) (gates out : Span) (level : ℕ) (side : Side) (IsPassed : Device → Type 0) (changed : Bool) (old new : Diagrams) : Type 0 where
   pub grown : StrongGrows out level old new
-  pub passed : (d : Device) → IsPassed d → (v : Valuation) (w : Network) → StandsAt c part gates old v w → HasPassed part out level inside d old new v w
+  pub passed : (d : Device) → IsPassed d → (v : Valuation) (w : Network) → StandsAt c part gates old v w → HasPassed part out level side d old new v w
   pub paths : (v : Valuation) (w : Network) → StandsAt c part gates old v w → HasPaths part out level old v w → HasPaths part out level new v w
   pub same : changed ≡ false → new.words ≡ old.words
 

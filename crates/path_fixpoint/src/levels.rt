@@ -14,6 +14,7 @@ ghost use Rattle.bdd_ops.specs.Counting.{IsSpanWithin};
 ghost use Rattle.path_fixpoint.specs.Spending.{Rewrites, Spends};
 
 use crate::Part;
+use crate::direction::Direction;
 use crate::opening::{open, take_above};
 use crate::ranges::rises;
 use crate::rounds::settle;
@@ -40,7 +41,7 @@ fn no_device_has(circuit: &Circuit, part: &Part, level: u32) -> bool
     ensures { result ≡ true → NoDeviceHas circuit.now part.now level }
 {
     for step in 0..part.devices.len() {
-        let device = visited(circuit, part, true, step);
+        let device = visited(circuit, part, Direction::Forward, step);
         if device.level as u32 == level {
             return false;
         }

@@ -3,11 +3,13 @@
 //! Bryant, A switch-level model and simulator for MOS digital systems, IEEE Transactions on Computers C-33, 1984).
 #![tactic(auto)]
 
+mod direction;
 mod levels;
 mod opening;
 mod ranges;
 mod reach;
 mod rounds;
+mod side;
 mod signals;
 mod solve;
 mod sources;

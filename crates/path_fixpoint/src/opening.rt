@@ -9,12 +9,14 @@ ghost use Rattle.vrt_model.specs.Path.{Network};
 ghost use Rattle.vrt_model.specs.declared.circuit.Hold.{Hold as HoldValue};
 ghost use Rattle.path_fixpoint.specs.Openings.{IsGivenAt, IsHoldAt, OnlyBy, TakesAbove, mark_of};
 ghost use Rattle.path_fixpoint.specs.Parts.{IsGiven, IsPart, IsPlace, IsWithoutGivenEnd, Rises};
+ghost use Rattle.path_fixpoint.specs.declared.side.Side.TheVariants.{Outside};
 ghost use Rattle.path_fixpoint.specs.Strengths.{ChangesLevel, HasLevel, HasPaths, HasRoots, HasWords, StandsAt, word_of, HasMarks, net_words};
 ghost use Rattle.bdd_core.specs.Words.{IsFilled, Writes, word_at};
 ghost use Rattle.bdd_ops.specs.Counting.{IsSpanWithin};
 ghost use Rattle.path_fixpoint.specs.Spending.{Rewrites};
 
 use crate::Part;
+use crate::side::Side;
 use crate::steps::{place, word};
 use bdd_core::{H, ONE, Store, ZERO};
 use node_pool::Span;
@@ -112,15 +114,15 @@ fn has_given_end(circuit: &Circuit, device: &Device) -> bool
     is_given(circuit, device.right)
 }
 
-/// Whether it is seen at once that a device passes nothing on of the ends on the side that is asked: outside, where no end
-/// has a given value, so that both are in the part.
-pub(crate) fn is_idle(circuit: &Circuit, device: &Device, inside: bool) -> bool
-    ensures { result ≡ true → IsWithoutGivenEnd circuit.now device.now × (inside ≡ false) }
+/// Whether it is seen at once that a device passes nothing on from its ends on a side: from outside, where no end has a given
+/// value, so that both are in the part.
+pub(crate) fn is_idle(circuit: &Circuit, device: &Device, side: Side) -> bool
+    ensures { result ≡ true → IsWithoutGivenEnd circuit.now device.now × (side ≡ Outside) }
 {
-    if inside {
-        return false;
+    match side {
+        Side::Inside => false,
+        Side::Outside => !has_given_end(circuit, device),
     }
-    !has_given_end(circuit, device)
 }
 
 /// Marks the nets of the part that have given values.

@@ -14,11 +14,11 @@ ghost use Rattle.bdd_ops.specs.Counting.{IsSpanWithin};
 ghost use Rattle.path_fixpoint.specs.Spending.{Spends};
 
 use crate::Part;
+use crate::direction::Direction;
 use crate::opening::is_idle;
+use crate::side::Side;
 use crate::signals::{fitting, offers, slot};
-use crate::steps::{
-    blocks, is_behind_first, is_full, is_settled, place, through, visited, widen, word,
-};
+use crate::steps::{blocks, is_full, place, through, visited, widen, word};
 use bdd_core::{H, Spent, Store};
 use node_pool::Span;
 use vrt_model::{Circuit, Device, Kind};
@@ -78,14 +78,14 @@ fn visit(
     out: Span,
     device: &Device,
     value: bool,
-    inside: bool,
+    side: Side,
 ) -> Result<bool, Spent>
     requires part { IsPartOf circuit.now part.now rising }
     requires words { HasRootWords circuit.now part.now gates roots out store.old }
     requires device { Among (part_devices circuit.now part.now) device.now }
     ensures writes { Writes out store.old store.new }
     ensures apart { ChangesLevel out (slot_of value) store.old store.new }
-    ensures spreads { IfOk result (λ changed. SpreadsValue circuit.now part.now gates roots out value inside (λ d. d ≡ device.now) changed store.old store.new) }
+    ensures spreads { IfOk result (λ changed. SpreadsValue circuit.now part.now gates roots out value side (λ d. d ≡ device.now) changed store.old store.new) }
     ensures few { (u : ℕ) → IsSpanWithin u store.old gates → IsSpanWithin u store.old roots → IsSpanWithin u store.old out → Spends u 38 out store.old store.new result }
 {
     store.sound();
@@ -93,16 +93,16 @@ fn visit(
     if blocks(device.kind, gate) {
         return Ok(false);
     }
-    if is_idle(circuit, device, inside) {
+    if is_idle(circuit, device, side) {
         return Ok(false);
     }
     let left = place(part, rising, device.left);
     let right = place(part, rising, device.right);
-    let there = match offers(store, roots, out, left, device.left, value, inside) {
+    let there = match offers(store, roots, out, left, device.left, value, side) {
         Ok(there) => there,
         Err(spent) => return Err(spent),
     };
-    let here = match offers(store, roots, out, right, device.right, value, inside) {
+    let here = match offers(store, roots, out, right, device.right, value, side) {
         Ok(here) => here,
         Err(spent) => return Err(spent),
     };
@@ -128,22 +128,22 @@ fn round(
     roots: Span,
     out: Span,
     value: bool,
-    inside: bool,
-    forward: bool,
+    side: Side,
+    direction: Direction,
 ) -> Result<bool, Spent>
     requires part { IsPartOf circuit.now part.now rising }
     requires words { HasRootWords circuit.now part.now gates roots out store.old }
     ensures writes { Writes out store.old store.new }
     ensures apart { ChangesLevel out (slot_of value) store.old store.new }
-    ensures spreads { IfOk result (λ changed. SpreadsValue circuit.now part.now gates roots out value inside (Among (part_devices circuit.now part.now)) changed store.old store.new) }
+    ensures spreads { IfOk result (λ changed. SpreadsValue circuit.now part.now gates roots out value side (Among (part_devices circuit.now part.now)) changed store.old store.new) }
     ensures few { (u : ℕ) → IsSpanWithin u store.old gates → IsSpanWithin u store.old roots → IsSpanWithin u store.old out → Spends u (length part.now.devices * 38) out store.old store.new result }
 {
     store.sound();
     let mut changed = false;
     for step in 0..part.devices.len() {
-        let device = visited(circuit, part, forward, step);
+        let device = visited(circuit, part, direction, step);
         let grew = match visit(
-            store, circuit, part, rising, gates, roots, out, device, value, inside,
+            store, circuit, part, rising, gates, roots, out, device, value, side,
         ) {
             Ok(grew) => grew,
             Err(spent) => return Err(spent),
@@ -173,19 +173,19 @@ pub(crate) fn settle(
     ensures few { (u : ℕ) → IsSpanWithin u store.old gates → IsSpanWithin u store.old roots → IsSpanWithin u store.old out → Spends u (length part.now.nets * (length part.now.devices * 38)) out store.old store.new result }
 {
     store.sound();
-    let mut forward = false;
+    let mut direction = Direction::Backward;
     'rounds: for count in 0..part.nets.len() {
-        let inside = is_behind_first(count);
+        let side = Side::of_round(count);
         let changed = match round(
-            store, circuit, part, rising, gates, roots, out, value, inside, forward,
+            store, circuit, part, rising, gates, roots, out, value, side, direction,
         ) {
             Ok(changed) => changed,
             Err(spent) => return Err(spent),
         };
-        if is_settled(inside, changed) {
+        if side.is_settled(changed) {
             return Ok(());
         }
-        forward = !forward;
+        direction = direction.turned();
     }
     Ok(())
 }

@@ -13,11 +13,10 @@ ghost use Rattle.bdd_ops.specs.Counting.{IsSpanWithin};
 ghost use Rattle.path_fixpoint.specs.Spending.{Spends};
 
 use crate::Part;
+use crate::direction::Direction;
 use crate::opening::is_idle;
-use crate::steps::{
-    blocks, is_behind_first, is_full, is_settled, offered, place, strength, through, visited,
-    widen, word,
-};
+use crate::side::Side;
+use crate::steps::{blocks, is_full, place, strength, through, visited, widen, word};
 use bdd_core::{H, Spent, Store};
 use node_pool::Span;
 use vrt_model::{Circuit, Device, Kind};
@@ -71,7 +70,7 @@ fn visit(
     out: Span,
     device: &Device,
     level: u32,
-    inside: bool,
+    side: Side,
 ) -> Result<bool, Spent>
     requires part { IsPartOf circuit.now part.now rising }
     requires words { HasWords circuit.now part.now gates out store.old }
@@ -79,7 +78,7 @@ fn visit(
     requires device { Among (part_devices circuit.now part.now) device.now }
     ensures writes { Writes out store.old store.new }
     ensures apart { ChangesLevel out level store.old store.new }
-    ensures spreads { IfOk result (λ changed. Spreads circuit.now part.now gates out level inside (λ d. d ≡ device.now) changed store.old store.new) }
+    ensures spreads { IfOk result (λ changed. Spreads circuit.now part.now gates out level side (λ d. d ≡ device.now) changed store.old store.new) }
     ensures few { (u : ℕ) → IsSpanWithin u store.old gates → IsSpanWithin u store.old out → Spends u 4 out store.old store.new result }
 {
     store.sound();
@@ -90,15 +89,15 @@ fn visit(
     if blocks(device.kind, gate) {
         return Ok(false);
     }
-    if is_idle(circuit, device, inside) {
+    if is_idle(circuit, device, side) {
         return Ok(false);
     }
     let left = place(part, rising, device.left);
     let right = place(part, rising, device.right);
     let left_mark = strength(store, out, left, level);
     let right_mark = strength(store, out, right, level);
-    let there = offered(inside, left, left_mark);
-    let here = offered(inside, right, right_mark);
+    let there = side.offered(left, left_mark);
+    let here = side.offered(right, right_mark);
     let forth = match pass(store, device.kind, gate, there, out, right, level) {
         Ok(forth) => forth,
         Err(spent) => return Err(spent),
@@ -120,23 +119,23 @@ fn round(
     gates: Span,
     out: Span,
     level: u32,
-    inside: bool,
-    forward: bool,
+    side: Side,
+    direction: Direction,
 ) -> Result<bool, Spent>
     requires part { IsPartOf circuit.now part.now rising }
     requires words { HasWords circuit.now part.now gates out store.old }
     requires level { (1 ≤ level) × (level ≤ 8) }
     ensures writes { Writes out store.old store.new }
     ensures apart { ChangesLevel out level store.old store.new }
-    ensures spreads { IfOk result (λ changed. Spreads circuit.now part.now gates out level inside (Among (part_devices circuit.now part.now)) changed store.old store.new) }
+    ensures spreads { IfOk result (λ changed. Spreads circuit.now part.now gates out level side (Among (part_devices circuit.now part.now)) changed store.old store.new) }
     ensures few { (u : ℕ) → IsSpanWithin u store.old gates → IsSpanWithin u store.old out → Spends u (length part.now.devices * 4) out store.old store.new result }
 {
     store.sound();
     let mut changed = false;
     for step in 0..part.devices.len() {
-        let device = visited(circuit, part, forward, step);
+        let device = visited(circuit, part, direction, step);
         let grew = match visit(
-            store, circuit, part, rising, gates, out, device, level, inside,
+            store, circuit, part, rising, gates, out, device, level, side,
         ) {
             Ok(grew) => grew,
             Err(spent) => return Err(spent),
@@ -166,19 +165,19 @@ pub(crate) fn settle(
     ensures few { (u : ℕ) → IsSpanWithin u store.old gates → IsSpanWithin u store.old out → Spends u (length part.now.nets * (length part.now.devices * 4)) out store.old store.new result }
 {
     store.sound();
-    let mut forward = false;
+    let mut direction = Direction::Backward;
     'rounds: for count in 0..part.nets.len() {
-        let inside = is_behind_first(count);
+        let side = Side::of_round(count);
         let changed = match round(
-            store, circuit, part, rising, gates, out, level, inside, forward,
+            store, circuit, part, rising, gates, out, level, side, direction,
         ) {
             Ok(changed) => changed,
             Err(spent) => return Err(spent),
         };
-        if is_settled(inside, changed) {
+        if side.is_settled(changed) {
             return Ok(());
         }
-        forward = !forward;
+        direction = direction.turned();
     }
     Ok(())
 }

@@ -11,7 +11,8 @@ ghost use Rattle.bdd_core.specs.Words.{IsFilled, Writes, shows, word_at};
 ghost use Rattle.bdd_ops.specs.Counting.{IsSpanWithin};
 ghost use Rattle.path_fixpoint.specs.Spending.{Finds};
 
-use crate::steps::{is_on_side, strength, word};
+use crate::side::Side;
+use crate::steps::{strength, word};
 use crate::words::net_words;
 use bdd_core::{H, Spent, Store, ZERO};
 use bdd_ops::{and, not};
@@ -62,8 +63,8 @@ pub(crate) fn reached(
     Ok(H(store.read(out, word(place, slot(value)))))
 }
 
-/// What an end of a channel offers to the other one of a value: whether the value reaches it, where it is in the part or
-/// outside, as is asked; else nothing.
+/// What an end of a channel offers to the other one of a value: whether the value reaches it, where it is on the side; else
+/// nothing.
 pub(crate) fn offers(
     store: &mut Store,
     roots: Span,
@@ -71,17 +72,17 @@ pub(crate) fn offers(
     place: Option<usize>,
     net: Net,
     value: bool,
-    inside: bool,
+    side: Side,
 ) -> Result<H, Spent>
     requires roots { IsSpan store.old roots × IsFilled store.old roots }
     requires out { IsSpan store.old out × IsFilled store.old out }
     requires net { net.0 < roots.len }
     requires place { IfSome place (λ i. net_words * i + net_words ≤ out.len) }
     requires len { out.len < 2 ^ 32 }
-    ensures { Makes store.old store.new (λ v. offered_end store.old roots out value inside place net.0 v) result }
+    ensures { Makes store.old store.new (λ v. offered_end store.old roots out value side place net.0 v) result }
 {
     store.sound();
-    if is_on_side(inside, place) {
+    if side.has(place) {
         return reached(store, roots, out, place, net, value);
     }
     Ok(ZERO)

@@ -1,9 +1,9 @@
 //! Single steps: what a conducting device passes on, and the word that it is added to.
 
-ghost use Rattle.std.specs.Prelude.{IsTrue, ◌≡◌, ◌≢◌, ℕ, ◌+◌, ◌-◌, ◌*◌, ◌^◌, ◌<◌, ◌≤◌, ◌⊎◌, ◌||◌, Bool, true, false, cond, eqb, length, IfOk, IfSome, IsNone, option_map};
+ghost use Rattle.std.specs.Prelude.{IsTrue, ◌≡◌, ◌≢◌, ℕ, ◌+◌, ◌-◌, ◌*◌, ◌^◌, ◌<◌, ◌≤◌, ◌⊎◌, ◌||◌, Bool, true, false, eqb, length, IfOk, IfSome, IsNone, option_map};
 ghost use Rattle.bdd_core.specs.Diagram.{Valuation, IsReduced, IsWithin, meaning};
 ghost use Rattle.bdd_core.specs.Store.{IsLive, IsSpan, Makes, function_of};
-ghost use Rattle.path_fixpoint.specs.Parts.{IsPart, IsPlace, IsVisited, Rises, is_on_side, turned};
+ghost use Rattle.path_fixpoint.specs.Parts.{IsPart, IsPlace, IsVisited, Rises};
 ghost use Rattle.path_fixpoint.specs.Strengths.{strong_end, word_of, net_words};
 ghost use Rattle.bdd_core.specs.Words.{IsFilled, Writes, shows, word_at};
 ghost use Rattle.path_fixpoint.specs.Passed.{blocking, gated, IsWider};
@@ -11,6 +11,7 @@ ghost use Rattle.bdd_ops.specs.Counting.{IsSpanWithin};
 ghost use Rattle.path_fixpoint.specs.Spending.{Spends};
 
 use crate::Part;
+use crate::direction::Direction;
 use crate::words::net_words;
 use bdd_core::{H, ONE, Spent, Store, ZERO};
 use bdd_ops::{and, or};
@@ -56,28 +57,19 @@ pub(crate) fn place(part: &Part, rising: bool, net: Net) -> Option<usize>
         .position(|other| other.0 == net.0)
 }
 
-/// The place to which a round over so many places comes at a step: from the first one on, or back from the last one.
-fn turned(forward: bool, count: usize, step: usize) -> usize
-    requires { step < count }
-    ensures is { result ≡ turned forward count step }
-    ensures inside { result < count }
-{
-    if forward { step } else { count - 1 - step }
-}
-
 /// The device of a part that a round visits at a step.
 pub(crate) fn visited<'a>(
     circuit: &'a Circuit,
     part: &Part,
-    forward: bool,
+    direction: Direction,
     step: usize,
 ) -> &'a Device
     requires part { IsPart circuit.now part.now }
     requires step { step < length part.now.devices }
-    ensures { IsVisited circuit.now part.now forward step result.now }
+    ensures { IsVisited circuit.now part.now direction step result.now }
 {
     let devices = part.devices.as_slice();
-    let dev = devices[turned(forward, devices.len(), step)];
+    let dev = devices[direction.place(devices.len(), step)];
     let Some(device) = circuit.devices.get(dev.0 as usize) else {
         unreachable!();
     };
@@ -107,41 +99,6 @@ pub(crate) fn strength(store: &Store, out: Span, place: Option<usize>, level: u3
         Some(place) => H(store.read(out, word(place, level))),
         None => ONE,
     }
-}
-
-/// Whether an end of a channel is in the part or outside it, as is asked.
-pub(crate) fn is_on_side(inside: bool, place: Option<usize>) -> bool
-    ensures { result ≡ is_on_side inside place }
-{
-    match place {
-        Some(_) => inside,
-        None => !inside,
-    }
-}
-
-/// What an end of a channel offers to the other one: its signal, where the end is on the side that is asked, else nothing.
-pub(crate) fn offered(inside: bool, place: Option<usize>, signal: H) -> H
-    ensures { result.0 ≡ cond (is_on_side inside place) signal.0 0 }
-{
-    if is_on_side(inside, place) {
-        return signal;
-    }
-    ZERO
-}
-
-/// Whether a round is behind the first one, by how many there were before it.
-pub(crate) fn is_behind_first(before: usize) -> bool
-    ensures first { result ≡ false → before ≡ 0 }
-    ensures later { result ≡ true → 1 ≤ before }
-{
-    before > 0
-}
-
-/// Whether a round inside the part changed nothing, so that none behind it does.
-pub(crate) fn is_settled(inside: bool, changed: bool) -> bool
-    ensures { result ≡ true → (inside ≡ true) × (changed ≡ false) }
-{
-    inside && !changed
 }
 
 /// Whether a gate is the constant that keeps a device from conducting.

@@ -1,16 +1,17 @@
-use Rattle.std.proofs.Common.{◌≡◌, ℕ, ◌+◌, ◌*◌, Ok, Err, ◌≤◌, Bool, true, false, length, arith, refl, sym, subst, ◌∙◌, inl, inr}
-use Rattle.std.proofs.lemmas.Bool.{cases_Bool}
+use Rattle.std.proofs.Common.{◌≡◌, ℕ, ◌+◌, ◌*◌, Ok, Err, ◌≤◌, length, arith, refl, sym, subst, ◌∙◌, inl, inr}
 use Rattle.bdd_core.specs.Diagram.{Valuation}
 use Rattle.vrt_model.specs.Lists.{Among}
 use Rattle.vrt_model.specs.Path.{Network}
 use Rattle.vrt_model.specs.declared.circuit.Device.{Device}
+use Rattle.path_fixpoint.specs.declared.side.Side.{Side}
+use Rattle.path_fixpoint.specs.declared.side.Side.TheVariants.{Inside, Outside}
 use Rattle.path_fixpoint.specs.Parts.{part_devices}
 use Rattle.std.proofs.Math.Nat.{mul-le-mul_right}
 use Rattle.bdd_ops.proofs.CountingLaws.{counted_more, counted_same, counted_then, counts_more, counts_ok}
 use Rattle.path_fixpoint.proofs.SpendingLaws.{one_more, span_beside, spends_behind, spends_err, spends_more, spends_value, times_most}
 use Rattle.path_fixpoint.specs.Reaching.{HasReachPassed, HasReachRoots, HasRootWords, SolvedAt, SpreadsValue}
 use Rattle.bdd_core.proofs.Frames.{writes_none, writes_then}
-use Rattle.path_fixpoint.proofs.Places.{place_in}
+use Rattle.path_fixpoint.proofs.Places.{cases_Side, place_in}
 use Rattle.path_fixpoint.proofs.ReachLaws.{HasReachProgress, reach_all, reach_closed, reach_entered, reach_first, reach_from, reach_from_marks, reach_progress, reached_grown, root_words_kept, solved_kept, value_same}
 use Rattle.path_fixpoint.proofs.reach.settle.Goals as goal
 
@@ -33,8 +34,8 @@ returns-then-is_settled-clause-reach c v w s st roots paths =
     let new = c.round.new.store in
     let i = c.rounds.invariant in
     let done = c.is_settled.ensures c.if-is_settled.true in
-    let spreads : SpreadsValue circuit part gates rs out value true (Among (part_devices circuit part)) c.in-Ok.changed old new =
-    subst (λ (b : Bool). SpreadsValue circuit part gates rs out value b (Among (part_devices circuit part)) c.in-Ok.changed old new) done.0 c.in-Ok.ensures.spreads in
+    let spreads : SpreadsValue circuit part gates rs out value Inside (Among (part_devices circuit part)) c.in-Ok.changed old new =
+    subst (λ (x : Side). SpreadsValue circuit part gates rs out value x (Among (part_devices circuit part)) c.in-Ok.changed old new) done.0 c.in-Ok.ensures.spreads in
     let words : HasRootWords circuit part gates rs out old = root_words_kept circuit part is_part in_range gates rs out value first old c.requires.words i.writes in
     let solved : SolvedAt circuit part gates rs out old v w s = solved_kept circuit part is_part in_range gates rs out value first old v w s c.requires.words i.writes i.apart st in
     let same = spreads.same done.1 in
@@ -42,7 +43,7 @@ returns-then-is_settled-clause-reach c v w s st roots paths =
     λ root r k. reached_grown circuit part is_part in_range gates rs out value old new v w root.net words spreads.grown (i.roots v w s st roots root r k) in
     reach_from circuit part is_part in_range gates rs out value new v w s st.strength (spreads.paths v w s solved (i.paths v w s st paths))
     (reach_closed circuit part is_part in_range gates rs out value new v w s st.stands.devices rooted
-    (reach_entered circuit part is_part in_range gates rs out value old new v w s words spreads.grown (λ dev m. inl (i.entered (c.is_behind_first-inside.ensures.later done.0) v w s st dev m)))
+    (reach_entered circuit part is_part in_range gates rs out value old new v w s words spreads.grown (λ dev m. inl (i.entered (c.of_round-side.ensures.later done.0) v w s st dev m)))
     (λ dev m on a b j fits here r. spreads.passed dev m v w s solved on a b j fits here
     (λ k p. sym (value_same circuit part is_part in_range gates rs out value old new k v words c.in-Ok.ensures.writes same (place_in part k a p)) ∙ r.0 k p, r.1)))
 
@@ -73,27 +74,27 @@ rounds-preserved c =
     let i = c.rounds.invariant in
     let spreads = c.in-Ok.ensures.spreads in
     let words : HasRootWords circuit part gates rs out old = root_words_kept circuit part is_part in_range gates rs out value first old c.requires.words i.writes in
-    let from_side : (side : Bool) → c.is_behind_first-inside.result ≡ side → (dev : Device) → Among (part_devices circuit part) dev → (v : Valuation) (w : Network) (s : ℕ → ℕ)
+    let from_side : (side : Side) → c.of_round-side.result ≡ side → (dev : Device) → Among (part_devices circuit part) dev → (v : Valuation) (w : Network) (s : ℕ → ℕ)
     → SolvedAt circuit part gates rs out old v w s → HasReachPassed circuit part out value side dev old new v w s =
-    λ side is dev m v w s solved. subst (λ (b : Bool). HasReachPassed circuit part out value b dev old new v w s) is (spreads.passed dev m v w s solved) in
-    let from_inside = from_side true in
-    let from_outside = from_side false in
+    λ side is dev m v w s solved. subst (λ (x : Side). HasReachPassed circuit part out value x dev old new v w s) is (spreads.passed dev m v w s solved) in
+    let from_inside = from_side Inside in
+    let from_outside = from_side Outside in
     record {
       writes = writes_then out first old new i.writes c.in-Ok.ensures.writes;
       apart = λ k away. c.in-Ok.ensures.apart k away ∙ i.apart k away;
       roots = λ v w s st r root is k. reached_grown circuit part is_part in_range gates rs out value old new v w root.net words spreads.grown (i.roots v w s st r root is k);
       paths = λ v w s st p. spreads.paths v w s (solved_kept circuit part is_part in_range gates rs out value first old v w s c.requires.words i.writes i.apart st) (i.paths v w s st p);
       entered = λ some v w s st. reach_entered circuit part is_part in_range gates rs out value old new v w s words spreads.grown
-          (λ dev m. elim (cases_Bool c.is_behind_first-inside.result) [
-            | inl later ↦ inl (i.entered (c.is_behind_first-inside.ensures.later later) v w s st dev m)
+          (λ dev m. elim (cases_Side c.of_round-side.result) [
+            | inl later ↦ inl (i.entered (c.of_round-side.ensures.later later) v w s st dev m)
             | inr first' ↦ inr (from_outside first' dev m v w s (solved_kept circuit part is_part in_range gates rs out value first old v w s c.requires.words i.writes i.apart st))
           ]);
       progress = λ v w s st r.
           let solved = solved_kept circuit part is_part in_range gates rs out value first old v w s c.requires.words i.writes i.apart st in
-          elim (cases_Bool c.is_behind_first-inside.result) [
+          elim (cases_Side c.of_round-side.result) [
             | inl later ↦ reach_progress circuit part is_part in_range gates rs out value c.rounds.count old new v w s words st.stands.devices spreads.grown
-                (i.entered (c.is_behind_first-inside.ensures.later later) v w s st) (λ dev m. from_inside later dev m v w s solved) (i.roots v w s st r) (i.progress v w s st r)
-            | inr first' ↦ subst (λ (k : ℕ). HasReachProgress circuit part out value (k + 1) new v w s) (sym (c.is_behind_first-inside.ensures.first first'))
+                (i.entered (c.of_round-side.ensures.later later) v w s st) (λ dev m. from_inside later dev m v w s solved) (i.roots v w s st r) (i.progress v w s st r)
+            | inr first' ↦ subst (λ (k : ℕ). HasReachProgress circuit part out value (k + 1) new v w s) (sym (c.of_round-side.ensures.first first'))
                 (reach_first circuit part is_part in_range gates rs out value old new v w s words st.stands.devices spreads.grown (i.roots v w s st r)
                 (reach_entered circuit part is_part in_range gates rs out value old new v w s words spreads.grown (λ dev m. inr (from_outside first' dev m v w s solved))))
           ];

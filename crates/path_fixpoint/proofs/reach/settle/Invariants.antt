@@ -1,9 +1,10 @@
-use Rattle.std.proofs.Common.{ℕ, ◌*◌, ◌≤◌, false, length}
+use Rattle.std.proofs.Common.{ℕ, ◌*◌, ◌≤◌, length}
 use Rattle.bdd_ops.specs.Counting.{IsCounted, IsSpanWithin}
 use Rattle.bdd_core.specs.Diagram.{Valuation}
 use Rattle.vrt_model.specs.Lists.{Among}
 use Rattle.vrt_model.specs.Path.{Network}
 use Rattle.vrt_model.specs.declared.circuit.Device.{Device}
+use Rattle.path_fixpoint.specs.declared.side.Side.TheVariants.{Outside}
 use Rattle.path_fixpoint.specs.Parts.{part_devices}
 use Rattle.path_fixpoint.specs.Reaching.{HasReachPassed, HasReachPaths, HasReachRoots, SolvedAt, slot_of}
 use Rattle.path_fixpoint.specs.Strengths.{ChangesLevel}
@@ -22,6 +23,6 @@ invariant-rounds l = record {
   progress : (v : Valuation) (w : Network) (s : ℕ → ℕ) → SolvedAt l.circuit l.part l.fn.gates l.fn.roots l.fn.out l.fn.store v w s → HasReachRoots l.circuit l.part l.fn.out l.fn.value l.fn.store v w s
       → HasReachProgress l.circuit l.part l.fn.out l.fn.value l.count l.store v w s;
   entered : 1 ≤ l.count → (v : Valuation) (w : Network) (s : ℕ → ℕ) → SolvedAt l.circuit l.part l.fn.gates l.fn.roots l.fn.out l.fn.store v w s
-      → (dev : Device) → Among (part_devices l.circuit l.part) dev → HasReachPassed l.circuit l.part l.fn.out l.fn.value false dev l.store l.store v w s;
+      → (dev : Device) → Among (part_devices l.circuit l.part) dev → HasReachPassed l.circuit l.part l.fn.out l.fn.value Outside dev l.store l.store v w s;
   few : (u : ℕ) → IsSpanWithin u l.fn.store l.fn.gates → IsSpanWithin u l.fn.store l.fn.roots → IsSpanWithin u l.fn.store l.fn.out → IsCounted u (l.count * (length l.part.devices * 38)) l.fn.store l.store × IsSpanWithin u l.store l.fn.out;
 }

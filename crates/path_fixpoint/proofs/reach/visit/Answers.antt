@@ -1,9 +1,9 @@
-use Rattle.std.proofs.Common.{◌≡◌, ℕ, ◌+◌, ◌<◌, ◌≤◌, ◌||◌, List, length, slice_index, Ok, Err, arith, ap, sym, subst, ◌∙◌}
+use Rattle.std.proofs.Common.{◌≡◌, ℕ, ◌+◌, ◌<◌, ◌||◌, List, length, slice_index, Ok, Err, arith, ap, sym, subst, ◌∙◌}
 use Rattle.bdd_core.specs.Diagram.{Function, IsWithin, meaning}
 use Rattle.bdd_ops.proofs.CountingLaws.{counted_then, counts_made, counts_more, counts_then}
 use Rattle.path_fixpoint.specs.Reaching.{HasRootWords, offered_end}
 use Rattle.bdd_core.specs.Words.{Writes}
-use Rattle.bdd_core.proofs.Frames.{filled_beside, writes_then, adds_words, writes_added}
+use Rattle.bdd_core.proofs.Frames.{writes_then, adds_words, writes_added}
 use Rattle.path_fixpoint.proofs.Places.{EndIs, place_fits}
 use Rattle.path_fixpoint.proofs.ReachLaws.{offered_kept, root_words_kept}
 use Rattle.path_fixpoint.proofs.ReachSpreading.{spreads_value_both}
@@ -135,7 +135,7 @@ returns-clause-spreads c =
     let roots = c.args.roots in
     let out = c.args.out in
     let value = c.args.value in
-    let inside = c.args.inside in
+    let side = c.args.side in
     let d = c.args.device.now in
     let old = c.args.store.now in
     let half = c.offers.new.store in
@@ -152,19 +152,19 @@ returns-clause-spreads c =
     let second : Writes out half a = writes_added out half a first.live c.in-Ok-offers.ensures.adds in
     let same' : a.words ≡ half.words = adds_words half a half.words c.in-Ok-offers.ensures.adds in
     let words_half : HasRootWords circuit part gates roots out half = root_words_kept circuit part c.requires.part.1 c.requires.part.0 gates roots out value old half c.requires.words first in
-    spreads_value_both circuit part c.requires.part.1 c.requires.part.0 gates roots out value inside d c.requires.device left right left_is right_is
+    spreads_value_both circuit part c.requires.part.1 c.requires.part.0 gates roots out value side d c.requires.device left right left_is right_is
     old a mid new c.read.result c.in-Ok.there.0 c.in-Ok-offers.here.0 c.in-Ok-pass.forth c.in-Ok-pass-2.back c.requires.words c.read.ensures
     (writes_then out old half a first second) c.in-Ok-pass.ensures.writes c.in-Ok-pass-2.ensures.writes (same' ∙ same) c.in-Ok-pass.ensures.apart c.in-Ok-offers.ensures.ok.live
     (λ v. second.adds.kept c.in-Ok.there.0 c.in-Ok.ensures.ok.live v ∙ c.in-Ok.ensures.ok.same v
-    ∙ sym (offered_kept circuit part c.requires.part.1 c.requires.part.0 gates roots out value half a v inside left d.left.0 words_half second same' left_is ranges.left
-    ∙ offered_kept circuit part c.requires.part.1 c.requires.part.0 gates roots out value old half v inside left d.left.0 c.requires.words first same left_is ranges.left))
-    (λ v. c.in-Ok-offers.ensures.ok.same v ∙ sym (offered_kept circuit part c.requires.part.1 c.requires.part.0 gates roots out value half a v inside right d.right.0 words_half second same' right_is ranges.right))
+    ∙ sym (offered_kept circuit part c.requires.part.1 c.requires.part.0 gates roots out value half a v side left d.left.0 words_half second same' left_is ranges.left
+    ∙ offered_kept circuit part c.requires.part.1 c.requires.part.0 gates roots out value old half v side left d.left.0 c.requires.words first same left_is ranges.left))
+    (λ v. c.in-Ok-offers.ensures.ok.same v ∙ sym (offered_kept circuit part c.requires.part.1 c.requires.part.0 gates roots out value half a v side right d.right.0 words_half second same' right_is ranges.right))
     c.in-Ok-pass.ensures.passes c.in-Ok-pass-2.ensures.passes
 
 pub returns-then-blocks-clause-spreads : goal.returns-then-blocks-clause-spreads
 returns-then-blocks-clause-spreads c =
     spreads_value_off c.args.circuit.now c.args.part.now c.requires.part.0 c.args.gates c.args.out c.args.device.now c.requires.device c.args.store.now
-    (sym c.read.ensures ∙ c.blocks-2.ensures c.if-blocks.true) c.args.roots c.args.value c.args.inside
+    (sym c.read.ensures ∙ c.blocks-2.ensures c.if-blocks.true) c.args.roots c.args.value c.args.side
 
 pub returns-in-Err-clause-few : goal.returns-in-Err-clause-few
 returns-in-Err-clause-few c u gates roots all =
@@ -173,11 +173,11 @@ returns-in-Err-clause-few c u gates roots all =
     let ranges = device_ranges c.args.circuit.now c.args.part.now d c.requires.part.0 c.requires.device in
     let left_fits = place_fits c.args.part.now c.args.out c.place-left.result d.left.0 words.words.out_len c.place-left.ensures.some in
     let old = c.args.store.now in
-    let f : Function = λ v. offered_end old c.args.roots c.args.out c.args.value c.args.inside c.place-left.result d.left.0 v in
+    let f : Function = λ v. offered_end old c.args.roots c.args.out c.args.value c.args.side c.place-left.result d.left.0 v in
     spends_refused u c.args.out 38 old c.offers.new.store c.in-Err.spent
     (counts_more u 1 38 old c.offers.new.store (Err c.in-Err.spent) (omega arith)
     (counts_made u old c.offers.new.store c.sound.ensures.sound.ends f (Err c.in-Err.spent) c.in-Err.ensures
-    (offered_within u old c.args.roots c.args.out c.args.value c.args.inside c.place-left.result d.left.0 (omega (arith, ranges.left, words.roots_len)) left_fits roots all)))
+    (offered_within u old c.args.roots c.args.out c.args.value c.args.side c.place-left.result d.left.0 (omega (arith, ranges.left, words.roots_len)) left_fits roots all)))
 
 pub returns-in-Err-offers-clause-few : goal.returns-in-Err-offers-clause-few
 returns-in-Err-offers-clause-few c u gates roots all =
@@ -191,15 +191,15 @@ returns-in-Err-offers-clause-few c u gates roots all =
     let old = c.args.store.now in
     let half = c.offers.new.store in
     let a = c.offers-2.new.store in
-    let reads = offered_within u old c.args.roots out c.args.value c.args.inside c.place-left.result d.left.0 (omega (arith, ranges.left, words.roots_len)) left_fits roots all in
-    let f : Function = λ v. offered_end old c.args.roots out c.args.value c.args.inside c.place-left.result d.left.0 v in
+    let reads = offered_within u old c.args.roots out c.args.value c.args.side c.place-left.result d.left.0 (omega (arith, ranges.left, words.roots_len)) left_fits roots all in
+    let f : Function = λ v. offered_end old c.args.roots out c.args.value c.args.side c.place-left.result d.left.0 v in
     let made = finds_made u old half f (Ok c.in-Ok.there) c.sound.ensures.sound.ends c.in-Ok.ensures reads in
     let first : Writes out old half = writes_added out old half words.words.out_live c.in-Ok.ensures.adds in
     let same = adds_words old half old.words c.in-Ok.ensures.adds in
     let all' = span_still u out out old half first same words.words.out_live all in
     let roots' = span_beside u out c.args.roots old half first words.roots_apart words.roots_live roots in
-    let reads' = offered_within u half c.args.roots out c.args.value c.args.inside c.place-right.result d.right.0 (omega (arith, ranges.right, words.roots_len)) right_fits roots' all' in
-    let g : Function = λ v. offered_end half c.args.roots out c.args.value c.args.inside c.place-right.result d.right.0 v in
+    let reads' = offered_within u half c.args.roots out c.args.value c.args.side c.place-right.result d.right.0 (omega (arith, ranges.right, words.roots_len)) right_fits roots' all' in
+    let g : Function = λ v. offered_end half c.args.roots out c.args.value c.args.side c.place-right.result d.right.0 v in
     spends_refused u out 38 old a c.in-Err-offers.spent
     (counts_more u 2 38 old a (Err c.in-Err-offers.spent) (omega arith)
     (counts_then u 1 1 old half a (Err c.in-Err-offers.spent) made.counts.added
@@ -217,15 +217,15 @@ returns-in-Err-pass-clause-few c u gates roots all =
     let old = c.args.store.now in
     let half = c.offers.new.store in
     let a = c.offers-2.new.store in
-    let reads = offered_within u old c.args.roots out c.args.value c.args.inside c.place-left.result d.left.0 (omega (arith, ranges.left, words.roots_len)) left_fits roots all in
-    let f : Function = λ v. offered_end old c.args.roots out c.args.value c.args.inside c.place-left.result d.left.0 v in
+    let reads = offered_within u old c.args.roots out c.args.value c.args.side c.place-left.result d.left.0 (omega (arith, ranges.left, words.roots_len)) left_fits roots all in
+    let f : Function = λ v. offered_end old c.args.roots out c.args.value c.args.side c.place-left.result d.left.0 v in
     let made = finds_made u old half f (Ok c.in-Ok.there) c.sound.ensures.sound.ends c.in-Ok.ensures reads in
     let first : Writes out old half = writes_added out old half words.words.out_live c.in-Ok.ensures.adds in
     let same = adds_words old half old.words c.in-Ok.ensures.adds in
     let all' = span_still u out out old half first same words.words.out_live all in
     let roots' = span_beside u out c.args.roots old half first words.roots_apart words.roots_live roots in
-    let reads' = offered_within u half c.args.roots out c.args.value c.args.inside c.place-right.result d.right.0 (omega (arith, ranges.right, words.roots_len)) right_fits roots' all' in
-    let g : Function = λ v. offered_end half c.args.roots out c.args.value c.args.inside c.place-right.result d.right.0 v in
+    let reads' = offered_within u half c.args.roots out c.args.value c.args.side c.place-right.result d.right.0 (omega (arith, ranges.right, words.roots_len)) right_fits roots' all' in
+    let g : Function = λ v. offered_end half c.args.roots out c.args.value c.args.side c.place-right.result d.right.0 v in
     let made' = finds_made u half a g (Ok c.in-Ok-offers.here) first.adds.sound.ends c.in-Ok-offers.ensures reads' in
     let second : Writes out half a = writes_added out half a first.live c.in-Ok-offers.ensures.adds in
     let wa : Writes out old a = writes_then out old half a first second in
@@ -251,15 +251,15 @@ returns-in-Err-pass-2-clause-few c u gates roots all =
     let old = c.args.store.now in
     let half = c.offers.new.store in
     let a = c.offers-2.new.store in
-    let reads = offered_within u old c.args.roots out c.args.value c.args.inside c.place-left.result d.left.0 (omega (arith, ranges.left, words.roots_len)) left_fits roots all in
-    let f : Function = λ v. offered_end old c.args.roots out c.args.value c.args.inside c.place-left.result d.left.0 v in
+    let reads = offered_within u old c.args.roots out c.args.value c.args.side c.place-left.result d.left.0 (omega (arith, ranges.left, words.roots_len)) left_fits roots all in
+    let f : Function = λ v. offered_end old c.args.roots out c.args.value c.args.side c.place-left.result d.left.0 v in
     let made = finds_made u old half f (Ok c.in-Ok.there) c.sound.ensures.sound.ends c.in-Ok.ensures reads in
     let first : Writes out old half = writes_added out old half words.words.out_live c.in-Ok.ensures.adds in
     let same = adds_words old half old.words c.in-Ok.ensures.adds in
     let all' = span_still u out out old half first same words.words.out_live all in
     let roots' = span_beside u out c.args.roots old half first words.roots_apart words.roots_live roots in
-    let reads' = offered_within u half c.args.roots out c.args.value c.args.inside c.place-right.result d.right.0 (omega (arith, ranges.right, words.roots_len)) right_fits roots' all' in
-    let g : Function = λ v. offered_end half c.args.roots out c.args.value c.args.inside c.place-right.result d.right.0 v in
+    let reads' = offered_within u half c.args.roots out c.args.value c.args.side c.place-right.result d.right.0 (omega (arith, ranges.right, words.roots_len)) right_fits roots' all' in
+    let g : Function = λ v. offered_end half c.args.roots out c.args.value c.args.side c.place-right.result d.right.0 v in
     let made' = finds_made u half a g (Ok c.in-Ok-offers.here) first.adds.sound.ends c.in-Ok-offers.ensures reads' in
     let second : Writes out half a = writes_added out half a first.live c.in-Ok-offers.ensures.adds in
     let wa : Writes out old a = writes_then out old half a first second in
@@ -291,15 +291,15 @@ returns-clause-few c u gates roots all =
     let old = c.args.store.now in
     let half = c.offers.new.store in
     let a = c.offers-2.new.store in
-    let reads = offered_within u old c.args.roots out c.args.value c.args.inside c.place-left.result d.left.0 (omega (arith, ranges.left, words.roots_len)) left_fits roots all in
-    let f : Function = λ v. offered_end old c.args.roots out c.args.value c.args.inside c.place-left.result d.left.0 v in
+    let reads = offered_within u old c.args.roots out c.args.value c.args.side c.place-left.result d.left.0 (omega (arith, ranges.left, words.roots_len)) left_fits roots all in
+    let f : Function = λ v. offered_end old c.args.roots out c.args.value c.args.side c.place-left.result d.left.0 v in
     let made = finds_made u old half f (Ok c.in-Ok.there) c.sound.ensures.sound.ends c.in-Ok.ensures reads in
     let first : Writes out old half = writes_added out old half words.words.out_live c.in-Ok.ensures.adds in
     let same = adds_words old half old.words c.in-Ok.ensures.adds in
     let all' = span_still u out out old half first same words.words.out_live all in
     let roots' = span_beside u out c.args.roots old half first words.roots_apart words.roots_live roots in
-    let reads' = offered_within u half c.args.roots out c.args.value c.args.inside c.place-right.result d.right.0 (omega (arith, ranges.right, words.roots_len)) right_fits roots' all' in
-    let g : Function = λ v. offered_end half c.args.roots out c.args.value c.args.inside c.place-right.result d.right.0 v in
+    let reads' = offered_within u half c.args.roots out c.args.value c.args.side c.place-right.result d.right.0 (omega (arith, ranges.right, words.roots_len)) right_fits roots' all' in
+    let g : Function = λ v. offered_end half c.args.roots out c.args.value c.args.side c.place-right.result d.right.0 v in
     let made' = finds_made u half a g (Ok c.in-Ok-offers.here) first.adds.sound.ends c.in-Ok-offers.ensures reads' in
     let second : Writes out half a = writes_added out half a first.live c.in-Ok-offers.ensures.adds in
     let wa : Writes out old a = writes_then out old half a first second in
@@ -323,4 +323,4 @@ returns-clause-few c u gates roots all =
 pub returns-then-is_idle-clause-spreads : goal.returns-then-is_idle-clause-spreads
 returns-then-is_idle-clause-spreads c =
     let q = c.is_idle.ensures c.if-is_idle.true in
-    spreads_value_idle c.args.circuit.now c.args.part.now c.requires.part.1 c.args.gates c.args.out c.args.device.now c.requires.device c.args.store.now c.args.inside q.0 q.1 c.args.roots c.args.value
+    spreads_value_idle c.args.circuit.now c.args.part.now c.requires.part.1 c.args.gates c.args.out c.args.device.now c.requires.device c.args.store.now c.args.side q.0 q.1 c.args.roots c.args.value

@@ -10,7 +10,7 @@ use Rattle.path_fixpoint.proofs.Spreading.{Visited, all_visited, spreads_less, s
 use Rattle.path_fixpoint.proofs.rounds.round.Goals as goal
 
 pub visit-requires-clause-device : goal.visit-requires-clause-device
-visit-requires-clause-device c = visited_among c.args.circuit.now c.args.part.now c.args.forward c.loop-step.step c.visited-device.result.now c.visited-device.ensures
+visit-requires-clause-device c = visited_among c.args.circuit.now c.args.part.now c.args.direction c.loop-step.step c.visited-device.result.now c.visited-device.ensures
 
 pub visit-requires-clause-words : goal.visit-requires-clause-words
 visit-requires-clause-words c =
@@ -36,8 +36,8 @@ loop-step-preserved c =
     record {
       writes = writes_then out first old new i.writes c.in-Ok.ensures.writes;
       apart = λ k away. c.in-Ok.ensures.apart k away ∙ i.apart k away;
-      spreads = spreads_then circuit part c.args.gates out c.args.level c.requires.level.0 c.requires.level.1 c.args.inside (Visited circuit part c.args.forward at) (λ d. d ≡ device) (Visited circuit part c.args.forward (at + 1))
-          c.loop-step.changed c.in-Ok.grew first old new c.requires.words i.writes (visited_more circuit part c.args.forward at device c.visited-device.ensures) i.spreads c.in-Ok.ensures.spreads;
+      spreads = spreads_then circuit part c.args.gates out c.args.level c.requires.level.0 c.requires.level.1 c.args.side (Visited circuit part c.args.direction at) (λ d. d ≡ device) (Visited circuit part c.args.direction (at + 1))
+          c.loop-step.changed c.in-Ok.grew first old new c.requires.words i.writes (visited_more circuit part c.args.direction at device c.visited-device.ensures) i.spreads c.in-Ok.ensures.spreads;
       few = λ u gates all.
           let q = i.few u gates all in
           let f = c.in-Ok.ensures.few u (span_beside u out c.args.gates first old i.writes c.requires.words.apart c.requires.words.gates_live gates) q.1 in
@@ -48,8 +48,8 @@ pub returns-clause-spreads : goal.returns-clause-spreads
 returns-clause-spreads c =
     let circuit = c.args.circuit.now in
     let part = c.args.part.now in
-    spreads_less circuit part c.args.gates c.args.out c.args.level c.requires.level.0 c.requires.level.1 c.args.inside (Visited circuit part c.args.forward c.loop-step.step) (Among (part_devices circuit part))
-    c.loop-step.changed c.args.store.now c.loop-step.store (all_visited circuit part c.args.forward c.loop-step.step (omega (arith, c.len-step-end.ensures, c.loop-step-test.false))) c.loop-step.invariant.spreads
+    spreads_less circuit part c.args.gates c.args.out c.args.level c.requires.level.0 c.requires.level.1 c.args.side (Visited circuit part c.args.direction c.loop-step.step) (Among (part_devices circuit part))
+    c.loop-step.changed c.args.store.now c.loop-step.store (all_visited circuit part c.args.direction c.loop-step.step (omega (arith, c.len-step-end.ensures, c.loop-step-test.false))) c.loop-step.invariant.spreads
 
 pub returns-in-Err-clause-few : goal.returns-in-Err-clause-few
 returns-in-Err-clause-few c u gates all =

@@ -1,16 +1,17 @@
-use Rattle.std.proofs.Common.{◌≡◌, ℕ, ◌+◌, ◌*◌, Ok, Err, ◌≤◌, Bool, true, false, length, arith, sym, subst, ◌∙◌, inl, inr}
-use Rattle.std.proofs.lemmas.Bool.{cases_Bool}
+use Rattle.std.proofs.Common.{◌≡◌, ℕ, ◌+◌, ◌*◌, Ok, Err, ◌≤◌, length, arith, sym, subst, ◌∙◌, inl, inr}
 use Rattle.bdd_core.specs.Diagram.{Valuation}
 use Rattle.vrt_model.specs.Lists.{Among}
 use Rattle.vrt_model.specs.Path.{Network}
 use Rattle.vrt_model.specs.declared.circuit.Device.{Device}
+use Rattle.path_fixpoint.specs.declared.side.Side.{Side}
+use Rattle.path_fixpoint.specs.declared.side.Side.TheVariants.{Inside, Outside}
 use Rattle.path_fixpoint.specs.Parts.{part_devices}
 use Rattle.std.proofs.Math.Nat.{mul-le-mul_right}
 use Rattle.bdd_ops.proofs.CountingLaws.{counted_more, counted_then, counts_more, counts_ok}
 use Rattle.path_fixpoint.proofs.SpendingLaws.{one_more, span_beside, spends_behind, spends_err, spends_more, spends_value, times_most}
 use Rattle.path_fixpoint.specs.Strengths.{HasPassed, HasRoots, HasWords, Spreads, StandsAt}
 use Rattle.bdd_core.proofs.Frames.{writes_then}
-use Rattle.path_fixpoint.proofs.Places.{place_in}
+use Rattle.path_fixpoint.proofs.Places.{cases_Side, place_in}
 use Rattle.path_fixpoint.proofs.RoundLaws.{HasProgress, closed_all, entered_more, level_from, progress_all, progress_first, progress_more, roots_grown, stands_kept, strong_same, words_kept}
 use Rattle.path_fixpoint.proofs.rounds.settle.Goals as goal
 
@@ -27,15 +28,15 @@ returns-then-is_settled-clause-level c v w st roots paths =
     let new = c.round.new.store in
     let i = c.rounds.invariant in
     let done = c.is_settled.ensures c.if-is_settled.true in
-    let s : Spreads circuit part gates out level true (Among (part_devices circuit part)) c.in-Ok.changed old new =
-    subst (λ (b : Bool). Spreads circuit part gates out level b (Among (part_devices circuit part)) c.in-Ok.changed old new) done.0 c.in-Ok.ensures.spreads in
+    let s : Spreads circuit part gates out level Inside (Among (part_devices circuit part)) c.in-Ok.changed old new =
+    subst (λ (x : Side). Spreads circuit part gates out level x (Among (part_devices circuit part)) c.in-Ok.changed old new) done.0 c.in-Ok.ensures.spreads in
     let words : HasWords circuit part gates out old = words_kept circuit part gates out c.args.store.now old c.requires.words i.writes in
     let stands : StandsAt circuit part gates old v w = stands_kept circuit part gates out c.args.store.now old v w c.requires.words i.writes st in
     let same = s.same done.1 in
     let rooted : HasRoots part out level new v w = roots_grown circuit part gates out level low high old new v w words s.grown (i.roots v w st roots) in
     level_from circuit part gates out level low high new v w (s.paths v w stands (i.paths v w st paths))
     (closed_all circuit part gates out level low high new v w st.devices rooted
-    (entered_more circuit part gates out level low high old new v w words s.grown (λ dev m. inl (i.entered (c.is_behind_first-inside.ensures.later done.0) v w st dev m)))
+    (entered_more circuit part gates out level low high old new v w words s.grown (λ dev m. inl (i.entered (c.of_round-side.ensures.later done.0) v w st dev m)))
     (λ dev m on le a b j here str. s.passed dev m v w stands on le a b j here
     (λ k p. sym (strong_same circuit part gates out level low high old new k v words c.in-Ok.ensures.writes same (place_in part k a p)) ∙ str k p)))
 
@@ -54,27 +55,27 @@ rounds-preserved c =
     let i = c.rounds.invariant in
     let s = c.in-Ok.ensures.spreads in
     let words : HasWords circuit part gates out old = words_kept circuit part gates out first old c.requires.words i.writes in
-    let from_side : (side : Bool) → c.is_behind_first-inside.result ≡ side → (dev : Device) → Among (part_devices circuit part) dev → (v : Valuation) (w : Network) → StandsAt circuit part gates old v w
+    let from_side : (side : Side) → c.of_round-side.result ≡ side → (dev : Device) → Among (part_devices circuit part) dev → (v : Valuation) (w : Network) → StandsAt circuit part gates old v w
     → HasPassed part out level side dev old new v w =
-    λ side is dev m v w stands. subst (λ (b : Bool). HasPassed part out level b dev old new v w) is (s.passed dev m v w stands) in
-    let from_inside = from_side true in
-    let from_outside = from_side false in
+    λ side is dev m v w stands. subst (λ (x : Side). HasPassed part out level x dev old new v w) is (s.passed dev m v w stands) in
+    let from_inside = from_side Inside in
+    let from_outside = from_side Outside in
     record {
       writes = writes_then out first old new i.writes c.in-Ok.ensures.writes;
       apart = λ k away. c.in-Ok.ensures.apart k away ∙ i.apart k away;
       roots = λ v w st r. roots_grown circuit part gates out level low high old new v w words s.grown (i.roots v w st r);
       paths = λ v w st p. s.paths v w (stands_kept circuit part gates out first old v w c.requires.words i.writes st) (i.paths v w st p);
       entered = λ some v w st. entered_more circuit part gates out level low high old new v w words s.grown
-          (λ dev m. elim (cases_Bool c.is_behind_first-inside.result) [
-            | inl later ↦ inl (i.entered (c.is_behind_first-inside.ensures.later later) v w st dev m)
+          (λ dev m. elim (cases_Side c.of_round-side.result) [
+            | inl later ↦ inl (i.entered (c.of_round-side.ensures.later later) v w st dev m)
             | inr first' ↦ inr (from_outside first' dev m v w (stands_kept circuit part gates out first old v w c.requires.words i.writes st))
           ]);
       progress = λ v w st r.
           let stands = stands_kept circuit part gates out first old v w c.requires.words i.writes st in
-          elim (cases_Bool c.is_behind_first-inside.result) [
+          elim (cases_Side c.of_round-side.result) [
             | inl later ↦ progress_more circuit part gates out level low high c.rounds.count old new v w words st.devices s.grown
-                (i.entered (c.is_behind_first-inside.ensures.later later) v w st) (λ dev m. from_inside later dev m v w stands) (i.roots v w st r) (i.progress v w st r)
-            | inr first' ↦ subst (λ (k : ℕ). HasProgress part out level (k + 1) new v w) (sym (c.is_behind_first-inside.ensures.first first'))
+                (i.entered (c.of_round-side.ensures.later later) v w st) (λ dev m. from_inside later dev m v w stands) (i.roots v w st r) (i.progress v w st r)
+            | inr first' ↦ subst (λ (k : ℕ). HasProgress part out level (k + 1) new v w) (sym (c.of_round-side.ensures.first first'))
                 (progress_first circuit part gates out level low high old new v w words st.devices s.grown (i.roots v w st r)
                 (entered_more circuit part gates out level low high old new v w words s.grown (λ dev m. inr (from_outside first' dev m v w stands))))
           ];
