@@ -1,0 +1,3 @@
+pub mod FreeOutputLaws
+pub mod GivenLaws
+pub mod OutputLaws

@@ -1,0 +1,3 @@
+pub mod FreeOutputs
+pub mod Logic
+pub mod Words
