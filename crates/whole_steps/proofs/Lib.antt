@@ -2,3 +2,4 @@ pub mod FreeOutputLaws
 pub mod GivenLaws
 pub mod OutputLaws
 pub mod TableLaws
+pub mod DriverLaws

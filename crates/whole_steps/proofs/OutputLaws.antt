@@ -29,7 +29,7 @@ use Rattle.whole_steps.specs.Words.{AreGiven, found_words, given_words, model_wo
 
 -- ---- nothing is known
 
-none_at : (count s : ℕ) → unwrap_or (slice_get (replicate {A = Option Bool} count None) s) None ≡ None
+pub none_at : {X : Type 0} (count s : ℕ) → unwrap_or (slice_get (replicate {A = Option X} count None) s) None ≡ None
 none_at zero s = refl
 none_at (suc count) zero = refl
 none_at (suc count) (suc s) = none_at count s

@@ -1,5 +1,5 @@
 -- What is made of the whole instances of a circuit, and what a step over one of their outputs leaves.
-use Rattle.std.specs.Prelude.{◌≡◌, ◌≢◌, ℕ, ◌+◌, ◌*◌, ◌<◌, ◌≤◌, List, Option, None, Some, slice_get, unwrap_or}
+use Rattle.std.specs.Prelude.{◌≡◌, ◌≢◌, ℕ, ◌+◌, ◌*◌, ◌<◌, ◌≤◌, ◌⊎◌, List, Option, None, Some, length, slice_get, unwrap_or}
 use Rattle.node_pool.specs.declared.region.Span.{Span}
 use Rattle.bdd_core.specs.Diagram.{Valuation}
 use Rattle.bdd_core.specs.Store.{Diagrams}
@@ -26,6 +26,21 @@ driver_at drivers n = unwrap_or (slice_get drivers n) None
 pub record IsOutput (c : Circuit) (place : OutputPlace) (w : Whole) (pin : WholePin) : Type 0 where
   pub whole : At c.wholes place.whole w
   pub output : At w.outputs place.output pin
+
+-- a table of the outputs by net, in which some are noted: it has only outputs, each at its net, and something at the net of each
+-- that is noted
+pub record AreDrivers (c : Circuit) (Noted : OutputPlace → Type 0) (drivers : List (Option OutputPlace)) : Type 0 where
+  pub size : length drivers ≡ length c.nets
+  pub sound : (n : ℕ) (place : OutputPlace) → driver_at drivers n ≡ Some place → (w : Whole) × (pin : WholePin) × IsOutput c place w pin × (pin.net.0 ≡ n)
+  pub full : (place : OutputPlace) (w : Whole) (pin : WholePin) → Noted place → IsOutput c place w pin → driver_at drivers pin.net.0 ≢ None
+
+-- an output of an instance before this number, or of this instance before a place
+abbrev pub IsBefore : ℕ → ℕ → OutputPlace → Type 0
+IsBefore number output place = (place.whole < number) ⊎ ((place.whole ≡ number) × (place.output < output))
+
+-- an order of the model of each instance before a number
+abbrev pub AreOrders : List Whole → ℕ → List ModelPlan → Type 0
+AreOrders wholes number orders = (k : ℕ) (w : Whole) → k < number → At wholes k w → (plan : ModelPlan) × At orders k plan × IsPlan w.model (nothing_known w.model) plan
 
 -- the output of each net that has one, and an order of the model of each whole instance
 pub record IsWholeTable (c : Circuit) (drivers : List (Option OutputPlace)) (orders : List ModelPlan) : Type 0 where

@@ -2,6 +2,7 @@
 //! function of the bits of the nets at its inputs, and the step that writes this bit as that of the output's net.
 #![tactic(auto)]
 
+mod drivers;
 mod free;
 mod given;
 mod output;
@@ -9,6 +10,7 @@ mod plan;
 mod step;
 mod table;
 
+pub use drivers::output_drivers;
 pub use free::free_outputs_show;
 pub use output::output_bit;
 pub use plan::whole_plan;

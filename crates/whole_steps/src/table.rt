@@ -10,9 +10,9 @@ use vrt_model::{Circuit, Net, Whole, WholePin};
 #[derive(Clone, Copy)]
 pub struct OutputPlace {
     /// The number of the instance, a place in `Circuit.wholes`.
-    pub whole: u32,
+    pub whole: usize,
     /// The place of the pin in `Whole.outputs`.
-    pub output: u32,
+    pub output: usize,
 }
 
 /// For each net the output that drives it, and for each whole instance an order of its model. Two empty slices serve a circuit
@@ -36,25 +36,25 @@ pub fn driver_of(wholes: WholeTable<'_>, net: Net) -> Option<OutputPlace>
 }
 
 /// A whole instance by its number.
-pub(crate) fn whole_at(circuit: &Circuit, number: u32) -> &Whole
+pub(crate) fn whole_at(circuit: &Circuit, number: usize) -> &Whole
     requires { number < length circuit.now.wholes }
     ensures { slice_get circuit.entry.now.wholes number ≡ Some result.now }
 {
-    &circuit.wholes.as_slice()[number as usize]
+    &circuit.wholes.as_slice()[number]
 }
 
 /// An output pin by its place.
-pub(crate) fn pin_at(whole: &Whole, place: u32) -> WholePin
+pub(crate) fn pin_at(whole: &Whole, place: usize) -> WholePin
     requires { place < length whole.now.outputs }
     ensures { slice_get whole.now.outputs place ≡ Some result }
 {
-    whole.outputs.as_slice()[place as usize]
+    whole.outputs.as_slice()[place]
 }
 
 /// The order of the model of a whole instance.
-pub(crate) fn plan_at(plans: &[ModelPlan], number: u32) -> &ModelPlan
+pub(crate) fn plan_at(plans: &[ModelPlan], number: usize) -> &ModelPlan
     requires { number < length plans.now }
     ensures { slice_get plans.entry.now number ≡ Some result.now }
 {
-    &plans[number as usize]
+    &plans[number]
 }
