@@ -3,3 +3,4 @@ pub mod GivenLaws
 pub mod OutputLaws
 pub mod TableLaws
 pub mod DriverLaws
+pub mod OrderLaws

@@ -39,8 +39,9 @@ abbrev pub IsBefore : ℕ → ℕ → OutputPlace → Type 0
 IsBefore number output place = (place.whole < number) ⊎ ((place.whole ≡ number) × (place.output < output))
 
 -- an order of the model of each instance before a number
-abbrev pub AreOrders : List Whole → ℕ → List ModelPlan → Type 0
-AreOrders wholes number orders = (k : ℕ) (w : Whole) → k < number → At wholes k w → (plan : ModelPlan) × At orders k plan × IsPlan w.model (nothing_known w.model) plan
+pub record AreOrders (wholes : List Whole) (number : ℕ) (orders : List ModelPlan) : Type 0 where
+  pub size : length orders ≡ number
+  pub each : (k : ℕ) (w : Whole) → k < number → At wholes k w → (plan : ModelPlan) × At orders k plan × IsPlan w.model (nothing_known w.model) plan
 
 -- the output of each net that has one, and an order of the model of each whole instance
 pub record IsWholeTable (c : Circuit) (drivers : List (Option OutputPlace)) (orders : List ModelPlan) : Type 0 where

@@ -5,6 +5,7 @@
 mod drivers;
 mod free;
 mod given;
+mod orders;
 mod output;
 mod plan;
 mod step;
@@ -12,6 +13,7 @@ mod table;
 
 pub use drivers::output_drivers;
 pub use free::free_outputs_show;
+pub use orders::model_orders;
 pub use output::output_bit;
 pub use plan::whole_plan;
 pub use step::write_output;
