@@ -2,6 +2,7 @@ pub mod BrokenLaws
 pub mod CircuitLaws
 pub mod ClearHere
 pub mod CountLaws
+pub mod DrivenAlone
 pub mod InstanceLaws
 pub mod KeptBits
 pub mod KeptCases
@@ -15,10 +16,12 @@ pub mod KeyWork
 pub mod ListedOrder
 pub mod NetLaws
 pub mod OrderLaws
+pub mod OutputSteps
 pub mod PartLaws
 pub mod PartNetworks
 pub mod PartStepLaws
 pub mod ScanLaws
+pub mod FlatWholes
 pub mod Solutions
 pub mod StepLaws
 pub mod StepLists

@@ -1,17 +1,14 @@
 -- The steps of sorted keys are all parts, and all instances with a constraint, in their order.
-use Rattle.std.proofs.Common.{◌≡◌, ℕ, suc, ◌<◌, ◌≤◌, ◌⊎◌, ◌&&◌, Bool, true, false, cond, List, [], ◌∷◌, Option, Some, get_or, length, map, arith, ap, refl, subst, sym, ◌∙◌, inl, inr}
-use Rattle.std.specs.Prelude.{◌==◌, All, bytes_eq, Contains, option_map, slice_index, unwrap_or}
-use Rattle.std.specs.List.Sorted.{IsPermutation, IsSorted}
+use Rattle.std.proofs.Common.{◌≡◌, ℕ, suc, ◌<◌, ◌≤◌, ◌⊎◌, ◌&&◌, Bool, true, false, cond, List, [], ◌∷◌, Option, get_or, length, map, arith, ap, refl, subst, sym, ◌∙◌, inl, inr}
+use Rattle.std.specs.Prelude.{◌==◌, All, bytes_eq, option_map, slice_index, unwrap_or}
+use Rattle.std.specs.List.Sorted.{IsPermutation}
 use Rattle.std.specs.Ordering.{is_lt, nat_cmp, ordering_then}
 use Rattle.std.specs.Cmp.{nat_cmp_is}
-use Rattle.std.specs.declared.cmp.Ordering.{Ordering}
-use Rattle.std.specs.declared.cmp.Ordering.TheVariants.{Less, Equal, Greater}
+use Rattle.std.specs.declared.cmp.Ordering.TheVariants.{Less}
 use Rattle.std.proofs.lemmas.Bool.{and_from, cases_eq, cases_lt, eq-eqb, false≢true, ne_eqb, or_left, or_right}
-use Rattle.std.proofs.lemmas.Cmp.{nat_cmp_total, on_total, then_total}
-use Rattle.std.proofs.lemmas.List.MinMax.{ranks_by}
-use Rattle.std.proofs.lemmas.List.Sorted.{Contains-permutation, IsPermutation-sym, sorted_far}
+use Rattle.std.proofs.lemmas.List.Sorted.{Contains-permutation, IsPermutation-sym}
 use Rattle.std.proofs.lemmas.Map.Keys.{IsDistinct-IsPermutation, apart_from_distinct}
-use Rattle.std.proofs.lemmas.Option.{get_or_from_slice_get, same_Some, slice_get-get_or, slice_get_within}
+use Rattle.std.proofs.lemmas.Option.{get_or_from_slice_get, same_Some, slice_get_within}
 use Rattle.channel_parts.proofs.ListLaws.{among_contains, contains_among}
 use Rattle.channel_parts.proofs.PartLaws.{not_before, sorted_at, then_then}
 use Rattle.channel_parts.specs.Listings.{order_cmp}
@@ -33,7 +30,8 @@ use Rattle.known_nets.proofs.NetKinds.{given_or_plain}
 use Rattle.std.specs.List.{list_any}
 use Rattle.vrt_model.proofs.Lists.{at_map, map_among}
 use Rattle.vrt_model.proofs.Members.{all_among}
-use Rattle.vrt_model.specs.Circuits.{IsFlat, IsNet}
+use Rattle.vrt_model.specs.Circuits.{IsNet}
+use Rattle.vrt_model.specs.Networks.{HasRanges}
 use Rattle.vrt_model.specs.Comparison.{Comparison, cell_at, phase_at}
 use Rattle.vrt_model.specs.Known.{IsLeastOfPart, IsPlain, IsRanking}
 use Rattle.vrt_model.specs.Lists.{At, Among}
@@ -125,7 +123,7 @@ same_greatest f g (n ∷ ns) same = (let here = same n (0, refl) in let rest = s
 
 module _ (k : Comparison) (phase : ℕ) (rank : ℕ → ℕ) (parts : Parts) (are : AreParts k.circuit (phase_at k.rules phase) true rank parts) (ranking : IsRanking k.circuit (phase_at k.rules phase) rank)
     (steps : List CircuitStep) (ranks : List ℕ) (keys : List Key) (noted : AreNetRanks parts.list (length parts.list) ranks) where
-  module _ (flat : IsFlat k.circuit) (nets : All (λ (i : FlatInstance). All (IsNet k.circuit) i.ports) k.circuit.instances)
+  module _ (ranges : HasRanges k.circuit) (nets : All (λ (i : FlatInstance). All (IsNet k.circuit) i.ports) k.circuit.instances)
       (sorted : AreSorted k.design k.rules k.circuit phase parts.list ranks keys) (listed_steps : steps ≡ map step_of_key keys) where
     abbrev ghost : List Step
     ghost = map (step_of parts.list) steps
@@ -142,7 +140,7 @@ module _ (k : Comparison) (phase : ℕ) (rank : ℕ → ℕ) (parts : Parts) (ar
         elim (given_or_plain k.circuit n lt) [
           | inr p ↦ (let there = are.all n p in
               noted.inside rank (λ part m i. (are.each part i).ranked m) there.1.0 there.0 n (slice_get_within parts.list there.1.0 there.0 there.1.1) there.1.1 there.2)
-          | inl g ↦ noted.outside n (λ j part below e m. not_given g (plain k.circuit (phase_at k.rules phase) true rank flat part (are.each part (j, e)) n (number_inside part n m))) ∙ sym (ranking.given n g.0 g.1 g.2)
+          | inl g ↦ noted.outside n (λ j part below e m. not_given g (plain k.circuit (phase_at k.rules phase) true rank ranges part (are.each part (j, e)) n (number_inside part n m))) ∙ sym (ranking.given n g.0 g.1 g.2)
         ]
       where
         not_given : ((net : FlatNet) × At k.circuit.nets n net × (is_given net.kind ≡ true)) → IsPlain k.circuit n → ⊥
@@ -255,7 +253,7 @@ module _ (k : Comparison) (phase : ℕ) (rank : ℕ → ℕ) (parts : Parts) (ar
     each_by x (inl p) =
         subst (λ (s : Step). Rises s × HasLeast s) (sym (part_ghost x p)) (
           (are.each p.1.0 (x.1, p.1.1)).net_order,
-          λ n i. is_least k.circuit (phase_at k.rules phase) rank flat p.1.0 (are.each p.1.0 (x.1, p.1.1)) n (number_inside p.1.0 n i),
+          λ n i. is_least k.circuit (phase_at k.rules phase) rank ranges p.1.0 (are.each p.1.0 (x.1, p.1.1)) n (number_inside p.1.0 n i),
         )
     each_by x (inr p) = subst (λ (s : Step). Rises s × HasLeast s) (sym (instance_ghost x p)) (tt, tt)
 
@@ -295,11 +293,11 @@ module _ (k : Comparison) (phase : ℕ) (rank : ℕ → ℕ) (parts : Parts) (ar
     }
 
   -- of a comparison with this design, these rules and this circuit
-  pub steps_listed : (design : Design) (rules : Rules) (c : Circuit) → k.design ≡ design → k.rules ≡ rules → k.circuit ≡ c → IsFlat c → All (λ (i : FlatInstance). All (IsNet c) i.ports) c.instances
+  pub steps_listed : (design : Design) (rules : Rules) (c : Circuit) → k.design ≡ design → k.rules ≡ rules → k.circuit ≡ c → HasRanges c → All (λ (i : FlatInstance). All (IsNet c) i.ports) c.instances
       → AreSorted design rules c phase parts.list ranks keys → steps ≡ map step_of_key keys → AreSteps k phase rank (map (step_of parts.list) steps)
-  steps_listed design rules c d r x flat nets sorted same =
+  steps_listed design rules c d r x numbers nets sorted same =
       in_comparison_order
-      (subst IsFlat (sym x) flat)
+      (subst HasRanges (sym x) numbers)
       (subst (λ (y : Circuit). All (λ (i : FlatInstance). All (IsNet y) i.ports) y.instances) (sym x) nets)
       (subst (λ (y : Design). AreSorted y k.rules k.circuit phase parts.list ranks keys) (sym d)
       (subst (λ (y : Rules). AreSorted design y k.circuit phase parts.list ranks keys) (sym r)

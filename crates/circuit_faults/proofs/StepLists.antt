@@ -8,8 +8,9 @@ use Rattle.channel_parts.specs.PartLists.{AreParts, IsBefore, least_of, net_numb
 use Rattle.channel_parts.specs.declared.part.Part.{Part}
 use Rattle.channel_parts.specs.declared.part.Parts.{Parts}
 use Rattle.circuit_faults.proofs.CircuitLaws.{step_is}
+use Rattle.circuit_faults.proofs.DrivenAlone.{driven_alone}
 use Rattle.circuit_faults.proofs.OrderLaws.{is_least}
-use Rattle.circuit_faults.proofs.WholeParts.{device_in, inside_number, number_inside, whole_part}
+use Rattle.circuit_faults.proofs.WholeParts.{device_in, inside_number, number_inside, whole_part, together}
 use Rattle.circuit_faults.specs.Scans.{IsInside}
 use Rattle.circuit_faults.specs.Steps.{AreOrderedSteps, InPhase, IsInStepBefore, IsInstanceAt, IsPartAt, IsThere, in_comparison, named_at, part_step, step_of, steps_of}
 use Rattle.circuit_faults.specs.declared.steps.CircuitStep.{CircuitStep}
@@ -19,15 +20,22 @@ use Rattle.fault_places.specs.PhaseSpots.{AreSteps, IsRising, IsStepBefore, Step
 use Rattle.path_fixpoint.specs.Parts.{part_devices}
 use Rattle.vrt_model.proofs.Lists.{at_map, at_there, map_among, map_at}
 use Rattle.vrt_model.proofs.Members.{among_map, at_none}
-use Rattle.vrt_model.specs.Circuits.{IsFlat}
 use Rattle.vrt_model.specs.Comparison.{Comparison, cell_at, phase_at}
-use Rattle.vrt_model.specs.Known.{HasGateArc, IsLeastOfPart, IsPlain, IsRanking, IsUnknown}
+use Rattle.vrt_model.specs.Known.{HasGateArc, HasWholeArc, IsLeastOfPart, IsPlain, IsRanking, IsUnknown}
+use Rattle.vrt_model.specs.Determined.{IsLinkedTo}
+use Rattle.vrt_model.specs.State.{OutputPin, output_pins}
+use Rattle.vrt_model.specs.declared.ids.Net.{Net}
+use Rattle.vrt_model.specs.declared.whole.WholePin.{WholePin}
+use Rattle.known_nets.proofs.WiredLaws.{pin_of_whole}
+use Rattle.circuit_faults.specs.Wholes.{AreOutputsOrdered}
+use Rattle.whole_steps.specs.FreeOutputs.{HasFreeOutputs}
 use Rattle.vrt_model.specs.Lists.{At, Among}
+use Rattle.vrt_model.specs.Networks.{HasRanges}
 use Rattle.vrt_model.specs.Places.{comes_before, greatest_rank, is_named, named_nets, named_nets_from, of_instance, of_net}
 use Rattle.vrt_model.specs.declared.circuit.Device.{Device}
 use Rattle.vrt_model.specs.declared.circuit.FlatInstance.{FlatInstance}
 
-module _ (k : Comparison) (phase : ℕ) (rank : ℕ → ℕ) (parts : Parts) (flat : IsFlat k.circuit) (are : AreParts k.circuit (phase_at k.rules phase) true rank parts) where
+module _ (k : Comparison) (phase : ℕ) (rank : ℕ → ℕ) (parts : Parts) (ranges : HasRanges k.circuit) (are : AreParts k.circuit (phase_at k.rules phase) true rank parts) where
   abbrev steps : List Step
   steps = map part_step parts.list
 
@@ -63,7 +71,7 @@ module _ (k : Comparison) (phase : ℕ) (rank : ℕ → ℕ) (parts : Parts) (fl
   has_least : (x : Step) → Among steps x → HasLeast x
   has_least x m =
       let from = among_map part_step parts.list x m in
-      subst HasLeast from.2 (λ n i. is_least k.circuit (phase_at k.rules phase) rank flat from.0 (are.each from.0 from.1) n (number_inside from.0 n i))
+      subst HasLeast from.2 (λ n i. is_least k.circuit (phase_at k.rules phase) rank ranges from.0 (are.each from.0 from.1) n (number_inside from.0 n i))
 
   -- in a circuit without instances they are all
   pub part_steps : ((at : ℕ) (i : FlatInstance) → At k.circuit.instances at i → ⊥) → AreSteps k phase rank steps
@@ -113,7 +121,7 @@ module _ (k : Comparison) (phase : ℕ) (rank : ℕ → ℕ) where
       → greatest_rank rank (named_nets k phase at) < rank first
   key_less at first nets e = first_less (greatest_rank rank (named_nets k phase at)) (rank first) (of_instance ∷ at ∷ []) (of_net ∷ first ∷ []) e refl
 
-module _ (k : Comparison) (phase : ℕ) (rank : ℕ → ℕ) (parts : Parts) (steps : List CircuitStep) (observed : ℕ → Bool) (flat : IsFlat k.circuit)
+module _ (k : Comparison) (phase : ℕ) (rank : ℕ → ℕ) (parts : Parts) (steps : List CircuitStep) (observed : ℕ → Bool) (ranges : HasRanges k.circuit)
     (are : AreParts k.circuit (phase_at k.rules phase) true rank parts) (ranks : IsRanking k.circuit (phase_at k.rules phase) rank)
     (there : (j : ℕ) (step : CircuitStep) → At steps j step → IsThere (in_comparison k phase parts steps observed) step)
     (sorted : AreSteps k phase rank (steps_of (in_comparison k phase parts steps observed))) where
@@ -169,16 +177,20 @@ module _ (k : Comparison) (phase : ℕ) (rank : ℕ → ℕ) (parts : Parts) (st
         ]
       ]
 
+  -- a plain net of lower rank than a part is in the part of a step before
+  lower_before : (q : ℕ) (part : Part) (n : ℕ) → IsPartAt w q part → IsPlain k.circuit n → rank n < rank (least_of part) → IsInStepBefore w q n
+  lower_before q part n here p up =
+      let at = plain_there n p in
+      let low : rank n ≡ rank (least_of at.1) = rank_there at.0 at.1 n at.2 at.3 in
+      let lt : rank (least_of at.1) < rank (least_of part) = omega (arith, up, low) in
+      (at.0, at.1, earlier_place at.0 q (part_step at.1) (part_step part) (step_there at.0 at.1 at.2) (step_there q part here) lt, at.2, at.3)
+
   gates_before : (q : ℕ) (part : Part) (d : Device) → IsPartAt w q part → Among (part_devices k.circuit part) d → IsPlain k.circuit d.gate.0
       → IsUnknown k.circuit (phase_at k.rules phase) d.gate.0 → IsInStepBefore w q d.gate.0
   gates_before q part d here m p u =
       let of = are.each part (here.0, here.2) in
-      let arc : HasGateArc k.circuit (phase_at k.rules phase) d.gate.0 (least_of part) = (d, device_in k.circuit (phase_at k.rules phase) true rank flat part of d m, refl, u) in
-      let up : rank d.gate.0 < rank (least_of part) = ranks.above d.gate.0 (least_of part) (inl (inl arc, u)) in
-      let at = plain_there d.gate.0 p in
-      let low : rank d.gate.0 ≡ rank (least_of at.1) = rank_there at.0 at.1 d.gate.0 at.2 at.3 in
-      let lt : rank (least_of at.1) < rank (least_of part) = omega (arith, up, low) in
-      (at.0, at.1, earlier_place at.0 q (part_step at.1) (part_step part) (step_there at.0 at.1 at.2) (step_there q part here) lt, at.2, at.3)
+      let arc : HasGateArc k.circuit (phase_at k.rules phase) d.gate.0 (least_of part) = (d, device_in k.circuit (phase_at k.rules phase) true rank ranges part of d m, refl, u) in
+      lower_before q part d.gate.0 here p (ranks.above d.gate.0 (least_of part) (inl (inl arc, u)))
 
   -- the nets of the named ports, by the numbers of instances and by the instance
   named_is : (at : ℕ) (i : FlatInstance) → At k.circuit.instances at i → named_nets k phase at ≡ named_at w i
@@ -214,9 +226,29 @@ module _ (k : Comparison) (phase : ℕ) (rank : ℕ → ℕ) (parts : Parts) (st
   ordered_steps = record {
     count = are.count;
     table = are.known;
-    each = λ part m. whole_part k.circuit (phase_at k.rules phase) true rank flat part (are.each part m);
+    each = λ part m. whole_part k.circuit (phase_at k.rules phase) true rank ranges part (are.each part m);
     there = there;
     all = λ n p. (let at = plain_there n p in (at.0, at.1, slice_get_within w.steps at.0 (PartStep at.2.0) at.2.1, at.2, at.3));
     gates = gates_before;
     ports = λ q at i n here m p u. ports_before q at i n here m p;
+  }
+
+  -- ---- the outputs of whole instances
+
+  linked_before : (q place : ℕ) (part : Part) (out : OutputPin) (input : WholePin) → IsPartAt w q part → Among (output_pins k.circuit) out → IsInside part out.pin.net.0
+      → At out.whole.outputs place out.pin → IsLinkedTo (phase_at k.rules phase) out.whole input place → IsPlain k.circuit input.net.0 → IsUnknown k.circuit (phase_at k.rules phase) input.net.0
+      → IsInStepBefore w q input.net.0
+  linked_before q place part out input here among inside_part pin linked plain unknown =
+      let of = are.each part (here.0, here.2) in
+      let net : linked.0.from.0 ≡ input.net.0 = ap (λ (x : Net). x.0) linked.3 in
+      let there : At out.whole.outputs linked.0.output out.pin = subst (λ (i : ℕ). At out.whole.outputs i out.pin) (sym linked.4) pin in
+      let arc : HasWholeArc k.circuit (phase_at k.rules phase) input.net.0 (least_of part) =
+      (out.whole, linked.0, ((pin_of_whole k.circuit out among).0, linked.1, linked.2, net, (out.pin, there, together k.circuit (phase_at k.rules phase) true rank ranges part of out.pin.net.0 inside_part))) in
+      lower_before q part input.net.0 here plain (ranks.above input.net.0 (least_of part) (inl (inr arc, unknown)))
+
+  pub ordered_outputs : HasFreeOutputs k.circuit → AreOutputsOrdered w
+  ordered_outputs free = record {
+    alone = λ q part n m here i driven j.
+        driven_alone k.circuit (phase_at k.rules phase) true rank ranges free part (are.each part (here.0, here.2)) n m i driven j;
+    inputs = λ q place part out input here among i pin m linked seen plain unknown. linked_before q place part out input here among i pin linked plain unknown;
   }

@@ -27,6 +27,7 @@ use Rattle.phase_terms.specs.declared.words.PhaseWords.{PhaseWords}
 use Rattle.phase_wishes.specs.Wishes.{spot_of}
 use Rattle.circuit_faults.specs.KeptFaults.{kept_spots}
 use Rattle.std.specs.Prelude.{map}
+use Rattle.vrt_model.proofs.Networks.{flat_ranges}
 use Rattle.vrt_model.specs.Comparison.{Comparison, is_observed}
 use Rattle.vrt_model.specs.Faults.{Stands}
 use Rattle.vrt_model.specs.Held.{setting_of}
@@ -43,7 +44,7 @@ module _ (k : Comparison) (phase : ℕ) (plan : PhasePlan) (ready : IsReady k) (
   pub ordered : AreOrderedSteps w
   ordered = (
       let p = is.parts in
-      ordered_steps k phase p.0 plan.parts plan.steps (is_observed k phase) ready.flat p.1 p.2 is.steps.there (is.steps.order p.0 p.1 p.2)
+      ordered_steps k phase p.0 plan.parts plan.steps (is_observed k phase) (flat_ranges k.circuit ready.flat) p.1 p.2 is.steps.there (is.steps.order p.0 p.1 p.2)
       )
 
   pub spans_there : (words : PhaseWords) (d : Diagrams) (care : H) → HasPhaseWords (counts_of k d.vars) words d → IsOpen k phase care words d

@@ -23,6 +23,7 @@ use Rattle.phase_wishes.specs.Wishes.{spot_of, wished_kinds}
 use Rattle.vrt_model.proofs.FirstFinding.{less_head}
 use Rattle.vrt_model.proofs.Lists.{at_back, at_either, at_front, at_map, map_among}
 use Rattle.vrt_model.proofs.Members.{among_either, among_flat_map, among_left, among_map, among_right, at_none}
+use Rattle.vrt_model.proofs.Networks.{flat_ranges}
 use Rattle.vrt_model.specs.Assignment.{Assignment}
 use Rattle.vrt_model.specs.Circuits.{IsFlat}
 use Rattle.vrt_model.specs.Comparison.{Comparison, phase_at, ports_of}
@@ -68,7 +69,7 @@ module _ (c : Circuit) (phase : Phase) (rank : ℕ → ℕ) (parts : Parts) (are
 
   least_by_is : IsFlat c → (n : ℕ) → IsPlain c n → (o : IsPlain c n ⊎ (¬ IsPlain c n)) → IsLeastOfPart c phase n (least_by n o)
   unfolding least_by
-  least_by_is flat n q (inl p) = let there = are.all n p in is_least c phase rank flat there.0 (are.each there.0 there.1) n (number_inside there.0 n there.2)
+  least_by_is flat n q (inl p) = let there = are.all n p in is_least c phase rank (flat_ranges c flat) there.0 (are.each there.0 there.1) n (number_inside there.0 n there.2)
   least_by_is flat n q (inr other) = absurd (other q)
 
   least_by_given : (n : ℕ) → (¬ IsPlain c n) → (o : IsPlain c n ⊎ (¬ IsPlain c n)) → least_by n o ≡ n

@@ -1,0 +1,6 @@
+pub mod FreeOutputLaws
+pub mod GivenLaws
+pub mod OutputLaws
+pub mod TableLaws
+pub mod DriverLaws
+pub mod OrderLaws
