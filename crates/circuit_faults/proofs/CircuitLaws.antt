@@ -10,6 +10,7 @@ use Rattle.bdd_core.specs.Words.{IsApart, IsFilled, Writes, shows, word_at, Writ
 use Rattle.bdd_core.specs.declared.handle.H.{H}
 use Rattle.bdd_core.proofs.Frames.{IsWithinSpan, two_filled, two_span, two_word}
 use Rattle.circuit_faults.specs.Ordered.{IsWholePart}
+use Rattle.circuit_faults.proofs.FlatWholes.{flat_undriven, flat_wholes}
 use Rattle.circuit_faults.proofs.PartNetworks.{bit_there, fault_alone, fault_there}
 use Rattle.circuit_faults.proofs.Solutions.{given_bit, given_no_float, known_bit}
 use Rattle.circuit_faults.proofs.WholeParts.{inside_number, number_inside, number_place, place_number}
@@ -176,11 +177,11 @@ module _ (w : InPhase) (care : H) (roots gates : Span)
     solved_none = record {
       bits = λ v setting a met at n o done. elim (some_or_none (known_at known n)) [
         | inl k ↦
-            known_bit c phase observed flat seen (root_at first roots v) (fixed v) setting at.given a at.solves n k.0 o ((are.table n k.0).0 k.1)
+            known_bit c phase observed (flat_wholes c phase observed flat) seen (root_at first roots v) (fixed v) setting at.given a at.solves n k.0 o ((are.table n k.0).0 k.1)
             ∙ ap (λ (b : Bool). Some b) (sym (opened_known n k.0 v (seen.nets n o) k.1))
         | inr none ↦ elim done [
           | inl g ↦
-              given_bit c phase observed flat seen (root_at first roots v) (fixed v) setting at.given a at.solves n o g
+              given_bit c phase observed (flat_wholes c phase observed flat) seen (root_at first roots v) (fixed v) setting at.given a at.solves n o g
               ∙ ap (λ (b : Bool). Some b) (sym (opened_root n v (seen.nets n o) none))
           | inr other ↦ elim other [
             | inl k ↦ absurd (none-some k.0 (sym none ∙ (are.table n k.0).1 k.1))
@@ -244,15 +245,15 @@ module _ (w : InPhase) (care : H) (roots gates : Span)
 
       pub to_alone : (kind : FaultKind) (n : ℕ) → IsInside part n → HasFault c phase observed setting a kind n → ShowsFault observed (alone v) kind n
       to_alone kind n i f =
-          fault_alone c phase observed flat seen (root_at now roots v) (fixed_now v) setting (setting_now v setting at.given) a at.solves part whole (λ m. shows now gates m v) gates_are kind n i f
+          fault_alone c phase observed (flat_wholes c phase observed flat) seen (root_at now roots v) (fixed_now v) setting (setting_now v setting at.given) a at.solves part whole (λ m i. flat_undriven c flat m) (λ m. shows now gates m v) gates_are kind n i f
 
       pub from_alone : (kind : FaultKind) (n : ℕ) → IsInside part n → ShowsFault observed (alone v) kind n → HasFault c phase observed setting a kind n
       from_alone kind n i f =
-          fault_there c phase observed flat seen (root_at now roots v) (fixed_now v) setting (setting_now v setting at.given) a at.solves part whole (λ m. shows now gates m v) gates_are kind n i f
+          fault_there c phase observed (flat_wholes c phase observed flat) seen (root_at now roots v) (fixed_now v) setting (setting_now v setting at.given) a at.solves part whole (λ m i. flat_undriven c flat m) (λ m. shows now gates m v) gates_are kind n i f
 
       pub bit_of_net : (n : ℕ) (b : Bool) → IsInside part n → observed n ≡ true → IsResponse (alone v) n (Shows b) → a n ≡ Some b
       bit_of_net n b i o shown =
-          bit_there c phase observed flat seen (root_at now roots v) (fixed_now v) setting (setting_now v setting at.given) a at.solves part whole (λ m. shows now gates m v) gates_are n b i o shown
+          bit_there c phase observed (flat_wholes c phase observed flat) seen (root_at now roots v) (fixed_now v) setting (setting_now v setting at.given) a at.solves part whole (λ m i. flat_undriven c flat m) (λ m. shows now gates m v) gates_are n b i o shown
 
     earlier_or_here : (n : ℕ) → IsInStepBefore w (k + 1) n → IsInStepBefore w k n ⊎ IsInside part n
     earlier_or_here n e =
@@ -391,7 +392,7 @@ module _ (w : InPhase) (care : H) (roots gates : Span)
       no_fault v setting a met at Fight n f = none (record { valuation = v; setting = setting; solution = a; solved = at }) met Fight n (0, refl) (are.all n f.0) f
       no_fault v setting a met at Float n f =
           elim (given_or_plain c n (seen.nets n f.0)) [
-            | inl g ↦ given_no_float c phase observed flat seen (root_at first roots v) (fixed v) setting at.given a at.solves n g f.1
+            | inl g ↦ given_no_float c phase observed (flat_wholes c phase observed flat) seen (root_at first roots v) (fixed v) setting at.given a at.solves n g f.1
             | inr p ↦ none (record { valuation = v; setting = setting; solution = a; solved = at }) met Float n (1, refl) (are.all n p) f
           ]
       no_fault v setting a met at FightKept n f = f

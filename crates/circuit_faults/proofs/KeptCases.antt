@@ -15,6 +15,7 @@ use Rattle.circuit_faults.proofs.KeptMeaning.{faulty_stands, idle_clear, no_figh
 use Rattle.circuit_faults.proofs.KeptSpots.{fight_spot, spot, spot_place, unsettled_spot}
 use Rattle.circuit_faults.proofs.KeptWords.{gates_shown}
 use Rattle.circuit_faults.specs.Ordered.{IsWholePart}
+use Rattle.circuit_faults.proofs.FlatWholes.{flat_undriven, flat_wholes}
 use Rattle.circuit_faults.proofs.PartNetworks.{responds}
 use Rattle.circuit_faults.proofs.WholeParts.{number_inside, whole_part}
 use Rattle.circuit_faults.specs.Faults.{HasFixedBits}
@@ -157,7 +158,7 @@ module _ (c : Circuit) (phase : Phase) (observed : ℕ → Bool) (flat : IsFlat 
           let r = reached n (plain_inside c phase parts are n p) in
           let part : Part = r.1 in
           let whole : IsWholePart kept c phase part = whole_part c phase kept (λ m. 0) flat part (are.each part (r.0, r.3)) in
-          (responds kept c phase observed flat seen (λ d m. gates_seen d (device_among kept c d m).0) (root_at old spans.roots v.valuation) (fixed v.valuation) v.setting v.solved.given v.solution v.solved.solves part whole
+          (responds kept c phase observed (flat_wholes c phase observed flat) seen (λ d m. gates_seen d (device_among kept c d m).0) (root_at old spans.roots v.valuation) (fixed v.valuation) v.setting v.solved.given v.solution v.solved.solves part whole (λ m i. flat_undriven c flat m)
           (λ m. shows old spans.gates m v.valuation)
           (λ d m. clear.bits v.valuation v.setting v.solution met v.solved d.gate.0 (gates_seen d (device_among kept c d (whole.devices d m).0).0)) n
           (response_by (reach_at mid spans false n v.valuation) (reach_at mid spans true n v.valuation)) r.4).1

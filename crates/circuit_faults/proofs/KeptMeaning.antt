@@ -9,6 +9,7 @@ use Rattle.bdd_core.specs.Words.{shows}
 use Rattle.bdd_core.specs.declared.handle.H.{H}
 use Rattle.channel_parts.specs.OneSolution.{AreObserved}
 use Rattle.circuit_faults.proofs.KeptBits.{kept_no_float}
+use Rattle.circuit_faults.proofs.FlatWholes.{flat_wholes}
 use Rattle.circuit_faults.proofs.Solutions.{given_bit, given_shows, some_state, some_state_agrees, some_state_is}
 use Rattle.circuit_faults.specs.Faults.{HasFixedBits, IsSolvedAt}
 use Rattle.circuit_faults.specs.KeptFaults.{HasKeptFault, HasNoKeeper, NeverKeeps}
@@ -71,15 +72,15 @@ module _ (c : Circuit) (phase : Phase) (observed : ℕ → Bool) (flat : IsFlat 
 
   -- some state agrees
   agreeing : State
-  agreeing = some_state c phase observed flat seen root fixed setting solved.given a solved.solves
+  agreeing = some_state c phase observed (flat_wholes c phase observed flat) seen root fixed setting solved.given a solved.solves
 
   agreeing_is : IsState c phase setting.inputs agreeing
   unfolding agreeing
-  agreeing_is = some_state_is c phase observed flat seen root fixed setting solved.given a solved.solves
+  agreeing_is = some_state_is c phase observed (flat_wholes c phase observed flat) seen root fixed setting solved.given a solved.solves
 
   agreeing_agrees : Agrees observed a agreeing.reading
   unfolding agreeing
-  agreeing_agrees = some_state_agrees c phase observed flat seen root fixed setting solved.given a solved.solves
+  agreeing_agrees = some_state_agrees c phase observed (flat_wholes c phase observed flat) seen root fixed setting solved.given a solved.solves
 
   -- so a net always responds in one way at most
   always_one : (n : ℕ) (r q : Response) → Always n r → Always n q → r ≡ q
@@ -89,8 +90,8 @@ module _ (c : Circuit) (phase : Phase) (observed : ℕ → Bool) (flat : IsFlat 
   -- a given net keeps its bit
   given_keeps : (n : ℕ) → IsGiven c n → observed n ≡ true → ¬ NeverKeeps c phase observed setting a n
   given_keeps n g o never =
-      never agreeing agreeing_is agreeing_agrees (root n) (given_bit c phase observed flat seen root fixed setting solved.given a solved.solves n o g)
-      (given_shows kept c phase observed flat seen root fixed setting solved.given agreeing agreeing_is n g)
+      never agreeing agreeing_is agreeing_agrees (root n) (given_bit c phase observed (flat_wholes c phase observed flat) seen root fixed setting solved.given a solved.solves n o g)
+      (given_shows kept c phase observed (flat_wholes c phase observed flat) seen root fixed setting solved.given agreeing agreeing_is n g)
 
   module _ (n : ℕ) (zero one : Bool) (always : Always n (response_by zero one)) where
     fights : (is_fight (response_by zero one) ≡ true) ↔ Always n Fights

@@ -15,10 +15,12 @@ pub mod KeyWork
 pub mod ListedOrder
 pub mod NetLaws
 pub mod OrderLaws
+pub mod OutputSteps
 pub mod PartLaws
 pub mod PartNetworks
 pub mod PartStepLaws
 pub mod ScanLaws
+pub mod FlatWholes
 pub mod Solutions
 pub mod StepLaws
 pub mod StepLists

@@ -9,20 +9,24 @@ use Rattle.vrt_model.specs.Networks.{Covers, HasLevels}
 use Rattle.channel_parts.specs.OneSolution.{AreObserved}
 use Rattle.channel_parts.specs.declared.part.Part.{Part}
 use Rattle.known_nets.proofs.NetKinds.{given_or_plain}
+use Rattle.known_nets.proofs.WiredLaws.{pin_of_whole}
+use Rattle.circuit_faults.specs.Wholes.{HasFreeWholes}
+use Rattle.vrt_model.proofs.Lists.{at_map}
+use Rattle.vrt_model.specs.declared.whole.WholePin.{WholePin}
 use Rattle.path_fixpoint.specs.Parts.{part_devices}
 use Rattle.path_fixpoint.specs.Solved.{net_of}
 use Rattle.vrt_model.proofs.Filtered.{device_among}
 use Rattle.vrt_model.proofs.GatesGiven.{IsGiven}
 use Rattle.vrt_model.proofs.Bounded.{response_inside}
 use Rattle.vrt_model.proofs.Members.{all_among, at_none}
-use Rattle.vrt_model.specs.Circuits.{IsDevice, IsHold, IsFlat}
-use Rattle.vrt_model.specs.Known.{IsChannel, IsPlain}
+use Rattle.vrt_model.specs.Circuits.{IsDevice, IsHold}
+use Rattle.vrt_model.specs.Known.{IsChannel, IsDriven, IsPlain}
 use Rattle.vrt_model.specs.Lists.{At, Among}
 use Rattle.vrt_model.specs.Path.{IsOn, Joins, Network}
 use Rattle.vrt_model.specs.Reading.{bare, conducts_at, devices_of}
 use Rattle.vrt_model.specs.Response.{Fight as Fights, Float as Floats, IsResponse, Response, Shows}
 use Rattle.vrt_model.specs.Solution.{Agrees, AlwaysResponds, IsSolution}
-use Rattle.vrt_model.specs.State.{IsState, Setting, State}
+use Rattle.vrt_model.specs.State.{IsState, OutputPin, Setting, State, output_pins}
 use Rattle.vrt_model.specs.declared.circuit.Circuit.{Circuit}
 use Rattle.vrt_model.specs.declared.circuit.Device.{Device}
 use Rattle.vrt_model.specs.declared.circuit.Hold.{Hold}
@@ -44,26 +48,26 @@ part_network c part bit root = record {
   driven = λ at. false;
 }
 
-module _ (which : Bool) (c : Circuit) (phase : Phase) (observed : ℕ → Bool) (flat : IsFlat c) (seen : AreObserved c observed)
+module _ (which : Bool) (c : Circuit) (phase : Phase) (observed : ℕ → Bool) (wholes : HasFreeWholes c phase observed) (seen : AreObserved c observed)
     (seen_gates : (d : Device) → Among (devices_of which c) d → observed d.gate.0 ≡ true) (root : ℕ → Bool) (fixed : HasFixedBits c phase root)
     (setting : Setting) (here : IsSettingAt c root setting) (a : ℕ → Option Bool) (solves : IsSolution c phase observed setting a)
-    (part : Part) (whole : IsWholePart which c phase part) (bit : ℕ → Bool)
+    (part : Part) (whole : IsWholePart which c phase part) (undriven : (n : ℕ) → IsInside part n → ¬ IsDriven c n) (bit : ℕ → Bool)
     (gates : (d : Device) → Among (part_devices c part) d → a d.gate.0 ≡ Some (bit d.gate.0)) where
   abbrev pub alone : Network
   alone = part_network c part bit root
 
   abbrev pub circuit_at : State → Network
-  circuit_at s = circuit_in which c phase observed flat seen root fixed setting here s
+  circuit_at s = circuit_in which c phase observed wholes seen root fixed setting here s
 
   in_circuit : (d : Device) → Among (part_devices c part) d → IsDevice c d
-  in_circuit d m = all_among (IsDevice c) c.devices d flat.devices (device_among which c d (whole.devices d m).0).0
+  in_circuit d m = all_among (IsDevice c) c.devices d wholes.ranges.devices (device_among which c d (whole.devices d m).0).0
 
   alone_levels : HasLevels alone
   alone_levels = record {
     roots = λ r from. elim from [
       | inl g ↦ (let is = g.3 in omega (arith, is))
       | inr other ↦ elim other [
-        | inl h ↦ (let is = h.4 in let le = (all_among (IsHold c) c.holds h.1 flat.holds (h.0, h.2)).size.1 in omega (arith, is, le))
+        | inl h ↦ (let is = h.4 in let le = (all_among (IsHold c) c.holds h.1 wholes.ranges.holds (h.0, h.2)).size.1 in omega (arith, is, le))
         | inr o ↦ absurd (at_none o.0 o.1 o.2)
       ]
     ];
@@ -79,17 +83,24 @@ module _ (which : Bool) (c : Circuit) (phase : Phase) (observed : ℕ → Bool) 
 
   bounded : (d : Device) (m n : ℕ) → IsChannel c phase which d → Joins d m n → IsInside part n → IsInside part m ⊎ IsGiven c m
   bounded d m n channel j i =
-      elim (given_or_plain c m (end_in d m n (all_among (IsDevice c) c.devices d flat.devices (device_among which c d channel.0).0) j)) [
+      elim (given_or_plain c m (end_in d m n (all_among (IsDevice c) c.devices d wholes.ranges.devices (device_among which c d channel.0).0) j)) [
         | inl g ↦ inr g
         | inr p ↦ inl (whole.closed d m n channel j i p)
       ]
+
+  -- the net of an output pin has an output
+  driven_here : (s : State) (at : ℕ) (pin : WholePin) → At (circuit_at s).outputs at pin → (n : ℕ) → n ≡ pin.net.0 → IsDriven c n
+  driven_here s at pin e n net =
+      let from = at_map (λ (out : OutputPin). out.pin) (output_pins c) at pin e in
+      let there = pin_of_whole c from.0 (at, from.1) in
+      (from.0.whole, from.0.pin, there.0, there.1, ap (λ (p : WholePin). p.net.0) from.2 ∙ sym net)
 
   module _ (s : State) (is : IsState c phase setting.inputs s) (agrees : Agrees observed a s.reading) where
     channel : (d : Device) → IsOn (circuit_at s) d → IsChannel c phase which d
     channel d on = (
       on.0,
       λ v k. subst (λ (b : Bool). conducts_at d.kind b ≡ true)
-          (agrees d.gate.0 v (seen_gates d on.0) (known_bit c phase observed flat seen root fixed setting here a solves d.gate.0 v (seen_gates d on.0) k)) on.1,
+          (agrees d.gate.0 v (seen_gates d on.0) (known_bit c phase observed wholes seen root fixed setting here a solves d.gate.0 v (seen_gates d on.0) k)) on.1,
     )
 
     gate_bit : (d : Device) → Among (part_devices c part) d → s.reading d.gate.0 ≡ bit d.gate.0
@@ -99,31 +110,34 @@ module _ (which : Bool) (c : Circuit) (phase : Phase) (observed : ℕ → Bool) 
     there = record {
       source = refl;
       roots = λ r from in_it. elim from [
-        | inl g ↦ inl (g.0, g.1, g.2, g.3, g.4 ∙ given_reading which c phase observed flat seen root fixed setting here s is r.net (g.0, g.1, g.2))
+        | inl g ↦ inl (g.0, g.1, g.2, g.3, g.4 ∙ given_reading which c phase observed wholes seen root fixed setting here s is r.net (g.0, g.1, g.2))
         | inr other ↦ elim other [
           | inl h ↦ elim in_it [
             | inl i ↦ inr (inl (h.0, h.1, h.2, h.3, h.4, h.5 ∙ held_bit h.0 h.1 h.2 (subst (IsPlain c) h.3 (whole.plain r.net i))))
-            | inr e ↦ absurd (let small = (all_among (IsHold c) c.holds h.1 flat.holds (h.0, h.2)).size.1 in let top : r.level ≡ 8 = e.1 in let is = h.4 in omega (arith, small, top, is))
+            | inr e ↦ absurd (let small = (all_among (IsHold c) c.holds h.1 wholes.ranges.holds (h.0, h.2)).size.1 in let top : r.level ≡ 8 = e.1 in let is = h.4 in omega (arith, small, top, is))
           ]
-          | inr o ↦ absurd (no_output which c phase observed flat seen root fixed setting here s o.0 o.1 o.2)
+          | inr o ↦ elim in_it [
+            | inl i ↦ absurd (undriven r.net i (driven_here s o.0 o.1 o.2 r.net o.3))
+            | inr e ↦ absurd (no_output which c phase observed wholes seen root fixed setting here s o.0 o.1 o.2 (subst (IsGiven c) o.3 e.0))
+          ]
         ]
       ];
       devices = λ m n d on j i.
           let m_in = whole.channels d m n (channel d on) j i in
           (m_in, subst (λ (b : Bool). conducts_at d.kind b ≡ true) (gate_bit d m_in) on.1);
       bounded = λ m n d on j i. bounded d m n (channel d on) j i;
-      edge = λ n g. source which c phase observed flat seen root fixed setting here s n g;
+      edge = λ n g. source which c phase observed wholes seen root fixed setting here s n g;
     }
 
     back : Covers alone (circuit_at s) (IsInside part) (IsGiven c)
     back = record {
       source = refl;
       roots = λ r from in_it. elim from [
-        | inl g ↦ inl (g.0, g.1, g.2, g.3, g.4 ∙ sym (given_reading which c phase observed flat seen root fixed setting here s is r.net (g.0, g.1, g.2)))
+        | inl g ↦ inl (g.0, g.1, g.2, g.3, g.4 ∙ sym (given_reading which c phase observed wholes seen root fixed setting here s is r.net (g.0, g.1, g.2)))
         | inr other ↦ elim other [
           | inl h ↦ elim in_it [
             | inl i ↦ inr (inl (h.0, h.1, h.2, h.3, h.4, h.5 ∙ sym (held_bit h.0 h.1 h.2 (subst (IsPlain c) h.3 (whole.plain r.net i)))))
-            | inr e ↦ absurd (let small = (all_among (IsHold c) c.holds h.1 flat.holds (h.0, h.2)).size.1 in let top : r.level ≡ 8 = e.1 in let is = h.4 in omega (arith, small, top, is))
+            | inr e ↦ absurd (let small = (all_among (IsHold c) c.holds h.1 wholes.ranges.holds (h.0, h.2)).size.1 in let top : r.level ≡ 8 = e.1 in let is = h.4 in omega (arith, small, top, is))
           ]
           | inr o ↦ absurd (at_none o.0 o.1 o.2)
         ]
@@ -135,29 +149,29 @@ module _ (which : Bool) (c : Circuit) (phase : Phase) (observed : ℕ → Bool) 
 
     pub response_alone : (n : ℕ) (r : Response) → IsInside part n → IsResponse (circuit_at s) n r → IsResponse alone n r
     response_alone n r i h =
-        response_inside (circuit_at s) alone (IsInside part) (IsGiven c) (levels which c phase observed flat seen root fixed setting here s) alone_levels there back n r i h
+        response_inside (circuit_at s) alone (IsInside part) (IsGiven c) (levels which c phase observed wholes seen root fixed setting here s) alone_levels there back n r i h
 
     pub response_there : (n : ℕ) (r : Response) → IsInside part n → IsResponse alone n r → IsResponse (circuit_at s) n r
     response_there n r i h =
-        response_inside alone (circuit_at s) (IsInside part) (IsGiven c) alone_levels (levels which c phase observed flat seen root fixed setting here s) back there n r i h
+        response_inside alone (circuit_at s) (IsInside part) (IsGiven c) alone_levels (levels which c phase observed wholes seen root fixed setting here s) back there n r i h
 
   -- under every reading that agrees with a solution, a net of the part responds as in the network of the part alone
   pub responds : (n : ℕ) (r : Response) → IsInside part n → AlwaysResponds c phase observed setting a which n r ↔ IsResponse alone n r
   responds n r i = (
     λ always.
-        let s = some_state c phase observed flat seen root fixed setting here a solves in
-        let is = some_state_is c phase observed flat seen root fixed setting here a solves in
-        let agrees = some_state_agrees c phase observed flat seen root fixed setting here a solves in
+        let s = some_state c phase observed wholes seen root fixed setting here a solves in
+        let is = some_state_is c phase observed wholes seen root fixed setting here a solves in
+        let agrees = some_state_agrees c phase observed wholes seen root fixed setting here a solves in
         response_alone s is agrees n r i (always s is agrees),
     λ h s is agrees. response_there s is agrees n r i h,
   )
 
-module _ (c : Circuit) (phase : Phase) (observed : ℕ → Bool) (flat : IsFlat c) (seen : AreObserved c observed) (root : ℕ → Bool) (fixed : HasFixedBits c phase root)
+module _ (c : Circuit) (phase : Phase) (observed : ℕ → Bool) (wholes : HasFreeWholes c phase observed) (seen : AreObserved c observed) (root : ℕ → Bool) (fixed : HasFixedBits c phase root)
     (setting : Setting) (here : IsSettingAt c root setting) (a : ℕ → Option Bool) (solves : IsSolution c phase observed setting a)
-    (part : Part) (whole : IsWholePart bare c phase part) (bit : ℕ → Bool)
+    (part : Part) (whole : IsWholePart bare c phase part) (undriven : (n : ℕ) → IsInside part n → ¬ IsDriven c n) (bit : ℕ → Bool)
     (gates : (d : Device) → Among (part_devices c part) d → a d.gate.0 ≡ Some (bit d.gate.0)) where
   bare_responds : (n : ℕ) (r : Response) → IsInside part n → AlwaysResponds c phase observed setting a bare n r ↔ IsResponse (part_network c part bit root) n r
-  bare_responds n r i = responds bare c phase observed flat seen seen.gates root fixed setting here a solves part whole bit gates n r i
+  bare_responds n r i = responds bare c phase observed wholes seen seen.gates root fixed setting here a solves part whole undriven bit gates n r i
 
   -- the faults of a net of the part are those that it shows in the network of the part
   pub fault_alone : (kind : FaultKind) (n : ℕ) → IsInside part n → HasFault c phase observed setting a kind n → ShowsFault observed (part_network c part bit root) kind n

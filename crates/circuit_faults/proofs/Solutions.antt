@@ -1,17 +1,20 @@
 -- What each solution gives: the given nets and the known nets their bits; and some state agrees with it.
-use Rattle.std.proofs.Common.{◌≡◌, ℕ, ◌≤◌, Bool, true, false, cond, List, [], Option, Some, None, map, arith, ap, refl, sym, subst, ◌∙◌, inl, inr}
+use Rattle.std.proofs.Common.{◌≡◌, ℕ, ◌≤◌, Bool, true, false, cond, List, [], Option, Some, None, arith, ap, refl, sym, subst, ◌∙◌, inl, inr}
 use Rattle.std.specs.Prelude.{option_map, slice_get, unwrap_or}
 use Rattle.std.proofs.lemmas.Bool.{cases_Bool, cond-false, cond-true, false≢true}
 use Rattle.std.proofs.lemmas.Option.{same_Some}
 use Rattle.channel_parts.specs.OneSolution.{AreObserved}
 use Rattle.known_nets.proofs.KnownShow.{known_in_solution}
-use Rattle.known_nets.proofs.WiredLaws.{flat_wired}
+use Rattle.known_nets.specs.Wired.{IsWired}
+use Rattle.channel_parts.proofs.DriveLaws.{driven_by, driven_gives}
+use Rattle.circuit_faults.specs.Wholes.{HasFreeWholes}
 use Rattle.vrt_model.proofs.GatesGiven.{IsGiven, plain_any}
 use Rattle.vrt_model.proofs.GivenNets.{clear_from_source, source_strength}
 use Rattle.vrt_model.proofs.Laws.{shows_from, shows_no_float}
-use Rattle.vrt_model.proofs.Members.{all_among, at_none}
-use Rattle.vrt_model.proofs.Networks.{given_source, network_levels, flat_ranges}
-use Rattle.vrt_model.specs.Circuits.{IsHold, IsFlat}
+use Rattle.vrt_model.proofs.Lists.{at_map, one_at}
+use Rattle.vrt_model.proofs.Members.{all_among}
+use Rattle.vrt_model.proofs.Networks.{given_source, network_levels}
+use Rattle.vrt_model.specs.Circuits.{IsHold}
 use Rattle.vrt_model.specs.Known.{HasFixedBit, IsKnown}
 use Rattle.vrt_model.specs.Lists.{At}
 use Rattle.vrt_model.specs.Path.{Hop, IsPath, IsRoot, Network, Root, end_of}
@@ -24,7 +27,6 @@ use Rattle.vrt_model.specs.declared.circuit.FlatNet.{FlatNet}
 use Rattle.vrt_model.specs.declared.circuit.NetKind.{NetKind}
 use Rattle.vrt_model.specs.declared.circuit.NetKind.TheVariants.{Supply, Clock, Input, Plain}
 use Rattle.vrt_model.specs.declared.rules.Phase.{Phase}
-use Rattle.vrt_model.specs.declared.whole.Whole.{Whole}
 use Rattle.vrt_model.specs.declared.whole.WholePin.{WholePin}
 use Rattle.circuit_faults.specs.Faults.{HasFixedBits, IsSettingAt}
 use Rattle.vrt_model.specs.Networks.{HasLevels, IsSource}
@@ -37,24 +39,25 @@ given_found : (o : Option FlatNet) → given_in o ≡ true → (net : FlatNet) �
 given_found None f = absurd (false≢true f)
 given_found (Some net) f = (net, refl, f)
 
-module _ (which : Bool) (c : Circuit) (phase : Phase) (observed : ℕ → Bool) (flat : IsFlat c) (seen : AreObserved c observed) (root : ℕ → Bool) (fixed : HasFixedBits c phase root)
+module _ (which : Bool) (c : Circuit) (phase : Phase) (observed : ℕ → Bool) (wholes : HasFreeWholes c phase observed) (seen : AreObserved c observed) (root : ℕ → Bool) (fixed : HasFixedBits c phase root)
     (setting : Setting) (here : IsSettingAt c root setting) where
   -- the bare or the kept circuit in a state
   abbrev pub circuit_in : State → Network
   circuit_in s = network_of c which setting.held s
 
-  pub no_output : (s : State) (at : ℕ) (pin : WholePin) → At (circuit_in s).outputs at pin → ⊥
-  no_output s at pin e =
-      at_none at pin (subst (λ (ws : List Whole). At (map (λ (out : OutputPin). out.pin) (output_pins (record c { wholes = ws }))) at pin) flat.wholes e)
-
-  no_pin : (at : ℕ) (out : OutputPin) → At (output_pins c) at out → ⊥
-  no_pin at out e = at_none at out (subst (λ (ws : List Whole). At (output_pins (record c { wholes = ws })) at out) flat.wholes e)
+  -- no given net has an output of a whole instance
+  pub no_output : (s : State) (at : ℕ) (pin : WholePin) → At (circuit_in s).outputs at pin → ¬ IsGiven c pin.net.0
+  no_output s at pin e g =
+      let from = at_map (λ (out : OutputPin). out.pin) (output_pins c) at pin e in
+      let plain = wholes.free.plain at from.0 from.1 in
+      let same : plain.0 ≡ g.0 = one_at c.nets pin.net.0 plain.0 g.0 (subst (λ (p : WholePin). At c.nets p.net.0 plain.0) from.2 plain.1) g.1 in
+      false≢true (sym (ap is_given plain.2) ∙ ap (λ (net : FlatNet). is_given net.kind) same ∙ g.2)
 
   pub levels : (s : State) → HasLevels (circuit_in s)
-  levels s = network_levels c which setting.held s (flat_ranges c flat)
+  levels s = network_levels c which setting.held s wholes.ranges
 
   pub source : (s : State) (n : ℕ) → IsGiven c n → IsSource (circuit_in s) n
-  source s n g = given_source c which setting.held s (flat_ranges c flat) n g.0 g.1 g.2
+  source s n g = given_source c which setting.held s wholes.ranges n g.0 g.1 g.2
 
   -- ---- given nets
 
@@ -87,8 +90,8 @@ module _ (which : Bool) (c : Circuit) (phase : Phase) (observed : ℕ → Bool) 
           elim from [
             | inl h ↦ h.4 ∙ ap s.reading e
             | inr other ↦ elim other [
-              | inl h ↦ absurd (let same = h.4 in let le = (all_among (IsHold c) c.holds h.1 flat.holds (h.0, h.2)).size.1 in omega (arith, top, same, le))
-              | inr o ↦ absurd (no_output s o.0 o.1 o.2)
+              | inl h ↦ absurd (let same = h.4 in let le = (all_among (IsHold c) c.holds h.1 wholes.ranges.holds (h.0, h.2)).size.1 in omega (arith, top, same, le))
+              | inr o ↦ absurd (no_output s o.0 o.1 o.2 (subst (IsGiven c) (sym e ∙ o.3) g))
             ]
           ]
 
@@ -100,16 +103,19 @@ module _ (which : Bool) (c : Circuit) (phase : Phase) (observed : ℕ → Bool) 
           let ends : r.net ≡ n = subst (λ (hs : List Hop). end_of r hs ≡ n) none e in
           sym value ∙ own_value r path ends strong
 
-module _ (c : Circuit) (phase : Phase) (observed : ℕ → Bool) (flat : IsFlat c) (seen : AreObserved c observed) (root : ℕ → Bool) (fixed : HasFixedBits c phase root)
+module _ (c : Circuit) (phase : Phase) (observed : ℕ → Bool) (wholes : HasFreeWholes c phase observed) (seen : AreObserved c observed) (root : ℕ → Bool) (fixed : HasFixedBits c phase root)
     (setting : Setting) (here : IsSettingAt c root setting) where
   -- ---- solutions
 
   module _ (a : ℕ → Option Bool) (solves : IsSolution c phase observed setting a) where
     pub given_bit : (n : ℕ) → observed n ≡ true → IsGiven c n → a n ≡ Some (root n)
-    given_bit n o g = (solves n (root n) o).1 (λ s is agrees. given_shows bare c phase observed flat seen root fixed setting here s is n g)
+    given_bit n o g = (solves n (root n) o).1 (λ s is agrees. given_shows bare c phase observed wholes seen root fixed setting here s is n g)
+
+    wired : IsWired c
+    wired = record { ranges = wholes.ranges; outputs = λ w pin m out. (wholes.determined w m).plain pin out }
 
     pub known_bit : (n : ℕ) (v : Bool) → observed n ≡ true → IsKnown c phase n v → a n ≡ Some v
-    known_bit n v o k = known_in_solution c phase (flat_wired c flat) observed setting a solves seen.gates n v k o
+    known_bit n v o k = known_in_solution c phase wired observed setting a solves seen.gates n v k o
 
     -- ---- a state that agrees
 
@@ -117,19 +123,19 @@ module _ (c : Circuit) (phase : Phase) (observed : ℕ → Bool) (flat : IsFlat 
     filled n = cond (given_in (slice_get c.nets n)) (root n) (unwrap_or (a n) false)
 
     pub some_state : State
-    some_state = record { reading = filled; driven = λ at. false }
+    some_state = record { reading = filled; driven = driven_by c phase observed wholes.determined filled }
 
     filled_reading : IsReading c phase setting.inputs filled
     filled_reading n net e =
         elim (cases_Bool (is_given net.kind)) [
           | inl g ↦ subst (HasGivenBit phase setting.inputs net.kind n)
-              (sym (cond-true (given_in (slice_get c.nets n)) (root n) (unwrap_or (a n) false) (ap given_in e ∙ g))) (root_is_bit bare c phase observed flat seen root fixed setting here n net net.kind e refl)
+              (sym (cond-true (given_in (slice_get c.nets n)) (root n) (unwrap_or (a n) false) (ap given_in e ∙ g))) (root_is_bit bare c phase observed wholes seen root fixed setting here n net net.kind e refl)
           | inr f ↦ plain_any phase setting.inputs net.kind n (filled n) f
         ]
 
     pub some_state_is : IsState c phase setting.inputs some_state
     unfolding some_state
-    some_state_is = record { reading = filled_reading; driven = λ at out e. absurd (no_pin bare c phase observed flat seen root fixed setting here at out e) }
+    some_state_is = record { reading = filled_reading; driven = λ at out e. driven_gives c phase observed wholes.determined filled at out e }
 
     pub some_state_agrees : Agrees observed a some_state.reading
     unfolding some_state
@@ -142,4 +148,4 @@ module _ (c : Circuit) (phase : Phase) (observed : ℕ → Bool) (flat : IsFlat 
     -- a given net does not float
     pub given_no_float : (n : ℕ) → IsGiven c n → AlwaysResponds c phase observed setting a bare n Float → ⊥
     given_no_float n g always =
-        shows_no_float (circuit_in bare c phase observed flat seen root fixed setting here some_state) n (root n) (given_shows bare c phase observed flat seen root fixed setting here some_state some_state_is n g) (always some_state some_state_is some_state_agrees)
+        shows_no_float (circuit_in bare c phase observed wholes seen root fixed setting here some_state) n (root n) (given_shows bare c phase observed wholes seen root fixed setting here some_state some_state_is n g) (always some_state some_state_is some_state_agrees)

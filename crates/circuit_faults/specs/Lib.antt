@@ -9,3 +9,4 @@ pub mod Ordered
 pub mod Results
 pub mod Scans
 pub mod Steps
+pub mod Wholes
