@@ -10,7 +10,6 @@ use Rattle.bdd_core.specs.Words.{IsApart, IsFilled, Writes, shows, word_at, Writ
 use Rattle.bdd_core.specs.declared.handle.H.{H}
 use Rattle.bdd_core.proofs.Frames.{IsWithinSpan, two_filled, two_span, two_word}
 use Rattle.circuit_faults.specs.Ordered.{IsWholePart}
-use Rattle.circuit_faults.proofs.FlatWholes.{flat_undriven, flat_wholes}
 use Rattle.circuit_faults.proofs.PartNetworks.{bit_there, fault_alone, fault_there}
 use Rattle.circuit_faults.proofs.Solutions.{given_bit, given_no_float, known_bit}
 use Rattle.circuit_faults.proofs.WholeParts.{inside_number, number_inside, number_place, place_number}
@@ -19,6 +18,7 @@ use Rattle.circuit_faults.specs.Faults.{HasFault, HasFixedBits, IsSettingAt, IsS
 use Rattle.circuit_faults.specs.Results.{AreClearSteps, HasCircuitSpans, IsClearCircuit, IsFirstFault, first_word, root_at}
 use Rattle.circuit_faults.specs.Scans.{IsInEarlier, IsInside, IsPartClear, IsPartFault}
 use Rattle.circuit_faults.specs.Steps.{AreOrderedSteps, InPhase, IsInStepBefore, IsPartAt, part_step, phase_of, step_of, steps_of}
+use Rattle.circuit_faults.specs.Wholes.{HasFreeWholes}
 use Rattle.circuit_faults.specs.declared.steps.CircuitStep.{CircuitStep}
 use Rattle.circuit_faults.specs.declared.steps.CircuitStep.TheVariants.{Part as PartStep, Instance as InstanceStep}
 use Rattle.circuit_faults.specs.declared.net.CircuitFault.{CircuitFault}
@@ -38,10 +38,9 @@ use Rattle.vrt_model.proofs.Decidable.{reaches_or_not}
 use Rattle.vrt_model.proofs.GatesGiven.{IsGiven}
 use Rattle.vrt_model.proofs.Lists.{at_map, map_at, map_among}
 use Rattle.vrt_model.proofs.Members.{all_among}
-use Rattle.vrt_model.proofs.Networks.{flat_ranges}
 use Rattle.vrt_model.proofs.Tests.{some_or_none}
-use Rattle.vrt_model.specs.Circuits.{IsHold, IsFlat}
-use Rattle.vrt_model.specs.Known.{IsKnown}
+use Rattle.vrt_model.specs.Circuits.{IsHold}
+use Rattle.vrt_model.specs.Known.{IsDriven, IsKnown}
 use Rattle.vrt_model.specs.Lists.{At, Among}
 use Rattle.vrt_model.specs.Path.{Network}
 use Rattle.vrt_model.specs.Reading.{bare}
@@ -126,7 +125,7 @@ pub step_is : (w : InPhase) (number : ℕ) (part : Part) → At w.parts number p
 step_is w number part e = ap (λ (o : Option Part). unwrap_or (option_map part_step o) (OfPart 0 [])) e
 
 module _ (w : InPhase) (care : H) (roots gates : Span)
-    (flat : IsFlat w.circuit) (seen : AreObserved w.circuit w.observed) (are : AreOrderedSteps w) (roots_len : roots.len ≡ length w.circuit.nets) (gates_len : gates.len ≡ length w.circuit.nets) where
+    (wholes : HasFreeWholes w.circuit (phase_of w) w.observed) (seen : AreObserved w.circuit w.observed) (are : AreOrderedSteps w) (roots_len : roots.len ≡ length w.circuit.nets) (gates_len : gates.len ≡ length w.circuit.nets) where
   abbrev c : Circuit
   c = w.circuit
 
@@ -177,11 +176,11 @@ module _ (w : InPhase) (care : H) (roots gates : Span)
     solved_none = record {
       bits = λ v setting a met at n o done. elim (some_or_none (known_at known n)) [
         | inl k ↦
-            known_bit c phase observed (flat_wholes c phase observed flat) seen (root_at first roots v) (fixed v) setting at.given a at.solves n k.0 o ((are.table n k.0).0 k.1)
+            known_bit c phase observed wholes seen (root_at first roots v) (fixed v) setting at.given a at.solves n k.0 o ((are.table n k.0).0 k.1)
             ∙ ap (λ (b : Bool). Some b) (sym (opened_known n k.0 v (seen.nets n o) k.1))
         | inr none ↦ elim done [
           | inl g ↦
-              given_bit c phase observed (flat_wholes c phase observed flat) seen (root_at first roots v) (fixed v) setting at.given a at.solves n o g
+              given_bit c phase observed wholes seen (root_at first roots v) (fixed v) setting at.given a at.solves n o g
               ∙ ap (λ (b : Bool). Some b) (sym (opened_root n v (seen.nets n o) none))
           | inr other ↦ elim other [
             | inl k ↦ absurd (none-some k.0 (sym none ∙ (are.table n k.0).1 k.1))
@@ -206,7 +205,7 @@ module _ (w : InPhase) (care : H) (roots gates : Span)
 
   -- ---- one part more
 
-  module _ (k : ℕ) (part : Part) (here : IsPartAt w k part) (first now : Diagrams) (before : Before k first now)
+  module _ (k : ℕ) (part : Part) (here : IsPartAt w k part) (undriven : (n : ℕ) → IsInside part n → ¬ IsDriven c n) (first now : Diagrams) (before : Before k first now)
       (fixed : (v : Valuation) → HasFixedBits c phase (root_at first roots v)) (care_live : IsLive first care) (live : IsFilled now gates)
       (kept_care : (v : Valuation) → function_of now care v ≡ function_of first care v)
       (kept_roots : (n : ℕ) (v : Valuation) → n < length c.nets → shows now roots n v ≡ shows first roots n v) where
@@ -219,7 +218,7 @@ module _ (w : InPhase) (care : H) (roots gates : Span)
     setting_now : (v : Valuation) (setting : Setting) → IsSettingAt c (root_at first roots v) setting → IsSettingAt c (root_at now roots v) setting
     setting_now v setting s = record {
       inputs = λ n net e is. s.inputs n net e is ∙ sym (kept_roots n v (in_range n net e));
-      held = λ at hold e plain. s.held at hold e plain ∙ sym (kept_roots hold.net.0 v (all_among (IsHold c) c.holds hold flat.holds (at, e)).net);
+      held = λ at hold e plain. s.held at hold e plain ∙ sym (kept_roots hold.net.0 v (all_among (IsHold c) c.holds hold wholes.ranges.holds (at, e)).net);
     }
       where
         in_range : (n : ℕ) (net : FlatNet) → At c.nets n net → n < length c.nets
@@ -245,15 +244,15 @@ module _ (w : InPhase) (care : H) (roots gates : Span)
 
       pub to_alone : (kind : FaultKind) (n : ℕ) → IsInside part n → HasFault c phase observed setting a kind n → ShowsFault observed (alone v) kind n
       to_alone kind n i f =
-          fault_alone c phase observed (flat_wholes c phase observed flat) seen (root_at now roots v) (fixed_now v) setting (setting_now v setting at.given) a at.solves part whole (λ m i. flat_undriven c flat m) (λ m. shows now gates m v) gates_are kind n i f
+          fault_alone c phase observed wholes seen (root_at now roots v) (fixed_now v) setting (setting_now v setting at.given) a at.solves part whole undriven (λ m. shows now gates m v) gates_are kind n i f
 
       pub from_alone : (kind : FaultKind) (n : ℕ) → IsInside part n → ShowsFault observed (alone v) kind n → HasFault c phase observed setting a kind n
       from_alone kind n i f =
-          fault_there c phase observed (flat_wholes c phase observed flat) seen (root_at now roots v) (fixed_now v) setting (setting_now v setting at.given) a at.solves part whole (λ m i. flat_undriven c flat m) (λ m. shows now gates m v) gates_are kind n i f
+          fault_there c phase observed wholes seen (root_at now roots v) (fixed_now v) setting (setting_now v setting at.given) a at.solves part whole undriven (λ m. shows now gates m v) gates_are kind n i f
 
       pub bit_of_net : (n : ℕ) (b : Bool) → IsInside part n → observed n ≡ true → IsResponse (alone v) n (Shows b) → a n ≡ Some b
       bit_of_net n b i o shown =
-          bit_there c phase observed (flat_wholes c phase observed flat) seen (root_at now roots v) (fixed_now v) setting (setting_now v setting at.given) a at.solves part whole (λ m i. flat_undriven c flat m) (λ m. shows now gates m v) gates_are n b i o shown
+          bit_there c phase observed wholes seen (root_at now roots v) (fixed_now v) setting (setting_now v setting at.given) a at.solves part whole undriven (λ m. shows now gates m v) gates_are n b i o shown
 
     earlier_or_here : (n : ℕ) → IsInStepBefore w (k + 1) n → IsInStepBefore w k n ⊎ IsInside part n
     earlier_or_here n e =
@@ -281,7 +280,7 @@ module _ (w : InPhase) (care : H) (roots gates : Span)
         shown : (v : Valuation) → function_of first care v ≡ true → (n : ℕ) → IsInside part n → observed n ≡ true → IsResponse (alone v) n (Shows (shows new gates n v))
         shown v met n i o =
             shows_bit (alone v) n (shows new gates n v) (p.bits n v i)
-            (reaches_or_not (alone v) (length c.nets) 8 (is_finite c part whole.is (flat_ranges c flat) gates roots gates now v) n false)
+            (reaches_or_not (alone v) (length c.nets) 8 (is_finite c part whole.is wholes.ranges gates roots gates now v) n false)
             (λ f. p.clear n Fight v i (kept_care v ∙ met) f)
             (λ f. p.clear n Float v i (kept_care v ∙ met) (o, f))
 
@@ -392,7 +391,7 @@ module _ (w : InPhase) (care : H) (roots gates : Span)
       no_fault v setting a met at Fight n f = none (record { valuation = v; setting = setting; solution = a; solved = at }) met Fight n (0, refl) (are.all n f.0) f
       no_fault v setting a met at Float n f =
           elim (given_or_plain c n (seen.nets n f.0)) [
-            | inl g ↦ given_no_float c phase observed (flat_wholes c phase observed flat) seen (root_at first roots v) (fixed v) setting at.given a at.solves n g f.1
+            | inl g ↦ given_no_float c phase observed wholes seen (root_at first roots v) (fixed v) setting at.given a at.solves n g f.1
             | inr p ↦ none (record { valuation = v; setting = setting; solution = a; solved = at }) met Float n (1, refl) (are.all n p) f
           ]
       no_fault v setting a met at FightKept n f = f
@@ -454,10 +453,10 @@ module _ (c : Circuit) (parts : List Part) (roots gates out : Span) (now : Diagr
       room : 10 * length part.nets ≤ out.len
       room = spans.room part member
 
-module _ (w : InPhase) (care : H) (roots gates out : Span) (flat : IsFlat w.circuit) (seen : AreObserved w.circuit w.observed) (are : AreOrderedSteps w)
+module _ (w : InPhase) (care : H) (roots gates out : Span) (wholes : HasFreeWholes w.circuit (phase_of w) w.observed) (seen : AreObserved w.circuit w.observed) (are : AreOrderedSteps w)
     (first : Diagrams) (spans : HasCircuitSpans w.circuit w.parts roots gates out first)
     (care_live : IsLive first care) (fixed : (v : Valuation) → HasFixedBits w.circuit (phase_of w) (root_at first roots v))
-    (k : ℕ) (part : Part) (here : IsPartAt w k part) (now new : Diagrams) (before : WritesTwo gates out first now) (live : IsFilled now gates)
+    (k : ℕ) (part : Part) (here : IsPartAt w k part) (undriven : (n : ℕ) → IsInside part n → ¬ IsDriven w.circuit n) (now new : Diagrams) (before : WritesTwo gates out first now) (live : IsFilled now gates)
     (solved : IsSolvedBefore w care roots gates k first now) where
   care_kept : (v : Valuation) → function_of now care v ≡ function_of first care v
   care_kept v = before.adds.kept care.0 care_live v
@@ -470,8 +469,8 @@ module _ (w : InPhase) (care : H) (roots gates out : Span) (flat : IsFlat w.circ
   pub part_clear_next : IsPartClear w.circuit part w.observed care roots gates now new → ((h : ℕ) (v : Valuation) → h < length now.nodes → meaning new.nodes h v ≡ meaning now.nodes h v)
       → IsSolvedBefore w care roots gates (k + 1) first new
   part_clear_next p kept =
-      solved_more w care roots gates flat seen are spans.roots_len spans.gates_len k part here first now solved fixed care_live live care_kept roots_kept new p kept
+      solved_more w care roots gates wholes seen are spans.roots_len spans.gates_len k part here undriven first now solved fixed care_live live care_kept roots_kept new p kept
 
   pub part_fault_first : (fault : CircuitFault) → IsPartFault w.circuit part w.observed care roots gates fault now new → IsFirstFault w care roots fault first new
   part_fault_first fault f =
-      fault_found w care roots gates flat seen are spans.roots_len spans.gates_len k part here first now solved fixed care_live live care_kept roots_kept new fault f
+      fault_found w care roots gates wholes seen are spans.roots_len spans.gates_len k part here undriven first now solved fixed care_live live care_kept roots_kept new fault f

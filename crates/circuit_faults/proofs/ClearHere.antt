@@ -11,12 +11,13 @@ use Rattle.channel_parts.specs.declared.part.Part.{Part}
 use Rattle.circuit_faults.specs.Faults.{IsSettingAt, IsSolvedAt}
 use Rattle.circuit_faults.specs.Results.{HasCircuitSpans, IsClearCircuit, root_at}
 use Rattle.vrt_model.proofs.Members.{all_among}
-use Rattle.vrt_model.specs.Circuits.{IsFlat, IsHold}
+use Rattle.vrt_model.specs.Circuits.{IsHold}
+use Rattle.vrt_model.specs.Networks.{HasRanges}
 use Rattle.vrt_model.specs.State.{Setting}
 use Rattle.vrt_model.specs.declared.circuit.Circuit.{Circuit}
 use Rattle.vrt_model.specs.declared.rules.Phase.{Phase}
 
-module _ (c : Circuit) (phase : Phase) (observed : ℕ → Bool) (flat : IsFlat c) (parts : List Part) (care : H) (roots gates out : Span) (first now : Diagrams)
+module _ (c : Circuit) (phase : Phase) (observed : ℕ → Bool) (ranges : HasRanges c) (parts : List Part) (care : H) (roots gates out : Span) (first now : Diagrams)
     (writes : WritesTwo gates out first now) (spans : HasCircuitSpans c parts roots gates out first) (live : IsLive first care) where
   care_kept : (v : Valuation) → function_of now care v ≡ function_of first care v
   care_kept v = writes.adds.kept care.0 live v
@@ -30,7 +31,7 @@ module _ (c : Circuit) (phase : Phase) (observed : ℕ → Bool) (flat : IsFlat 
   setting_before : (v : Valuation) (setting : Setting) → IsSettingAt c (root_at now roots v) setting → IsSettingAt c (root_at first roots v) setting
   setting_before v setting s = record {
     inputs = λ n net e is. s.inputs n net e is ∙ roots_kept n v (slice_get_within c.nets n net e);
-    held = λ at hold e plain. s.held at hold e plain ∙ roots_kept hold.net.0 v (all_among (IsHold c) c.holds hold flat.holds (at, e)).net;
+    held = λ at hold e plain. s.held at hold e plain ∙ roots_kept hold.net.0 v (all_among (IsHold c) c.holds hold ranges.holds (at, e)).net;
   }
 
   solved_before : (v : Valuation) (setting : Setting) (a : ℕ → Option Bool) → IsSolvedAt c phase observed (root_at now roots v) setting a

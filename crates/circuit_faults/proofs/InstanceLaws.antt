@@ -13,7 +13,8 @@ use Rattle.channel_parts.specs.OneSolution.{AreObserved}
 use Rattle.circuit_faults.proofs.CircuitLaws.{IsClearStep, IsDone, IsSolvedBefore, found_step}
 use Rattle.circuit_faults.specs.Cases.{CaseIn, StandsAt}
 use Rattle.circuit_faults.specs.Results.{BrokenGives, IsFirstFault, broken_of, root_at}
-use Rattle.circuit_faults.specs.Steps.{AreOrderedSteps, InPhase, IsInStepBefore, IsInstanceAt, IsReadyInstance, named_at, step_of}
+use Rattle.circuit_faults.specs.Steps.{AreOrderedSteps, InPhase, IsInStepBefore, IsInstanceAt, IsReadyInstance, named_at, phase_of, step_of}
+use Rattle.circuit_faults.specs.Wholes.{HasFreeWholes}
 use Rattle.circuit_faults.specs.declared.net.CircuitFault.{CircuitFault}
 use Rattle.circuit_faults.specs.declared.steps.CircuitStep.{CircuitStep}
 use Rattle.circuit_faults.specs.declared.steps.CircuitStep.TheVariants.{Part as PartStep, Instance as InstanceStep}
@@ -26,7 +27,6 @@ use Rattle.fault_places.specs.Searches.{IsFoundIn, Spot}
 use Rattle.known_nets.proofs.NetKinds.{given_or_plain}
 use Rattle.known_nets.specs.KnownTables.{known_at}
 use Rattle.vrt_model.proofs.Tests.{some_or_none}
-use Rattle.vrt_model.specs.Circuits.{IsFlat}
 use Rattle.vrt_model.specs.Faults.{BreaksConstraint}
 use Rattle.vrt_model.specs.Lists.{Among}
 use Rattle.vrt_model.specs.Reading.{Partial}
@@ -43,7 +43,7 @@ broken_where care held v = by_test (held v)
     by_test false = (λ e. (e, refl), λ h. h.0)
 
 module _ (w : InPhase) (care : H) (roots gates : Span)
-    (flat : IsFlat w.circuit) (seen : AreObserved w.circuit w.observed) (are : AreOrderedSteps w) (roots_len : roots.len ≡ length w.circuit.nets) (gates_len : gates.len ≡ length w.circuit.nets)
+    (wholes : HasFreeWholes w.circuit (phase_of w) w.observed) (seen : AreObserved w.circuit w.observed) (are : AreOrderedSteps w) (roots_len : roots.len ≡ length w.circuit.nets) (gates_len : gates.len ≡ length w.circuit.nets)
     (k at : ℕ) (i : FlatInstance) (here : IsInstanceAt w k at i) (ready : IsReadyInstance w i) (first now new : Diagrams)
     (before : IsSolvedBefore w care roots gates k first now) (live : IsFilled now gates)
     (kept_care : (v : Valuation) → function_of now care v ≡ function_of first care v) where
@@ -153,7 +153,7 @@ module _ (w : InPhase) (care : H) (roots gates : Span)
       live = f.2.live;
       some = f.3;
       found =
-          found_step w care roots gates flat seen are roots_len gates_len k (InstanceStep at) here.0 first now before found_where (spot fault.kind fault.place)
+          found_step w care roots gates wholes seen are roots_len gates_len k (InstanceStep at) here.0 first now before found_where (spot fault.kind fault.place)
           (subst (λ (kind : FaultKind). IsFoundIn Stands cared found_where (spots_at (Constraint ∷ []) at) (spot kind fault.place)) (sym f.0)
           (subst (λ (place : ℕ). IsFoundIn Stands cared found_where (spots_at (Constraint ∷ []) at) (spot Constraint place)) (sym f.1)
           (found_one Case Stands cared at found_where Constraint found_exact)));

@@ -4,6 +4,7 @@
 #![tactic(auto)]
 
 mod circuit;
+mod flat;
 mod instance;
 mod kept;
 mod kept_net;
@@ -19,7 +20,8 @@ mod spans;
 mod step_keys;
 mod steps;
 
-pub use circuit::circuit_fault;
+pub use circuit::wired_fault;
+pub use flat::circuit_fault;
 pub use kept::kept_fault;
 pub use kept_net::KeptFault;
 pub use listing::circuit_steps;

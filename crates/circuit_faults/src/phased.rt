@@ -1,11 +1,12 @@
 //! A circuit in a phase, and the spans for a look at it.
 
 ghost use Rattle.std.specs.Prelude.{◌≡◌, ◌<◌, Some, length, slice_get};
+ghost use Rattle.vrt_model.specs.Comparison.{phase_at};
 
 use crate::steps::CircuitStep;
 use channel_parts::{Part, Parts};
 use node_pool::Span;
-use vrt_model::{Circuit, Design, FlatInstance, Rules};
+use vrt_model::{Circuit, Design, FlatInstance, Phase, Rules};
 
 /// A circuit of a design in a phase of its rules, and the steps in which it is looked through.
 #[derive(Clone, Copy)]
@@ -51,4 +52,12 @@ pub(crate) fn instance_at(circuit: &Circuit, at: u32) -> &FlatInstance
     ensures { slice_get circuit.entry.now.instances at ≡ Some result.now }
 {
     &circuit.instances.as_slice()[at as usize]
+}
+
+/// A phase by its number.
+pub(crate) fn phase_at(rules: &Rules, phase: u32) -> &Phase
+    requires { phase < length rules.now.phases }
+    ensures { result.now ≡ phase_at rules.entry.now phase }
+{
+    &rules.phases.as_slice()[phase as usize]
 }

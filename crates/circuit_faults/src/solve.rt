@@ -10,8 +10,8 @@ ghost use Rattle.circuit_faults.specs.Scans.{PartGives};
 ghost use Rattle.path_fixpoint.specs.Parts.{IsPart};
 ghost use Rattle.path_fixpoint.specs.Solved.{HasRootSpans};
 ghost use Rattle.path_fixpoint.specs.Spending.{HasOneHold, Spends};
-ghost use Rattle.vrt_model.specs.Circuits.{IsFlat};
 ghost use Rattle.vrt_model.specs.Lists.{mark_at};
+ghost use Rattle.vrt_model.specs.Networks.{HasRanges};
 
 use crate::net::CircuitFault;
 use crate::scan::scan;
@@ -24,7 +24,6 @@ use vrt_model::Circuit;
 /// The first fault of a part in the care set, at the valuations at which its devices have the bits of `gates`. Where
 /// there is none, the handles of its nets among `gates` become their bits. `roots` has the bits of the given nets and of
 /// the holds.
-#[tactic(auto, using(vrt_model::proofs::Networks::flat_ranges))]
 pub(crate) fn check_part(
     store: &mut Store,
     circuit: &Circuit,
@@ -35,7 +34,7 @@ pub(crate) fn check_part(
     gates: Span,
     out: Span,
 ) -> Result<Option<CircuitFault>, Spent>
-    requires circuit { IsFlat circuit.now }
+    requires circuit { HasRanges circuit.now }
     requires part { IsPart circuit.now part.now }
     requires observed { length observed.now ≡ length circuit.now.nets }
     requires care { IsLive store.old care }

@@ -1,44 +1,38 @@
-use Rattle.std.proofs.Common.{ℕ, Option, ◌∙◌, sym, subst}
-use Rattle.std.proofs.lemmas.Option.{same_Some}
-use Rattle.bdd_core.proofs.Frames.{two_wider}
-use Rattle.bdd_core.proofs.Results.{if_ok_more}
-use Rattle.channel_parts.specs.declared.part.Part.{Part}
-use Rattle.circuit_faults.proofs.CircuitLaws.{root_spans, words_within}
-use Rattle.circuit_faults.proofs.StepLaws.{part_step_operations}
-use Rattle.circuit_faults.specs.Scans.{PartGives}
-use Rattle.circuit_faults.specs.Steps.{in_phase}
-use Rattle.circuit_faults.specs.declared.net.CircuitFault.{CircuitFault}
-use Rattle.path_fixpoint.specs.Spending.{Spends}
-use Rattle.vrt_model.specs.Lists.{mark_at}
+use Rattle.std.proofs.Common.{sym, ◌∙◌}
+use Rattle.circuit_faults.proofs.StepLaws.{driver_here, output_work, solved_operations}
+use Rattle.circuit_faults.specs.Operations.{part_operations}
+use Rattle.circuit_faults.specs.Steps.{InPhase, in_phase}
+use Rattle.circuit_faults.specs.Wholes.{wired_operations}
+use Rattle.circuit_faults.specs.declared.steps.CircuitStep.TheVariants.{Part as PartStep}
+use Rattle.path_fixpoint.proofs.SpendingLaws.{spends_more}
+use Rattle.whole_steps.specs.Tables.{output_operations}
 use Rattle.circuit_faults.proofs.circuit.check_part_step.Goals as goal
 
-pub words_of-words-requires : goal.words_of-words-requires
-words_of-words-requires c = c.requires.spans.room c.part_at-part.result.now (c.args.number, c.part_at-part.ensures)
+pub check_output-requires-clause-phase : goal.check_output-requires-clause-phase
+check_output-requires-clause-phase c =
+    let some = sym c.part_driver.ensures ∙ c.in-Some.is in
+    let there = driver_here (in_phase c.args.phased) c.args.wholes.drivers.now c.args.wholes.plans.now c.requires.wholes c.part_at-part.result.now c.in-Some.place some in
+    c.requires.wholes.phase there.0 (c.in-Some.place.whole, there.2.whole)
 
-pub check_part-requires-clause-part : goal.check_part-requires-clause-part
-check_part-requires-clause-part c = (c.requires.steps.each c.part_at-part.result.now (c.args.number, c.part_at-part.ensures)).is
+pub check_solved-requires-clause-part : goal.check_solved-requires-clause-part
+check_solved-requires-clause-part c =
+    let there = c.part_at-part.ensures in ((c.args.number, there), (c.requires.steps.each c.part_at-part.result.now (c.args.number, there)).is)
 
-pub check_part-requires-clause-spans : goal.check_part-requires-clause-spans
-check_part-requires-clause-spans c =
-    root_spans c.args.phased.circuit.now c.args.phased.parts.now.list c.args.spans.roots c.args.spans.gates c.args.spans.out c.args.store.now c.requires.spans c.part_at-part.result.now
-    (c.args.number, c.part_at-part.ensures) c.words_of-words.result c.words_of-words.ensures c.requires.live
+pub returns-in-Some-clause-few : goal.returns-in-Some-clause-few
+returns-in-Some-clause-few c one u care gates roots =
+    let w : InPhase = in_phase c.args.phased in
+    let drivers = c.args.wholes.drivers.now in
+    let part = c.part_at-part.result.now in
+    let place = c.in-Some.place in
+    let some = sym c.part_driver.ensures ∙ c.in-Some.is in
+    let there = driver_here w drivers c.args.wholes.plans.now c.requires.wholes part place some in
+    spends_more u c.args.spans.gates (output_operations there.0) (wired_operations drivers w (PartStep c.args.number)) c.args.store.now c.check_output.new.store c.check_output.result
+    (output_work w drivers c.args.number part c.part_at-part.ensures place there.0 there.1 some there.2) (c.check_output.ensures.few there.0 there.1 there.2 u gates)
 
-pub returns-clause-writes : goal.returns-clause-writes
-returns-clause-writes c =
-    two_wider c.args.spans.gates c.words_of-words.result c.args.spans.out c.args.store.now c.check_part.new.store
-    (words_within c.args.phased.circuit.now c.args.phased.parts.now.list c.args.spans.roots c.args.spans.gates c.args.spans.out c.args.store.now c.requires.spans c.part_at-part.result.now
-    (c.args.number, c.part_at-part.ensures) c.words_of-words.result c.words_of-words.ensures) c.check_part.ensures.writes
-
-pub returns-clause-gives : goal.returns-clause-gives
-returns-clause-gives c =
-    if_ok_more _ _ c.check_part.result
-    (λ found g part there.
-    subst (λ (p : Part). PartGives c.args.phased.circuit.now p (mark_at c.args.phased.observed.now) c.args.care c.args.spans.roots c.args.spans.gates c.args.store.now c.check_part.new.store found)
-    (same_Some c.part_at-part.result.now part (sym c.part_at-part.ensures ∙ there)) g)
-    c.check_part.ensures.gives
-
-pub returns-clause-few : goal.returns-clause-few
-returns-clause-few c one u care gates roots =
-    subst (λ (n : ℕ). Spends {A = Option CircuitFault} u n c.args.spans.gates c.args.store.now c.check_part.new.store c.check_part.result)
-    (sym (part_step_operations (in_phase c.args.phased) c.args.number c.part_at-part.result.now c.part_at-part.ensures))
-    (c.check_part.ensures.few one u care gates roots)
+pub returns-in-None-clause-few : goal.returns-in-None-clause-few
+returns-in-None-clause-few c one u care gates roots =
+    let w : InPhase = in_phase c.args.phased in
+    let drivers = c.args.wholes.drivers.now in
+    let part = c.part_at-part.result.now in
+    spends_more u c.args.spans.gates (part_operations part) (wired_operations drivers w (PartStep c.args.number)) c.args.store.now c.check_solved.new.store c.check_solved.result
+    (solved_operations w drivers c.args.number part c.part_at-part.ensures) (c.check_solved.ensures.few one u care gates roots)

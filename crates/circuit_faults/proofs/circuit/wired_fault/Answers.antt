@@ -10,14 +10,14 @@ use Rattle.circuit_faults.proofs.ClearHere.{clear_here}
 use Rattle.circuit_faults.proofs.CountLaws.{opened_within, reads_variables, roots_within, sum_next, used_counted}
 use Rattle.circuit_faults.proofs.StepLaws.{step_clear, step_fault}
 use Rattle.bdd_core.proofs.Frames.{two_first, two_then}
-use Rattle.circuit_faults.specs.Operations.{step_operations, steps_operations}
-use Rattle.circuit_faults.specs.Results.{AreClearSteps, StepGives, first_word}
+use Rattle.circuit_faults.specs.Results.{AreClearSteps, first_word}
 use Rattle.circuit_faults.specs.Steps.{InPhase, in_phase, phase_of}
+use Rattle.circuit_faults.specs.Wholes.{WiredGives, all_operations, wired_operations}
 use Rattle.circuit_faults.specs.declared.net.CircuitFault.{CircuitFault}
 use Rattle.circuit_faults.specs.declared.steps.CircuitStep.{CircuitStep}
 use Rattle.known_nets.specs.KnownTables.{known_at}
 use Rattle.path_fixpoint.proofs.SpendingLaws.{spends_behind, spends_more, spends_value}
-use Rattle.circuit_faults.proofs.circuit.circuit_fault.Goals as goal
+use Rattle.circuit_faults.proofs.circuit.wired_fault.Goals as goal
 
 pub loop-place-init : goal.loop-place-init
 loop-place-init c =
@@ -31,7 +31,7 @@ loop-place-init c =
       writes = two_first spans.gates spans.out old new c.write_first_handles.ensures.writes;
       live = c.write_first_handles.ensures.writes.live;
       solved = λ fixed.
-          solved_none w c.args.care spans.roots spans.gates c.requires.circuit c.requires.observed c.requires.steps c.requires.spans.roots_len c.requires.spans.gates_len old new
+          solved_none w c.args.care spans.roots spans.gates c.requires.wholes.wholes c.requires.observed c.requires.steps c.requires.spans.roots_len c.requires.spans.gates_len old new
           c.requires.spans.roots_live c.write_first_handles.ensures.writes fixed opened;
       counted = λ one u care roots.
           let rest = c.write_first_handles.ensures.rest in
@@ -70,9 +70,9 @@ returns-in-Some-clause-gives c fixed =
     let w : InPhase = in_phase c.args.phased in
     let spans = c.args.spans in
     let step : CircuitStep = c.step_at-step.result in
-    let gives : StepGives w c.args.care spans.roots spans.gates c.loop-place.store c.check_step.new.store step (Some c.in-Some.fault) =
-    subst (λ (o : Option CircuitFault). StepGives w c.args.care spans.roots spans.gates c.loop-place.store c.check_step.new.store step o) c.in-Some.is c.in-Ok.ensures.gives in
-    step_fault w c.args.care spans.roots spans.gates spans.out c.requires.circuit c.requires.observed c.requires.steps c.requires.instances c.args.store.now c.requires.spans c.requires.care fixed
+    let gives : WiredGives c.args.wholes.drivers.now w c.args.care spans.roots spans.gates c.loop-place.store c.check_step.new.store step (Some c.in-Some.fault) =
+    subst (λ (o : Option CircuitFault). WiredGives c.args.wholes.drivers.now w c.args.care spans.roots spans.gates c.loop-place.store c.check_step.new.store step o) c.in-Some.is c.in-Ok.ensures.gives in
+    step_fault w c.args.wholes.drivers.now c.args.wholes.plans.now c.requires.wholes c.args.care spans.roots spans.gates spans.out c.requires.observed c.requires.steps c.requires.instances c.args.store.now c.requires.spans c.requires.care fixed
     c.loop-place.place c.loop-place.store c.check_step.new.store c.loop-place.invariant.writes c.loop-place.invariant.live (c.loop-place.invariant.solved fixed)
     step c.step_at-step.ensures c.in-Some.fault gives
 
@@ -85,22 +85,22 @@ loop-place-preserved c =
     let new = c.check_step.new.store in
     let k = c.loop-place.place in
     let step : CircuitStep = c.step_at-step.result in
-    let gives : StepGives w c.args.care spans.roots spans.gates old new step None =
-    subst (λ (o : Option CircuitFault). StepGives w c.args.care spans.roots spans.gates old new step o) c.in_default.is c.in-Ok.ensures.gives in
+    let gives : WiredGives c.args.wholes.drivers.now w c.args.care spans.roots spans.gates old new step None =
+    subst (λ (o : Option CircuitFault). WiredGives c.args.wholes.drivers.now w c.args.care spans.roots spans.gates old new step o) c.in_default.is c.in-Ok.ensures.gives in
     record {
       writes = two_then spans.gates spans.out first old new c.loop-place.invariant.writes c.check_step.ensures.writes;
       live = c.check_step.ensures.live;
       solved = λ fixed.
-          step_clear w c.args.care spans.roots spans.gates spans.out c.requires.circuit c.requires.observed c.requires.steps c.requires.instances first c.requires.spans c.requires.care fixed
+          step_clear w c.args.wholes.drivers.now c.args.wholes.plans.now c.requires.wholes c.args.care spans.roots spans.gates spans.out c.requires.observed c.requires.steps c.requires.instances first c.requires.spans c.requires.care fixed
           k old new c.loop-place.invariant.writes c.loop-place.invariant.live (c.loop-place.invariant.solved fixed)
           step c.step_at-step.ensures gives (λ h v lt. c.check_step.ensures.writes.adds.kept h lt v);
       counted = λ one u care roots.
           let before = c.loop-place.invariant.counted one u care roots in
           let now = c.in-Ok.ensures.few one u (within_same u (function_of first c.args.care) (function_of old c.args.care) (c.loop-place.invariant.writes.adds.kept c.args.care.0 c.requires.care) care) before.1
           (roots_within u spans.gates spans.out spans.roots first old c.loop-place.invariant.writes c.requires.spans.roots_gates c.requires.spans.roots_out c.requires.spans.roots_live roots) in
-          let sums = sum_next (step_operations w) w.steps k step c.step_at-step.ensures in (
-            counted_more u (sum_by (step_operations w) (take k w.steps) + step_operations w step) (sum_by (step_operations w) (take (k + 1) w.steps)) first new (omega (arith, sums))
-                (counted_then u (sum_by (step_operations w) (take k w.steps)) (step_operations w step) first old new before.0 now.counts.added),
+          let sums = sum_next (wired_operations c.args.wholes.drivers.now w) w.steps k step c.step_at-step.ensures in (
+            counted_more u (sum_by (wired_operations c.args.wholes.drivers.now w) (take k w.steps) + wired_operations c.args.wholes.drivers.now w step) (sum_by (wired_operations c.args.wholes.drivers.now w) (take (k + 1) w.steps)) first new (omega (arith, sums))
+                (counted_then u (sum_by (wired_operations c.args.wholes.drivers.now w) (take k w.steps)) (wired_operations c.args.wholes.drivers.now w step) first old new before.0 now.counts.added),
             now.within,
           );
     }
@@ -113,13 +113,13 @@ returns-clause-gives c fixed =
     let first = c.args.store.now in
     let new = c.loop-place.store in
     let clear : AreClearSteps w c.args.care spans.roots spans.gates first new =
-    solved_all w c.args.care spans.roots spans.gates c.requires.circuit c.requires.observed c.requires.steps c.requires.spans.roots_len c.requires.spans.gates_len
+    solved_all w c.args.care spans.roots spans.gates c.requires.wholes.wholes c.requires.observed c.requires.steps c.requires.spans.roots_len c.requires.spans.gates_len
     first new
     (subst (λ (k : ℕ). IsSolvedBefore w c.args.care spans.roots spans.gates k first new) end (c.loop-place.invariant.solved fixed)) in (
       clear,
-      clear_here w.circuit (phase_of w) w.observed c.requires.circuit w.parts c.args.care spans.roots spans.gates spans.out first new
+      clear_here w.circuit (phase_of w) w.observed c.requires.wholes.wholes.ranges w.parts c.args.care spans.roots spans.gates spans.out first new
           c.loop-place.invariant.writes c.requires.spans c.requires.care
-          (clear_circuit w c.args.care spans.roots spans.gates c.requires.circuit c.requires.observed c.requires.steps c.requires.spans.roots_len c.requires.spans.gates_len
+          (clear_circuit w c.args.care spans.roots spans.gates c.requires.wholes.wholes c.requires.observed c.requires.steps c.requires.spans.roots_len c.requires.spans.gates_len
           first new fixed clear),
     )
 
@@ -132,13 +132,13 @@ returns-in-Err-clause-few c one u care roots =
     let new = c.check_step.new.store in
     let k = c.loop-place.place in
     let step : CircuitStep = c.step_at-step.result in
-    let sums = sum_next (step_operations w) w.steps k step c.step_at-step.ensures in
-    let all = sum_by-take-le (step_operations w) w.steps (k + 1) in
+    let sums = sum_next (wired_operations c.args.wholes.drivers.now w) w.steps k step c.step_at-step.ensures in
+    let all = sum_by-take-le (wired_operations c.args.wholes.drivers.now w) w.steps (k + 1) in
     let before = c.loop-place.invariant.counted one u care roots in
     let now = c.in-Err.ensures.few one u (within_same u (function_of first c.args.care) (function_of old c.args.care) (c.loop-place.invariant.writes.adds.kept c.args.care.0 c.requires.care) care) before.1
     (roots_within u spans.gates spans.out spans.roots first old c.loop-place.invariant.writes c.requires.spans.roots_gates c.requires.spans.roots_out c.requires.spans.roots_live roots) in
-    spends_more u spans.gates (sum_by (step_operations w) (take k w.steps) + step_operations w step) (steps_operations w) first new (Err c.in-Err.spent) (omega (arith, sums, all))
-    (spends_behind u spans.gates (sum_by (step_operations w) (take k w.steps)) (step_operations w step) first old new (Err c.in-Err.spent) before.0 now)
+    spends_more u spans.gates (sum_by (wired_operations c.args.wholes.drivers.now w) (take k w.steps) + wired_operations c.args.wholes.drivers.now w step) (all_operations c.args.wholes.drivers.now w) first new (Err c.in-Err.spent) (omega (arith, sums, all))
+    (spends_behind u spans.gates (sum_by (wired_operations c.args.wholes.drivers.now w) (take k w.steps)) (wired_operations c.args.wholes.drivers.now w step) first old new (Err c.in-Err.spent) before.0 now)
 
 pub returns-in-Some-clause-few : goal.returns-in-Some-clause-few
 returns-in-Some-clause-few c one u care roots =
@@ -149,24 +149,24 @@ returns-in-Some-clause-few c one u care roots =
     let new = c.check_step.new.store in
     let k = c.loop-place.place in
     let step : CircuitStep = c.step_at-step.result in
-    let sums = sum_next (step_operations w) w.steps k step c.step_at-step.ensures in
-    let all = sum_by-take-le (step_operations w) w.steps (k + 1) in
+    let sums = sum_next (wired_operations c.args.wholes.drivers.now w) w.steps k step c.step_at-step.ensures in
+    let all = sum_by-take-le (wired_operations c.args.wholes.drivers.now w) w.steps (k + 1) in
     let before = c.loop-place.invariant.counted one u care roots in
     let now = c.in-Ok.ensures.few one u (within_same u (function_of first c.args.care) (function_of old c.args.care) (c.loop-place.invariant.writes.adds.kept c.args.care.0 c.requires.care) care) before.1
     (roots_within u spans.gates spans.out spans.roots first old c.loop-place.invariant.writes c.requires.spans.roots_gates c.requires.spans.roots_out c.requires.spans.roots_live roots) in
-    spends_value u spans.gates (steps_operations w) first new c.in-Ok.found _
-    (spends_more u spans.gates (sum_by (step_operations w) (take k w.steps) + step_operations w step) (steps_operations w) first new (Ok c.in-Ok.found) (omega (arith, sums, all))
-    (spends_behind u spans.gates (sum_by (step_operations w) (take k w.steps)) (step_operations w step) first old new (Ok c.in-Ok.found) before.0 now))
+    spends_value u spans.gates (all_operations c.args.wholes.drivers.now w) first new c.in-Ok.found _
+    (spends_more u spans.gates (sum_by (wired_operations c.args.wholes.drivers.now w) (take k w.steps) + wired_operations c.args.wholes.drivers.now w step) (all_operations c.args.wholes.drivers.now w) first new (Ok c.in-Ok.found) (omega (arith, sums, all))
+    (spends_behind u spans.gates (sum_by (wired_operations c.args.wholes.drivers.now w) (take k w.steps)) (wired_operations c.args.wholes.drivers.now w step) first old new (Ok c.in-Ok.found) before.0 now))
 
 pub returns-clause-few : goal.returns-clause-few
 returns-clause-few c one u care roots =
     let w : InPhase = in_phase c.args.phased in
     let k = c.loop-place.place in
-    let all = sum_by-take-le (step_operations w) w.steps k in
+    let all = sum_by-take-le (wired_operations c.args.wholes.drivers.now w) w.steps k in
     let before = c.loop-place.invariant.counted one u care roots in
     record {
-      counts = counts_ok u (steps_operations w) c.args.store.now c.loop-place.store _
-          (counted_more u (sum_by (step_operations w) (take k w.steps)) (steps_operations w) c.args.store.now c.loop-place.store (omega (arith, all)) before.0);
+      counts = counts_ok u (all_operations c.args.wholes.drivers.now w) c.args.store.now c.loop-place.store _
+          (counted_more u (sum_by (wired_operations c.args.wholes.drivers.now w) (take k w.steps)) (all_operations c.args.wholes.drivers.now w) c.args.store.now c.loop-place.store (omega (arith, all)) before.0);
       within = before.1;
     }
 
@@ -175,6 +175,6 @@ pub returns-in-Err-clause-spent : goal.returns-in-Err-clause-spent
 returns-in-Err-clause-spent c one =
     let d = c.args.store.now in
     let sound = c.sound.ensures.sound in
-    used_counted d.vars (steps_operations (in_phase c.args.phased)) d c.check_step.new.store (Err c.in-Err.spent)
+    used_counted d.vars (all_operations c.args.wholes.drivers.now (in_phase c.args.phased)) d c.check_step.new.store (Err c.in-Err.spent)
     (returns-in-Err-clause-few c one d.vars (reads_variables d c.args.care.0 sound c.requires.care)
     (λ n lt. reads_variables d (word_at d c.args.spans.roots n) sound (c.requires.spans.roots_live n lt))).counts
