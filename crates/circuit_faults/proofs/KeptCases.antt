@@ -33,6 +33,7 @@ use Rattle.path_fixpoint.specs.Parts.{IsPart}
 use Rattle.path_fixpoint.specs.Solved.{network_at}
 use Rattle.vrt_model.proofs.Filtered.{device_among}
 use Rattle.vrt_model.proofs.Members.{among_any, any_among}
+use Rattle.vrt_model.proofs.Networks.{flat_ranges}
 use Rattle.vrt_model.specs.Circuits.{IsFlat}
 use Rattle.vrt_model.specs.Known.{IsPlain}
 use Rattle.vrt_model.specs.Lists.{At, Among}
@@ -54,7 +55,7 @@ keeper_some c e none = let h = any_among (λ (x : Device). x.keeper) c.devices e
 
 module _ (c : Circuit) (phase : Phase) (parts : Parts) (are : AreParts c phase kept (λ n. 0) parts) where
   pub kept_part : IsFlat c → (part : Part) → Among parts.list part → IsPart c part
-  kept_part flat part m = (whole_part c phase kept (λ n. 0) flat part (are.each part m)).is
+  kept_part flat part m = (whole_part c phase kept (λ n. 0) (flat_ranges c flat) part (are.each part m)).is
 
   -- each plain net is in a part
   pub plain_inside : (n : ℕ) → IsPlain c n → IsInEarlier parts.list (length parts.list) n
@@ -157,7 +158,7 @@ module _ (c : Circuit) (phase : Phase) (observed : ℕ → Bool) (flat : IsFlat 
       responds_so n p =
           let r = reached n (plain_inside c phase parts are n p) in
           let part : Part = r.1 in
-          let whole : IsWholePart kept c phase part = whole_part c phase kept (λ m. 0) flat part (are.each part (r.0, r.3)) in
+          let whole : IsWholePart kept c phase part = whole_part c phase kept (λ m. 0) (flat_ranges c flat) part (are.each part (r.0, r.3)) in
           (responds kept c phase observed (flat_wholes c phase observed flat) seen (λ d m. gates_seen d (device_among kept c d m).0) (root_at old spans.roots v.valuation) (fixed v.valuation) v.setting v.solved.given v.solution v.solved.solves part whole (λ m i. flat_undriven c flat m)
           (λ m. shows old spans.gates m v.valuation)
           (λ d m. clear.bits v.valuation v.setting v.solution met v.solved d.gate.0 (gates_seen d (device_among kept c d (whole.devices d m).0).0)) n

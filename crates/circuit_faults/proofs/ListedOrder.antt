@@ -30,10 +30,11 @@ use Rattle.known_nets.proofs.NetKinds.{given_or_plain}
 use Rattle.std.specs.List.{list_any}
 use Rattle.vrt_model.proofs.Lists.{at_map, map_among}
 use Rattle.vrt_model.proofs.Members.{all_among}
-use Rattle.vrt_model.specs.Circuits.{IsFlat, IsNet}
+use Rattle.vrt_model.specs.Circuits.{IsNet}
 use Rattle.vrt_model.specs.Comparison.{Comparison, cell_at, phase_at}
 use Rattle.vrt_model.specs.Known.{IsLeastOfPart, IsPlain, IsRanking}
 use Rattle.vrt_model.specs.Lists.{At, Among}
+use Rattle.vrt_model.specs.Networks.{HasRanges}
 use Rattle.vrt_model.specs.Places.{greatest_rank, is_named, named_nets, named_nets_from}
 use Rattle.vrt_model.specs.Reading.{is_given}
 use Rattle.vrt_model.specs.declared.circuit.Circuit.{Circuit}
@@ -122,7 +123,7 @@ same_greatest f g (n ∷ ns) same = (let here = same n (0, refl) in let rest = s
 
 module _ (k : Comparison) (phase : ℕ) (rank : ℕ → ℕ) (parts : Parts) (are : AreParts k.circuit (phase_at k.rules phase) true rank parts) (ranking : IsRanking k.circuit (phase_at k.rules phase) rank)
     (steps : List CircuitStep) (ranks : List ℕ) (keys : List Key) (noted : AreNetRanks parts.list (length parts.list) ranks) where
-  module _ (flat : IsFlat k.circuit) (nets : All (λ (i : FlatInstance). All (IsNet k.circuit) i.ports) k.circuit.instances)
+  module _ (ranges : HasRanges k.circuit) (nets : All (λ (i : FlatInstance). All (IsNet k.circuit) i.ports) k.circuit.instances)
       (sorted : AreSorted k.design k.rules k.circuit phase parts.list ranks keys) (listed_steps : steps ≡ map step_of_key keys) where
     abbrev ghost : List Step
     ghost = map (step_of parts.list) steps
@@ -139,7 +140,7 @@ module _ (k : Comparison) (phase : ℕ) (rank : ℕ → ℕ) (parts : Parts) (ar
         elim (given_or_plain k.circuit n lt) [
           | inr p ↦ (let there = are.all n p in
               noted.inside rank (λ part m i. (are.each part i).ranked m) there.1.0 there.0 n (slice_get_within parts.list there.1.0 there.0 there.1.1) there.1.1 there.2)
-          | inl g ↦ noted.outside n (λ j part below e m. not_given g (plain k.circuit (phase_at k.rules phase) true rank flat part (are.each part (j, e)) n (number_inside part n m))) ∙ sym (ranking.given n g.0 g.1 g.2)
+          | inl g ↦ noted.outside n (λ j part below e m. not_given g (plain k.circuit (phase_at k.rules phase) true rank ranges part (are.each part (j, e)) n (number_inside part n m))) ∙ sym (ranking.given n g.0 g.1 g.2)
         ]
       where
         not_given : ((net : FlatNet) × At k.circuit.nets n net × (is_given net.kind ≡ true)) → IsPlain k.circuit n → ⊥
@@ -252,7 +253,7 @@ module _ (k : Comparison) (phase : ℕ) (rank : ℕ → ℕ) (parts : Parts) (ar
     each_by x (inl p) =
         subst (λ (s : Step). Rises s × HasLeast s) (sym (part_ghost x p)) (
           (are.each p.1.0 (x.1, p.1.1)).net_order,
-          λ n i. is_least k.circuit (phase_at k.rules phase) rank flat p.1.0 (are.each p.1.0 (x.1, p.1.1)) n (number_inside p.1.0 n i),
+          λ n i. is_least k.circuit (phase_at k.rules phase) rank ranges p.1.0 (are.each p.1.0 (x.1, p.1.1)) n (number_inside p.1.0 n i),
         )
     each_by x (inr p) = subst (λ (s : Step). Rises s × HasLeast s) (sym (instance_ghost x p)) (tt, tt)
 
@@ -292,11 +293,11 @@ module _ (k : Comparison) (phase : ℕ) (rank : ℕ → ℕ) (parts : Parts) (ar
     }
 
   -- of a comparison with this design, these rules and this circuit
-  pub steps_listed : (design : Design) (rules : Rules) (c : Circuit) → k.design ≡ design → k.rules ≡ rules → k.circuit ≡ c → IsFlat c → All (λ (i : FlatInstance). All (IsNet c) i.ports) c.instances
+  pub steps_listed : (design : Design) (rules : Rules) (c : Circuit) → k.design ≡ design → k.rules ≡ rules → k.circuit ≡ c → HasRanges c → All (λ (i : FlatInstance). All (IsNet c) i.ports) c.instances
       → AreSorted design rules c phase parts.list ranks keys → steps ≡ map step_of_key keys → AreSteps k phase rank (map (step_of parts.list) steps)
-  steps_listed design rules c d r x flat nets sorted same =
+  steps_listed design rules c d r x ranges nets sorted same =
       in_comparison_order
-      (subst IsFlat (sym x) flat)
+      (subst HasRanges (sym x) ranges)
       (subst (λ (y : Circuit). All (λ (i : FlatInstance). All (IsNet y) i.ports) y.instances) (sym x) nets)
       (subst (λ (y : Design). AreSorted y k.rules k.circuit phase parts.list ranks keys) (sym d)
       (subst (λ (y : Rules). AreSorted design y k.circuit phase parts.list ranks keys) (sym r)

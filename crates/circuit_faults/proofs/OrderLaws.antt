@@ -8,8 +8,8 @@ use Rattle.circuit_faults.specs.Scans.{IsInside}
 use Rattle.channel_parts.specs.PartLists.{IsPartOf, least_of, net_numbers}
 use Rattle.channel_parts.specs.declared.part.Part.{Part}
 use Rattle.vrt_model.proofs.Laws.{turned}
-use Rattle.vrt_model.specs.Circuits.{IsFlat}
 use Rattle.vrt_model.specs.Known.{IsChannel, IsLeastOfPart, IsPlain, IsTogether, itself, onward}
+use Rattle.vrt_model.specs.Networks.{HasRanges}
 use Rattle.vrt_model.specs.Path.{Joins}
 use Rattle.vrt_model.specs.declared.circuit.Circuit.{Circuit}
 use Rattle.vrt_model.specs.declared.circuit.Device.{Device}
@@ -17,7 +17,7 @@ use Rattle.vrt_model.specs.declared.rules.Phase.{Phase}
 
 -- ---- one part
 
-module _ (c : Circuit) (phase : Phase) (rank : ℕ → ℕ) (flat : IsFlat c) (part : Part) (of : IsPartOf c phase true rank part) where
+module _ (c : Circuit) (phase : Phase) (rank : ℕ → ℕ) (ranges : HasRanges c) (part : Part) (of : IsPartOf c phase true rank part) where
   -- ways along channels, one after the other and turned round
   together_on : (l n m : ℕ) → IsTogether c phase true l n → IsTogether c phase true n m → IsTogether c phase true l m
   together_on l n m t (itself p) = t
@@ -42,6 +42,6 @@ module _ (c : Circuit) (phase : Phase) (rank : ℕ → ℕ) (flat : IsFlat c) (p
 
   pub is_least : (n : ℕ) → IsInside part n → IsLeastOfPart c phase n (least_of part)
   is_least n i = record {
-    together = together_back (least_of part) n (together c phase true rank flat part of n i);
-    lowest = λ m t. first_below m (inside c phase true rank flat part of m (together_on (least_of part) n m (together c phase true rank flat part of n i) t));
+    together = together_back (least_of part) n (together c phase true rank ranges part of n i);
+    lowest = λ m t. first_below m (inside c phase true rank ranges part of m (together_on (least_of part) n m (together c phase true rank ranges part of n i) t));
   }

@@ -14,9 +14,10 @@ use Rattle.vrt_model.proofs.Laws.{turned}
 use Rattle.vrt_model.proofs.Lists.{among_filter_map, at_map, filter_map_among}
 use Rattle.vrt_model.proofs.Members.{all_among, among_map}
 use Rattle.vrt_model.proofs.Ranked.{together_plain}
-use Rattle.vrt_model.specs.Circuits.{IsDevice, IsFlat}
+use Rattle.vrt_model.specs.Circuits.{IsDevice}
 use Rattle.vrt_model.specs.Known.{IsChannel, IsInPart, IsPlain, IsTogether, onward}
 use Rattle.vrt_model.specs.Lists.{At, Among}
+use Rattle.vrt_model.specs.Networks.{HasRanges}
 use Rattle.vrt_model.specs.Path.{Joins}
 use Rattle.vrt_model.specs.declared.circuit.Circuit.{Circuit}
 use Rattle.vrt_model.specs.declared.circuit.Device.{Device}
@@ -56,7 +57,7 @@ rising_once xs i j n rising a b =
 
 -- ---- one part
 
-module _ (c : Circuit) (phase : Phase) (which : Bool) (rank : ℕ → ℕ) (flat : IsFlat c) (part : Part) (of : IsPartOf c phase which rank part) where
+module _ (c : Circuit) (phase : Phase) (which : Bool) (rank : ℕ → ℕ) (ranges : HasRanges c) (part : Part) (of : IsPartOf c phase which rank part) where
   pub together : (n : ℕ) → IsInside part n → IsTogether c phase which (least_of part) n
   together n i = (of.nets n).0 (inside_number part n i)
 
@@ -84,7 +85,7 @@ module _ (c : Circuit) (phase : Phase) (which : Bool) (rank : ℕ → ℕ) (flat
   -- an end of one of its channels is inside or has a given value
   end_of_channel : (d : Device) (m n : ℕ) → IsChannel c phase which d → Joins d m n → IsInside part n → IsInside part m ⊎ IsGiven c m
   end_of_channel d m n ch j i =
-      let is = all_among (IsDevice c) c.devices d flat.devices (device_among which c d ch.0).0 in
+      let is = all_among (IsDevice c) c.devices d ranges.devices (device_among which c d ch.0).0 in
       let lt : m < length c.nets = elim j [ inl e ↦ subst (λ (x : ℕ). x < length c.nets) e.0 is.left | inr e ↦ subst (λ (x : ℕ). x < length c.nets) e.1 is.right ] in
       elim (given_or_plain c m lt) [ inl g ↦ inr g | inr p ↦ inl (inside m (onward d (together n i) ch (turned d m n j) p)) ]
 

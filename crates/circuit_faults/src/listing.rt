@@ -7,10 +7,11 @@ ghost use Rattle.circuit_faults.specs.Operations.{circuit_operations, constraint
 ghost use Rattle.circuit_faults.specs.Steps.{IsStepThere, in_comparison, step_of};
 ghost use Rattle.circuit_faults.specs.declared.steps.CircuitStep.{CircuitStep as StepValue};
 ghost use Rattle.fault_places.specs.PhaseSpots.{AreSteps};
-ghost use Rattle.vrt_model.specs.Circuits.{IsFlat, IsNet};
+ghost use Rattle.vrt_model.specs.Circuits.{IsNet};
 ghost use Rattle.vrt_model.specs.Comparison.{Comparison, phase_at};
 ghost use Rattle.vrt_model.specs.Known.{IsRanking};
 ghost use Rattle.vrt_model.specs.Lists.{At};
+ghost use Rattle.vrt_model.specs.Networks.{HasRanges};
 ghost use Rattle.vrt_model.specs.declared.circuit.FlatInstance.{FlatInstance as InstanceValue};
 
 use crate::ranking::net_ranks;
@@ -58,7 +59,7 @@ pub fn circuit_steps(
     phase: u32,
     parts: &Parts,
 ) -> Result<Seq<CircuitStep>, NoMemory>
-    requires circuit { IsFlat circuit.now }
+    requires circuit { HasRanges circuit.now }
     requires parts { IsPartList circuit.now (phase_at rules.now phase) true parts.now }
     requires ports { All (HasAllPorts design.now) circuit.now.instances }
     requires nets { All (λ (i : InstanceValue). All (IsNet circuit.now) i.ports) circuit.now.instances }
