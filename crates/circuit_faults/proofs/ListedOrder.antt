@@ -31,10 +31,10 @@ use Rattle.std.specs.List.{list_any}
 use Rattle.vrt_model.proofs.Lists.{at_map, map_among}
 use Rattle.vrt_model.proofs.Members.{all_among}
 use Rattle.vrt_model.specs.Circuits.{IsNet}
+use Rattle.vrt_model.specs.Networks.{HasRanges}
 use Rattle.vrt_model.specs.Comparison.{Comparison, cell_at, phase_at}
 use Rattle.vrt_model.specs.Known.{IsLeastOfPart, IsPlain, IsRanking}
 use Rattle.vrt_model.specs.Lists.{At, Among}
-use Rattle.vrt_model.specs.Networks.{HasRanges}
 use Rattle.vrt_model.specs.Places.{greatest_rank, is_named, named_nets, named_nets_from}
 use Rattle.vrt_model.specs.Reading.{is_given}
 use Rattle.vrt_model.specs.declared.circuit.Circuit.{Circuit}
@@ -295,9 +295,9 @@ module _ (k : Comparison) (phase : ℕ) (rank : ℕ → ℕ) (parts : Parts) (ar
   -- of a comparison with this design, these rules and this circuit
   pub steps_listed : (design : Design) (rules : Rules) (c : Circuit) → k.design ≡ design → k.rules ≡ rules → k.circuit ≡ c → HasRanges c → All (λ (i : FlatInstance). All (IsNet c) i.ports) c.instances
       → AreSorted design rules c phase parts.list ranks keys → steps ≡ map step_of_key keys → AreSteps k phase rank (map (step_of parts.list) steps)
-  steps_listed design rules c d r x ranges nets sorted same =
+  steps_listed design rules c d r x numbers nets sorted same =
       in_comparison_order
-      (subst HasRanges (sym x) ranges)
+      (subst HasRanges (sym x) numbers)
       (subst (λ (y : Circuit). All (λ (i : FlatInstance). All (IsNet y) i.ports) y.instances) (sym x) nets)
       (subst (λ (y : Design). AreSorted y k.rules k.circuit phase parts.list ranks keys) (sym d)
       (subst (λ (y : Rules). AreSorted design y k.circuit phase parts.list ranks keys) (sym r)

@@ -31,6 +31,10 @@ module _ (c : Circuit) (phase : Phase) (rank : ℕ → ℕ) (ranges : HasRanges 
   together_back x y (itself p) = itself p
   together_back x y (onward {l = l} d u ch j p) = step_back y l x d p ch (turned d l y j) (together_back x l u)
 
+  -- two nets of the part are together
+  pub inside_together : (m n : ℕ) → IsInside part m → IsInside part n → IsTogether c phase true m n
+  inside_together m n i j = together_on m (least_of part) n (together_back (least_of part) m (together c phase true rank ranges part of m i)) (together c phase true rank ranges part of n j)
+
   -- the first net of the part is the least
   first_below : (m : ℕ) → IsInside part m → least_of part ≤ m
   first_below m i =

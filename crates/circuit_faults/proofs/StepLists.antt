@@ -8,37 +8,35 @@ use Rattle.channel_parts.specs.PartLists.{AreParts, IsBefore, least_of, net_numb
 use Rattle.channel_parts.specs.declared.part.Part.{Part}
 use Rattle.channel_parts.specs.declared.part.Parts.{Parts}
 use Rattle.circuit_faults.proofs.CircuitLaws.{step_is}
-use Rattle.circuit_faults.proofs.OrderLaws.{is_least}
-use Rattle.circuit_faults.proofs.WholeParts.{device_in, inside_number, number_inside, together, whole_part}
+use Rattle.circuit_faults.proofs.OrderLaws.{inside_together, is_least}
+use Rattle.circuit_faults.proofs.WholeParts.{device_in, inside_number, number_inside, whole_part, together}
 use Rattle.circuit_faults.specs.Scans.{IsInside}
 use Rattle.circuit_faults.specs.Steps.{AreOrderedSteps, InPhase, IsInStepBefore, IsInstanceAt, IsPartAt, IsThere, in_comparison, named_at, part_step, step_of, steps_of}
-use Rattle.circuit_faults.specs.Wholes.{AreOutputsOrdered}
 use Rattle.circuit_faults.specs.declared.steps.CircuitStep.{CircuitStep}
 use Rattle.circuit_faults.specs.declared.steps.CircuitStep.TheVariants.{Part as PartStep, Instance as InstanceStep}
 use Rattle.fault_places.proofs.StepOrder.{step_order}
 use Rattle.fault_places.specs.PhaseSpots.{AreSteps, IsRising, IsStepBefore, Step, OfInstance, OfPart, step_key, step_rank}
 use Rattle.path_fixpoint.specs.Parts.{part_devices}
-use Rattle.known_nets.proofs.WiredLaws.{pin_of_whole}
+use Rattle.vrt_model.proofs.Lists.{at_map, at_there, map_among, map_at}
+use Rattle.vrt_model.proofs.Members.{among_map, at_none}
+use Rattle.vrt_model.specs.Comparison.{Comparison, cell_at, phase_at}
+use Rattle.vrt_model.specs.Known.{HasGateArc, HasWholeArc, IsDriven, IsLeastOfPart, IsPlain, IsRanking, IsTogether, IsUnknown, itself, onward}
+use Rattle.vrt_model.specs.Determined.{IsLinkedTo}
+use Rattle.vrt_model.specs.Path.{Joins}
+use Rattle.vrt_model.specs.State.{OutputPin, output_pins}
+use Rattle.vrt_model.specs.declared.ids.Net.{Net}
+use Rattle.vrt_model.specs.declared.whole.WholePin.{WholePin}
 use Rattle.vrt_model.proofs.Filtered.{device_among}
 use Rattle.vrt_model.proofs.Laws.{turned}
-use Rattle.vrt_model.proofs.Lists.{at_map, at_there, map_among, map_at}
-use Rattle.vrt_model.proofs.Members.{among_map, at_none, flat_map_among}
-use Rattle.vrt_model.specs.Comparison.{Comparison, cell_at, phase_at}
-use Rattle.vrt_model.specs.Determined.{IsLinkedTo}
-use Rattle.vrt_model.specs.Known.{HasGateArc, HasWholeArc, IsDriven, IsLeastOfPart, IsPlain, IsRanking, IsTogether, IsUnknown, itself, onward}
+use Rattle.known_nets.proofs.WiredLaws.{pin_of_whole}
+use Rattle.circuit_faults.specs.Wholes.{AreOutputsOrdered}
+use Rattle.circuit_faults.proofs.StepLaws.{output_among}
+use Rattle.whole_steps.specs.FreeOutputs.{HasFreeOutputs}
 use Rattle.vrt_model.specs.Lists.{At, Among}
 use Rattle.vrt_model.specs.Networks.{HasRanges}
 use Rattle.vrt_model.specs.Places.{comes_before, greatest_rank, is_named, named_nets, named_nets_from, of_instance, of_net}
 use Rattle.vrt_model.specs.declared.circuit.Device.{Device}
-use Rattle.vrt_model.specs.Path.{Joins}
-use Rattle.vrt_model.specs.State.{OutputPin, output_pins}
-use Rattle.vrt_model.specs.declared.circuit.Circuit.{Circuit}
 use Rattle.vrt_model.specs.declared.circuit.FlatInstance.{FlatInstance}
-use Rattle.vrt_model.specs.declared.ids.Net.{Net}
-use Rattle.vrt_model.specs.declared.rules.Phase.{Phase}
-use Rattle.vrt_model.specs.declared.whole.Whole.{Whole}
-use Rattle.vrt_model.specs.declared.whole.WholePin.{WholePin}
-use Rattle.whole_steps.specs.FreeOutputs.{HasFreeOutputs}
 
 module _ (k : Comparison) (phase : ℕ) (rank : ℕ → ℕ) (parts : Parts) (ranges : HasRanges k.circuit) (are : AreParts k.circuit (phase_at k.rules phase) true rank parts) where
   abbrev steps : List Step
@@ -108,30 +106,6 @@ first_less r s xs ys e none = elim (or_cases (nat_lt r s) (nat_eq r s && comes_b
   | inl t ↦ ltb-true r s t
   | inr t ↦ absurd (false≢true (sym none ∙ (and_parts (nat_eq r s) (comes_before xs ys) t).1))
 ]
-
--- ---- nets with outputs
-
--- a pin of a whole instance is an output pin of the circuit
-pin_there : (c : Circuit) (x : Whole) (pin : WholePin) → Among c.wholes x → Among x.outputs pin → Among (output_pins c) (record { whole = x; pin = pin })
-pin_there c x pin m i =
-    flat_map_among (λ (y : Whole). map (λ (p : WholePin). let one : OutputPin = record { whole = y; pin = p } in one) y.outputs) c.wholes x (record { whole = x; pin = pin }) m
-    (map_among (λ (p : WholePin). let one : OutputPin = record { whole = x; pin = p } in one) x.outputs pin i)
-
-module _ (c : Circuit) (phase : Phase) (free : HasFreeOutputs c) (n : ℕ) (driven : IsDriven c n) where
-  no_channel : (d : Device) (m : ℕ) → Among c.devices d → ¬ Joins d m n
-  no_channel d m i j =
-      let out = pin_there c driven.0 driven.1 driven.2 driven.3 in
-      free.channels out.0 (record { whole = driven.0; pin = driven.1 }) d m out.1 i (subst (Joins d m) (sym driven.4) j)
-
-  -- such a net is alone in its part
-  first_alone : (a : ℕ) → IsTogether c phase true a n → a ≡ n
-  first_alone a (itself p) = refl
-  first_alone a (onward {l = l} d t ch j p) = absurd (no_channel d l (device_among true c d ch.0).0 j)
-
-  all_alone : (m : ℕ) → IsTogether c phase true n m → m ≡ n
-  all_alone m (itself p) = refl
-  all_alone m (onward {l = l} d t ch j p) =
-      absurd (no_channel d m (device_among true c d ch.0).0 (turned d n m (subst (λ (x : ℕ). Joins d x m) (all_alone l t) j)))
 
 abbrev nets_of : Step → List ℕ
 nets_of (OfPart first nets) = nets
@@ -206,42 +180,20 @@ module _ (k : Comparison) (phase : ℕ) (rank : ℕ → ℕ) (parts : Parts) (st
         ]
       ]
 
+  -- a plain net of lower rank than a part is in the part of a step before
+  lower_before : (q : ℕ) (part : Part) (n : ℕ) → IsPartAt w q part → IsPlain k.circuit n → rank n < rank (least_of part) → IsInStepBefore w q n
+  lower_before q part n here p up =
+      let at = plain_there n p in
+      let low : rank n ≡ rank (least_of at.1) = rank_there at.0 at.1 n at.2 at.3 in
+      let lt : rank (least_of at.1) < rank (least_of part) = omega (arith, up, low) in
+      (at.0, at.1, earlier_place at.0 q (part_step at.1) (part_step part) (step_there at.0 at.1 at.2) (step_there q part here) lt, at.2, at.3)
+
   gates_before : (q : ℕ) (part : Part) (d : Device) → IsPartAt w q part → Among (part_devices k.circuit part) d → IsPlain k.circuit d.gate.0
       → IsUnknown k.circuit (phase_at k.rules phase) d.gate.0 → IsInStepBefore w q d.gate.0
   gates_before q part d here m p u =
       let of = are.each part (here.0, here.2) in
       let arc : HasGateArc k.circuit (phase_at k.rules phase) d.gate.0 (least_of part) = (d, device_in k.circuit (phase_at k.rules phase) true rank ranges part of d m, refl, u) in
-      let up : rank d.gate.0 < rank (least_of part) = ranks.above d.gate.0 (least_of part) (inl (inl arc, u)) in
-      let at = plain_there d.gate.0 p in
-      let low : rank d.gate.0 ≡ rank (least_of at.1) = rank_there at.0 at.1 d.gate.0 at.2 at.3 in
-      let lt : rank (least_of at.1) < rank (least_of part) = omega (arith, up, low) in
-      (at.0, at.1, earlier_place at.0 q (part_step at.1) (part_step part) (step_there at.0 at.1 at.2) (step_there q part here) lt, at.2, at.3)
-
-  -- an input that is linked to an output, where it is plain and not known
-  input_before : (q place : ℕ) (part : Part) (out : OutputPin) (input : WholePin) → IsPartAt w q part → Among (output_pins k.circuit) out → IsInside part out.pin.net.0
-      → At out.whole.outputs place out.pin → IsLinkedTo (phase_at k.rules phase) out.whole input place → IsPlain k.circuit input.net.0
-      → IsUnknown k.circuit (phase_at k.rules phase) input.net.0 → IsInStepBefore w q input.net.0
-  input_before q place part out input here m i at linked p u =
-      let of = are.each part (here.0, here.2) in
-      let net : linked.0.from.0 ≡ input.net.0 = ap (λ (x : Net). x.0) linked.3 in
-      let there : At out.whole.outputs linked.0.output out.pin = subst (λ (j : ℕ). At out.whole.outputs j out.pin) (sym linked.4) at in
-      let arc : HasWholeArc k.circuit (phase_at k.rules phase) input.net.0 (least_of part) =
-      (out.whole, linked.0, ((pin_of_whole k.circuit out m).0, linked.1, linked.2, net, (out.pin, there, together k.circuit (phase_at k.rules phase) true rank ranges part of out.pin.net.0 i))) in
-      let up : rank input.net.0 < rank (least_of part) = ranks.above input.net.0 (least_of part) (inl (inr arc, u)) in
-      let before = plain_there input.net.0 p in
-      let low : rank input.net.0 ≡ rank (least_of before.1) = rank_there before.0 before.1 input.net.0 before.2 before.3 in
-      let lt : rank (least_of before.1) < rank (least_of part) = omega (arith, up, low) in
-      (before.0, before.1, earlier_place before.0 q (part_step before.1) (part_step part) (step_there before.0 before.1 before.2) (step_there q part here) lt, before.2, before.3)
-
-  pub outputs_ordered : HasFreeOutputs k.circuit → AreOutputsOrdered w
-  outputs_ordered free = record {
-    alone = λ q part n m here i driven j.
-        let of = are.each part (here.0, here.2) in
-        let first : least_of part ≡ n = first_alone k.circuit (phase_at k.rules phase) free n driven (least_of part) (together k.circuit (phase_at k.rules phase) true rank ranges part of n i) in
-        all_alone k.circuit (phase_at k.rules phase) free n driven m
-        (subst (λ (a : ℕ). IsTogether k.circuit (phase_at k.rules phase) true a m) first (together k.circuit (phase_at k.rules phase) true rank ranges part of m j));
-    inputs = λ q place part out input here m i at among linked seen p u. input_before q place part out input here m i at linked p u;
-  }
+      lower_before q part d.gate.0 here p (ranks.above d.gate.0 (least_of part) (inl (inl arc, u)))
 
   -- the nets of the named ports, by the numbers of instances and by the instance
   named_is : (at : ℕ) (i : FlatInstance) → At k.circuit.instances at i → named_nets k phase at ≡ named_at w i
@@ -282,4 +234,33 @@ module _ (k : Comparison) (phase : ℕ) (rank : ℕ → ℕ) (parts : Parts) (st
     all = λ n p. (let at = plain_there n p in (at.0, at.1, slice_get_within w.steps at.0 (PartStep at.2.0) at.2.1, at.2, at.3));
     gates = gates_before;
     ports = λ q at i n here m p u. ports_before q at i n here m p;
+  }
+
+  -- ---- the outputs of whole instances
+
+  -- a net that no channel meets is together with none but itself
+  alone_there : HasFreeOutputs k.circuit → (n m : ℕ) → IsDriven k.circuit n → IsTogether k.circuit (phase_at k.rules phase) true n m → m ≡ n
+  alone_there free n m driven (itself p) = refl
+  alone_there free n m driven (onward {l = l} d t channel joins p) =
+      let among = output_among k.circuit (record { whole = driven.2.0; output = driven.3.0 }) driven.0 driven.1 (record { whole = driven.2.1; output = driven.3.1 }) in
+      let one : OutputPin = record { whole = driven.0; pin = driven.1 } in
+      let at : l ≡ driven.1.net.0 = alone_there free n l driven t ∙ sym driven.4 in
+      absurd (free.channels among.0 one d m among.1 (device_among true k.circuit d channel.0).0 (turned d driven.1.net.0 m (subst (λ (x : ℕ). Joins d x m) at joins)))
+
+  linked_before : (q place : ℕ) (part : Part) (out : OutputPin) (input : WholePin) → IsPartAt w q part → Among (output_pins k.circuit) out → IsInside part out.pin.net.0
+      → At out.whole.outputs place out.pin → IsLinkedTo (phase_at k.rules phase) out.whole input place → IsPlain k.circuit input.net.0 → IsUnknown k.circuit (phase_at k.rules phase) input.net.0
+      → IsInStepBefore w q input.net.0
+  linked_before q place part out input here among inside_part pin linked plain unknown =
+      let of = are.each part (here.0, here.2) in
+      let net : linked.0.from.0 ≡ input.net.0 = ap (λ (x : Net). x.0) linked.3 in
+      let there : At out.whole.outputs linked.0.output out.pin = subst (λ (i : ℕ). At out.whole.outputs i out.pin) (sym linked.4) pin in
+      let arc : HasWholeArc k.circuit (phase_at k.rules phase) input.net.0 (least_of part) =
+      (out.whole, linked.0, ((pin_of_whole k.circuit out among).0, linked.1, linked.2, net, (out.pin, there, together k.circuit (phase_at k.rules phase) true rank ranges part of out.pin.net.0 inside_part))) in
+      lower_before q part input.net.0 here plain (ranks.above input.net.0 (least_of part) (inl (inr arc, unknown)))
+
+  pub ordered_outputs : HasFreeOutputs k.circuit → AreOutputsOrdered w
+  ordered_outputs free = record {
+    alone = λ q part n m here i driven j.
+        alone_there free n m driven (inside_together k.circuit (phase_at k.rules phase) rank ranges part (are.each part (here.0, here.2)) n m i j);
+    inputs = λ q place part out input here among i pin m linked seen plain unknown. linked_before q place part out input here among i pin linked plain unknown;
   }

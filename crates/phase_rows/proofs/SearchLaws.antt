@@ -14,6 +14,7 @@ use Rattle.phase_rows.proofs.CellLaws.{lines_named, ports_apart}
 use Rattle.phase_rows.proofs.ObservedLaws.{marked_within}
 use Rattle.phase_rows.specs.Observing.{IsSearched, IsSeen}
 use Rattle.vrt_model.proofs.Members.{all_among, all_by, at_none}
+use Rattle.vrt_model.proofs.Networks.{flat_ranges}
 use Rattle.vrt_model.specs.Circuits.{IsNet}
 use Rattle.vrt_model.specs.Comparison.{Comparison, cell_at, phase_at}
 use Rattle.vrt_model.specs.Known.{IsRanking}
@@ -103,6 +104,6 @@ module _ (design : Design) (rules : Rules) (c : Circuit) (phase : Phase) (number
         → ((j : ℕ) (step : CircuitStep) → At listed j step → IsStepThere parts.list c step) → AreOrderedSteps w
     steps_ordered list listed same sorted there =
         let here = parts_there true parts list in
-        ordered_steps compared number here.0 parts steps (mark_at marks) is.flat here.1 here.2
+        ordered_steps compared number here.0 parts steps (mark_at marks) (flat_ranges compared.circuit is.flat) here.1 here.2
         (subst (λ (xs : List CircuitStep). (j : ℕ) (step : CircuitStep) → At xs j step → IsStepThere parts.list c step) (sym same) there)
         (subst (λ (xs : List CircuitStep). AreSteps compared number here.0 (map (step_of parts.list) xs)) (sym same) (sorted compared here.0 refl refl refl here.1 here.2))
