@@ -1,5 +1,5 @@
 -- A circuit without whole instances is one whose whole instances are free.
-use Rattle.std.proofs.Common.{◌≡◌, ℕ, ◌+◌, Bool, List, [], Option, None, Some, arith, ap, refl, subst}
+use Rattle.std.proofs.Common.{◌≡◌, ℕ, Bool, List, [], Option, None, Some, arith, ap, refl, subst}
 use Rattle.std.specs.Prelude.{option_map, slice_get, sum_by, unwrap_or}
 use Rattle.std.proofs.Math.Path.{fun_ext}
 use Rattle.std.proofs.lemmas.Option.{none-some}
