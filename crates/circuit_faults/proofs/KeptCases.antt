@@ -1,5 +1,5 @@
 -- What is found at the nets of the kept circuit is its first fault over all cases.
-use Rattle.std.proofs.Common.{◌≡◌, ◌≢◌, ℕ, ◌+◌, ◌*◌, ◌<◌, ◌⊎◌, Bool, true, false, not, Option, Some, None, length, arith, ap, refl, sym, subst, ◌∙◌, inl, inr}
+use Rattle.std.proofs.Common.{◌≡◌, ◌≢◌, ℕ, ◌+◌, ◌*◌, ◌<◌, ◌⊎◌, Bool, true, false, not, List, Option, Some, None, length, arith, ap, refl, sym, subst, ◌∙◌, inl, inr}
 use Rattle.std.specs.List.{list_any}
 use Rattle.std.proofs.lemmas.Bool.{and_parts, cases_Bool, cases_lt, false≢true}
 use Rattle.std.proofs.lemmas.Option.{slice_get_within}
@@ -15,14 +15,20 @@ use Rattle.circuit_faults.proofs.KeptMeaning.{faulty_stands, idle_clear, no_figh
 use Rattle.circuit_faults.proofs.KeptSpots.{fight_spot, spot, spot_place, unsettled_spot}
 use Rattle.circuit_faults.proofs.KeptWords.{gates_shown}
 use Rattle.circuit_faults.specs.Ordered.{IsWholePart}
-use Rattle.circuit_faults.proofs.FlatWholes.{flat_undriven, flat_wholes}
+use Rattle.blif_eval.specs.declared.plan.ModelPlan.{ModelPlan}
+use Rattle.circuit_faults.proofs.DrivenAlone.{driven_alone}
+use Rattle.circuit_faults.specs.Scans.{IsInside}
+use Rattle.circuit_faults.specs.Wholes.{HasFreeWholes}
+use Rattle.vrt_model.proofs.Tests.{some_or_none}
+use Rattle.whole_steps.specs.Tables.{IsWholeTable, driver_at}
+use Rattle.whole_steps.specs.declared.table.OutputPlace.{OutputPlace}
 use Rattle.circuit_faults.proofs.PartNetworks.{responds}
 use Rattle.circuit_faults.proofs.WholeParts.{number_inside, whole_part}
 use Rattle.circuit_faults.specs.Faults.{HasFixedBits}
 use Rattle.circuit_faults.specs.Faults.{SolvedCase}
 use Rattle.circuit_faults.specs.KeptFaults.{HasKeptFault, HasNoKeeper, kept_spots}
 use Rattle.circuit_faults.specs.KeptResults.{HasKeptSpans, IsFirstKept, KeptGives, WritesKept}
-use Rattle.circuit_faults.specs.KeptScans.{IsFaultyAt, IsKeptFaulty, IsReachedIn, IsSettledAt, KeptScanGives, reach_at, wanted_at}
+use Rattle.circuit_faults.specs.KeptScans.{IsFaultyAt, IsKeptFaulty, IsLoose, IsReachedIn, IsSettledAt, KeptScanGives, reach_at, wanted_at}
 use Rattle.circuit_faults.specs.Results.{IsClearCircuit, root_at}
 use Rattle.circuit_faults.specs.Scans.{IsInEarlier}
 use Rattle.circuit_faults.specs.declared.kept_net.KeptFault.{KeptFault}
@@ -33,9 +39,8 @@ use Rattle.path_fixpoint.specs.Parts.{IsPart}
 use Rattle.path_fixpoint.specs.Solved.{network_at}
 use Rattle.vrt_model.proofs.Filtered.{device_among}
 use Rattle.vrt_model.proofs.Members.{among_any, any_among}
-use Rattle.vrt_model.proofs.Networks.{flat_ranges}
-use Rattle.vrt_model.specs.Circuits.{IsFlat}
-use Rattle.vrt_model.specs.Known.{IsPlain}
+use Rattle.vrt_model.specs.Known.{IsDriven, IsPlain}
+use Rattle.vrt_model.specs.Networks.{HasRanges}
 use Rattle.vrt_model.specs.Lists.{At, Among}
 use Rattle.vrt_model.specs.Reading.{kept}
 use Rattle.vrt_model.specs.Solution.{AlwaysResponds}
@@ -54,8 +59,8 @@ pub keeper_some : (c : Circuit) → list_any (λ (d : Device). d.keeper) c.devic
 keeper_some c e none = let h = any_among (λ (x : Device). x.keeper) c.devices e in false≢true (sym (none h.0 h.1) ∙ h.2)
 
 module _ (c : Circuit) (phase : Phase) (parts : Parts) (are : AreParts c phase kept (λ n. 0) parts) where
-  pub kept_part : IsFlat c → (part : Part) → Among parts.list part → IsPart c part
-  kept_part flat part m = (whole_part c phase kept (λ n. 0) (flat_ranges c flat) part (are.each part m)).is
+  pub kept_part : HasRanges c → (part : Part) → Among parts.list part → IsPart c part
+  kept_part ranges part m = (whole_part c phase kept (λ n. 0) ranges part (are.each part m)).is
 
   -- each plain net is in a part
   pub plain_inside : (n : ℕ) → IsPlain c n → IsInEarlier parts.list (length parts.list) n
@@ -122,7 +127,8 @@ module _ (care wanted zero one : Function) (seen : Bool) where
 
 -- ---- where the bare circuit is clear
 
-module _ (c : Circuit) (phase : Phase) (observed : ℕ → Bool) (flat : IsFlat c) (seen : AreObserved c observed) (care : H) (spans : KeptSpans) (old : Diagrams)
+module _ (c : Circuit) (phase : Phase) (observed : ℕ → Bool) (wholes : HasFreeWholes c phase observed) (drivers : List (Option OutputPlace)) (plans : List ModelPlan) (table : IsWholeTable c drivers plans)
+    (seen : AreObserved c observed) (care : H) (spans : KeptSpans) (old : Diagrams)
     (fixed : (v : Valuation) → HasFixedBits c phase (root_at old spans.roots v)) (clear : IsClearCircuit c phase observed care spans.roots spans.gates old old) where
   abbrev Case : Type 0
   Case = SolvedCase c phase observed (root_at old spans.roots)
@@ -130,10 +136,19 @@ module _ (c : Circuit) (phase : Phase) (observed : ℕ → Bool) (flat : IsFlat 
   abbrev StandsIn : Case → FaultKind → ℕ → Type 0
   StandsIn v kind n = HasKeptFault c phase observed v.setting v.solution kind n
 
+  -- a net has an output of a whole instance, or the table has none
+  driven_or_not : (n : ℕ) → (driver_at drivers n ≡ None) ⊎ IsDriven c n
+  driven_or_not n = elim (some_or_none (driver_at drivers n)) [
+    | inl place ↦
+        let there = table.sound n place.0 place.1 in
+        inr (there.0, there.1, (place.0.whole, there.2.whole), (place.0.output, there.2.output), there.3)
+    | inr none ↦ inl none
+  ]
+
   -- without keepers no fault stands
   pub kept_idle : (new : Diagrams) → HasNoKeeper c → KeptGives c phase observed care spans.roots old new None
   kept_idle new none i x v e met f =
-      idle_clear c phase observed flat seen (root_at old spans.roots v.valuation) (fixed v.valuation) v.setting v.solution v.solved none
+      idle_clear c phase observed wholes seen (root_at old spans.roots v.valuation) (fixed v.valuation) v.setting v.solution v.solved none
       (λ n h. clear.clear v.valuation v.setting v.solution met v.solved Fight n h)
       (λ n o. (shows old spans.gates n v.valuation, clear.bits v.valuation v.setting v.solution met v.solved n o))
       x.kind x.at f
@@ -152,28 +167,30 @@ module _ (c : Circuit) (phase : Phase) (observed : ℕ → Bool) (flat : IsFlat 
       met_there : function_of mid care v.valuation ≡ true
       met_there = written.adds.kept care.0 care_live v.valuation ∙ met
 
-      -- a plain net responds as its words say
-      responds_so : (n : ℕ) → IsPlain c n
+      -- a loose net responds as its words say
+      responds_so : (n : ℕ) → IsLoose c drivers n
           → AlwaysResponds c phase observed v.setting v.solution kept n (response_by (reach_at mid spans false n v.valuation) (reach_at mid spans true n v.valuation))
       responds_so n p =
-          let r = reached n (plain_inside c phase parts are n p) in
+          let r = reached n (plain_inside c phase parts are n p.0) in
           let part : Part = r.1 in
-          let whole : IsWholePart kept c phase part = whole_part c phase kept (λ m. 0) (flat_ranges c flat) part (are.each part (r.0, r.3)) in
-          (responds kept c phase observed (flat_wholes c phase observed flat) seen (λ d m. gates_seen d (device_among kept c d m).0) (root_at old spans.roots v.valuation) (fixed v.valuation) v.setting v.solved.given v.solution v.solved.solves part whole (λ m i. flat_undriven c flat m)
+          let whole : IsWholePart kept c phase part = whole_part c phase kept (λ m. 0) wholes.ranges part (are.each part (r.0, r.3)) in
+          let undriven : (m : ℕ) → IsInside part m → ¬ IsDriven c m =
+          λ m i driven. table.full n p.1 (subst (IsDriven c) (sym (driven_alone c phase kept (λ k. 0) wholes.ranges wholes.free part (are.each part (r.0, r.3)) m n i driven r.4)) driven) in
+          (responds kept c phase observed wholes seen (λ d m. gates_seen d (device_among kept c d m).0) (root_at old spans.roots v.valuation) (fixed v.valuation) v.setting v.solved.given v.solution v.solved.solves part whole undriven
           (λ m. shows old spans.gates m v.valuation)
           (λ d m. clear.bits v.valuation v.setting v.solution met v.solved d.gate.0 (gates_seen d (device_among kept c d (whole.devices d m).0).0)) n
           (response_by (reach_at mid spans false n v.valuation) (reach_at mid spans true n v.valuation)) r.4).1
           (response_is (network_at old c part spans.gates spans.roots v.valuation) n (reach_at mid spans false n v.valuation) (reach_at mid spans true n v.valuation)
           (r.5.reaches false v.valuation) (r.5.reaches true v.valuation))
 
-      -- a net that is settled where it is plain has no fault
-      net_clear : (n : ℕ) (kind : FaultKind) → (IsPlain c n → IsSettledAt observed care spans mid n) → ¬ StandsIn v kind n
+      -- a net that is settled where it is loose has no fault
+      net_clear : (n : ℕ) (kind : FaultKind) → (IsLoose c drivers n → IsSettledAt observed care spans mid n) → ¬ StandsIn v kind n
       net_clear n kind settled =
-          settled_clear c phase observed flat seen (root_at old spans.roots v.valuation) (fixed v.valuation) v.setting v.solution v.solved
-          (function_of mid care) (wanted_at mid spans n) (reach_at mid spans false n) (reach_at mid spans true n) v.valuation met_there n (wanted_bit n) settled (responds_so n) kind
+          settled_clear c phase observed wholes seen (root_at old spans.roots v.valuation) (fixed v.valuation) v.setting v.solution v.solved
+          (function_of mid care) (wanted_at mid spans n) (reach_at mid spans false n) (reach_at mid spans true n) v.valuation met_there n (wanted_bit n) drivers (driven_or_not n) settled (responds_so n) kind
 
       -- no fault stands at a place before that of a faulty net
-      none_before : (n : ℕ) (kind : FaultKind) (at value : H) (d : Diagrams) → IsPlain c n → ((m : ℕ) → m < n → IsPlain c m → IsSettledAt observed care spans mid m)
+      none_before : (n : ℕ) (kind : FaultKind) (at value : H) (d : Diagrams) → IsLoose c drivers n → ((m : ℕ) → m < n → IsLoose c drivers m → IsSettledAt observed care spans mid m)
           → IsKeptFaulty (function_of mid care) (wanted_at mid spans n) (reach_at mid spans false n) (reach_at mid spans true n) (observed n) kind at value d
           → (i : ℕ) (y : Spot) → i < place_of kind n → At (kept_spots c) i y → ¬ StandsIn v y.kind y.at
       none_before n FightKept at value d p before f i y lt e h =
@@ -185,7 +202,7 @@ module _ (c : Circuit) (phase : Phase) (observed : ℕ → Bool) (flat : IsFlat 
             | inr high ↦ elim (spot_place c i y e) [
               | inl q ↦
                   let same : y.at ≡ n = (let is = q.0 in omega (arith, is, lt, high)) in
-                  no_fight c phase observed flat seen (root_at old spans.roots v.valuation) (fixed v.valuation) v.setting v.solution v.solved
+                  no_fight c phase observed wholes seen (root_at old spans.roots v.valuation) (fixed v.valuation) v.setting v.solution v.solved
                   (function_of mid care) (wanted_at mid spans n) (reach_at mid spans false n) (reach_at mid spans true n) v.valuation met_there n (wanted_bit n) f.1 (responds_so n p)
                   (subst (StandsIn v FightKept) same (subst (λ (k : FaultKind). StandsIn v k y.at) q.1 h))
               | inr q ↦ absurd (let is = q.0 in omega (arith, is, lt, high))
@@ -201,10 +218,10 @@ module _ (c : Circuit) (phase : Phase) (observed : ℕ → Bool) (flat : IsFlat 
 
     -- ---- over all cases
 
-    kept_clear : (new : Diagrams) → KeptScanGives c observed care spans mid new None → KeptGives c phase observed care spans.roots old new None
+    kept_clear : (new : Diagrams) → KeptScanGives (IsLoose c drivers) observed care spans mid new None → KeptGives c phase observed care spans.roots old new None
     kept_clear new settled i x v e met f = net_clear v met x.at x.kind (settled x.at) f
 
-    kept_found : (new : Diagrams) (fault : KeptFault) → IsFaultyAt c observed care spans fault mid new → IsFirstKept c phase observed care spans.roots fault old new
+    kept_found : (new : Diagrams) (fault : KeptFault) → IsFaultyAt (IsLoose c drivers) observed care spans fault mid new → IsFirstKept c phase observed care spans.roots fault old new
     kept_found new fault f =
         let n : ℕ = fault.net.0 in
         let has_care = faulty_care (function_of mid care) (wanted_at mid spans n) (reach_at mid spans false n) (reach_at mid spans true n) (observed n) fault.kind fault.at fault.value new in
@@ -218,35 +235,35 @@ module _ (c : Circuit) (phase : Phase) (observed : ℕ → Bool) (flat : IsFlat 
           some = live.1;
           found = record {
             place = place_of fault.kind n;
-            stands = place_stands c fault.kind n kinds (slice_get_within c.nets n f.plain.0 f.plain.1);
+            stands = place_stands c fault.kind n kinds (slice_get_within c.nets n f.loose.0.0 f.loose.0.1);
             exact = λ v. (
               λ e. (cared v e, there v fault new f (cared v e) e),
               λ h. back v fault new f h.0 h.1,
             );
-            before = λ i y v lt e met. none_before v met n fault.kind fault.at fault.value new f.plain f.before f.is i y lt e;
+            before = λ i y v lt e met. none_before v met n fault.kind fault.at fault.value new f.loose f.before f.is i y lt e;
           };
           keeps = λ k v e.
-              shown_value c phase observed flat seen (root_at old spans.roots v.valuation) (fixed v.valuation) v.setting v.solution v.solved
+              shown_value c phase observed wholes seen (root_at old spans.roots v.valuation) (fixed v.valuation) v.setting v.solution v.solved
               (function_of mid care) (wanted_at mid spans n) (reach_at mid spans false n) (reach_at mid spans true n) v.valuation (met_there v (cared v e)) n (wanted_bit v (cared v e) n)
-              fault.kind fault.at fault.value new f.is k (responds_so v (cared v e) n f.plain);
+              fault.kind fault.at fault.value new f.is k (responds_so v (cared v e) n f.loose);
         }
       where
-        there : (v : Case) (fault : KeptFault) (new : Diagrams) → IsFaultyAt c observed care spans fault mid new → function_of old care v.valuation ≡ true → function_of new fault.at v.valuation ≡ true
+        there : (v : Case) (fault : KeptFault) (new : Diagrams) → IsFaultyAt (IsLoose c drivers) observed care spans fault mid new → function_of old care v.valuation ≡ true → function_of new fault.at v.valuation ≡ true
             → StandsIn v fault.kind fault.net.0
         there v fault new f met e =
             let n : ℕ = fault.net.0 in
-            faulty_stands c phase observed flat seen (root_at old spans.roots v.valuation) (fixed v.valuation) v.setting v.solution v.solved
+            faulty_stands c phase observed wholes seen (root_at old spans.roots v.valuation) (fixed v.valuation) v.setting v.solution v.solved
             (function_of mid care) (wanted_at mid spans n) (reach_at mid spans false n) (reach_at mid spans true n) v.valuation (met_there v met) n (wanted_bit v met n)
-            fault.kind fault.at fault.value new f.plain f.is (responds_so v met n f.plain) e
+            fault.kind fault.at fault.value new f.loose.0 f.is (responds_so v met n f.loose) e
 
-        back : (v : Case) (fault : KeptFault) (new : Diagrams) → IsFaultyAt c observed care spans fault mid new → function_of old care v.valuation ≡ true → StandsIn v fault.kind fault.net.0
+        back : (v : Case) (fault : KeptFault) (new : Diagrams) → IsFaultyAt (IsLoose c drivers) observed care spans fault mid new → function_of old care v.valuation ≡ true → StandsIn v fault.kind fault.net.0
             → function_of new fault.at v.valuation ≡ true
         back v fault new f met h =
             let n : ℕ = fault.net.0 in
-            stands_faulty c phase observed flat seen (root_at old spans.roots v.valuation) (fixed v.valuation) v.setting v.solution v.solved
+            stands_faulty c phase observed wholes seen (root_at old spans.roots v.valuation) (fixed v.valuation) v.setting v.solution v.solved
             (function_of mid care) (wanted_at mid spans n) (reach_at mid spans false n) (reach_at mid spans true n) v.valuation (met_there v met) n (wanted_bit v met n)
-            fault.kind fault.at fault.value new f.is (responds_so v met n f.plain) h
+            fault.kind fault.at fault.value new f.is (responds_so v met n f.loose) h
 
-    pub kept_gives : (new : Diagrams) (found : Option KeptFault) → KeptScanGives c observed care spans mid new found → KeptGives c phase observed care spans.roots old new found
+    pub kept_gives : (new : Diagrams) (found : Option KeptFault) → KeptScanGives (IsLoose c drivers) observed care spans mid new found → KeptGives c phase observed care spans.roots old new found
     kept_gives new None s = kept_clear new s
     kept_gives new (Some fault) f = kept_found new fault f

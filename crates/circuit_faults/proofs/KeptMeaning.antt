@@ -1,5 +1,5 @@
 -- What the words of the kept circuit say at a solution, and what is found so is the first fault of the kept circuit.
-use Rattle.std.proofs.Common.{◌≡◌, ℕ, Bool, true, false, not, Option, Some, ap, refl, sym, subst, ◌∙◌, inl, inr}
+use Rattle.std.proofs.Common.{◌≡◌, ℕ, Bool, ◌⊎◌, true, false, not, List, Option, Some, None, ap, refl, sym, subst, ◌∙◌, inl, inr}
 use Rattle.std.specs.Prelude.{◌↔◌}
 use Rattle.std.proofs.lemmas.Bool.{and_from, and_parts, cases_Bool, false≢true}
 use Rattle.std.proofs.lemmas.Option.{same_Some}
@@ -9,17 +9,20 @@ use Rattle.bdd_core.specs.Words.{shows}
 use Rattle.bdd_core.specs.declared.handle.H.{H}
 use Rattle.channel_parts.specs.OneSolution.{AreObserved}
 use Rattle.circuit_faults.proofs.KeptBits.{kept_no_float}
-use Rattle.circuit_faults.proofs.FlatWholes.{flat_wholes}
+use Rattle.circuit_faults.proofs.DrivenAlone.{pin_among}
 use Rattle.circuit_faults.proofs.Solutions.{given_bit, given_shows, some_state, some_state_agrees, some_state_is}
 use Rattle.circuit_faults.specs.Faults.{HasFixedBits, IsSolvedAt}
 use Rattle.circuit_faults.specs.KeptFaults.{HasKeptFault, HasNoKeeper, NeverKeeps}
-use Rattle.circuit_faults.specs.KeptScans.{IsKeptFaulty, IsSettledNet}
+use Rattle.circuit_faults.specs.KeptScans.{IsKeptFaulty, IsLoose, IsSettledNet}
 use Rattle.hold_keep.specs.Kept.{fight_of, is_bit, is_fight, response_by}
 use Rattle.known_nets.proofs.NetKinds.{given_or_plain}
 use Rattle.vrt_model.proofs.GatesGiven.{IsGiven, kept_response}
 use Rattle.vrt_model.proofs.Laws.{one_response}
-use Rattle.vrt_model.specs.Circuits.{IsFlat}
-use Rattle.vrt_model.specs.Known.{IsPlain}
+use Rattle.circuit_faults.specs.Wholes.{HasFreeWholes}
+use Rattle.vrt_model.specs.Known.{IsDriven, IsPlain}
+use Rattle.whole_steps.proofs.FreeOutputLaws.{free_outputs_show}
+use Rattle.whole_steps.specs.Tables.{driver_at}
+use Rattle.whole_steps.specs.declared.table.OutputPlace.{OutputPlace}
 use Rattle.vrt_model.specs.Path.{Network}
 use Rattle.vrt_model.specs.Reading.{bare, kept}
 use Rattle.vrt_model.specs.Response.{Fight as Fights, Float as Floats, IsResponse, Reaches, Response, Shows}
@@ -65,22 +68,22 @@ not_true false e = refl
 
 -- ---- at one solution
 
-module _ (c : Circuit) (phase : Phase) (observed : ℕ → Bool) (flat : IsFlat c) (seen : AreObserved c observed) (root : ℕ → Bool) (fixed : HasFixedBits c phase root)
+module _ (c : Circuit) (phase : Phase) (observed : ℕ → Bool) (wholes : HasFreeWholes c phase observed) (seen : AreObserved c observed) (root : ℕ → Bool) (fixed : HasFixedBits c phase root)
     (setting : Setting) (a : ℕ → Option Bool) (solved : IsSolvedAt c phase observed root setting a) where
   abbrev Always : ℕ → Response → Type 0
   Always n r = AlwaysResponds c phase observed setting a kept n r
 
   -- some state agrees
   agreeing : State
-  agreeing = some_state c phase observed (flat_wholes c phase observed flat) seen root fixed setting solved.given a solved.solves
+  agreeing = some_state c phase observed wholes seen root fixed setting solved.given a solved.solves
 
   agreeing_is : IsState c phase setting.inputs agreeing
   unfolding agreeing
-  agreeing_is = some_state_is c phase observed (flat_wholes c phase observed flat) seen root fixed setting solved.given a solved.solves
+  agreeing_is = some_state_is c phase observed wholes seen root fixed setting solved.given a solved.solves
 
   agreeing_agrees : Agrees observed a agreeing.reading
   unfolding agreeing
-  agreeing_agrees = some_state_agrees c phase observed (flat_wholes c phase observed flat) seen root fixed setting solved.given a solved.solves
+  agreeing_agrees = some_state_agrees c phase observed wholes seen root fixed setting solved.given a solved.solves
 
   -- so a net always responds in one way at most
   always_one : (n : ℕ) (r q : Response) → Always n r → Always n q → r ≡ q
@@ -90,8 +93,33 @@ module _ (c : Circuit) (phase : Phase) (observed : ℕ → Bool) (flat : IsFlat 
   -- a given net keeps its bit
   given_keeps : (n : ℕ) → IsGiven c n → observed n ≡ true → ¬ NeverKeeps c phase observed setting a n
   given_keeps n g o never =
-      never agreeing agreeing_is agreeing_agrees (root n) (given_bit c phase observed (flat_wholes c phase observed flat) seen root fixed setting solved.given a solved.solves n o g)
-      (given_shows kept c phase observed (flat_wholes c phase observed flat) seen root fixed setting solved.given agreeing agreeing_is n g)
+      never agreeing agreeing_is agreeing_agrees (root n) (given_bit c phase observed wholes seen root fixed setting solved.given a solved.solves n o g)
+      (given_shows kept c phase observed wholes seen root fixed setting solved.given agreeing agreeing_is n g)
+
+  -- a net with an output of a whole instance shows the bit that drives it, and keeps it
+  module _ (n : ℕ) (driven : IsDriven c n) where
+    abbrev place : ℕ
+    place = (pin_among c driven.0 driven.1 driven.2 driven.3).0
+
+    driven_shows : (which : Bool) → IsResponse (network_of c which setting.held agreeing) n (Shows (agreeing.driven place))
+    driven_shows which =
+        subst (λ (m : ℕ). IsResponse (network_of c which setting.held agreeing) m (Shows (agreeing.driven place))) driven.4
+        (free_outputs_show c which setting.held agreeing wholes.ranges wholes.free place (record { whole = driven.0; pin = driven.1 }) (pin_among c driven.0 driven.1 driven.2 driven.3).1)
+
+    driven_keeps : (b : Bool) → observed n ≡ true → a n ≡ Some b → ¬ NeverKeeps c phase observed setting a n
+    driven_keeps b o bit never =
+        never agreeing agreeing_is agreeing_agrees b bit
+        (subst (IsResponse (network_of c kept setting.held agreeing) n)
+        (one_response (network_of c bare setting.held agreeing) n (Shows (agreeing.driven place)) (Shows b) (driven_shows bare) ((solved.solves n b o).0 bit agreeing agreeing_is agreeing_agrees))
+        (driven_shows kept))
+
+    driven_no_fight : ¬ Always n Fights
+    driven_no_fight always =
+        shown_apart (agreeing.driven place)
+        (one_response (network_of c kept setting.held agreeing) n (Shows (agreeing.driven place)) Fights (driven_shows kept) (always agreeing agreeing_is agreeing_agrees))
+      where
+        shown_apart : (v : Bool) → Shows v ≡ Fights → ⊥
+        shown_apart v e = cc
 
   module _ (n : ℕ) (zero one : Bool) (always : Always n (response_by zero one)) where
     fights : (is_fight (response_by zero one) ≡ true) ↔ Always n Fights
@@ -121,30 +149,33 @@ module _ (c : Circuit) (phase : Phase) (observed : ℕ → Bool) (flat : IsFlat 
   shows_one n true false wanted o bit always e = always
   shows_one n false true wanted o bit always e = always
   shows_one n false false wanted o bit always e =
-      absurd (kept_no_float c setting.held agreeing n wanted flat ((solved.solves n wanted o).0 bit agreeing agreeing_is agreeing_agrees) (always agreeing agreeing_is agreeing_agrees))
+      absurd (kept_no_float c setting.held agreeing n wanted wholes.ranges wholes.free ((solved.solves n wanted o).0 bit agreeing agreeing_is agreeing_agrees) (always agreeing agreeing_is agreeing_agrees))
 
   -- ---- what the functions of a net say
 
   module _ (care wanted zero one : Function) (v : Valuation) (met : care v ≡ true) (n : ℕ) (bits : observed n ≡ true → a n ≡ Some (wanted v)) where
-    -- a net that is settled where it is plain has no fault
-    pub settled_clear : (IsPlain c n → IsSettledNet care wanted zero one (observed n)) → (IsPlain c n → Always n (response_by (zero v) (one v))) → (kind : FaultKind)
+    -- a net that is settled where it is loose has no fault
+    pub settled_clear : (drivers : List (Option OutputPlace)) → (driver_at drivers n ≡ None) ⊎ IsDriven c n → (IsLoose c drivers n → IsSettledNet care wanted zero one (observed n))
+        → (IsLoose c drivers n → Always n (response_by (zero v) (one v))) → (kind : FaultKind)
         → ¬ HasKeptFault c phase observed setting a kind n
-    settled_clear settled always FightKept f =
-        false≢true (sym ((settled f.0).fight v) ∙ and_from (care v) (is_fight (response_by (zero v) (one v))) met ((fights n (zero v) (one v) (always f.0)).1 f.1))
-    settled_clear settled always Unsettled f =
+    settled_clear drivers (inl none) settled always FightKept f =
+        false≢true (sym ((settled (f.0, none)).fight v) ∙ and_from (care v) (is_fight (response_by (zero v) (one v))) met ((fights n (zero v) (one v) (always (f.0, none))).1 f.1))
+    settled_clear drivers (inl none) settled always Unsettled f =
         elim (given_or_plain c n (seen.nets n f.0)) [
           | inl g ↦ given_keeps n g f.0 f.1
-          | inr p ↦ false≢true (sym ((settled p).keeps f.0 v)
+          | inr p ↦ false≢true (sym ((settled (p, none)).keeps f.0 v)
               ∙ and_from (care v) (not (is_bit (wanted v) (response_by (zero v) (one v)))) met
-              (not_false (is_bit (wanted v) (response_by (zero v) (one v))) (never_then n (zero v) (one v) (always p) (wanted v) (bits f.0) f.1)))
+              (not_false (is_bit (wanted v) (response_by (zero v) (one v))) (never_then n (zero v) (one v) (always (p, none)) (wanted v) (bits f.0) f.1)))
         ]
-    settled_clear settled always Fight f = f
-    settled_clear settled always Float f = f
-    settled_clear settled always Constraint f = f
-    settled_clear settled always Differs f = f
-    settled_clear settled always Next f = f
-    settled_clear settled always Apart f = f
-    settled_clear settled always Enter f = f
+    settled_clear drivers (inr driven) settled always FightKept f = driven_no_fight n driven f.1
+    settled_clear drivers (inr driven) settled always Unsettled f = driven_keeps n driven (wanted v) f.0 (bits f.0) f.1
+    settled_clear drivers either settled always Fight f = f
+    settled_clear drivers either settled always Float f = f
+    settled_clear drivers either settled always Constraint f = f
+    settled_clear drivers either settled always Differs f = f
+    settled_clear drivers either settled always Next f = f
+    settled_clear drivers either settled always Apart f = f
+    settled_clear drivers either settled always Enter f = f
 
     -- a net where no fight stands has none
     pub no_fight : ((w : Valuation) → fight_of care zero one w ≡ false) → Always n (response_by (zero v) (one v)) → ¬ HasKeptFault c phase observed setting a FightKept n

@@ -14,8 +14,6 @@ use Rattle.circuit_faults.specs.KeptScans.{first_kept, IsFaultyAt, IsKeptFaulty,
 use Rattle.circuit_faults.specs.declared.kept_net.KeptFault.{KeptFault}
 use Rattle.circuit_faults.specs.declared.spans.KeptSpans.{KeptSpans}
 use Rattle.hold_keep.specs.Kept.{fight_of, unsettled_of}
-use Rattle.vrt_model.specs.Known.{IsPlain}
-use Rattle.vrt_model.specs.declared.circuit.Circuit.{Circuit}
 use Rattle.vrt_model.specs.declared.ids.Net.{Net}
 use Rattle.vrt_model.specs.declared.verdict.FaultKind.TheVariants.{Unsettled}
 
@@ -78,45 +76,45 @@ read_later u spans Inside first now adds live within n value inside =
 
 -- ---- one net more
 
-module _ (c : Circuit) (observed : ℕ → Bool) (care : H) (spans : KeptSpans) (first now : Diagrams) (adds : AddsNodes first now) (care_live : IsLive first care)
+module _ (Loose : ℕ → Type 0) (observed : ℕ → Bool) (care : H) (spans : KeptSpans) (first now : Diagrams) (adds : AddsNodes first now) (care_live : IsLive first care)
     (net : Net) (wanted_live : word_at first spans.gates net.0 < length first.nodes)
-    (reach_live : IsPlain c net.0 → (value : Bool) → word_at first (reach_span spans value) net.0 < length first.nodes)
-    (before : (n : ℕ) → n < net.0 → IsPlain c n → IsSettledAt observed care spans first n) where
+    (reach_live : Loose net.0 → (value : Bool) → word_at first (reach_span spans value) net.0 < length first.nodes)
+    (before : (n : ℕ) → n < net.0 → Loose n → IsSettledAt observed care spans first n) where
   pub settled_more :
-      (IsPlain c net.0 → IsSettledNet (function_of now care) (wanted_at now spans net.0) (reach_at now spans false net.0) (reach_at now spans true net.0) (observed net.0))
-      → (n : ℕ) → n < net.0 + 1 → IsPlain c n → IsSettledAt observed care spans first n
+      (Loose net.0 → IsSettledNet (function_of now care) (wanted_at now spans net.0) (reach_at now spans false net.0) (reach_at now spans true net.0) (observed net.0))
+      → (n : ℕ) → n < net.0 + 1 → Loose n → IsSettledAt observed care spans first n
   settled_more here n lt p =
       elim (cases_eq n net.0) [
         | inl e ↦
-            let plain : IsPlain c net.0 = subst (IsPlain c) e p in
+            let loose : Loose net.0 = subst Loose e p in
             let at_net : IsSettledAt observed care spans first net.0 =
-            as_first spans care net.0 first now adds care_live wanted_live (reach_live plain) (λ (f g h k : Function). IsSettledNet f g h k (observed net.0)) (here plain) in
+            as_first spans care net.0 first now adds care_live wanted_live (reach_live loose) (λ (f g h k : Function). IsSettledNet f g h k (observed net.0)) (here loose) in
             subst (IsSettledAt observed care spans first) (sym e) at_net
         | inr ne ↦ before n (omega (arith, lt, ne)) p
       ]
 
-  pub faulty_here : (new : Diagrams) (fault : KeptFault) → PlainNetGives c care spans (observed net.0) net now new (Some fault) → IsFaultyAt c observed care spans fault first new
+  pub faulty_here : (new : Diagrams) (fault : KeptFault) → PlainNetGives Loose care spans (observed net.0) net now new (Some fault) → IsFaultyAt Loose observed care spans fault first new
   faulty_here new fault g =
       let is : fault.net ≡ net = g.1 in
-      subst (λ (m : Net). IsFaultyAt c observed care spans (record { kind = fault.kind; net = m; at = fault.at; value = fault.value }) first new) (sym is) (record {
-        plain = g.0;
+      subst (λ (m : Net). IsFaultyAt Loose observed care spans (record { kind = fault.kind; net = m; at = fault.at; value = fault.value }) first new) (sym is) (record {
+        loose = g.0;
         before = before;
         is = as_first spans care net.0 first now adds care_live wanted_live (reach_live g.0)
             (λ (f h j k : Function). IsKeptFaulty f h j k (observed net.0) fault.kind fault.at fault.value new) g.2;
       })
 
 -- what is found by handles that were read
-pub plain_gives : (c : Circuit) (care : H) (spans : KeptSpans) (seen : Bool) (net : Net) (old new : Diagrams) (wanted nought one : ℕ) → wanted ≡ word_at old spans.gates net.0
-    → nought ≡ word_at old spans.zeros net.0 → one ≡ word_at old spans.ones net.0 → IsPlain c net.0 → (found : Option KeptFault)
+pub plain_gives : (Loose : ℕ → Type 0) (care : H) (spans : KeptSpans) (seen : Bool) (net : Net) (old new : Diagrams) (wanted nought one : ℕ) → wanted ≡ word_at old spans.gates net.0
+    → nought ≡ word_at old spans.zeros net.0 → one ≡ word_at old spans.ones net.0 → Loose net.0 → (found : Option KeptFault)
     → KeptNetGives (function_of old care) (meaning old.nodes wanted) (meaning old.nodes nought) (meaning old.nodes one) seen net new found
-    → PlainNetGives c care spans seen net old new found
-plain_gives c care spans seen net old new wanted nought one w z o plain found g =
+    → PlainNetGives Loose care spans seen net old new found
+plain_gives Loose care spans seen net old new wanted nought one w z o loose found g =
     by_found found
     (subst (λ (h : ℕ). KeptNetGives (function_of old care) (wanted_at old spans net.0) (reach_at old spans false net.0) (meaning old.nodes h) seen net new found) o
     (subst (λ (h : ℕ). KeptNetGives (function_of old care) (wanted_at old spans net.0) (meaning old.nodes h) (meaning old.nodes one) seen net new found) z
     (subst (λ (h : ℕ). KeptNetGives (function_of old care) (meaning old.nodes h) (meaning old.nodes nought) (meaning old.nodes one) seen net new found) w g)))
   where
     by_found : (found : Option KeptFault) → KeptNetGives (function_of old care) (wanted_at old spans net.0) (reach_at old spans false net.0) (reach_at old spans true net.0) seen net new found
-        → PlainNetGives c care spans seen net old new found
+        → PlainNetGives Loose care spans seen net old new found
     by_found None s = λ p. s
-    by_found (Some fault) f = (plain, f.0, f.1)
+    by_found (Some fault) f = (loose, f.0, f.1)

@@ -18,9 +18,9 @@ use Rattle.path_fixpoint.proofs.Spreading.{device_ranges}
 use Rattle.path_fixpoint.specs.Parts.{IsPart}
 use Rattle.path_fixpoint.specs.Solved.{net_of, network_at}
 use Rattle.vrt_model.proofs.Members.{all_among, at_none}
-use Rattle.vrt_model.proofs.Networks.{flat_ranges}
+use Rattle.vrt_model.specs.Networks.{HasRanges}
 use Rattle.vrt_model.proofs.SameNetwork.{IsPartOf, reaches_same}
-use Rattle.vrt_model.specs.Circuits.{IsFlat, IsHold}
+use Rattle.vrt_model.specs.Circuits.{IsHold}
 use Rattle.vrt_model.specs.Lists.{At, Among}
 use Rattle.vrt_model.specs.Reading.{conducts_at}
 use Rattle.vrt_model.specs.Response.{Reaches}
@@ -30,13 +30,13 @@ use Rattle.vrt_model.specs.declared.circuit.Hold.{Hold}
 -- ---- networks of a part in two stores
 
 -- where the handles at all nets of the circuit show the same bits, the one network has what the other has
-module _ (c : Circuit) (part : Part) (flat : IsFlat c) (gates roots : Span) (one two : Diagrams) (v : Valuation)
+module _ (c : Circuit) (part : Part) (ranges : HasRanges c) (gates roots : Span) (one two : Diagrams) (v : Valuation)
     (same_gates : (n : ℕ) → n < length c.nets → shows one gates n v ≡ shows two gates n v)
     (same_roots : (n : ℕ) → n < length c.nets → shows one roots n v ≡ shows two roots n v) where
   held_same : (at : ℕ) (hold : Hold) → At c.holds at hold → shows one roots (net_of (slice_get c.holds at)) v ≡ shows two roots (net_of (slice_get c.holds at)) v
   held_same at hold e =
       subst (λ (o : Option Hold). shows one roots (net_of o) v ≡ shows two roots (net_of o) v) (sym e)
-      (same_roots hold.net.0 (all_among (IsHold c) c.holds hold flat.holds (at, e)).net)
+      (same_roots hold.net.0 (all_among (IsHold c) c.holds hold ranges.holds (at, e)).net)
 
   pub network_part : IsPartOf (network_at one c part gates roots v) (network_at two c part gates roots v)
   network_part = record {
@@ -48,16 +48,16 @@ module _ (c : Circuit) (part : Part) (flat : IsFlat c) (gates roots : Span) (one
       ]
     ];
     devices = λ d on.
-        (on.0, subst (λ (b : Bool). conducts_at d.kind b ≡ true) (same_gates d.gate.0 (device_ranges c part d (flat_ranges c flat) on.0).gate) on.1);
+        (on.0, subst (λ (b : Bool). conducts_at d.kind b ≡ true) (same_gates d.gate.0 (device_ranges c part d ranges on.0).gate) on.1);
   }
 
-pub network_reaches : (c : Circuit) (part : Part) (flat : IsFlat c) (gates roots : Span) (one two : Diagrams) (v : Valuation)
+pub network_reaches : (c : Circuit) (part : Part) (ranges : HasRanges c) (gates roots : Span) (one two : Diagrams) (v : Valuation)
     → ((n : ℕ) → n < length c.nets → shows one gates n v ≡ shows two gates n v) → ((n : ℕ) → n < length c.nets → shows one roots n v ≡ shows two roots n v)
     → (n : ℕ) (value : Bool) → Reaches (network_at one c part gates roots v) n value → Reaches (network_at two c part gates roots v) n value
-network_reaches c part flat gates roots one two v same_gates same_roots n value r =
+network_reaches c part ranges gates roots one two v same_gates same_roots n value r =
     reaches_same (network_at one c part gates roots v) (network_at two c part gates roots v)
-    (network_part c part flat gates roots one two v same_gates same_roots)
-    (network_part c part flat gates roots two one v (λ m lt. sym (same_gates m lt)) (λ m lt. sym (same_roots m lt))) n value r
+    (network_part c part ranges gates roots one two v same_gates same_roots)
+    (network_part c part ranges gates roots two one v (λ m lt. sym (same_gates m lt)) (λ m lt. sym (same_roots m lt))) n value r
 
 -- ---- one part more
 
@@ -70,7 +70,7 @@ one_part parts part m other (suc i, e) = absurd (at_none i other e)
 pub earlier_range : (c : Circuit) (parts : List Part) → ((part : Part) → Among parts part → IsPart c part) → (k n : ℕ) → IsInEarlier parts k n → n < length c.nets
 earlier_range c parts are k n e = inside_range c e.1 (are e.1 (e.0, e.3)) n e.4
 
-module _ (c : Circuit) (parts : List Part) (spans : KeptSpans) (flat : IsFlat c) (first now new : Diagrams) (has : HasKeptSpans c parts spans first)
+module _ (c : Circuit) (parts : List Part) (spans : KeptSpans) (ranges : HasRanges c) (first now new : Diagrams) (has : HasKeptSpans c parts spans first)
     (before : WritesKept spans first now) (step : WritesKept spans now new) (k : ℕ) (part : Part) (here : At parts k part)
     (in_range : (n : ℕ) → IsInEarlier parts k n → n < length c.nets)
     (reached : (n : ℕ) → IsInEarlier parts k n → IsReachedIn c parts spans k first now n) (solved : IsPartReached c part spans now new) where
@@ -84,8 +84,8 @@ module _ (c : Circuit) (parts : List Part) (spans : KeptSpans) (flat : IsFlat c)
             let gates = λ (m : ℕ) (lt : m < length c.nets). gates_shown c parts spans first has now before m v lt in
             let roots = λ (m : ℕ) (lt : m < length c.nets). roots_shown c parts spans first has now before m v lt in
             let t = r.reaches value v in (
-              λ e. network_reaches c part flat spans.gates spans.roots now first v gates roots n value (t.0 e),
-              λ q. t.1 (network_reaches c part flat spans.gates spans.roots first now v (λ m lt. sym (gates m lt)) (λ m lt. sym (roots m lt)) n value q),
+              λ e. network_reaches c part ranges spans.gates spans.roots now first v gates roots n value (t.0 e),
+              λ q. t.1 (network_reaches c part ranges spans.gates spans.roots first now v (λ m lt. sym (gates m lt)) (λ m lt. sym (roots m lt)) n value q),
             );
       }
 

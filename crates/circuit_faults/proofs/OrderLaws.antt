@@ -1,5 +1,5 @@
 -- The first net of a part is its least.
-use Rattle.std.proofs.Common.{◌≡◌, ℕ, ◌<◌, ◌≤◌, true, arith, ap, sym, ◌∙◌, inl, inr}
+use Rattle.std.proofs.Common.{◌≡◌, ℕ, ◌<◌, ◌≤◌, Bool, true, arith, ap, sym, ◌∙◌, inl, inr}
 use Rattle.std.specs.Prelude.{slice_get}
 use Rattle.std.proofs.lemmas.Bool.{cases_eq}
 use Rattle.std.proofs.lemmas.Option.{same_Some}
@@ -17,24 +17,26 @@ use Rattle.vrt_model.specs.declared.rules.Phase.{Phase}
 
 -- ---- one part
 
-module _ (c : Circuit) (phase : Phase) (rank : ℕ → ℕ) (ranges : HasRanges c) (part : Part) (of : IsPartOf c phase true rank part) where
+module _ (c : Circuit) (phase : Phase) (which : Bool) where
   -- ways along channels, one after the other and turned round
-  together_on : (l n m : ℕ) → IsTogether c phase true l n → IsTogether c phase true n m → IsTogether c phase true l m
+  pub together_on : (l n m : ℕ) → IsTogether c phase which l n → IsTogether c phase which n m → IsTogether c phase which l m
   together_on l n m t (itself p) = t
   together_on l n m t (onward {l = x} d u ch j p) = onward d (together_on l n x t u) ch j p
 
-  step_back : (x y z : ℕ) (d : Device) → IsPlain c x → IsChannel c phase true d → Joins d x y → IsTogether c phase true y z → IsTogether c phase true x z
+  step_back : (x y z : ℕ) (d : Device) → IsPlain c x → IsChannel c phase which d → Joins d x y → IsTogether c phase which y z → IsTogether c phase which x z
   step_back x y z d px ch j (itself p) = onward d (itself px) ch j p
   step_back x y z d px ch j (onward {l = l} e u ch' j' p) = onward e (step_back x y l d px ch j u) ch' j' p
 
-  together_back : (x y : ℕ) → IsTogether c phase true x y → IsTogether c phase true y x
+  pub together_back : (x y : ℕ) → IsTogether c phase which x y → IsTogether c phase which y x
   together_back x y (itself p) = itself p
   together_back x y (onward {l = l} d u ch j p) = step_back y l x d p ch (turned d l y j) (together_back x l u)
 
+module _ (c : Circuit) (phase : Phase) (which : Bool) (rank : ℕ → ℕ) (ranges : HasRanges c) (part : Part) (of : IsPartOf c phase which rank part) where
   -- two nets of the part are together
-  pub inside_together : (m n : ℕ) → IsInside part m → IsInside part n → IsTogether c phase true m n
-  inside_together m n i j = together_on m (least_of part) n (together_back (least_of part) m (together c phase true rank ranges part of m i)) (together c phase true rank ranges part of n j)
+  pub inside_together : (m n : ℕ) → IsInside part m → IsInside part n → IsTogether c phase which m n
+  inside_together m n i j = together_on c phase which m (least_of part) n (together_back c phase which (least_of part) m (together c phase which rank ranges part of m i)) (together c phase which rank ranges part of n j)
 
+module _ (c : Circuit) (phase : Phase) (rank : ℕ → ℕ) (ranges : HasRanges c) (part : Part) (of : IsPartOf c phase true rank part) where
   -- the first net of the part is the least
   first_below : (m : ℕ) → IsInside part m → least_of part ≤ m
   first_below m i =
@@ -46,6 +48,6 @@ module _ (c : Circuit) (phase : Phase) (rank : ℕ → ℕ) (ranges : HasRanges 
 
   pub is_least : (n : ℕ) → IsInside part n → IsLeastOfPart c phase n (least_of part)
   is_least n i = record {
-    together = together_back (least_of part) n (together c phase true rank ranges part of n i);
-    lowest = λ m t. first_below m (inside c phase true rank ranges part of m (together_on (least_of part) n m (together c phase true rank ranges part of n i) t));
+    together = together_back c phase true (least_of part) n (together c phase true rank ranges part of n i);
+    lowest = λ m t. first_below m (inside c phase true rank ranges part of m (together_on c phase true (least_of part) n m (together c phase true rank ranges part of n i) t));
   }

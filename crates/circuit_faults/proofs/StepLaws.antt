@@ -1,5 +1,5 @@
 -- One step more, a part or an instance; and its operations.
-use Rattle.std.proofs.Common.{◌≡◌, ℕ, ◌+◌, ◌<◌, ◌≤◌, Err, IfOk, List, [], Ok, Option, Result, Some, None, arith, length, map, ap, refl, subst, sym, ◌∙◌}
+use Rattle.std.proofs.Common.{◌≡◌, ℕ, ◌+◌, ◌<◌, ◌≤◌, Err, IfOk, List, [], Ok, Option, Result, Some, None, arith, length, ap, refl, subst, sym, ◌∙◌}
 use Rattle.std.specs.Prelude.{All, option_and_then, option_map, slice_get, unwrap_or}
 use Rattle.std.proofs.lemmas.Option.{none-some, same_Some, slice_get_within}
 use Rattle.blif_eval.specs.declared.plan.ModelPlan.{ModelPlan}
@@ -10,6 +10,7 @@ use Rattle.bdd_core.specs.Words.{IsFilled, WritesTwo}
 use Rattle.bdd_core.specs.declared.handle.H.{H}
 use Rattle.channel_parts.specs.OneSolution.{AreObserved}
 use Rattle.channel_parts.specs.declared.part.Part.{Part}
+use Rattle.circuit_faults.proofs.DrivenAlone.{pin_among}
 use Rattle.circuit_faults.proofs.CircuitLaws.{IsSolvedBefore, part_clear_next, part_fault_first}
 use Rattle.circuit_faults.proofs.InstanceLaws.{instance_clear_next, instance_fault_first}
 use Rattle.circuit_faults.proofs.OutputSteps.{output_next}
@@ -22,13 +23,12 @@ use Rattle.circuit_faults.specs.Wholes.{DrivenGives, IsReadyWholes, WiredGives, 
 use Rattle.circuit_faults.specs.declared.net.CircuitFault.{CircuitFault}
 use Rattle.circuit_faults.specs.declared.steps.CircuitStep.{CircuitStep}
 use Rattle.circuit_faults.specs.declared.steps.CircuitStep.TheVariants.{Part as PartStep, Instance as InstanceStep}
-use Rattle.vrt_model.proofs.Lists.{at_there, map_among}
-use Rattle.vrt_model.proofs.Members.{all_among, flat_map_among}
+use Rattle.vrt_model.proofs.Lists.{at_there}
+use Rattle.vrt_model.proofs.Members.{all_among}
 use Rattle.vrt_model.proofs.Sums.{sum_same}
 use Rattle.vrt_model.specs.Known.{IsDriven}
-use Rattle.vrt_model.specs.Lists.{Among, At}
-use Rattle.vrt_model.specs.State.{OutputPin, output_pins}
-use Rattle.vrt_model.specs.declared.circuit.Circuit.{Circuit}
+use Rattle.vrt_model.specs.Lists.{At}
+use Rattle.vrt_model.specs.State.{OutputPin}
 use Rattle.vrt_model.specs.declared.circuit.FlatInstance.{FlatInstance}
 use Rattle.vrt_model.specs.declared.ids.Net.{Net}
 use Rattle.vrt_model.specs.declared.whole.Whole.{Whole}
@@ -120,12 +120,6 @@ module _ (w : InPhase) (drivers : List (Option OutputPlace)) (number : ℕ) (par
         → WiredGives drivers w care roots gates old new (PartStep number) found
     output_gives place some gives = driven_at (Some place) some gives
 
--- an output of a whole instance is one of the circuit
-pub output_among : (c : Circuit) (place : OutputPlace) (x : Whole) (pin : WholePin) → IsOutput c place x pin → Among (output_pins c) (record { whole = x; pin = pin })
-output_among c place x pin is =
-    flat_map_among (λ (y : Whole). map (λ (p : WholePin). let one : OutputPin = record { whole = y; pin = p } in one) y.outputs) c.wholes x (record { whole = x; pin = pin }) (place.whole, is.whole)
-    (map_among (λ (p : WholePin). let one : OutputPin = record { whole = x; pin = p } in one) x.outputs pin (place.output, is.output))
-
 -- ---- one step more
 
 module _ (w : InPhase) (drivers : List (Option OutputPlace)) (plans : List ModelPlan) (wired : IsReadyWholes w drivers plans) (care : H) (roots gates out : Span)
@@ -143,7 +137,7 @@ module _ (w : InPhase) (drivers : List (Option OutputPlace)) (plans : List Model
       let x : Whole = there.0 in
       let pin : WholePin = there.1 in
       let one : OutputPin = record { whole = x; pin = pin } in
-      let among = output_among w.circuit place x pin there.2 in
+      let among = pin_among w.circuit x pin (place.whole, there.2.whole) (place.output, there.2.output) in
       output_next w care roots gates wired.wholes seen are wired.ordered spans.gates_len k among.0 part here one among.1 there.3 first now new solved live fixed (gives.1 x pin there.2) kept
 
   driven_fault : (part : Part) → IsPartAt w k part → (fault : CircuitFault) → (o : Option OutputPlace) → part_driver drivers part ≡ o

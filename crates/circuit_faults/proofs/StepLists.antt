@@ -8,7 +8,8 @@ use Rattle.channel_parts.specs.PartLists.{AreParts, IsBefore, least_of, net_numb
 use Rattle.channel_parts.specs.declared.part.Part.{Part}
 use Rattle.channel_parts.specs.declared.part.Parts.{Parts}
 use Rattle.circuit_faults.proofs.CircuitLaws.{step_is}
-use Rattle.circuit_faults.proofs.OrderLaws.{inside_together, is_least}
+use Rattle.circuit_faults.proofs.DrivenAlone.{driven_alone}
+use Rattle.circuit_faults.proofs.OrderLaws.{is_least}
 use Rattle.circuit_faults.proofs.WholeParts.{device_in, inside_number, number_inside, whole_part, together}
 use Rattle.circuit_faults.specs.Scans.{IsInside}
 use Rattle.circuit_faults.specs.Steps.{AreOrderedSteps, InPhase, IsInStepBefore, IsInstanceAt, IsPartAt, IsThere, in_comparison, named_at, part_step, step_of, steps_of}
@@ -20,17 +21,13 @@ use Rattle.path_fixpoint.specs.Parts.{part_devices}
 use Rattle.vrt_model.proofs.Lists.{at_map, at_there, map_among, map_at}
 use Rattle.vrt_model.proofs.Members.{among_map, at_none}
 use Rattle.vrt_model.specs.Comparison.{Comparison, cell_at, phase_at}
-use Rattle.vrt_model.specs.Known.{HasGateArc, HasWholeArc, IsDriven, IsLeastOfPart, IsPlain, IsRanking, IsTogether, IsUnknown, itself, onward}
+use Rattle.vrt_model.specs.Known.{HasGateArc, HasWholeArc, IsLeastOfPart, IsPlain, IsRanking, IsUnknown}
 use Rattle.vrt_model.specs.Determined.{IsLinkedTo}
-use Rattle.vrt_model.specs.Path.{Joins}
 use Rattle.vrt_model.specs.State.{OutputPin, output_pins}
 use Rattle.vrt_model.specs.declared.ids.Net.{Net}
 use Rattle.vrt_model.specs.declared.whole.WholePin.{WholePin}
-use Rattle.vrt_model.proofs.Filtered.{device_among}
-use Rattle.vrt_model.proofs.Laws.{turned}
 use Rattle.known_nets.proofs.WiredLaws.{pin_of_whole}
 use Rattle.circuit_faults.specs.Wholes.{AreOutputsOrdered}
-use Rattle.circuit_faults.proofs.StepLaws.{output_among}
 use Rattle.whole_steps.specs.FreeOutputs.{HasFreeOutputs}
 use Rattle.vrt_model.specs.Lists.{At, Among}
 use Rattle.vrt_model.specs.Networks.{HasRanges}
@@ -238,15 +235,6 @@ module _ (k : Comparison) (phase : ℕ) (rank : ℕ → ℕ) (parts : Parts) (st
 
   -- ---- the outputs of whole instances
 
-  -- a net that no channel meets is together with none but itself
-  alone_there : HasFreeOutputs k.circuit → (n m : ℕ) → IsDriven k.circuit n → IsTogether k.circuit (phase_at k.rules phase) true n m → m ≡ n
-  alone_there free n m driven (itself p) = refl
-  alone_there free n m driven (onward {l = l} d t channel joins p) =
-      let among = output_among k.circuit (record { whole = driven.2.0; output = driven.3.0 }) driven.0 driven.1 (record { whole = driven.2.1; output = driven.3.1 }) in
-      let one : OutputPin = record { whole = driven.0; pin = driven.1 } in
-      let at : l ≡ driven.1.net.0 = alone_there free n l driven t ∙ sym driven.4 in
-      absurd (free.channels among.0 one d m among.1 (device_among true k.circuit d channel.0).0 (turned d driven.1.net.0 m (subst (λ (x : ℕ). Joins d x m) at joins)))
-
   linked_before : (q place : ℕ) (part : Part) (out : OutputPin) (input : WholePin) → IsPartAt w q part → Among (output_pins k.circuit) out → IsInside part out.pin.net.0
       → At out.whole.outputs place out.pin → IsLinkedTo (phase_at k.rules phase) out.whole input place → IsPlain k.circuit input.net.0 → IsUnknown k.circuit (phase_at k.rules phase) input.net.0
       → IsInStepBefore w q input.net.0
@@ -261,6 +249,6 @@ module _ (k : Comparison) (phase : ℕ) (rank : ℕ → ℕ) (parts : Parts) (st
   pub ordered_outputs : HasFreeOutputs k.circuit → AreOutputsOrdered w
   ordered_outputs free = record {
     alone = λ q part n m here i driven j.
-        alone_there free n m driven (inside_together k.circuit (phase_at k.rules phase) rank ranges part (are.each part (here.0, here.2)) n m i j);
+        driven_alone k.circuit (phase_at k.rules phase) true rank ranges free part (are.each part (here.0, here.2)) n m i driven j;
     inputs = λ q place part out input here among i pin m linked seen plain unknown. linked_before q place part out input here among i pin linked plain unknown;
   }

@@ -21,6 +21,8 @@ use Rattle.vrt_model.specs.Lists.{At}
 use Rattle.vrt_model.specs.Response.{Reaches}
 use Rattle.vrt_model.specs.declared.circuit.Circuit.{Circuit}
 use Rattle.vrt_model.specs.declared.ids.Net.{Net}
+use Rattle.whole_steps.specs.Tables.{driver_at}
+use Rattle.whole_steps.specs.declared.table.OutputPlace.{OutputPlace}
 use Rattle.vrt_model.specs.declared.verdict.FaultKind.{FaultKind}
 use Rattle.vrt_model.specs.declared.verdict.FaultKind.TheVariants.{Fight, FightKept, Float, Unsettled, Constraint, Differs, Next, Apart, Enter}
 
@@ -111,23 +113,27 @@ reach_at d spans value n = λ v. shows d (reach_span spans value) n v
 abbrev pub IsSettledAt : (ℕ → Bool) → H → KeptSpans → Diagrams → ℕ → Type 0
 IsSettledAt observed care spans d n = IsSettledNet (function_of d care) (wanted_at d spans n) (reach_at d spans false n) (reach_at d spans true n) (observed n)
 
--- the first fault of a net, which has one only where it is plain
-abbrev pub PlainNetGives : Circuit → H → KeptSpans → Bool → Net → Diagrams → Diagrams → Option KeptFault → Type 0
-PlainNetGives c care spans seen net old new None =
-    IsPlain c net.0 → IsSettledNet (function_of old care) (wanted_at old spans net.0) (reach_at old spans false net.0) (reach_at old spans true net.0) seen
-PlainNetGives c care spans seen net old new (Some fault) =
-    IsPlain c net.0 × (fault.net ≡ net)
+-- a plain net at which no output of a whole instance stands
+abbrev pub IsLoose : Circuit → List (Option OutputPlace) → ℕ → Type 0
+IsLoose c drivers n = IsPlain c n × (driver_at drivers n ≡ None)
+
+-- the first fault of a net, which has one only where it is one of these
+abbrev pub PlainNetGives : (ℕ → Type 0) → H → KeptSpans → Bool → Net → Diagrams → Diagrams → Option KeptFault → Type 0
+PlainNetGives Loose care spans seen net old new None =
+    Loose net.0 → IsSettledNet (function_of old care) (wanted_at old spans net.0) (reach_at old spans false net.0) (reach_at old spans true net.0) seen
+PlainNetGives Loose care spans seen net old new (Some fault) =
+    Loose net.0 × (fault.net ≡ net)
     × IsKeptFaulty (function_of old care) (wanted_at old spans net.0) (reach_at old spans false net.0) (reach_at old spans true net.0) seen fault.kind fault.at fault.value new
 
--- a plain net is faulty, and each plain net before it is settled
-pub record IsFaultyAt (c : Circuit) (observed : ℕ → Bool) (care : H) (spans : KeptSpans) (fault : KeptFault) (old new : Diagrams) : Type 0 where
-  pub plain : IsPlain c fault.net.0
-  pub before : (n : ℕ) → n < fault.net.0 → IsPlain c n → IsSettledAt observed care spans old n
+-- a net of these is faulty, and each before it is settled
+pub record IsFaultyAt (Loose : ℕ → Type 0) (observed : ℕ → Bool) (care : H) (spans : KeptSpans) (fault : KeptFault) (old new : Diagrams) : Type 0 where
+  pub loose : Loose fault.net.0
+  pub before : (n : ℕ) → n < fault.net.0 → Loose n → IsSettledAt observed care spans old n
   pub is :
       IsKeptFaulty (function_of old care) (wanted_at old spans fault.net.0) (reach_at old spans false fault.net.0) (reach_at old spans true fault.net.0)
       (observed fault.net.0) fault.kind fault.at fault.value new
 
--- the first fault of all plain nets
-abbrev pub KeptScanGives : Circuit → (ℕ → Bool) → H → KeptSpans → Diagrams → Diagrams → Option KeptFault → Type 0
-KeptScanGives c observed care spans old new None = (n : ℕ) → IsPlain c n → IsSettledAt observed care spans old n
-KeptScanGives c observed care spans old new (Some fault) = IsFaultyAt c observed care spans fault old new
+-- the first fault of all these nets
+abbrev pub KeptScanGives : (ℕ → Type 0) → (ℕ → Bool) → H → KeptSpans → Diagrams → Diagrams → Option KeptFault → Type 0
+KeptScanGives Loose observed care spans old new None = (n : ℕ) → Loose n → IsSettledAt observed care spans old n
+KeptScanGives Loose observed care spans old new (Some fault) = IsFaultyAt Loose observed care spans fault old new

@@ -13,8 +13,8 @@ ghost use Rattle.path_fixpoint.specs.Parts.{IsPart, IsPlace};
 ghost use Rattle.path_fixpoint.specs.Reaching.{slot_of};
 ghost use Rattle.path_fixpoint.specs.Spending.{HasOneHold};
 ghost use Rattle.path_fixpoint.specs.Strengths.{net_words, word_of};
-ghost use Rattle.vrt_model.specs.Circuits.{IsFlat};
 ghost use Rattle.vrt_model.specs.Lists.{Among};
+ghost use Rattle.vrt_model.specs.Networks.{HasRanges};
 
 use crate::circuit::words_of;
 use crate::spans::KeptSpans;
@@ -54,14 +54,13 @@ fn copy_reach(store: &mut Store, part: &Part, value: bool, out: Span, to: Span)
 
 /// Solves a part of the kept circuit, where its devices have the bits of the gates, and writes to the words of its nets
 /// where 0 and where 1 reach them.
-#[tactic(auto, using(vrt_model::proofs::Networks::flat_ranges))]
 fn solve_kept(
     store: &mut Store,
     circuit: &Circuit,
     part: &Part,
     spans: KeptSpans,
 ) -> Result<(), Spent>
-    requires circuit { IsFlat circuit.now }
+    requires circuit { HasRanges circuit.now }
     requires part { IsPart circuit.now part.now }
     requires spans { HasKeptSpans circuit.now (part.now ∷ []) spans store.old }
     ensures writes { WritesKept spans store.old store.new }
@@ -86,7 +85,7 @@ pub(crate) fn solve_parts(
     parts: &[Part],
     spans: KeptSpans,
 ) -> Result<(), Spent>
-    requires circuit { IsFlat circuit.now }
+    requires circuit { HasRanges circuit.now }
     requires parts { (part : Part) → Among parts.now part → IsPart circuit.now part }
     requires spans { HasKeptSpans circuit.now parts.now spans store.old }
     ensures writes { WritesKept spans store.old store.new }

@@ -21,8 +21,8 @@ mod step_keys;
 mod steps;
 
 pub use circuit::wired_fault;
-pub use flat::circuit_fault;
-pub use kept::kept_fault;
+pub use flat::{circuit_fault, kept_fault};
+pub use kept::wired_kept;
 pub use kept_net::KeptFault;
 pub use listing::circuit_steps;
 pub use net::CircuitFault;

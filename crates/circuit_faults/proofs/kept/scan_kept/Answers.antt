@@ -5,9 +5,8 @@ use Rattle.bdd_core.specs.Words.{word_at}
 use Rattle.bdd_ops.proofs.CountingLaws.{counted_more, counted_none, counted_then, counts_more, counts_ok, counts_then}
 use Rattle.circuit_faults.proofs.CountLaws.{kept_within, span_within}
 use Rattle.circuit_faults.proofs.KeptNets.{faulty_here, read_later, settled_more}
-use Rattle.circuit_faults.specs.KeptScans.{PlainNetGives, reach_span}
+use Rattle.circuit_faults.specs.KeptScans.{IsLoose, PlainNetGives, reach_span}
 use Rattle.circuit_faults.specs.declared.kept_net.KeptFault.{KeptFault}
-use Rattle.vrt_model.specs.Known.{IsPlain}
 use Rattle.vrt_model.specs.Lists.{mark_at}
 use Rattle.vrt_model.specs.declared.ids.Net.{Net}
 use Rattle.circuit_faults.proofs.kept.scan_kept.Goals as goal
@@ -62,15 +61,15 @@ loop-n-preserved c =
     let n = c.loop-n.n in
     let net : Net = record { 0 = n } in
     let adds = c.loop-n.invariant.adds in
-    let gives = subst (λ (o : Option KeptFault). PlainNetGives circuit care spans c.is_seen-seen.result net now new o) c.in_default.is c.in-Ok.ensures.gives in
+    let gives = subst (λ (o : Option KeptFault). PlainNetGives (IsLoose circuit c.args.wholes.drivers.now) care spans c.is_seen-seen.result net now new o) c.in_default.is c.in-Ok.ensures.gives in
     record {
       adds = nodes_then first now new adds c.check_kept_net.ensures.adds;
-      settled = settled_more circuit (mark_at c.args.observed.now) care spans first now adds c.requires.care net (c.requires.spans.gates_live n c.loop-n-test.true) (c.requires.live n) c.loop-n.invariant.settled
-          (subst (λ (b : Bool). PlainNetGives circuit care spans b net now new None) c.is_seen-seen.ensures gives);
+      settled = settled_more (IsLoose circuit c.args.wholes.drivers.now) (mark_at c.args.observed.now) care spans first now adds c.requires.care net (c.requires.spans.gates_live n c.loop-n-test.true) (c.requires.live n) c.loop-n.invariant.settled
+          (subst (λ (b : Bool). PlainNetGives (IsLoose circuit c.args.wholes.drivers.now) care spans b net now new None) c.is_seen-seen.ensures gives);
       counted = λ u care_in gates_in read_in.
           let before = c.loop-n.invariant.counted u care_in gates_in read_in in
           let one = c.in-Ok.ensures.few u (kept_within u first now care adds c.requires.care care_in) (span_within u spans.gates first now adds c.requires.spans.gates_live gates_in)
-          (read_later u spans (IsPlain circuit) first now adds c.requires.live read_in) in
+          (read_later u spans (IsLoose circuit c.args.wholes.drivers.now) first now adds c.requires.live read_in) in
           counted_more u (20 * n + 20) (20 * (n + 1)) first new (omega arith) (counted_then u (20 * n) 20 first now new before one.added);
     }
 
@@ -89,7 +88,7 @@ returns-in-Err-clause-few c u care_in gates_in read_in =
     let adds = c.loop-n.invariant.adds in
     let before = c.loop-n.invariant.counted u care_in gates_in read_in in
     let one = c.in-Err.ensures.few u (kept_within u first now c.args.care adds c.requires.care care_in) (span_within u c.args.spans.gates first now adds c.requires.spans.gates_live gates_in)
-    (read_later u c.args.spans (IsPlain circuit) first now adds c.requires.live read_in) in
+    (read_later u c.args.spans (IsLoose circuit c.args.wholes.drivers.now) first now adds c.requires.live read_in) in
     counts_more u (20 * n + 20) (20 * length circuit.nets) first new (Err c.in-Err.spent) (omega (arith, c.loop-n-test.true, c.requires.spans.gates_len))
     (counts_then u (20 * n) 20 first now new (Err c.in-Err.spent) before one)
 
@@ -106,9 +105,9 @@ returns-in-Some-clause-gives c =
     let new = c.check_kept_net.new.store in
     let n = c.loop-n.n in
     let net : Net = record { 0 = n } in
-    let gives = subst (λ (o : Option KeptFault). PlainNetGives circuit care spans c.is_seen-seen.result net now new o) c.in-Some.is c.in-Ok.ensures.gives in
-    faulty_here circuit (mark_at c.args.observed.now) care spans first now c.loop-n.invariant.adds c.requires.care net (c.requires.spans.gates_live n c.loop-n-test.true) (c.requires.live n) c.loop-n.invariant.settled
-    new c.in-Some.fault (subst (λ (b : Bool). PlainNetGives circuit care spans b net now new (Some c.in-Some.fault)) c.is_seen-seen.ensures gives)
+    let gives = subst (λ (o : Option KeptFault). PlainNetGives (IsLoose circuit c.args.wholes.drivers.now) care spans c.is_seen-seen.result net now new o) c.in-Some.is c.in-Ok.ensures.gives in
+    faulty_here (IsLoose circuit c.args.wholes.drivers.now) (mark_at c.args.observed.now) care spans first now c.loop-n.invariant.adds c.requires.care net (c.requires.spans.gates_live n c.loop-n-test.true) (c.requires.live n) c.loop-n.invariant.settled
+    new c.in-Some.fault (subst (λ (b : Bool). PlainNetGives (IsLoose circuit c.args.wholes.drivers.now) care spans b net now new (Some c.in-Some.fault)) c.is_seen-seen.ensures gives)
 
 pub returns-in-Some-clause-few : goal.returns-in-Some-clause-few
 returns-in-Some-clause-few c u care_in gates_in read_in =
@@ -120,7 +119,7 @@ returns-in-Some-clause-few c u care_in gates_in read_in =
     let adds = c.loop-n.invariant.adds in
     let before = c.loop-n.invariant.counted u care_in gates_in read_in in
     let one = c.in-Ok.ensures.few u (kept_within u first now c.args.care adds c.requires.care care_in) (span_within u c.args.spans.gates first now adds c.requires.spans.gates_live gates_in)
-    (read_later u c.args.spans (IsPlain circuit) first now adds c.requires.live read_in) in
+    (read_later u c.args.spans (IsLoose circuit c.args.wholes.drivers.now) first now adds c.requires.live read_in) in
     counts_ok u (20 * length circuit.nets) first new _
     (counted_more u (20 * n + 20) (20 * length circuit.nets) first new (omega (arith, c.loop-n-test.true, c.requires.spans.gates_len)) (counted_then u (20 * n) 20 first now new before one.added))
 
@@ -129,7 +128,7 @@ returns-clause-adds c = c.loop-n.invariant.adds
 
 pub returns-clause-gives : goal.returns-clause-gives
 returns-clause-gives c n p =
-    c.loop-n.invariant.settled n (let within = slice_get_within c.args.circuit.now.nets n p.0 p.1 in omega (arith, within, c.loop-n-test.false, c.requires.spans.gates_len)) p
+    c.loop-n.invariant.settled n (let within = slice_get_within c.args.circuit.now.nets n p.0.0 p.0.1 in omega (arith, within, c.loop-n-test.false, c.requires.spans.gates_len)) p
 
 pub returns-clause-few : goal.returns-clause-few
 returns-clause-few c u care_in gates_in read_in =

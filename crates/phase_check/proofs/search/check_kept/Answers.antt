@@ -4,6 +4,7 @@ use Rattle.circuit_faults.specs.KeptFaults.{AreKeptObserved, kept_spots}
 use Rattle.circuit_faults.specs.KeptResults.{IsFirstKept, KeptGives}
 use Rattle.circuit_faults.specs.Operations.{kept_operations}
 use Rattle.circuit_faults.specs.Results.{IsClearCircuit}
+use Rattle.circuit_faults.specs.Wholes.{HasFreeWholes}
 use Rattle.circuit_faults.specs.declared.kept_net.KeptFault.{KeptFault}
 use Rattle.fault_places.proofs.SearchLaws.{clear_stages}
 use Rattle.fault_places.specs.Searches.{Case, StandsIn}
@@ -56,7 +57,7 @@ check_model-requires-clause-searched c =
     let same = seen_is k phase plan c.requires.ready c.requires.plan c.as_slice-marks.result.now c.as_slice-marks.ensures.value in
     let at = phase_at k.rules phase in
     let gives = subst (λ (o : Option KeptFault). KeptGives k.circuit at (mark_at c.as_slice-marks.result.now) care words.roots d new o) c.in-Ok-None.field-0-is
-    (c.in-Ok-None.ensures.gives at c.requires.plan.kept s.opened.roots.fixed
+    (c.in-Ok-None.ensures.gives at (subst (λ (o : ℕ → Bool). HasFreeWholes k.circuit at o) (sym same) (c.requires.ready.wholes phase c.requires.phase)) c.requires.plan.kept s.opened.roots.fixed
     (subst (λ (o : ℕ → Bool). IsClearCircuit k.circuit at o care words.roots words.gates d d) (sym same) c.requires.solved.circuit)) in
     let none : KeptGives k.circuit at (is_observed k phase) care words.roots d new None =
     subst (λ (o : ℕ → Bool). KeptGives k.circuit at o care words.roots d new None) same gives in
@@ -99,7 +100,7 @@ kept_values-requires-clause-net c =
     let same = seen_is k phase plan c.requires.ready c.requires.plan c.as_slice-marks.result.now c.as_slice-marks.ensures.value in
     let at = phase_at k.rules phase in
     let gives = subst (λ (o : Option KeptFault). KeptGives k.circuit at (mark_at c.as_slice-marks.result.now) care words.roots d new o) c.in-Ok-Some.field-0-is
-    (c.in-Ok-Some.ensures.gives at c.requires.plan.kept s.opened.roots.fixed
+    (c.in-Ok-Some.ensures.gives at (subst (λ (o : ℕ → Bool). HasFreeWholes k.circuit at o) (sym same) (c.requires.ready.wholes phase c.requires.phase)) c.requires.plan.kept s.opened.roots.fixed
     (subst (λ (o : ℕ → Bool). IsClearCircuit k.circuit at o care words.roots words.gates d d) (sym same) c.requires.solved.circuit)) in
     let first : IsFirstKept k.circuit at (is_observed k phase) care words.roots c.in-Ok-Some.fault d new =
     subst (λ (o : ℕ → Bool). IsFirstKept k.circuit at o care words.roots c.in-Ok-Some.fault d new) same gives in
@@ -143,7 +144,7 @@ returns-in-Ok-Some-clause-gives c =
     let same = seen_is k phase plan c.requires.ready c.requires.plan c.as_slice-marks.result.now c.as_slice-marks.ensures.value in
     let at = phase_at k.rules phase in
     let gives = subst (λ (o : Option KeptFault). KeptGives k.circuit at (mark_at c.as_slice-marks.result.now) care words.roots d new o) c.in-Ok-Some.field-0-is
-    (c.in-Ok-Some.ensures.gives at c.requires.plan.kept s.opened.roots.fixed
+    (c.in-Ok-Some.ensures.gives at (subst (λ (o : ℕ → Bool). HasFreeWholes k.circuit at o) (sym same) (c.requires.ready.wholes phase c.requires.phase)) c.requires.plan.kept s.opened.roots.fixed
     (subst (λ (o : ℕ → Bool). IsClearCircuit k.circuit at o care words.roots words.gates d d) (sym same) c.requires.solved.circuit)) in
     let first : IsFirstKept k.circuit at (is_observed k phase) care words.roots c.in-Ok-Some.fault d new =
     subst (λ (o : ℕ → Bool). IsFirstKept k.circuit at o care words.roots c.in-Ok-Some.fault d new) same gives in

@@ -17,14 +17,14 @@ use Rattle.path_fixpoint.specs.Parts.{IsPart}
 use Rattle.vrt_model.proofs.Members.{at_none}
 use Rattle.vrt_model.specs.Lists.{Among, mark_at}
 use Rattle.vrt_model.specs.declared.circuit.Device.{Device}
-use Rattle.circuit_faults.proofs.kept.kept_fault.Goals as goal
+use Rattle.circuit_faults.proofs.kept.wired_kept.Goals as goal
 
 -- ---- without keepers
 
 pub returns-then-not-has_keeper-clause-gives : goal.returns-then-not-has_keeper-clause-gives
-returns-then-not-has_keeper-clause-gives c phase list fixed clear =
+returns-then-not-has_keeper-clause-gives c phase free list fixed clear =
     let circuit = c.args.circuit.now in
-    kept_idle circuit phase (mark_at c.args.observed.now) c.requires.circuit c.requires.observed.0 c.args.care c.args.spans c.args.store.now fixed clear c.args.store.now
+    kept_idle circuit phase (mark_at c.args.observed.now) free c.args.wholes.drivers.now c.args.wholes.plans.now c.requires.wholes c.requires.observed.0 c.args.care c.args.spans c.args.store.now fixed clear c.args.store.now
     (keeper_none circuit (subst (λ (ds : List Device). list_any (λ (d : Device). d.keeper) ds ≡ false) c.as_slice.ensures (sym c.has_keeper.ensures ∙ c.if-not-has_keeper.true)))
 
 pub returns-in-Err-clause-idle : goal.returns-in-Err-clause-idle
@@ -52,7 +52,7 @@ scan_kept-requires-clause-live c n p value =
     let list = c.args.kept.now.list in
     let reached = subst (λ (ps : List Part). (m : ℕ) → IsInEarlier ps (length ps) m → IsReachedIn circuit ps c.args.spans (length ps) c.args.store.now c.solve_parts.new.store m) c.as_slice-2.ensures
     c.in-Ok.ensures.gives in
-    (reached n (plain_inside circuit c.requires.parts.0 c.args.kept.now c.requires.parts.1 n p)).5.live value
+    (reached n (plain_inside circuit c.requires.parts.0 c.args.kept.now c.requires.parts.1 n p.0)).5.live value
 
 -- ---- what is found
 
@@ -66,7 +66,7 @@ returns-clause-gives c =
     let reached = subst (λ (ps : List Part). (m : ℕ) → IsInEarlier ps (length ps) m → IsReachedIn circuit ps c.args.spans (length ps) c.args.store.now c.solve_parts.new.store m) c.as_slice-2.ensures
     c.in-Ok.ensures.gives in
     if_ok_more _ _ c.scan_kept.result
-    (λ found s phase list fixed clear. kept_gives circuit phase (mark_at c.args.observed.now) c.requires.circuit c.requires.observed.0 c.args.care c.args.spans c.args.store.now fixed clear
+    (λ found s phase free list fixed clear. kept_gives circuit phase (mark_at c.args.observed.now) free c.args.wholes.drivers.now c.args.wholes.plans.now c.requires.wholes c.requires.observed.0 c.args.care c.args.spans c.args.store.now fixed clear
     c.requires.observed.1 c.args.kept.now list c.solve_parts.new.store c.requires.spans c.in-Ok.ensures.writes c.requires.care reached c.scan_kept.new.store found s)
     c.scan_kept.ensures.gives
 
@@ -109,7 +109,7 @@ returns-clause-few c one u care gates roots =
     (counts_then u (sum_by kept_part_operations slice) (20 * length circuit.nets) old mid new c.scan_kept.result solved.counts.added
     (c.scan_kept.ensures.few u (within_same u (function_of old c.args.care) (function_of mid c.args.care) (writes.adds.kept c.args.care.0 c.requires.care) care)
     (gates_within circuit list spans old c.requires.spans mid writes u gates)
-    (λ n value p. within n value (plain_inside circuit c.requires.parts.0 c.args.kept.now c.requires.parts.1 n p))))
+    (λ n value p. within n value (plain_inside circuit c.requires.parts.0 c.args.kept.now c.requires.parts.1 n p.0))))
 
 pub returns-clause-spent : goal.returns-clause-spent
 returns-clause-spent c one =

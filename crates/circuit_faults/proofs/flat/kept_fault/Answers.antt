@@ -1,0 +1,5 @@
+use Rattle.circuit_faults.proofs.FlatWholes.{flat_table}
+use Rattle.circuit_faults.proofs.flat.kept_fault.Goals as goal
+
+pub wired_kept-requires-clause-wholes : goal.wired_kept-requires-clause-wholes
+wired_kept-requires-clause-wholes c = flat_table c.args.circuit.now c.requires.circuit
