@@ -1,5 +1,5 @@
 -- In a circuit without whole instances the steps take the operations of parts and instances alone.
-use Rattle.std.proofs.Common.{◌≡◌, ℕ, ◌+◌, List, [], arith, Option, None, Some, ap, refl, ◌∙◌}
+use Rattle.std.proofs.Common.{◌≡◌, ℕ, List, [], arith, Option, None, Some, ap, refl}
 use Rattle.std.specs.Prelude.{option_map, slice_get, sum_by, unwrap_or}
 use Rattle.std.proofs.Math.Path.{fun_ext}
 use Rattle.channel_parts.specs.declared.part.Part.{Part}
