@@ -3,6 +3,7 @@ pub mod CircuitLaws
 pub mod ClearHere
 pub mod CountLaws
 pub mod DrivenAlone
+pub mod FlatOperations
 pub mod InstanceLaws
 pub mod KeptBits
 pub mod KeptCases

@@ -1,2 +1,3 @@
 pub mod PhaseSpots
 pub mod Searches
+pub mod States

@@ -31,6 +31,10 @@ three_first a b c d e n le = omega (arith, le)
 four_first : (a b c d e n : ℕ) → a + b + c + d + e ≤ n → a + b + c + d ≤ n
 four_first a b c d e n le = omega (arith, le)
 
+-- as many operations as were made are so many
+pub within_made : (more most made operations : ℕ) → made ≡ operations → operations + more ≤ most → made + more ≤ most
+within_made more most made operations exact le = omega (arith, exact, le)
+
 module _ (k : Comparison) (phase : ℕ) (plan : PhasePlan) (ready : IsReady k) (is : IsPhasePlan k phase plan) where
   abbrev steps : ℕ
   steps = steps_operations (in_comparison k phase plan.parts plan.steps (is_observed k phase))

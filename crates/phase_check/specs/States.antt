@@ -1,5 +1,5 @@
 -- What is known of a phase between the steps of its search, and what the search leaves of its store.
-use Rattle.std.specs.Prelude.{◌≡◌, ℕ, ◌+◌, ◌-◌, ◌*◌, ◌≤◌, ◌++◌, Bool, true, List, length, Option, Some, None}
+use Rattle.std.specs.Prelude.{◌≡◌, ℕ, ◌+◌, ◌-◌, ◌*◌, ◌≤◌, ◌++◌, Bool, true, List, [], length, Option, Some, None}
 use Rattle.node_pool.specs.declared.region.Span.{Span}
 use Rattle.bdd_core.specs.Store.{Diagrams}
 use Rattle.bdd_core.specs.Words.{IsFilled, shows, word_at}
@@ -31,7 +31,7 @@ use Rattle.vrt_model.specs.declared.verdict.FaultKind.TheVariants.{FightKept, Un
 
 -- ---- operations
 
--- those until the bare circuit is looked through, and until the kept one is, and until the model has its bits
+-- where no instance is left whole, those until the bare circuit is looked through, and until the kept one is, and until the model has its bits
 abbrev pub solved_operations : Comparison → ℕ → PhasePlan → ℕ
 solved_operations k phase plan = opened_operations k phase + steps_operations (in_comparison k phase plan.parts plan.steps (is_observed k phase))
 
@@ -54,6 +54,12 @@ pub record IsSearched (k : Comparison) (phase budget operations : ℕ) (spots : 
   pub opened : IsOpen k phase care w d
   pub met : (bits : List Bool) × Meets k phase bits
   pub clear : IsClearAt k phase spots
+
+-- the same after as many operations as were made; where no instance is left whole, these are so many
+pub record HasBeenSearched (k : Comparison) (phase budget operations : ℕ) (spots : List Spot) (care : H) (w : PhaseWords) (d : Diagrams) : Type 0 where
+  pub made : ℕ
+  pub exact : k.circuit.wholes ≡ [] → made ≡ operations
+  pub searched : IsSearched k phase budget made spots care w d
 
 -- the bare circuit is clear, and the handles of the observed nets have their bits
 pub record IsSolved (k : Comparison) (phase : ℕ) (care : H) (w : PhaseWords) (d : Diagrams) : Type 0 where

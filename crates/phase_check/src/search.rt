@@ -2,7 +2,7 @@
 
 ghost use Rattle.std.specs.Prelude.{◌≡◌, ◌+◌, ◌≤◌, ◌<◌, [], length};
 ghost use Rattle.bdd_core.specs.Store.{IsSpan};
-ghost use Rattle.phase_check.specs.States.{AreKeptValues, HasModelBits, HasNetBits, IsSearched, IsSolved, KeepsRoom, circuit_spots, evaluated_operations, handles_of, settled_operations, solved_operations};
+ghost use Rattle.phase_check.specs.States.{AreKeptValues, HasBeenSearched, HasModelBits, HasNetBits, IsSearched, IsSolved, KeepsRoom, circuit_spots, evaluated_operations, handles_of, settled_operations, solved_operations};
 ghost use Rattle.phase_open.specs.Given.{AreFew};
 ghost use Rattle.phase_terms.specs.Found.{PhaseGives};
 ghost use Rattle.phase_terms.specs.Opened.{IsOpen, opened_operations};
@@ -10,12 +10,11 @@ ghost use Rattle.phase_terms.specs.Plans.{IsPhasePlan, step_spots};
 ghost use Rattle.phase_terms.specs.Ready.{IsReady, comparison_in};
 ghost use Rattle.phase_terms.specs.Stores.{IsPhaseStore, counts_of, word_count};
 ghost use Rattle.vrt_model.specs.Held.{sources_of};
+ghost use Rattle.whole_steps.specs.Tables.{IsWholeTable};
 
 use bdd_core::{H, Store};
 use blif_eval::eval_model;
-use circuit_faults::{
-    CircuitSpans, KeptFault, KeptSpans, PhasedCircuit, circuit_fault, kept_fault,
-};
+use circuit_faults::{CircuitSpans, KeptFault, KeptSpans, PhasedCircuit, wired_fault, wired_kept};
 use node_pool::Span;
 use phase_open::{open_phase, take_words};
 use phase_terms::{Comparison, PhaseFault, PhaseFound, PhasePlan, PhaseWords, WordCounts};
@@ -61,7 +60,7 @@ fn check_wishes(store: &mut Store, search: Search<'_>) -> PhaseFound
     requires phase { search.phase < length search.compared.rules.now.phases }
     requires plan { IsPhasePlan (comparison_in search.compared) search.phase search.plan.now }
     requires budget { 65536 ≤ store.old.budget }
-    requires searched { IsSearched (comparison_in search.compared) search.phase store.old.budget (evaluated_operations (comparison_in search.compared) search.phase search.plan.now) (circuit_spots (comparison_in search.compared) search.plan.now) search.care search.words store.old }
+    requires searched { HasBeenSearched (comparison_in search.compared) search.phase store.old.budget (evaluated_operations (comparison_in search.compared) search.phase search.plan.now) (circuit_spots (comparison_in search.compared) search.plan.now) search.care search.words store.old }
     requires nets { HasNetBits (comparison_in search.compared) search.phase search.words store.old }
     requires model { HasModelBits (comparison_in search.compared) search.phase search.words store.old }
     ensures gives { PhaseGives (comparison_in search.entry.compared) search.entry.phase store.old.budget store.new result }
@@ -88,7 +87,7 @@ fn check_model(store: &mut Store, search: Search<'_>) -> PhaseFound
     requires phase { search.phase < length search.compared.rules.now.phases }
     requires plan { IsPhasePlan (comparison_in search.compared) search.phase search.plan.now }
     requires budget { 65536 ≤ store.old.budget }
-    requires searched { IsSearched (comparison_in search.compared) search.phase store.old.budget (settled_operations (comparison_in search.compared) search.phase search.plan.now) (circuit_spots (comparison_in search.compared) search.plan.now) search.care search.words store.old }
+    requires searched { HasBeenSearched (comparison_in search.compared) search.phase store.old.budget (settled_operations (comparison_in search.compared) search.phase search.plan.now) (circuit_spots (comparison_in search.compared) search.plan.now) search.care search.words store.old }
     requires nets { HasNetBits (comparison_in search.compared) search.phase search.words store.old }
     ensures gives { PhaseGives (comparison_in search.entry.compared) search.entry.phase store.old.budget store.new result }
     ensures kept { KeepsRoom store.old store.new }
@@ -126,8 +125,9 @@ fn check_kept(store: &mut Store, search: Search<'_>) -> PhaseFound
     requires ready { IsReady (comparison_in search.compared) }
     requires phase { search.phase < length search.compared.rules.now.phases }
     requires plan { IsPhasePlan (comparison_in search.compared) search.phase search.plan.now }
+    requires wholes { IsWholeTable search.compared.circuit.now search.compared.wholes.drivers.now search.compared.wholes.plans.now }
     requires budget { 65536 ≤ store.old.budget }
-    requires searched { IsSearched (comparison_in search.compared) search.phase store.old.budget (solved_operations (comparison_in search.compared) search.phase search.plan.now) (step_spots search.plan.now) search.care search.words store.old }
+    requires searched { HasBeenSearched (comparison_in search.compared) search.phase store.old.budget (solved_operations (comparison_in search.compared) search.phase search.plan.now) (step_spots search.plan.now) search.care search.words store.old }
     requires solved { IsSolved (comparison_in search.compared) search.phase search.care search.words store.old }
     ensures gives { PhaseGives (comparison_in search.entry.compared) search.entry.phase store.old.budget store.new result }
     ensures kept { KeepsRoom store.old store.new }
@@ -142,9 +142,10 @@ fn check_kept(store: &mut Store, search: Search<'_>) -> PhaseFound
         ones: words.ones,
         out: words.out,
     };
-    match kept_fault(
+    match wired_kept(
         store,
         search.compared.circuit,
+        search.compared.wholes,
         &search.plan.kept,
         marks,
         search.care,
@@ -167,6 +168,7 @@ fn check_circuit(store: &mut Store, search: Search<'_>) -> PhaseFound
     requires ready { IsReady (comparison_in search.compared) }
     requires phase { search.phase < length search.compared.rules.now.phases }
     requires plan { IsPhasePlan (comparison_in search.compared) search.phase search.plan.now }
+    requires wholes { IsWholeTable search.compared.circuit.now search.compared.wholes.drivers.now search.compared.wholes.plans.now }
     requires budget { 65536 ≤ store.old.budget }
     requires searched { IsSearched (comparison_in search.compared) search.phase store.old.budget (opened_operations (comparison_in search.compared) search.phase) [] search.care search.words store.old }
     ensures gives { PhaseGives (comparison_in search.entry.compared) search.entry.phase store.old.budget store.new result }
@@ -190,7 +192,7 @@ fn check_circuit(store: &mut Store, search: Search<'_>) -> PhaseFound
         gates: words.gates,
         out: words.out,
     };
-    match circuit_fault(store, phased, search.care, spans) {
+    match wired_fault(store, phased, search.compared.wholes, search.care, spans) {
         Err(_) => PhaseFound::Spent,
         Ok(None) => check_kept(store, search),
         Ok(Some(fault)) => PhaseFound::Fault(PhaseFault {
@@ -208,6 +210,7 @@ fn check_open(store: &mut Store, search: Search<'_>) -> PhaseFound
     requires ready { IsReady (comparison_in search.compared) }
     requires phase { search.phase < length search.compared.rules.now.phases }
     requires plan { IsPhasePlan (comparison_in search.compared) search.phase search.plan.now }
+    requires wholes { IsWholeTable search.compared.circuit.now search.compared.wholes.drivers.now search.compared.wholes.plans.now }
     requires budget { 65536 ≤ store.old.budget }
     requires store { IsPhaseStore (comparison_in search.compared) search.phase store.old.budget (opened_operations (comparison_in search.compared) search.phase) search.words store.old }
     requires opened { IsOpen (comparison_in search.compared) search.phase search.care search.words store.old }
@@ -225,8 +228,9 @@ fn check_open(store: &mut Store, search: Search<'_>) -> PhaseFound
 /// looks for a fault of the bare circuit, of the kept circuit, and of what nets ought to have, in this order.
 ///
 /// `Clear` comes where the two agree at each valuation that meets the constraints, and `Vacuous` where none does. A fault is the
-/// first of the phase at the least valuation at which its function is 1. `Spent` comes only with more than four variables, where
-/// the nodes that the phase may need are more than the budget. No memory is taken, and no word from before is written.
+/// first of the phase at the least valuation at which its function is 1. Where no instance is left whole, `Spent` comes only with
+/// more than four variables, where the nodes that the phase may need are more than the budget. No memory is taken, and no word from
+/// before is written.
 pub fn check_phase(
     store: &mut Store,
     compared: Comparison<'_>,
@@ -240,6 +244,7 @@ pub fn check_phase(
     requires vars { vars.now.sources ≡ sources_of (comparison_in compared) phase }
     requires variables { length (sources_of (comparison_in compared) phase) ≤ store.old.vars }
     requires plan { IsPhasePlan (comparison_in compared) phase plan.now }
+    requires wholes { IsWholeTable compared.circuit.now compared.wholes.drivers.now compared.wholes.plans.now }
     requires budget { 65536 ≤ store.old.budget }
     requires counts { counts ≡ counts_of (comparison_in compared) store.old.vars }
     requires few { AreFew counts }

@@ -1,7 +1,6 @@
 -- Where no fault stands at the places of a plan, the circuit and the model are equal in the phase.
 use Rattle.std.proofs.Common.{◌≡◌, ℕ, ◌<◌, Bool, false, List, length, refl, sym, subst, ◌∙◌}
 use Rattle.std.proofs.lemmas.Bool.{false≢true}
-use Rattle.channel_parts.proofs.OneSolution.{flat_determined}
 use Rattle.channel_parts.specs.OneSolution.{HasOneSolution}
 use Rattle.fault_places.specs.Searches.{Case, IsClearOf, StandsIn}
 use Rattle.phase_laws.proofs.Observed.{observed_nets}
@@ -38,7 +37,7 @@ module _ (k : Comparison) (phase : ℕ) (plan : PhasePlan) (ready : IsReady k) (
   agree_at : (bits : List Bool) → Meets k phase bits → Agree k phase (setting_of k phase bits)
   agree_at bits m =
       let solved : HasOneSolution k.circuit (phase_at k.rules phase) (is_observed k phase) (setting_of k phase bits) =
-      is.parts.4 (is_observed k phase) (setting_of k phase bits) (observed_nets k phase ready).0 (flat_determined k.circuit (phase_at k.rules phase) (is_observed k phase) ready.flat.wholes) in
+      is.parts.4 (is_observed k phase) (setting_of k phase bits) (observed_nets k phase ready).0 (ready.wholes phase range).determined in
       record {
         solution = (solved.bits, solved.solves);
         one_solution = λ a b one two n seen. sym (solved.only a one n seen) ∙ solved.only b two n seen;

@@ -1,5 +1,5 @@
 -- The gates of all devices are observed, and nets of the circuit alone are.
-use Rattle.std.proofs.Common.{◌≡◌, ℕ, ◌<◌, ◌&&◌, ◌||◌, Bool, true, List, length, refl, subst, inl, inr}
+use Rattle.std.proofs.Common.{◌≡◌, ℕ, ◌<◌, ◌&&◌, ◌||◌, Bool, true, length, refl, subst, inl, inr}
 use Rattle.std.specs.Prelude.{◌==◌, All, is_some}
 use Rattle.std.specs.List.{list_any}
 use Rattle.std.proofs.lemmas.Bool.{and_parts, eq-eqb, eqb-true, or_cases, or_left}
@@ -7,11 +7,11 @@ use Rattle.circuit_faults.specs.KeptFaults.{AreKeptObserved}
 use Rattle.phase_ports.proofs.PortLaws.{net_is}
 use Rattle.phase_terms.specs.Ready.{IsReady}
 use Rattle.vrt_model.proofs.Filtered.{device_among}
-use Rattle.vrt_model.proofs.Members.{all_among, among_any, any_among, at_none}
+use Rattle.vrt_model.proofs.Members.{all_among, among_any, any_among}
 use Rattle.vrt_model.specs.CellRules.{is_constrained, is_observed_port}
-use Rattle.vrt_model.specs.Circuits.{IsDevice, IsHold, IsNet}
+use Rattle.vrt_model.specs.Circuits.{IsDevice, IsDrive, IsHold, IsNet, IsWhole}
 use Rattle.vrt_model.specs.Comparison.{CellPort, Comparison, cell_at, is_observed, output_signal, port_nets, ports_of}
-use Rattle.vrt_model.specs.Lists.{Among, At}
+use Rattle.vrt_model.specs.Lists.{Among}
 use Rattle.vrt_model.specs.declared.circuit.Device.{Device}
 use Rattle.vrt_model.specs.declared.circuit.FlatInstance.{FlatInstance}
 use Rattle.vrt_model.specs.declared.circuit.Hold.{Hold}
@@ -64,11 +64,11 @@ module _ (k : Comparison) (phase : ℕ) (n : ℕ) where
 
     gate_below : gates ≡ true → n < length k.circuit.nets
     gate_below e =
-        let d = any_among at_gate k.circuit.devices e in below d.0.gate.0 d.2 (all_among (IsDevice k.circuit) k.circuit.devices d.0 ready.flat.devices d.1).gate
+        let d = any_among at_gate k.circuit.devices e in below d.0.gate.0 d.2 (all_among (IsDevice k.circuit) k.circuit.devices d.0 ready.circuit.devices d.1).gate
 
     hold_below : holds ≡ true → n < length k.circuit.nets
     hold_below e =
-        let h = any_among at_hold k.circuit.holds e in below h.0.net.0 h.2 (all_among (IsHold k.circuit) k.circuit.holds h.0 ready.flat.holds h.1).net
+        let h = any_among at_hold k.circuit.holds e in below h.0.net.0 h.2 (all_among (IsHold k.circuit) k.circuit.holds h.0 ready.circuit.holds h.1).net
 
     output_below : outputs ≡ true → n < length k.circuit.nets
     output_below e =
@@ -88,15 +88,22 @@ module _ (k : Comparison) (phase : ℕ) (n : ℕ) where
         below m.0.0 m.2
         (all_among (IsNet k.circuit) i.0.ports m.0 (all_among (λ (x : FlatInstance). All (IsNet k.circuit) x.ports) k.circuit.instances i.0 ready.circuit.instances i.1) m.1)
 
-    whole_none : wholes ≡ true → ⊥
-    whole_none e =
-        let w = any_among at_whole k.circuit.wholes e in at_none w.1.0 w.0 (subst (λ (ws : List Whole). At ws w.1.0 w.0) ready.flat.wholes w.1.1)
+    pin_below : (w : Whole) (p : WholePin) → Among k.circuit.wholes w → Among w.inputs p → IsNet k.circuit p.net
+    pin_below w p m i =
+        (all_among (λ (x : WholePin). IsNet k.circuit x.net × (x.signal < length w.model.signals) × IsDrive k.circuit x.drive) w.inputs p
+        (all_among (IsWhole k.circuit) k.circuit.wholes w ready.circuit.wholes m).inputs i).0
+
+    whole_below : wholes ≡ true → n < length k.circuit.nets
+    whole_below e =
+        let w = any_among at_whole k.circuit.wholes e in
+        let p = any_among (λ (x : WholePin). x.observed && x.net.0 == n) w.0.inputs w.2 in
+        below p.0.net.0 (and_parts p.0.observed (p.0.net.0 == n) p.2).1 (pin_below w.0 p.0 w.1 p.1)
 
     seen_below : is_observed k phase n ≡ true → n < length k.circuit.nets
     unfolding is_observed
     seen_below e =
         elim (or_cases (((gates || holds) || outputs) || instances) wholes e) [
-          | inr w ↦ absurd (whole_none w)
+          | inr w ↦ whole_below w
           | inl a ↦ elim (or_cases ((gates || holds) || outputs) instances a) [
             | inr i ↦ instance_below i
             | inl b ↦ elim (or_cases (gates || holds) outputs b) [

@@ -5,7 +5,6 @@ use Rattle.std.proofs.lemmas.Bool.{eqb-true}
 use Rattle.std.proofs.lemmas.Option.{none-some, same_Some}
 use Rattle.blif_eval.specs.OneAssignment.{HasOneAssignment}
 use Rattle.blif_eval.specs.Plans.{HasKnownBits}
-use Rattle.channel_parts.proofs.OneSolution.{flat_determined}
 use Rattle.fault_places.specs.Searches.{HasCases}
 use Rattle.phase_laws.proofs.Observed.{observed_nets}
 use Rattle.phase_laws.specs.Models.{AreGiven, HasCaseAt, HasOneModel, IsAssignedAt, default_bit}
@@ -86,11 +85,11 @@ one_model k phase plan given ready is are = record {
 -- ---- cases
 
 -- a case at each list of bits
-pub case_at : (k : Comparison) (phase : ℕ) (plan : PhasePlan) → IsReady k → IsPhasePlan k phase plan → HasOneModel k phase → HasCaseAt k phase
-case_at k phase plan ready is model bits =
-    let solved = is.parts.4 (is_observed k phase) (setting_of k phase bits) (observed_nets k phase ready).0 (flat_determined k.circuit (phase_at k.rules phase) (is_observed k phase) ready.flat.wholes) in
+pub case_at : (k : Comparison) (phase : ℕ) (plan : PhasePlan) → IsReady k → phase < length k.rules.phases → IsPhasePlan k phase plan → HasOneModel k phase → HasCaseAt k phase
+case_at k phase plan ready range is model bits =
+    let solved = is.parts.4 (is_observed k phase) (setting_of k phase bits) (observed_nets k phase ready).0 (ready.wholes phase range).determined in
     let g = model.some bits in
     (record { bits = bits; solution = solved.bits; assignment = g.0; solves = solved.solves; assigns = g.1 }, refl)
 
 pub has_cases : (k : Comparison) (phase : ℕ) (plan : PhasePlan) → IsReady k → phase < length k.rules.phases → IsPhasePlan k phase plan → HasOneModel k phase → HasCases k phase
-has_cases k phase plan ready range is model bits width = case_at k phase plan ready is model bits
+has_cases k phase plan ready range is model bits width = case_at k phase plan ready range is model bits

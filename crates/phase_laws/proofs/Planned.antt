@@ -5,15 +5,18 @@ use Rattle.std.specs.List.{range_with_len}
 use Rattle.std.proofs.lemmas.Option.{none-some, same_Some, slice_get_cases, slice_get_within}
 use Rattle.channel_parts.specs.PartLists.{AreParts, least_of}
 use Rattle.channel_parts.specs.declared.part.Parts.{Parts}
+use Rattle.channel_parts.proofs.DriveLaws.{driven_by, driven_gives}
 use Rattle.circuit_faults.proofs.OrderLaws.{is_least}
 use Rattle.circuit_faults.proofs.WholeParts.{number_inside}
 use Rattle.circuit_faults.specs.KeptFaults.{kept_spots}
 use Rattle.circuit_faults.specs.Steps.{step_of}
+use Rattle.circuit_faults.specs.Wholes.{HasFreeWholes}
 use Rattle.fault_places.proofs.CountedSites.{counted_sites}
 use Rattle.fault_places.proofs.ListedSpots.{spot, step_kinds}
 use Rattle.fault_places.proofs.PhaseOrder.{phase_spots}
 use Rattle.fault_places.specs.PhaseSpots.{AreSteps, IsSortedBy, Step, counted, spots_at, spots_each, spots_of}
 use Rattle.fault_places.specs.Searches.{AreSpots, IsFoundAt, Spot}
+use Rattle.fault_places.specs.States.{HasStates}
 use Rattle.phase_laws.proofs.Observed.{observed_nets}
 use Rattle.phase_terms.specs.Plans.{IsPhasePlan, planned_spots, step_spots}
 use Rattle.phase_terms.specs.Ready.{IsReady}
@@ -23,13 +26,12 @@ use Rattle.phase_wishes.specs.Wishes.{spot_of, wished_kinds}
 use Rattle.vrt_model.proofs.FirstFinding.{less_head}
 use Rattle.vrt_model.proofs.Lists.{at_back, at_either, at_front, at_map, map_among}
 use Rattle.vrt_model.proofs.Members.{among_either, among_flat_map, among_left, among_map, among_right, at_none}
-use Rattle.vrt_model.proofs.Networks.{flat_ranges}
 use Rattle.vrt_model.specs.Assignment.{Assignment}
-use Rattle.vrt_model.specs.Circuits.{IsFlat}
-use Rattle.vrt_model.specs.Comparison.{Comparison, phase_at, ports_of}
+use Rattle.vrt_model.specs.Comparison.{Comparison, is_observed, phase_at, ports_of}
 use Rattle.vrt_model.specs.Faults.{Misses}
 use Rattle.vrt_model.specs.Known.{IsLeastOfPart, IsPlain, IsRanking}
 use Rattle.vrt_model.specs.Lists.{Among, At}
+use Rattle.vrt_model.specs.Networks.{HasRanges}
 use Rattle.vrt_model.specs.Places.{IsFinding, IsOrder, comes_before, standing}
 use Rattle.vrt_model.specs.Reading.{Partial}
 use Rattle.vrt_model.specs.declared.circuit.Circuit.{Circuit}
@@ -67,19 +69,19 @@ module _ (c : Circuit) (phase : Phase) (rank : ℕ → ℕ) (parts : Parts) (are
   least_net : ℕ → ℕ
   least_net n = least_by n (plain_or_not c n)
 
-  least_by_is : IsFlat c → (n : ℕ) → IsPlain c n → (o : IsPlain c n ⊎ (¬ IsPlain c n)) → IsLeastOfPart c phase n (least_by n o)
+  least_by_is : HasRanges c → (n : ℕ) → IsPlain c n → (o : IsPlain c n ⊎ (¬ IsPlain c n)) → IsLeastOfPart c phase n (least_by n o)
   unfolding least_by
-  least_by_is flat n q (inl p) = let there = are.all n p in is_least c phase rank (flat_ranges c flat) there.0 (are.each there.0 there.1) n (number_inside there.0 n there.2)
-  least_by_is flat n q (inr other) = absurd (other q)
+  least_by_is ranges n q (inl p) = let there = are.all n p in is_least c phase rank ranges there.0 (are.each there.0 there.1) n (number_inside there.0 n there.2)
+  least_by_is ranges n q (inr other) = absurd (other q)
 
   least_by_given : (n : ℕ) → (¬ IsPlain c n) → (o : IsPlain c n ⊎ (¬ IsPlain c n)) → least_by n o ≡ n
   unfolding least_by
   least_by_given n none (inl p) = absurd (none p)
   least_by_given n none (inr other) = refl
 
-  least_net_is : IsFlat c → (n : ℕ) → IsPlain c n → IsLeastOfPart c phase n (least_net n)
+  least_net_is : HasRanges c → (n : ℕ) → IsPlain c n → IsLeastOfPart c phase n (least_net n)
   unfolding least_net
-  least_net_is flat n q = least_by_is flat n q (plain_or_not c n)
+  least_net_is ranges n q = least_by_is ranges n q (plain_or_not c n)
 
   least_net_given : (n : ℕ) → (¬ IsPlain c n) → least_net n ≡ n
   unfolding least_net
@@ -222,9 +224,22 @@ module _ (k : Comparison) (phase : ℕ) (rank least : ℕ → ℕ) where
 
 -- ---- the places of a plan
 
-module _ (k : Comparison) (phase : ℕ) (plan : PhasePlan) (ready : IsReady k) (is : IsPhasePlan k phase plan) where
+-- whole instances whose outputs are free have bits for these at each reading
+states_there : (c : Circuit) (phase : Phase) (observed : ℕ → Bool) → HasFreeWholes c phase observed → HasStates c phase
+states_there c phase observed wholes = record {
+  state = λ inputs reading reads. (
+      driven_by c phase observed wholes.determined reading,
+      record { reading = reads; driven = λ at out e. driven_gives c phase observed wholes.determined reading at out e },
+  );
+  plain = wholes.free.plain;
+}
+
+module _ (k : Comparison) (phase : ℕ) (plan : PhasePlan) (ready : IsReady k) (range : phase < length k.rules.phases) (is : IsPhasePlan k phase plan) where
   abbrev at : Phase
   at = phase_at k.rules phase
+
+  wholes : HasFreeWholes k.circuit at (is_observed k phase)
+  wholes = ready.wholes phase range
 
   abbrev rank : ℕ → ℕ
   rank = is.parts.0
@@ -242,7 +257,7 @@ module _ (k : Comparison) (phase : ℕ) (plan : PhasePlan) (ready : IsReady k) (
   unfolding least
   order = record {
     ranking = ranks;
-    plain = λ n p. least_net_is k.circuit at rank plan.parts are ready.flat n p;
+    plain = λ n p. least_net_is k.circuit at rank plan.parts are wholes.ranges n p;
     given = λ n none. least_net_given k.circuit at rank plan.parts are n none;
   }
 
@@ -270,7 +285,7 @@ module _ (k : Comparison) (phase : ℕ) (plan : PhasePlan) (ready : IsReady k) (
   all_spots : AreSpots k phase rank least (step_spots plan ++ (kept ++ others))
   all_spots =
       phase_spots k phase rank least (counted k steps)
-      (counted_sites k phase rank least steps ready.flat (observed_nets k phase ready).0.nets order are_steps)
+      (counted_sites k phase rank least steps wholes.ranges (states_there k.circuit at (is_observed k phase) wholes) (observed_nets k phase ready).0.nets order are_steps)
 
   wish_kinds : (w : Spot) → Among wishes w → Among wished_kinds w.kind
   wish_kinds w m =
@@ -329,4 +344,4 @@ module _ (k : Comparison) (phase : ℕ) (plan : PhasePlan) (ready : IsReady k) (
 -- all places of the phase, in their order
 pub planned_order : (k : Comparison) (phase : ℕ) (plan : PhasePlan) → IsReady k → phase < length k.rules.phases → IsPhasePlan k phase plan
     → (rank : ℕ → ℕ) × (least : ℕ → ℕ) × AreSpots k phase rank least (planned_spots k plan)
-planned_order k phase plan ready range is = (rank k phase plan ready is, least k phase plan ready is, planned k phase plan ready is)
+planned_order k phase plan ready range is = (rank k phase plan ready range is, least k phase plan ready range is, planned k phase plan ready range is)

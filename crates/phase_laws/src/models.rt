@@ -23,7 +23,7 @@ pub fn assigned()
 /// Where there is a plan, the model has exactly one assignment at each list of bits, and each is that of a case.
 pub fn one_model()
     ensures model { (k : Comparison) (phase : ℕ) (plan : PhasePlan) (given : List Bool → ℕ → Bool) → IsReady k → IsPhasePlan k phase plan → AreGiven k phase given → HasOneModel k phase }
-    ensures case_at { (k : Comparison) (phase : ℕ) (plan : PhasePlan) → IsReady k → IsPhasePlan k phase plan → HasOneModel k phase → HasCaseAt k phase }
+    ensures case_at { (k : Comparison) (phase : ℕ) (plan : PhasePlan) → IsReady k → phase < length k.rules.phases → IsPhasePlan k phase plan → HasOneModel k phase → HasCaseAt k phase }
     ensures cases { (k : Comparison) (phase : ℕ) (plan : PhasePlan) → IsReady k → phase < length k.rules.phases → IsPhasePlan k phase plan → HasOneModel k phase → HasCases k phase }
 {}
 

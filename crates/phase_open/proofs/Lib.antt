@@ -6,3 +6,4 @@ pub mod RootLaws
 pub mod Settings
 pub mod Sources
 pub mod TieLaws
+pub mod WordLaws

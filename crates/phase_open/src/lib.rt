@@ -9,4 +9,4 @@ mod roots;
 mod words;
 
 pub use opening::open_phase;
-pub use words::{take_words, word_count};
+pub use words::{most_model_words, take_words, word_count};

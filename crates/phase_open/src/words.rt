@@ -1,14 +1,45 @@
 //! The words of a phase in its store.
 
-ghost use Rattle.std.specs.Prelude.{◌≡◌, ◌+◌, ◌++◌, ◌≤◌, ◌<◌, length, replicate};
+ghost use Rattle.std.specs.Prelude.{◌≡◌, ◌+◌, ◌++◌, ◌≤◌, ◌<◌, All, length, replicate};
 ghost use Rattle.bdd_core.specs.Words.{IsFilled};
 ghost use Rattle.phase_open.specs.Given.{AreFew};
-ghost use Rattle.phase_terms.specs.Stores.{HasPhaseWords, word_count};
+ghost use Rattle.phase_terms.specs.Stores.{HasPhaseWords, most_model_words, word_count};
+ghost use Rattle.vrt_model.specs.declared.whole.Whole.{Whole as WholeValue};
+ghost use Rattle.whole_steps.specs.Words.{model_words};
 
 use bdd_core::Store;
 use node_pool::Span;
 use path_fixpoint::net_words;
 use phase_terms::{PhaseWords, WordCounts};
+use vrt_model::{FlatModel, Whole};
+
+/// The words in which a model is evaluated: two for each signal, and one.
+fn model_words(flat: &FlatModel) -> u32
+    requires signals { length flat.now.signals ≤ 20000 }
+    ensures words { result ≡ model_words flat.now }
+    ensures few { result ≤ 40001 }
+{
+    let signals = flat.signals.len() as u32;
+    signals + 1 + signals
+}
+
+/// The words in which the greatest model of some whole instances is evaluated.
+pub fn most_model_words(wholes: &[Whole]) -> u32
+    requires signals { All (λ (w : WholeValue). length w.model.signals ≤ 20000) wholes.now }
+    ensures most { result ≡ most_model_words wholes.now }
+    ensures few { result ≤ 40001 }
+{
+    let mut most = 0;
+    let mut rest = wholes;
+    'wholes: while let Some((whole, behind)) = rest.split_first() {
+        let words = model_words(&whole.model);
+        if words > most {
+            most = words;
+        }
+        rest = behind;
+    }
+    most
+}
 
 /// How many words a phase takes.
 pub fn word_count(counts: WordCounts) -> u32
@@ -16,6 +47,7 @@ pub fn word_count(counts: WordCounts) -> u32
     ensures { result ≡ word_count counts }
 {
     (net_words() + 4) * counts.nets
+        + counts.models
         + (2 * counts.signals + 1)
         + 2 * counts.elements
         + counts.variables
@@ -70,7 +102,7 @@ pub fn take_words(store: &mut Store, counts: WordCounts) -> PhaseWords
     let gates = behind(roots, counts.nets);
     let zeros = behind(gates, counts.nets);
     let ones = behind(zeros, counts.nets);
-    let out = behind(ones, net_words() * counts.nets);
+    let out = behind(ones, net_words() * counts.nets + counts.models);
     let inputs = behind(out, counts.signals + 1);
     let held = behind(inputs, counts.elements);
     let values = behind(held, counts.signals + counts.elements);

@@ -22,7 +22,6 @@ use std::alloc::Global;
 use vrt_model::NoMemory;
 
 /// The plan of a phase, where the parts of the bare circuit and the order of the model are there.
-#[tactic(auto, using(vrt_model::proofs::Networks::flat_ranges))]
 fn plan_with(
     alloc: Global,
     compared: Comparison<'_>,

@@ -1,5 +1,5 @@
 -- What is found in a phase.
-use Rattle.std.specs.Prelude.{◌≡◌, ◌≢◌, ℕ, ◌+◌, ◌*◌, ◌^◌, ◌<◌, Bool, true, List, length, Option, Some, None, option_map}
+use Rattle.std.specs.Prelude.{◌≡◌, ◌≢◌, ℕ, ◌+◌, ◌*◌, ◌^◌, ◌<◌, Bool, true, List, [], length, Option, Some, None, option_map}
 use Rattle.bdd_core.specs.Diagram.{IsWithin}
 use Rattle.bdd_core.specs.Store.{Diagrams, IsLive, IsSpan, function_of}
 use Rattle.bdd_core.specs.declared.handle.H.{H}
@@ -62,9 +62,13 @@ pub record MaySpend (k : Comparison) (budget phase : ℕ) : Type 0 where
   pub passed :
       budget < 2 + 2 ^ length (sources_of k phase) * work (length k.circuit.nets) (length k.circuit.devices) (model_size k.model) (constraints_size k)
 
+-- the same where no instance is left whole; where some are, nothing is said of when the budget is used up
+abbrev pub MaySpendFlat : Comparison → ℕ → ℕ → Type 0
+MaySpendFlat k budget phase = k.circuit.wholes ≡ [] → MaySpend k budget phase
+
 -- equal in the phase; or no valuation meets its constraints; or its first fault; or the budget used up
 abbrev pub PhaseGives : Comparison → ℕ → ℕ → Diagrams → PhaseFound → Type 0
 PhaseGives k phase budget d Clear = IsPhaseEqual k phase
 PhaseGives k phase budget d Vacuous = IsVacuous k phase
 PhaseGives k phase budget d (Fault fault) = IsPhaseFault k phase fault d
-PhaseGives k phase budget d Spent = MaySpend k budget phase
+PhaseGives k phase budget d Spent = MaySpendFlat k budget phase

@@ -14,7 +14,8 @@ pub struct PhaseWords {
     pub zeros: Span,
     /// One word for each net: where 1 reaches it in the kept circuit.
     pub ones: Span,
-    /// The words of each net, in which part after part is solved: which levels it has, and which values.
+    /// The words of each net, in which part after part is solved: which levels it has, and which values; and more of them, so that the
+    /// model of each whole instance can be evaluated there.
     pub out: Span,
     /// One word for each signal, the bits of inputs and clocks, and one for the bit of the default clock.
     pub inputs: Span,
@@ -26,11 +27,13 @@ pub struct PhaseWords {
     pub least: Span,
 }
 
-/// How many nets, signals, latch elements and variables a phase has words for.
+/// How many nets, signals, latch elements and variables a phase has words for, and how many for the models of whole instances.
 #[derive(Clone, Copy)]
 pub struct WordCounts {
     /// The nets of the circuit.
     pub nets: u32,
+    /// The words in which the greatest model of a whole instance is evaluated.
+    pub models: u32,
     /// The signals of the model.
     pub signals: u32,
     /// The latch elements of the model.

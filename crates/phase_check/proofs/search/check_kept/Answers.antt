@@ -1,19 +1,21 @@
-use Rattle.std.proofs.Common.{ℕ, ◌+◌, Bool, Option, None, length, arith, refl, subst, sym}
+use Rattle.std.proofs.Common.{ℕ, ◌+◌, Bool, Option, None, ap, length, arith, refl, subst, sym}
 use Rattle.bdd_ops.specs.Counting.{IsCounted}
 use Rattle.circuit_faults.specs.KeptFaults.{AreKeptObserved, kept_spots}
 use Rattle.circuit_faults.specs.KeptResults.{IsFirstKept, KeptGives}
 use Rattle.circuit_faults.specs.Operations.{kept_operations}
 use Rattle.circuit_faults.specs.Results.{IsClearCircuit}
+use Rattle.circuit_faults.specs.Wholes.{HasFreeWholes}
 use Rattle.circuit_faults.specs.declared.kept_net.KeptFault.{KeptFault}
 use Rattle.fault_places.proofs.SearchLaws.{clear_stages}
 use Rattle.fault_places.specs.Searches.{Case, StandsIn}
 use Rattle.phase_check.proofs.Cases.{model_of}
-use Rattle.phase_check.proofs.Ends.{seen_is, settled_within}
+use Rattle.phase_check.proofs.Ends.{seen_is, settled_within, within_made}
 use Rattle.phase_check.proofs.KeptStage.{fault_below, kept_clear, kept_phase_fault, kept_spans, kept_there}
 use Rattle.phase_laws.proofs.Observed.{observed_nets}
 use Rattle.phase_check.proofs.Spans.{gates_ones, gates_out, gates_zeros, held_ones, held_out, held_zeros, inputs_ones, inputs_out, inputs_zeros, roots_ones, roots_out, roots_zeros}
 use Rattle.phase_check.proofs.Stays.{nets_stay, searched_next, solved_bits, stays_kept, store_next}
 use Rattle.phase_laws.proofs.Work.{filled_within, live_within, may_spend}
+use Rattle.phase_laws.specs.Sums.{phase_work_of}
 use Rattle.phase_check.specs.States.{circuit_spots, solved_operations}
 use Rattle.phase_terms.specs.Found.{met}
 use Rattle.phase_terms.specs.Plans.{step_spots}
@@ -24,17 +26,20 @@ use Rattle.vrt_model.specs.Held.{sources_of}
 use Rattle.vrt_model.specs.Lists.{mark_at}
 use Rattle.phase_check.proofs.search.check_kept.Goals as goal
 
-pub kept_fault-requires-clause-observed : goal.kept_fault-requires-clause-observed
-kept_fault-requires-clause-observed c =
+pub wired_kept-requires-clause-circuit : goal.wired_kept-requires-clause-circuit
+wired_kept-requires-clause-circuit c = (c.requires.ready.wholes c.args.search.phase c.requires.phase).ranges
+
+pub wired_kept-requires-clause-observed : goal.wired_kept-requires-clause-observed
+wired_kept-requires-clause-observed c =
     let k = comparison_in c.args.search.compared in
     let phase = c.args.search.phase in
     let same = seen_is k phase c.args.search.plan.now c.requires.ready c.requires.plan c.as_slice-marks.result.now c.as_slice-marks.ensures.value in
     subst (λ (o : ℕ → Bool). AreKeptObserved k.circuit o) (sym same) (observed_nets k phase c.requires.ready)
 
-pub kept_fault-requires-clause-spans : goal.kept_fault-requires-clause-spans
-kept_fault-requires-clause-spans c =
+pub wired_kept-requires-clause-spans : goal.wired_kept-requires-clause-spans
+wired_kept-requires-clause-spans c =
     let k = comparison_in c.args.search.compared in
-    let s = c.requires.searched in
+    let s = c.requires.searched.searched in
     kept_there k c.args.search.phase c.args.search.plan.now c.requires.ready c.requires.plan c.args.search.words c.args.store.now c.args.search.care s.store.words s.opened c.requires.solved.live
 
 pub check_model-requires-clause-searched : goal.check_model-requires-clause-searched
@@ -45,18 +50,18 @@ check_model-requires-clause-searched c =
     let words = c.args.search.words in
     let care = c.args.search.care in
     let d = c.args.store.now in
-    let new = c.kept_fault.new.store in
-    let s = c.requires.searched in
+    let new = c.wired_kept.new.store in
+    let s = c.requires.searched.searched in
     let h = s.store.words in
     let sound = c.sound.ensures.sound in
     let writes = c.in-Ok-None.ensures.writes in
     let u : ℕ = length (sources_of k phase) in
-    let operations : ℕ = solved_operations k phase plan in
+    let operations : ℕ = c.requires.searched.made in
     let more : ℕ = kept_operations k.circuit plan.kept.list in
     let same = seen_is k phase plan c.requires.ready c.requires.plan c.as_slice-marks.result.now c.as_slice-marks.ensures.value in
     let at = phase_at k.rules phase in
     let gives = subst (λ (o : Option KeptFault). KeptGives k.circuit at (mark_at c.as_slice-marks.result.now) care words.roots d new o) c.in-Ok-None.field-0-is
-    (c.in-Ok-None.ensures.gives at c.requires.plan.kept s.opened.roots.fixed
+    (c.in-Ok-None.ensures.gives at (subst (λ (o : ℕ → Bool). HasFreeWholes k.circuit at o) (sym same) (c.requires.ready.wholes phase c.requires.phase)) c.requires.plan.kept s.opened.roots.fixed
     (subst (λ (o : ℕ → Bool). IsClearCircuit k.circuit at o care words.roots words.gates d d) (sym same) c.requires.solved.circuit)) in
     let none : KeptGives k.circuit at (is_observed k phase) care words.roots d new None =
     subst (λ (o : ℕ → Bool). KeptGives k.circuit at o care words.roots d new None) same gives in
@@ -64,13 +69,17 @@ check_model-requires-clause-searched c =
     (c.in-Ok-None.ensures.few c.requires.ready.circuit.one_hold u (live_within d.budget u operations d care s.store.used sound s.opened.care_live)
     (filled_within d.budget u operations d words.gates s.store.used sound c.requires.solved.live)
     (filled_within d.budget u operations d words.roots s.store.used sound s.opened.roots.live)).added in
-    searched_next k phase d.budget operations more words d new writes.adds writes.len counted c.requires.ready care (step_spots plan) (circuit_spots k plan)
-    (stays_kept (kept_spans words) words.roots d new writes (roots_zeros (counts_of k d.vars) words d h) (roots_ones (counts_of k d.vars) words d h) (roots_out (counts_of k d.vars) words d h))
-    (stays_kept (kept_spans words) words.inputs d new writes (inputs_zeros (counts_of k d.vars) words d h) (inputs_ones (counts_of k d.vars) words d h) (inputs_out (counts_of k d.vars) words d h))
-    (stays_kept (kept_spans words) words.held d new writes (held_zeros (counts_of k d.vars) words d h) (held_ones (counts_of k d.vars) words d h) (held_out (counts_of k d.vars) words d h))
-    s
-    (clear_stages (Case k phase) (StandsIn k phase) (λ (v : Case k phase). met k phase v.bits) (step_spots plan) (kept_spots k.circuit) s.clear
-    (kept_clear k phase plan c.requires.ready c.requires.plan care words d s.opened none))
+    record {
+      made = operations + more;
+      exact = λ none. ap (λ a. a + more) (c.requires.searched.exact none);
+      searched = searched_next k phase d.budget operations more words d new writes.adds writes.len counted c.requires.ready care (step_spots plan) (circuit_spots k plan)
+          (stays_kept (kept_spans words) words.roots d new writes (roots_zeros (counts_of k d.vars) words d h) (roots_ones (counts_of k d.vars) words d h) (roots_out (counts_of k d.vars) words d h))
+          (stays_kept (kept_spans words) words.inputs d new writes (inputs_zeros (counts_of k d.vars) words d h) (inputs_ones (counts_of k d.vars) words d h) (inputs_out (counts_of k d.vars) words d h))
+          (stays_kept (kept_spans words) words.held d new writes (held_zeros (counts_of k d.vars) words d h) (held_ones (counts_of k d.vars) words d h) (held_out (counts_of k d.vars) words d h))
+          s
+          (clear_stages (Case k phase) (StandsIn k phase) (λ (v : Case k phase). met k phase v.bits) (step_spots plan) (kept_spots k.circuit) s.clear
+          (kept_clear k phase plan c.requires.ready c.requires.plan care words d s.opened none));
+    }
 
 pub check_model-requires-clause-nets : goal.check_model-requires-clause-nets
 check_model-requires-clause-nets c =
@@ -78,8 +87,8 @@ check_model-requires-clause-nets c =
     let phase = c.args.search.phase in
     let words = c.args.search.words in
     let d = c.args.store.now in
-    let new = c.kept_fault.new.store in
-    let s = c.requires.searched in
+    let new = c.wired_kept.new.store in
+    let s = c.requires.searched.searched in
     let h = s.store.words in
     let writes = c.in-Ok-None.ensures.writes in
     nets_stay k phase c.requires.ready words d new h writes.adds
@@ -94,12 +103,12 @@ kept_values-requires-clause-net c =
     let words = c.args.search.words in
     let care = c.args.search.care in
     let d = c.args.store.now in
-    let new = c.kept_fault.new.store in
-    let s = c.requires.searched in
+    let new = c.wired_kept.new.store in
+    let s = c.requires.searched.searched in
     let same = seen_is k phase plan c.requires.ready c.requires.plan c.as_slice-marks.result.now c.as_slice-marks.ensures.value in
     let at = phase_at k.rules phase in
     let gives = subst (λ (o : Option KeptFault). KeptGives k.circuit at (mark_at c.as_slice-marks.result.now) care words.roots d new o) c.in-Ok-Some.field-0-is
-    (c.in-Ok-Some.ensures.gives at c.requires.plan.kept s.opened.roots.fixed
+    (c.in-Ok-Some.ensures.gives at (subst (λ (o : ℕ → Bool). HasFreeWholes k.circuit at o) (sym same) (c.requires.ready.wholes phase c.requires.phase)) c.requires.plan.kept s.opened.roots.fixed
     (subst (λ (o : ℕ → Bool). IsClearCircuit k.circuit at o care words.roots words.gates d d) (sym same) c.requires.solved.circuit)) in
     let first : IsFirstKept k.circuit at (is_observed k phase) care words.roots c.in-Ok-Some.fault d new =
     subst (λ (o : ℕ → Bool). IsFirstKept k.circuit at o care words.roots c.in-Ok-Some.fault d new) same gives in
@@ -114,12 +123,13 @@ returns-in-Err-clause-gives c =
     let plan = c.args.search.plan.now in
     let words = c.args.search.words in
     let d = c.args.store.now in
-    let s = c.requires.searched in
+    let s = c.requires.searched.searched in
     let sound = c.sound.ensures.sound in
     let u : ℕ = length (sources_of k phase) in
-    let operations : ℕ = solved_operations k phase plan in
-    may_spend k phase d.budget u operations (kept_operations k.circuit plan.kept.list) d c.kept_fault.new.store c.in-Err.field-0 s.store.used refl c.requires.budget
-    (settled_within k phase plan c.requires.ready c.requires.plan)
+    let operations : ℕ = c.requires.searched.made in
+    λ none.
+    may_spend k phase d.budget u operations (kept_operations k.circuit plan.kept.list) d c.wired_kept.new.store c.in-Err.field-0 s.store.used refl c.requires.budget
+    (within_made (kept_operations k.circuit plan.kept.list) (phase_work_of k) operations (solved_operations k phase plan) (c.requires.searched.exact none) (settled_within k phase plan c.requires.ready c.requires.plan))
     (c.in-Err.ensures.few c.requires.ready.circuit.one_hold u (live_within d.budget u operations d c.args.search.care s.store.used sound s.opened.care_live)
     (filled_within d.budget u operations d words.gates s.store.used sound c.requires.solved.live)
     (filled_within d.budget u operations d words.roots s.store.used sound s.opened.roots.live))
@@ -132,18 +142,18 @@ returns-in-Ok-Some-clause-gives c =
     let words = c.args.search.words in
     let care = c.args.search.care in
     let d = c.args.store.now in
-    let new = c.kept_fault.new.store in
-    let s = c.requires.searched in
+    let new = c.wired_kept.new.store in
+    let s = c.requires.searched.searched in
     let h = s.store.words in
     let sound = c.sound.ensures.sound in
     let writes = c.in-Ok-Some.ensures.writes in
     let u : ℕ = length (sources_of k phase) in
-    let operations : ℕ = solved_operations k phase plan in
+    let operations : ℕ = c.requires.searched.made in
     let more : ℕ = kept_operations k.circuit plan.kept.list in
     let same = seen_is k phase plan c.requires.ready c.requires.plan c.as_slice-marks.result.now c.as_slice-marks.ensures.value in
     let at = phase_at k.rules phase in
     let gives = subst (λ (o : Option KeptFault). KeptGives k.circuit at (mark_at c.as_slice-marks.result.now) care words.roots d new o) c.in-Ok-Some.field-0-is
-    (c.in-Ok-Some.ensures.gives at c.requires.plan.kept s.opened.roots.fixed
+    (c.in-Ok-Some.ensures.gives at (subst (λ (o : ℕ → Bool). HasFreeWholes k.circuit at o) (sym same) (c.requires.ready.wholes phase c.requires.phase)) c.requires.plan.kept s.opened.roots.fixed
     (subst (λ (o : ℕ → Bool). IsClearCircuit k.circuit at o care words.roots words.gates d d) (sym same) c.requires.solved.circuit)) in
     let first : IsFirstKept k.circuit at (is_observed k phase) care words.roots c.in-Ok-Some.fault d new =
     subst (λ (o : ℕ → Bool). IsFirstKept k.circuit at o care words.roots c.in-Ok-Some.fault d new) same gives in

@@ -15,6 +15,7 @@ returns-in-Err-clause-gives c =
     let rest = c.take_words-words.ensures.rest in
     let u : ℕ = length (sources_of k c.args.phase) in
     let count : length mid.nodes ≡ 2 = ap (λ (x : Diagrams). length x.nodes) rest ∙ c.requires.empty in
+    λ none.
     may_spend k c.args.phase d.budget u 0 (opened_operations k c.args.phase) mid c.open_phase.new.store c.in-Err.field-0
     (used_none d.budget u mid (ap (λ (x : Diagrams). x.budget) rest) count) refl c.requires.budget
     (opened_within k c.args.phase c.args.plan.now c.requires.ready c.requires.plan) c.in-Err.ensures.counts

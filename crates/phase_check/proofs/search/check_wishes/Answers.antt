@@ -1,10 +1,11 @@
 use Rattle.std.proofs.Common.{ℕ, ◌+◌, ◌*◌, List, Option, None, Err, All, length, refl, subst, sym}
 use Rattle.bdd_ops.specs.Counting.{Counts, IsCounted}
 use Rattle.phase_check.proofs.Cases.{model_of}
-use Rattle.phase_check.proofs.Ends.{adds_now, all_within, words_now}
+use Rattle.phase_check.proofs.Ends.{adds_now, all_within, within_made, words_now}
 use Rattle.phase_check.proofs.Stays.{store_next}
 use Rattle.phase_check.proofs.WishStage.{bits_there, wish_equal, wish_phase_fault, wishes_inside, wishes_within}
 use Rattle.phase_laws.proofs.Work.{live_within, may_spend}
+use Rattle.phase_laws.specs.Sums.{phase_work_of}
 use Rattle.phase_check.specs.States.{evaluated_operations, handles_of}
 use Rattle.phase_terms.specs.Ready.{comparison_in}
 use Rattle.phase_wishes.specs.Missed.{AreBits, AreWithin, IsFirstMissed, IsFoundWish, IsWithinBits, WishesFind, WishesGive}
@@ -19,7 +20,7 @@ wish_fault-requires-clause-bits c =
     let k = comparison_in c.args.search.compared in
     let d = c.args.store.now in
     subst (λ (b : WishBits). AreBits d b) (sym c.wish_bits-bits.ensures)
-    (bits_there k c.args.search.phase c.args.search.plan.now c.requires.ready c.requires.plan c.args.search.words d c.requires.searched.store.words c.requires.nets.live c.requires.model.live)
+    (bits_there k c.args.search.phase c.args.search.plan.now c.requires.ready c.requires.plan c.args.search.words d c.requires.searched.searched.store.words c.requires.nets.live c.requires.model.live)
 
 pub wish_fault-requires-clause-wishes : goal.wish_fault-requires-clause-wishes
 wish_fault-requires-clause-wishes c =
@@ -28,7 +29,7 @@ wish_fault-requires-clause-wishes c =
     let wishes = c.as_slice.result.now in
     subst (λ (b : WishBits). All (IsWithinBits b) wishes) (sym c.wish_bits-bits.ensures)
     (subst (λ (ws : List Wish). All (IsWithinBits (handles_of c.args.search.words)) ws) (sym c.as_slice.ensures)
-    (wishes_inside k c.args.search.phase c.args.search.plan.now c.requires.ready c.requires.plan c.args.search.words d c.requires.searched.store.words))
+    (wishes_inside k c.args.search.phase c.args.search.plan.now c.requires.ready c.requires.plan c.args.search.words d c.requires.searched.searched.store.words))
 
 pub returns-in-Err-clause-gives : goal.returns-in-Err-clause-gives
 returns-in-Err-clause-gives c =
@@ -38,16 +39,18 @@ returns-in-Err-clause-gives c =
     let words = c.args.search.words in
     let d = c.args.store.now in
     let new = c.wish_fault.new.store in
-    let s = c.requires.searched in
+    let s = c.requires.searched.searched in
     let sound = c.sound.ensures.sound in
     let u : ℕ = length (sources_of k phase) in
-    let operations : ℕ = evaluated_operations k phase plan in
+    let operations : ℕ = c.requires.searched.made in
     let spent = c.in-Err.field-0 in
     let care_in = live_within d.budget u operations d c.args.search.care s.store.used sound s.opened.care_live in
     let all_in = wishes_within k phase plan c.requires.ready c.requires.plan words d s.store.words d.budget u operations s.store.used sound c.requires.nets.live c.requires.model.live in
     let counts : Counts {A = Option WishFault} u (3 * length c.as_slice.result.now) d new (Err spent) =
     c.in-Err.ensures.counts u care_in (subst (λ (b : WishBits). AreWithin u d b) (sym c.wish_bits-bits.ensures) all_in) in
-    may_spend k phase d.budget u operations (3 * length plan.wishes) d new spent s.store.used refl c.requires.budget (all_within k phase plan c.requires.ready c.requires.plan)
+    λ none.
+    may_spend k phase d.budget u operations (3 * length plan.wishes) d new spent s.store.used refl c.requires.budget
+    (within_made (3 * length plan.wishes) (phase_work_of k) operations (evaluated_operations k phase plan) (c.requires.searched.exact none) (all_within k phase plan c.requires.ready c.requires.plan))
     (subst (λ (ws : List Wish). Counts {A = Option WishFault} u (3 * length ws) d new (Err spent)) c.as_slice.ensures counts)
 
 pub returns-in-Ok-None-clause-gives : goal.returns-in-Ok-None-clause-gives
@@ -59,7 +62,7 @@ returns-in-Ok-None-clause-gives c =
     let care = c.args.search.care in
     let d = c.args.store.now in
     let new = c.wish_fault.new.store in
-    let s = c.requires.searched in
+    let s = c.requires.searched.searched in
     let b = handles_of words in
     let found = subst (λ (o : Option WishFault). WishesFind c.as_slice.result.now care c.wish_bits-bits.result d new o) c.in-Ok-None.field-0-is c.in-Ok-None.ensures.found in
     let none : WishesFind plan.wishes care b d d None =
@@ -76,11 +79,11 @@ returns-in-Ok-Some-clause-gives c =
     let care = c.args.search.care in
     let d = c.args.store.now in
     let new = c.wish_fault.new.store in
-    let s = c.requires.searched in
+    let s = c.requires.searched.searched in
     let b = handles_of words in
     let sound = c.sound.ensures.sound in
     let u : ℕ = length (sources_of k phase) in
-    let operations : ℕ = evaluated_operations k phase plan in
+    let operations : ℕ = c.requires.searched.made in
     let fault = c.in-Ok-Some.fault in
     let adds = c.in-Ok-Some.ensures.adds in
     let gives = subst (λ (o : Option WishFault). WishesGive c.as_slice.result.now care c.wish_bits-bits.result d new o) c.in-Ok-Some.field-0-is c.in-Ok-Some.ensures.gives in
