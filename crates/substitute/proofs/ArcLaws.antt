@@ -95,6 +95,13 @@ driven_there facts cell j (p ∷ pins) (suc i) out s e role =
     later (Some k) rest =
         let found = rest (suc j) in record { at = suc found.at; pin = found.pin; here = found.here; signal = found.signal; net = found.net }
 
+-- steps of equations that are short at any values
+same_signal : (o : Option ℕ) (s k : ℕ) → o ≡ Some s → k ≡ s → o ≡ Some k
+same_signal o s k e f = e ∙ ap (λ (n : ℕ). Some n) (sym f)
+
+same_net : (a b : Net) (n : ℕ) → a ≡ b → b.0 ≡ n → a.0 ≡ n
+same_net a b n e f = ap (λ (x : Net). x.0) e ∙ f
+
 -- a link is to an output
 to_output : (k : Comparison) (phase : ℕ) (from to : CellPort) → Links k phase from to → (s : ℕ) × (output_signal to.role ≡ Some s)
 to_output k phase from to (inl (s, out, inl inside)) = (out, inside.1)
@@ -147,7 +154,7 @@ module _ (cut : Cut) (blif : Blif) (facts : List CellFacts) (c : Circuit) (phase
       let here : At w.outputs driven.at settled =
       subst (λ (pins : List WholePin). At pins driven.at settled) (sym (outputs_are cut.top blif facts p devices devices outputs outputs paired w is.whole))
       (map_at (settled_drive devices outputs) (outputs_of_place cut.top blif facts p) driven.at one own) in
-      let link = (is.links m arc.5).full phase pin out settled driven.at lt linked.0 linked.1 linked.2 here (signal.1 ∙ ap (λ (n : ℕ). Some n) (sym driven.signal)) in
+      let link = (is.links m arc.5).full phase pin out settled driven.at lt linked.0 linked.1 linked.2 here (same_signal (output_signal out.port.role) signal.0 driven.pin.signal signal.1 driven.signal) in
       let at : At w.outputs link.0.output settled = subst (λ (i : ℕ). At w.outputs i settled) (sym link.4) here in (
         w,
         link.0,
@@ -155,7 +162,7 @@ module _ (cut : Cut) (blif : Blif) (facts : List CellFacts) (c : Circuit) (phase
           there.1,
           link.1,
           link.2,
-          ap (λ (x : Net). x.0) link.3 ∙ arc.7,
+          same_net link.0.from pin.net from link.3 arc.7,
           (settled, at, subst (λ (n : ℕ). IsTogether c this bare to n) (ap (λ (x : Net). x.0) (sym driven.net)) (back_together to out.net.0 arc.8)),
         ),
       )

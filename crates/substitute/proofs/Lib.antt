@@ -1,5 +1,6 @@
 pub mod ArcLaws
 pub mod CellLaws
+pub mod ChosenLaws
 pub mod FlatLaws
 pub mod HoldLaws
 pub mod InsideLaws
@@ -8,5 +9,6 @@ pub mod ListLaws
 pub mod OutputLaws
 pub mod PinLaws
 pub mod ShownLaws
+pub mod StepLaws
 pub mod WholeLaws
 pub mod ZipLaws

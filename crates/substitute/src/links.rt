@@ -1,6 +1,6 @@
 //! The links of an instance that is left whole, from those of the ports of its cell.
 
-ghost use Rattle.std.specs.Prelude.{◌≡◌, ◌+◌, ◌++◌, [], List, ℕ, IfOk, OnOk, filter_map, flat_map, slice_get};
+ghost use Rattle.std.specs.Prelude.{◌≡◌, ◌++◌, [], List, ℕ, IfOk, OnOk, filter_map, flat_map, slice_get};
 ghost use Rattle.std.specs.List.{cons_option, enumerate_from};
 ghost use Rattle.substitute.specs.Links.{ArePhaseLinks, link_to, links_by, links_over, over_of, signal_at};
 ghost use Rattle.substitute.specs.Pins.{IsAtPorts};
@@ -8,6 +8,7 @@ ghost use Rattle.vrt_model.specs.Comparison.{Comparison};
 ghost use Rattle.vrt_model.specs.Unrolled.{Place as FlatPlace};
 ghost use Rattle.vrt_model.specs.WholeInstances.{HasLinks, pins_of};
 
+use crate::owners::one_more;
 use known_nets::short_number;
 use phase_ports::{Port, output_signal};
 use port_links::PortLink;
@@ -83,16 +84,6 @@ fn add_link(links: &mut Seq<Link>, link: Option<Link>) -> Result<(), NoMemory>
         return Ok(());
     };
     links.append(link)
-}
-
-/// The next number.
-fn one_more(number: usize) -> Result<usize, NoMemory>
-    ensures { IfOk result (λ next. next ≡ number + 1) }
-{
-    match number.checked_add(1) {
-        Some(next) => Ok(next),
-        None => Err(NoMemory),
-    }
 }
 
 /// Adds the links to those of the output pins that have the signal.
