@@ -2,9 +2,9 @@
 
 ghost use Rattle.std.specs.Prelude.{◌≡◌, ◌<◌, IfOk, false, length};
 ghost use Rattle.channel_parts.specs.PartLists.{IsPartList};
+ghost use Rattle.known_nets.specs.Wired.{IsWired};
 ghost use Rattle.phase_plan.specs.Gives.{BareGives};
 ghost use Rattle.phase_terms.specs.Ready.{comparison_in};
-ghost use Rattle.vrt_model.specs.Circuits.{IsFlat};
 ghost use Rattle.vrt_model.specs.Comparison.{phase_at};
 
 use crate::fault::PlanFault;
@@ -22,13 +22,12 @@ pub(crate) fn phase_of(rules: &Rules, phase: u32) -> &Phase
 }
 
 /// The parts of the circuit without its keepers, or its first cycle.
-#[tactic(auto, using(known_nets::proofs::WiredLaws::flat_wired))]
 pub(crate) fn bare_parts(
     alloc: Global,
     compared: Comparison<'_>,
     phase: u32,
 ) -> Result<Parts, PlanFault>
-    requires flat { IsFlat compared.circuit.now }
+    requires wired { IsWired compared.circuit.now }
     requires phase { phase < length compared.rules.now.phases }
     ensures { BareGives (comparison_in compared.entry) phase result }
 {
@@ -41,13 +40,12 @@ pub(crate) fn bare_parts(
 }
 
 /// The parts of the circuit with its keepers. There is no cycle then, so that want of memory alone refuses.
-#[tactic(auto, using(known_nets::proofs::WiredLaws::flat_wired))]
 pub(crate) fn kept_parts(
     alloc: Global,
     compared: Comparison<'_>,
     phase: u32,
 ) -> Result<Parts, NoMemory>
-    requires flat { IsFlat compared.circuit.now }
+    requires wired { IsWired compared.circuit.now }
     requires phase { phase < length compared.rules.now.phases }
     ensures { IfOk result (IsPartList compared.entry.circuit.now (phase_at compared.entry.rules.now phase) false) }
 {

@@ -142,6 +142,7 @@ fn look_at_kept(page: &mut Page, store: &mut Store, search: Search<'_>) -> Resul
 }
 
 /// The first fault of the bare circuit, whose parts are these.
+#[tactic(auto, using(vrt_model::proofs::Networks::flat_ranges))]
 fn bare_found(
     alloc: Global,
     store: &mut Store,

@@ -1,8 +1,14 @@
 use Rattle.std.proofs.Common.{refl}
-use Rattle.phase_plan.proofs.PlanLaws.{planned}
+use Rattle.phase_plan.proofs.PlanLaws.{planned, ready_wired}
 use Rattle.phase_terms.specs.Ready.{comparison_in}
 use Rattle.phase_terms.specs.declared.plan.PhasePlan.{PhasePlan}
 use Rattle.phase_plan.proofs.plan.plan_with.Goals as goal
+
+pub circuit_steps-requires-clause-circuit : goal.circuit_steps-requires-clause-circuit
+circuit_steps-requires-clause-circuit c = (c.requires.ready.wholes c.args.phase c.requires.phase).ranges
+
+pub kept_parts-requires-clause-wired : goal.kept_parts-requires-clause-wired
+kept_parts-requires-clause-wired c = ready_wired (comparison_in c.args.compared) c.args.phase c.requires.ready c.requires.phase
 
 pub returns : goal.returns
 returns c =
