@@ -228,8 +228,8 @@ module _ (k : Comparison) (phase : ℕ) (rank least : ℕ → ℕ) where
 states_there : (c : Circuit) (phase : Phase) (observed : ℕ → Bool) → HasFreeWholes c phase observed → HasStates c phase
 states_there c phase observed wholes = record {
   state = λ inputs reading reads. (
-      driven_by c phase observed wholes.determined reading,
-      record { reading = reads; driven = λ at out e. driven_gives c phase observed wholes.determined reading at out e },
+    driven_by c phase observed wholes.determined reading,
+    record { reading = reads; driven = λ at out e. driven_gives c phase observed wholes.determined reading at out e },
   );
   plain = wholes.free.plain;
 }
