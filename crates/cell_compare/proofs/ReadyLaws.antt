@@ -8,12 +8,14 @@ use Rattle.cell_compare.proofs.InstanceLaws.{all_sound}
 use Rattle.cell_compare.proofs.PairedInputs.{circuit_nets, output_below, paired_inputs}
 use Rattle.cell_compare.specs.Compared.{AreInputs, IsFlattened, comparison}
 use Rattle.cell_compare.specs.declared.flattened.Flattened.{Flattened}
+use Rattle.circuit_faults.proofs.FlatWholes.{flat_wholes}
 use Rattle.constraints.proofs.OrderedLaws.{are_named}
 use Rattle.flatten.proofs.CellTests.{cell_there}
 use Rattle.phase_ports.proofs.RangeLaws.{ports_below}
 use Rattle.phase_terms.specs.Ready.{HasPairedInputs, IsNamedInstance, IsReady}
 use Rattle.run_laws.specs.WellFormed.{IsWellFormed}
 use Rattle.vrt_model.proofs.Members.{all_by, among_map}
+use Rattle.vrt_model.specs.Comparison.{is_observed, phase_at}
 use Rattle.vrt_model.specs.Elements.{element_names}
 use Rattle.vrt_model.specs.FlatCircuit.{flat_circuit_of, flat_instance, flat_instances, net_id}
 use Rattle.vrt_model.specs.Groups.{Placed, element_of, group_of, groups_of, holds_by_net, leaders}
@@ -85,7 +87,7 @@ module _ (design : Design) (blif : Blif) (rules : Rules) (cell m : ℕ) (f : Fla
     rules = inputs.valid;
     cell = inputs.there;
     circuit = is.circuit;
-    flat = is.flat;
+    wholes = λ phase range. flat_wholes f.circuit (phase_at rules phase) (is_observed (comparison design rules cell f) phase) is.flat;
     model = is.model;
     roles = is.roles;
     ports = ports_below top f.circuit (circuit_nets design cell f rules is.circuit_is);

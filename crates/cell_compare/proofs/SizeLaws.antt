@@ -4,14 +4,17 @@ use Rattle.std.specs.Prelude.{All, cond, filter_map, flat_map}
 use Rattle.std.specs.List.{enumerate_from}
 use Rattle.std.proofs.lemmas.Bool.{cases_lt}
 use Rattle.std.proofs.lemmas.List.{length-append, length-map}
+use Rattle.std.proofs.lemmas.List.Elements.{All-head, All-tail}
 use Rattle.std.proofs.lemmas.Option.{slice_get_within}
 use Rattle.cell_compare.specs.Sizes.{AreWithinTo, elements_in}
 use Rattle.cell_compare.specs.Works.{AreVars}
+use Rattle.phase_open.specs.Given.{AreFew}
 use Rattle.phase_terms.specs.Ready.{IsReady}
-use Rattle.phase_terms.specs.Stores.{counts_of}
+use Rattle.phase_terms.specs.Stores.{counts_of, most_model_words}
 use Rattle.phase_terms.specs.declared.words.WordCounts.{WordCounts}
 use Rattle.vrt_model.proofs.Lists.{at_there, one_at}
-use Rattle.vrt_model.proofs.Members.{all_by}
+use Rattle.vrt_model.proofs.Members.{all_among, all_by}
+use Rattle.vrt_model.specs.Circuits.{IsCircuit, IsWhole}
 use Rattle.vrt_model.specs.Comparison.{Comparison}
 use Rattle.vrt_model.specs.Elements.{element_count, element_names, names_by_kind, signal_name}
 use Rattle.vrt_model.specs.Held.{sources_of}
@@ -28,6 +31,7 @@ use Rattle.vrt_model.specs.declared.groups.Source.{Source}
 use Rattle.vrt_model.specs.declared.groups.Source.TheVariants.{Input, Element, Group}
 use Rattle.vrt_model.specs.declared.groups.Vars.{Vars}
 use Rattle.vrt_model.specs.declared.ids.Net.{Net}
+use Rattle.vrt_model.specs.declared.whole.Whole.{Whole}
 
 -- ---- elements
 
@@ -45,6 +49,19 @@ elements_are flat (l ∷ ls) =
     let here = names_count l.kind (signal_name flat l.output) in
     let both = length-append (names_by_kind l.kind (signal_name flat l.output)) (flat_map (λ (l : FlatLatch). names_by_kind l.kind (signal_name flat l.output)) ls) in
     omega (arith, rest, here, both)
+
+-- ---- models of whole instances
+
+-- each has few signals
+pub whole_signals : (c : Circuit) → IsCircuit c → All (λ (w : Whole). length w.model.signals ≤ 20000) c.wholes
+whole_signals c is = all_by (λ (w : Whole). length w.model.signals ≤ 20000) c.wholes (λ w m. (all_among (IsWhole c) c.wholes w is.wholes m).model.signal_limit)
+
+models_few : (ws : List Whole) → All (λ (w : Whole). length w.model.signals ≤ 20000) ws → most_model_words ws ≤ 40001
+models_few [] few = omega arith
+models_few (w ∷ ws) few =
+    let here = All-head (λ (x : Whole). length x.model.signals ≤ 20000) w ws few in
+    let rest = models_few ws (All-tail (λ (x : Whole). length x.model.signals ≤ 20000) w ws few) in
+    omega (arith, here, rest)
 
 -- ---- variables
 
@@ -80,11 +97,10 @@ module _ (k : Comparison) (vars : List Vars) (are : AreVars k (length k.rules.ph
       omega (arith, few, low)
 
   -- and all counts are within the limits
-  pub few_counts : IsReady k → (variables : ℕ) (counts : WordCounts) → variables ≤ 1000 → counts ≡ counts_of k variables
-      → (counts.nets ≤ 20000) × (counts.signals ≤ 20000) × (counts.elements ≤ 40000) × (counts.variables ≤ 1000)
+  pub few_counts : IsReady k → (variables : ℕ) (counts : WordCounts) → variables ≤ 1000 → counts ≡ counts_of k variables → AreFew counts
   few_counts ready variables counts few is =
-      subst (λ (c : WordCounts). (c.nets ≤ 20000) × (c.signals ≤ 20000) × (c.elements ≤ 40000) × (c.variables ≤ 1000)) (sym is)
-      (ready.circuit.net_limit, ready.model.signal_limit, (let low = few_elements ready.rules.some_phase in omega (arith, low)), few)
+      subst AreFew (sym is)
+      (ready.circuit.net_limit, models_few k.circuit.wholes (whole_signals k.circuit ready.circuit), ready.model.signal_limit, (let low = few_elements ready.rules.some_phase in omega (arith, low)), few)
 
 -- ---- the greatest count
 

@@ -67,7 +67,7 @@ module _ (design : Design) (blif : Blif) (rules : Rules) (cell m : ℕ) (f : Fla
   checked budget (Fault fault) planned found = (m, supported planned, subst (λ (x : Comparison). HasVerdict x blif budget (Fault fault)) same found)
   checked budget (Vacuous phase) planned found = (m, supported planned, subst (λ (x : Comparison). HasVerdict x blif budget (Vacuous phase)) same found)
   checked budget (Budget nodes phase) planned found =
-      let passed : HasVerdict (comparison design rules cell f) blif budget (Budget nodes phase) = (found.0, found.1, may_pass k blif budget phase found.2, found.3) in
+      let passed : HasVerdict (comparison design rules cell f) blif budget (Budget nodes phase) = (found.0, found.1, may_pass k blif budget phase (found.2 is.flat.wholes), found.3) in
       (m, supported planned, subst (λ (x : Comparison). HasVerdict x blif budget (Budget nodes phase)) same passed)
   checked budget IsSkipped planned found = absurd found
   checked budget (Unsupported why) planned found = absurd found

@@ -3,7 +3,7 @@ use Rattle.std.specs.Prelude.{◌≡◌, ℕ, ◌+◌, ◌<◌, ◌≤◌, ◌�
 use Rattle.bdd_core.specs.Store.{Diagrams}
 use Rattle.cell_compare.specs.Steps.{Stops}
 use Rattle.cell_compare.specs.declared.hindrance.Hindrance.{Hindrance}
-use Rattle.phase_terms.specs.Found.{MaySpend}
+use Rattle.phase_terms.specs.Found.{MaySpendFlat}
 use Rattle.phase_terms.specs.Plans.{IsPhasePlan}
 use Rattle.phase_terms.specs.Stores.{counts_of, word_count}
 use Rattle.phase_terms.specs.declared.plan.PhasePlan.{PhasePlan}
@@ -116,7 +116,7 @@ AreWithin vars variables = (p : ℕ) (v : Vars) → At vars p v → length v.sou
 abbrev pub IsStop : Comparison → ℕ → ℕ → Verdict → Type 0
 IsStop k budget phase (Fault fault) = (fault.phase ≡ phase) × ((f : Finding) × Describes k fault f × IsFirstInPhase k f)
 IsStop k budget phase (Vacuous p) = (p ≡ phase) × IsVacuous k phase
-IsStop k budget phase (Budget nodes p) = (p ≡ phase) × (nodes ≡ budget) × MaySpend k budget phase
+IsStop k budget phase (Budget nodes p) = (p ≡ phase) × (nodes ≡ budget) × MaySpendFlat k budget phase
 IsStop k budget phase Equal = ⊥
 IsStop k budget phase Skipped = ⊥
 IsStop k budget phase (Unsupported why) = ⊥
@@ -133,7 +133,7 @@ abbrev pub IsChecked : Comparison → ℕ → Verdict → Type 0
 IsChecked k budget Equal = IsEqual k
 IsChecked k budget (Fault fault) = EqualBefore k fault.phase × ((f : Finding) × Describes k fault f × IsFirst k f)
 IsChecked k budget (Vacuous phase) = (phase < length k.rules.phases) × IsVacuous k phase × EqualBefore k phase
-IsChecked k budget (Budget nodes phase) = (phase < length k.rules.phases) × (nodes ≡ budget) × MaySpend k budget phase × EqualBefore k phase
+IsChecked k budget (Budget nodes phase) = (phase < length k.rules.phases) × (nodes ≡ budget) × MaySpendFlat k budget phase × EqualBefore k phase
 IsChecked k budget Skipped = ⊥
 IsChecked k budget (Unsupported why) = ⊥
 

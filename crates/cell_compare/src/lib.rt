@@ -2,6 +2,7 @@
 //! verdict.
 #![tactic(auto)]
 
+mod comparison;
 mod flattened;
 mod flattening;
 mod hindrance;

@@ -9,12 +9,12 @@ ghost use Rattle.vrt_model.specs.Inputs.{AreRules, IsBlif, IsDesign};
 ghost use Rattle.vrt_model.specs.Models.{AreModels};
 ghost use Rattle.vrt_model.specs.PairedPorts.{Model, paired_model};
 
+use crate::comparison::flat_comparison;
 use crate::flattened::Flattened;
 use crate::flattening::flatten_cell;
 use crate::hindrance::Hindrance;
 use crate::phases::hindered;
 use crate::verdict::paired_number;
-use phase_terms::Comparison;
 use prepared_tables::{Prepared, is_skipped_with, prepare};
 use std::alloc::Global;
 use vrt_model::{Blif, Design, NoMemory, Rules, Verdict, Why};
@@ -61,16 +61,7 @@ fn early_with(
         Err(Hindrance::Because(why)) => return Ok(stopped(Verdict::Unsupported(why))),
         Err(Hindrance::NoMemory) => return Err(NoMemory),
     };
-    let compared = Comparison {
-        design,
-        rules,
-        index: &prepared.index,
-        cell,
-        pairing: &flattened.pairing,
-        circuit: &flattened.circuit,
-        model: &flattened.model,
-        groups: &flattened.groups,
-    };
+    let compared = flat_comparison(prepared, design, rules, cell, &flattened);
     let verdict = hindered(alloc, compared)?;
     Ok(EarlyCell {
         verdict,

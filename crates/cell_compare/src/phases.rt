@@ -2,9 +2,11 @@
 
 ghost use Rattle.std.specs.Prelude.{◌≡◌, ◌<◌, ◌≤◌, length, IfOk};
 ghost use Rattle.cell_compare.specs.Works.{AreVars, ArePlans, AreWithin, HasRoom, IsAcyclicPlan, IsChecked, IsTold, IsToldEarly, ArePhaseVars, PhaseTells};
+ghost use Rattle.phase_open.specs.Given.{AreFew};
 ghost use Rattle.phase_terms.specs.Ready.{IsReady, comparison_in};
 ghost use Rattle.phase_terms.specs.Stores.{counts_of};
 ghost use Rattle.rule_index.specs.Tables.{AreRuleTables};
+ghost use Rattle.whole_steps.specs.Tables.{IsWholeTable};
 
 use crate::hindrance::Hindrance;
 use crate::sizes::{counts_with, most_variables};
@@ -32,12 +34,13 @@ fn found_in(
 ) -> Result<Option<Verdict>, NoMemory>
     requires budget { 65536 ≤ budget }
     requires ready { IsReady (comparison_in compared) }
+    requires wholes { IsWholeTable compared.circuit.now compared.wholes.drivers.now compared.wholes.plans.now }
     requires phase { phase < length compared.rules.now.phases }
     requires vars { ArePhaseVars (comparison_in compared) phase vars.now }
     requires within { length vars.now.sources ≤ counts.variables }
     requires plan { IsAcyclicPlan (comparison_in compared) phase plan.now }
     requires counts { counts ≡ counts_of (comparison_in compared) counts.variables }
-    requires few { (counts.elements ≤ 40000) × (counts.variables ≤ 1000) }
+    requires few { AreFew counts }
     requires start { start.nodes ≡ 2 }
     requires room { HasRoom (comparison_in compared) budget counts.variables start.words store.old }
     ensures tells { IfOk result (PhaseTells (comparison_in compared.entry) budget phase) }
@@ -70,11 +73,12 @@ fn search(
 ) -> Result<Verdict, NoMemory>
     requires budget { 65536 ≤ budget }
     requires ready { IsReady (comparison_in compared) }
+    requires wholes { IsWholeTable compared.circuit.now compared.wholes.drivers.now compared.wholes.plans.now }
     requires vars { AreVars (comparison_in compared) (length compared.rules.now.phases) vars.now }
     requires within { AreWithin vars.now counts.variables }
     requires plans { ArePlans (comparison_in compared) (length compared.rules.now.phases) plans.now }
     requires counts { counts ≡ counts_of (comparison_in compared) counts.variables }
-    requires few { (counts.elements ≤ 40000) × (counts.variables ≤ 1000) }
+    requires few { AreFew counts }
     requires nodes { length store.old.nodes ≡ 2 }
     requires room { HasRoom (comparison_in compared) budget counts.variables (length store.old.words) store.old }
     ensures { IfOk result (IsChecked (comparison_in compared.entry) budget) }
@@ -109,6 +113,7 @@ fn check_phases(
 ) -> Result<Verdict, NoMemory>
     requires budget { (65536 ≤ budget) × (budget ≤ 64000000) }
     requires ready { IsReady (comparison_in compared) }
+    requires wholes { IsWholeTable compared.circuit.now compared.wholes.drivers.now compared.wholes.plans.now }
     requires vars { AreVars (comparison_in compared) (length compared.rules.now.phases) vars.now }
     requires plans { ArePlans (comparison_in compared) (length compared.rules.now.phases) plans.now }
     ensures { IfOk result (IsChecked (comparison_in compared.entry) budget) }
@@ -127,6 +132,7 @@ pub(crate) fn check_cell(
 ) -> Result<Verdict, NoMemory>
     requires budget { (65536 ≤ budget) × (budget ≤ 64000000) }
     requires ready { IsReady (comparison_in compared) }
+    requires wholes { IsWholeTable compared.circuit.now compared.wholes.drivers.now compared.wholes.plans.now }
     requires tables { AreRuleTables compared.rules.now compared.index.now }
     ensures { IfOk result (IsTold (comparison_in compared.entry) budget) }
 {

@@ -10,6 +10,7 @@ ghost use Rattle.vrt_model.specs.Elements.{element_count, element_names};
 ghost use Rattle.vrt_model.specs.FlatModels.{IsFlatModel};
 ghost use Rattle.vrt_model.specs.declared.groups.Vars.{Vars as VarsValue};
 
+use phase_open::most_model_words;
 use phase_terms::{Comparison, WordCounts};
 use vrt_model::{FlatLatch, FlatModel, LatchKind, NoMemory, Vars};
 
@@ -64,6 +65,7 @@ pub(crate) fn counts_with(compared: Comparison<'_>, variables: u32) -> Result<Wo
     let elements = model_elements(compared.model)?;
     Ok(WordCounts {
         nets: compared.circuit.nets.len() as u32,
+        models: most_model_words(compared.circuit.wholes.as_slice()),
         signals: compared.model.signals.len() as u32,
         elements,
         variables,

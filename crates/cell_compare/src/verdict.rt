@@ -10,12 +10,12 @@ ghost use Rattle.vrt_model.specs.Models.{AreModels};
 ghost use Rattle.vrt_model.specs.PairedPorts.{Model, model_of_paired, paired_model};
 ghost use Rattle.vrt_model.specs.Verdicts.{IsVerdict};
 
+use crate::comparison::flat_comparison;
 use crate::flattened::Flattened;
 use crate::flattening::flatten_cell;
 use crate::hindrance::Hindrance;
 use crate::known_facts::{facts_of, is_bare, no_facts};
 use crate::phases::check_cell;
-use phase_terms::Comparison;
 use prepared_tables::{Prepared, is_skipped_with, model_of_with, prepare};
 use std::alloc::Global;
 use vrt_model::{Blif, CellFacts, Design, NoMemory, Rules, Seq, Verdict, Why};
@@ -80,16 +80,7 @@ fn compare_with(
         Err(Hindrance::Because(why)) => return Ok(without(alloc, Verdict::Unsupported(why))),
         Err(Hindrance::NoMemory) => return Err(NoMemory),
     };
-    let compared = Comparison {
-        design,
-        rules,
-        index: &prepared.index,
-        cell,
-        pairing: &flattened.pairing,
-        circuit: &flattened.circuit,
-        model: &flattened.model,
-        groups: &flattened.groups,
-    };
+    let compared = flat_comparison(prepared, design, rules, cell, &flattened);
     let verdict = check_cell(alloc, budget, compared)?;
     let bare = is_bare(&flattened.circuit, &flattened.model);
     let facts = facts_of(alloc, &verdict, flattened.pairing.ports.as_slice(), bare)?;

@@ -12,5 +12,4 @@ word_count-words-requires c =
 
 pub search-requires-clause-few : goal.search-requires-clause-few
 search-requires-clause-few c =
-    let few = few_counts (comparison_in c.args.compared) c.args.vars.now c.requires.vars c.requires.ready c.most_variables.result c.in_ok-counts.counts c.most_variables.ensures.few c.in_ok-counts.ensures in
-    (few.2, few.3)
+    few_counts (comparison_in c.args.compared) c.args.vars.now c.requires.vars c.requires.ready c.most_variables.result c.in_ok-counts.counts c.most_variables.ensures.few c.in_ok-counts.ensures

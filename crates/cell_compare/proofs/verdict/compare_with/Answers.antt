@@ -1,23 +1,34 @@
 -- The steps give the verdict, the line, what is known, and the runs.
-use Rattle.std.proofs.Common.{List, subst}
+use Rattle.std.proofs.Common.{List, ap, subst, sym}
 use Rattle.cell_compare.proofs.CompleteLaws.{complete}
 use Rattle.cell_compare.proofs.ReadyLaws.{ready}
 use Rattle.cell_compare.proofs.VerdictLaws.{facts_with, line_with, runs_with, told}
-use Rattle.cell_compare.specs.Works.{AreSoft}
+use Rattle.cell_compare.specs.Works.{AreSoft, IsTold}
+use Rattle.phase_terms.specs.Ready.{IsReady}
+use Rattle.rule_index.specs.Tables.{AreRuleTables}
+use Rattle.vrt_model.specs.Comparison.{Comparison}
 use Rattle.vrt_model.specs.declared.pairing.PortRole.{PortRole}
+use Rattle.vrt_model.specs.declared.rules.Rules.{Rules}
 use Rattle.cell_compare.proofs.verdict.compare_with.Goals as goal
+
+pub flat_comparison-compared-requires : goal.flat_comparison-compared-requires
+flat_comparison-compared-requires c = record { flat = c.in-Ok.ensures.flat }
 
 pub check_cell-requires-clause-ready : goal.check_cell-requires-clause-ready
 check_cell-requires-clause-ready c =
-    ready c.args.design.now c.args.blif.now c.args.rules.now c.args.cell c.args.model c.in-Ok.flattened c.requires.inputs c.in-Ok.ensures
+    subst IsReady (sym c.flat_comparison-compared.ensures.comparison)
+    (ready c.args.design.now c.args.blif.now c.args.rules.now c.args.cell c.args.model c.in-Ok.flattened c.requires.inputs c.in-Ok.ensures)
 
 pub check_cell-requires-clause-tables : goal.check_cell-requires-clause-tables
-check_cell-requires-clause-tables c = c.requires.prepared.index_is.rules_are
+check_cell-requires-clause-tables c =
+    let rules = ap (λ (k : Comparison). k.rules) c.flat_comparison-compared.ensures.comparison in
+    subst (λ i. AreRuleTables c.flat_comparison-compared.result.rules.now i) (sym c.flat_comparison-compared.ensures.index)
+    (subst (λ (r : Rules). AreRuleTables r c.args.prepared.now.index) (sym rules) c.requires.prepared.index_is.rules_are)
 
 pub returns-clause-verdict : goal.returns-clause-verdict
 returns-clause-verdict c =
     told c.args.design.now c.args.blif.now c.args.rules.now c.args.cell c.args.model c.in-Ok.flattened c.requires.inputs c.in-Ok.ensures c.args.budget c.in_ok-verdict.verdict
-    c.in_ok-verdict.ensures
+    (subst (λ (k : Comparison). IsTold k c.args.budget c.in_ok-verdict.verdict) c.flat_comparison-compared.ensures.comparison c.in_ok-verdict.ensures)
 
 pub returns-clause-line : goal.returns-clause-line
 returns-clause-line c =
@@ -26,19 +37,19 @@ returns-clause-line c =
 pub returns-clause-facts : goal.returns-clause-facts
 returns-clause-facts c =
     facts_with c.args.design.now c.args.blif.now c.args.rules.now c.args.cell c.args.model c.in-Ok.flattened c.requires.inputs c.in-Ok.ensures c.args.budget c.in_ok-verdict.verdict
-    c.is_bare-bare.result c.in_ok-facts.facts c.is_bare-bare.ensures c.in_ok-verdict.ensures
+    c.is_bare-bare.result c.in_ok-facts.facts c.is_bare-bare.ensures (subst (λ (k : Comparison). IsTold k c.args.budget c.in_ok-verdict.verdict) c.flat_comparison-compared.ensures.comparison c.in_ok-verdict.ensures)
     (subst (λ (roles : List PortRole). AreSoft roles c.is_bare-bare.result c.in_ok-verdict.verdict c.in_ok-facts.facts) c.as_slice.ensures c.in_ok-facts.ensures)
 
 pub returns-clause-complete : goal.returns-clause-complete
 returns-clause-complete c =
     complete c.args.design.now c.args.blif.now c.args.rules.now c.args.budget c.args.cell c.in_ok-verdict.verdict
     (told c.args.design.now c.args.blif.now c.args.rules.now c.args.cell c.args.model c.in-Ok.flattened c.requires.inputs c.in-Ok.ensures c.args.budget c.in_ok-verdict.verdict
-    c.in_ok-verdict.ensures)
+    (subst (λ (k : Comparison). IsTold k c.args.budget c.in_ok-verdict.verdict) c.flat_comparison-compared.ensures.comparison c.in_ok-verdict.ensures))
 
 pub returns-clause-runs : goal.returns-clause-runs
 returns-clause-runs c =
     runs_with c.args.design.now c.args.blif.now c.args.rules.now c.args.cell c.args.model c.in-Ok.flattened c.requires.inputs c.in-Ok.ensures c.args.budget c.in_ok-verdict.verdict
-    c.in_ok-verdict.ensures
+    (subst (λ (k : Comparison). IsTold k c.args.budget c.in_ok-verdict.verdict) c.flat_comparison-compared.ensures.comparison c.in_ok-verdict.ensures)
 
 pub returns-clause-flattened : goal.returns-clause-flattened
 returns-clause-flattened c = (c.args.model, c.in-Ok.ensures)
