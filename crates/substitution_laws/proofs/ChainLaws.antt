@@ -21,6 +21,7 @@ use Rattle.replaced_instances.proofs.StepPorts.{enumerated_at, place_there}
 use Rattle.replaced_instances.specs.Steps.{compared_at, fresh_place, is_inside_at, is_outside_at}
 use Rattle.substitution_laws.proofs.ChosenLaws.{chosen_steps_are_at_gates}
 use Rattle.substitution_laws.proofs.EndsLaws.{chosen_ends_are_shown}
+use Rattle.substitution_laws.proofs.FormedCells.{formed_cell}
 use Rattle.substitution_laws.proofs.OneMoreLaws.{one_more}
 use Rattle.substitution_laws.proofs.SeenNets.{HasPortsWithin, port_range, seen_within}
 use Rattle.substitution_laws.proofs.WholeCells.{inside_of_all, whole_chosen, wholes_are_determined}
@@ -120,7 +121,7 @@ module _ (k : Comparison) (cut : Cut) (blif : Blif) (facts : List CellFacts) (c 
         let step = chosen_steps_are_at_gates cut blif facts is.0 p h.choice is.1.place is.1.chosen in
         let model : Paired → ℕ = λ x. elim x [ Model j ↦ j | Skipped ↦ 0 | Missing ↦ 0 ] in
         let same : step.0 ≡ m = ap model (sym step.1.paired ∙ paired) in
-        subst (λ (j : ℕ). AreOutputsApart (comparison_of t.design blif t.rules p.at.cell j)) same (h.choice.formed p.at.cell step.0 step.2).signals.one_port
+        subst (λ (j : ℕ). AreOutputsApart (comparison_of t.design blif t.rules p.at.cell j)) same (formed_cell cut blif facts p.at.cell step.0 h.choice step.2).signals.one_port
 
     solved_at : IsChainTold cut blif facts → n < length (all_places t) → (phase : ℕ) (bits : List Bool) → phase < length t.rules.phases
         → HasOneSolution d (phase_at t.rules phase) (is_observed (with_circuit k d) phase) (setting_of (with_circuit k d) phase bits)
@@ -133,7 +134,7 @@ module _ (k : Comparison) (cut : Cut) (blif : Blif) (facts : List CellFacts) (c 
           nets = λ m seen. seen_within (with_circuit k d) phase m ranges ports_within seen;
         })
         (wholes_are_determined k cut blif facts phase n d h.top h.choice lt circuit) one.table one.tested
-        (circuits_are_acyclic cut blif facts d n phase h.choice.rules outputs_apart h.choice.tried circuit lt low (h.acyclic phase lt))
+        (circuits_are_acyclic cut blif facts d n phase h.choice.read.valid outputs_apart h.choice.tried circuit lt low (h.acyclic phase lt))
 
     pub always_solved : IsChainTold cut blif facts → n < length (all_places t) → IsAlwaysSolved (with_circuit k d)
     always_solved told low phase bits lt =

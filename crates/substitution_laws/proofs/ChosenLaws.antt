@@ -7,6 +7,7 @@ use Rattle.std.proofs.lemmas.Option.{none-some, same_Some}
 use Rattle.checked_chain.proofs.StepLaws.{one_more_is_next}
 use Rattle.placed_cells.proofs.ListLaws.{enumerated}
 use Rattle.replaced_instances.proofs.StepPorts.{fact_there}
+use Rattle.substitution_laws.proofs.FormedCells.{formed_cell}
 use Rattle.substitution_laws.specs.Chosen.{AreSoft, ChosenStepsAreAtGates}
 use Rattle.vrt_model.proofs.Members.{among_map}
 use Rattle.vrt_model.specs.Checked.{MayBeWhole, before, has_fact, keeps_inputs_free, names_no_global, observes_outputs}
@@ -113,7 +114,7 @@ chosen_steps_are_at_gates cut blif facts i p h place chosen =
         chosen = chosen;
         place = place;
         paired = may.paired;
-        roles = (h.formed p.at.cell m supported).roles;
+        roles = (formed_cell cut blif facts p.at.cell m h supported).roles;
         gates = λ o on.
             sym (allowed_at_gates (checked_devices (before cut (suc i))) (all_outputs (before cut (suc i)) blif facts) o (output_soft facts h.soft t blif p o on))
             ∙ subst (λ (x : Cut). is_output_allowed (checked_devices x) (all_outputs x blif facts) o ≡ true) (one_more_is_next cut i chosen) (may.allowed o on);

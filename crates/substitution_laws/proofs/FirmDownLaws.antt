@@ -12,6 +12,7 @@ use Rattle.firm_faults.specs.StepDown.{IsCellRanked, IsSamePlaceIn}
 use Rattle.placed_cells.specs.Above.{net_above}
 use Rattle.replaced_instances.specs.Steps.{compared_at, fresh_place, is_inside_at, is_outside_at}
 use Rattle.substitution_laws.proofs.ChainLaws.{at_last, is_itself, step_at}
+use Rattle.substitution_laws.proofs.FormedCells.{formed_cell}
 use Rattle.substitution_laws.proofs.LogicCells.{logic_cell}
 use Rattle.substitution_laws.proofs.StepDownLaws.{steps_go_down}
 use Rattle.substitution_laws.specs.Agreement.{IsCheckedSoftly}
@@ -58,7 +59,7 @@ module _ (k : Comparison) (cut : Cut) (blif : Blif) (facts : List CellFacts) (c 
     rank_is : (rank : ℕ → ℕ) × IsCellRanked q.circuit (phase_at t.rules phase) (is_observed q phase) known (parted p.at.cell m phase s.step.supported lt).together rank
     rank_is =
         let one = parted p.at.cell m phase s.step.supported lt in
-        let cell = logic_cell cut blif facts i p m s.step.at_gates s.step.supported (s.step.choice.formed p.at.cell m s.step.supported) phase lt in
+        let cell = logic_cell cut blif facts i p m s.step.at_gates s.step.supported (formed_cell cut blif facts p.at.cell m s.step.choice s.step.supported) phase lt in
         let ranks = acyclic_nets_have_ranks q.circuit (phase_at t.rules phase) one.told.arcs cell.ranges one.told.tested (s.step.supported.acyclic phase lt).0 in (
           ranks.0,
           record {

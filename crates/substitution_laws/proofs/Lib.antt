@@ -4,6 +4,7 @@ pub mod ChosenLaws
 pub mod EndsLaws
 pub mod FirmDownLaws
 pub mod FirstLaws
+pub mod FormedCells
 pub mod InnerLaws
 pub mod LaterLaws
 pub mod LogicCells

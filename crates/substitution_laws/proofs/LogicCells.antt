@@ -15,6 +15,7 @@ use Rattle.replaced_instances.proofs.StepPorts.{keeps_free, no_holds, place_ther
 use Rattle.replaced_instances.specs.Steps.{IsStepAtGates, compared_at}
 use Rattle.substitution_laws.specs.Chosen.{ChosenCellsAreLogic}
 use Rattle.formed_cells.specs.Formed.{IsFormed}
+use Rattle.substitution_laws.proofs.FormedCells.{formed_cell}
 use Rattle.vrt_model.proofs.Filtered.{among_kept, device_among}
 use Rattle.vrt_model.proofs.Lists.{among_filter_map}
 use Rattle.vrt_model.proofs.Members.{at_all}
@@ -182,4 +183,4 @@ module _ (cut : Cut) (blif : Blif) (facts : List CellFacts) (i : ℕ) (p : Numbe
       }
 
 pub chosen_cells_are_logic : ChosenCellsAreLogic
-chosen_cells_are_logic cut blif facts i p m phase h step supported lt = logic_cell cut blif facts i p m step supported (h.formed p.at.cell m supported) phase lt
+chosen_cells_are_logic cut blif facts i p m phase h step supported lt = logic_cell cut blif facts i p m step supported (formed_cell cut blif facts p.at.cell m h supported) phase lt

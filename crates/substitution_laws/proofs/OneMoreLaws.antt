@@ -39,6 +39,7 @@ use Rattle.vrt_model.specs.declared.circuit.Hold.{Hold}
 use Rattle.vrt_model.specs.declared.flat_model.FlatModel.{FlatModel}
 use Rattle.vrt_model.specs.declared.whole.CellFacts.{CellFacts}
 use Rattle.channel_parts.specs.OneSolution.{AreDetermined}
+use Rattle.substitution_laws.proofs.FormedCells.{formed_cell}
 use Rattle.whole_solutions.specs.Instances.{IsInstanceOf}
 
 -- a circuit without holds has no groups
@@ -69,7 +70,7 @@ module _ (k : Comparison) (cut : Cut) (blif : Blif) (facts : List CellFacts) (i 
   pub cell_ports : HasPortsWithin q
   unfolding flat_circuit_of
   cell_ports =
-      let formed = h.step.choice.formed p.at.cell m h.step.supported in
+      let formed = formed_cell cut blif facts p.at.cell m h.step.choice h.step.supported in
       record {
         ports = λ port on. port_range (record { design = t.design; rules = t.rules; cell = p.at.cell; roles = q.pairing.ports }) port on;
         instances = λ x n on there. all_among (IsNet q.circuit) x.ports n (all_among (λ (y : FlatInstance). All (IsNet q.circuit) y.ports) q.circuit.instances x formed.circuit.instances on) there;
@@ -94,7 +95,7 @@ module _ (k : Comparison) (cut : Cut) (blif : Blif) (facts : List CellFacts) (i 
       → IsOneMoreWhole (with_circuit k c) q phase whole_circuit at (λ j. j) (fresh_place (before cut i) blif facts q) (is_outside_at t depth p.at) (λ n. not (is_inside_at q.circuit at n)) (λ n. 0)
   one_more phase lt =
       let step = h.step in
-      let cell = logic_cell cut blif facts i p m step.at_gates step.supported (step.choice.formed p.at.cell m step.supported) phase lt in
+      let cell = logic_cell cut blif facts i p m step.at_gates step.supported (formed_cell cut blif facts p.at.cell m step.choice step.supported) phase lt in
       let both = (chain_keeps_valuations k blif facts (before cut i) (before cut (suc i)) c whole_circuit h.first h.next).0 in
       record {
         design = ap (λ (u : Top). u.design) same;

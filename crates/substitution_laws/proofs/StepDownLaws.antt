@@ -19,6 +19,7 @@ use Rattle.replaced_instances.proofs.StepInstances.{input_role, pin_of_input}
 use Rattle.replaced_instances.proofs.StepPorts.{pins_shifted}
 use Rattle.replaced_instances.specs.Steps.{IsStepAtGates, compared_at, fresh_place, is_inside_at, is_outside_at}
 use Rattle.substitution_laws.proofs.ChosenLaws.{chosen_steps_are_at_gates}
+use Rattle.substitution_laws.proofs.FormedCells.{formed_cell}
 use Rattle.substitution_laws.proofs.InnerLaws.{inner_or_broken}
 use Rattle.substitution_laws.proofs.LogicCells.{input_of}
 use Rattle.substitution_laws.proofs.OneMoreLaws.{instance_is, instance_of, one_more}
@@ -146,7 +147,7 @@ module _ (k : Comparison) (cut : Cut) (blif : Blif) (facts : List CellFacts) (i 
       → (input : WholePin) × Among own.inputs input × (input.net.0 ≡ at n) × IsLinkedTo (phase_at t.rules phase) own input j × (input.observed ≡ true)
   linked j l n pin net here plain is there kind chain =
       let step = h.step in
-      let formed = step.choice.formed p.at.cell m step.supported in
+      let formed = formed_cell cut blif facts p.at.cell m step.choice step.supported in
       let from = input_of cut blif facts i p m step.at_gates step.supported formed n (net, there, kind) in
       let signal = input_role from.0.role from.3 in
       let to = port_of cut blif facts i p m depth front back c whole_circuit step phase pin l (j, here) plain is in

@@ -17,6 +17,7 @@ use Rattle.replaced_instances.proofs.StepInstances.{pin_of_input}
 use Rattle.replaced_instances.proofs.StepPorts.{may, no_holds, place_there, tied}
 use Rattle.replaced_instances.specs.Steps.{IsStepAtGates, compared_at}
 use Rattle.substitution_laws.proofs.ChosenLaws.{chosen_steps_are_at_gates}
+use Rattle.substitution_laws.proofs.FormedCells.{formed_cell}
 use Rattle.substitution_laws.proofs.LogicCells.{chosen_cells_are_logic, input_of, split}
 use Rattle.substitution_laws.specs.Chosen.{IsSoftChoice}
 use Rattle.substitution_laws.specs.Wholes.{WholesAreDetermined, WholesStandForCells}
@@ -210,7 +211,7 @@ module _ (cut : Cut) (blif : Blif) (facts : List CellFacts) (h : IsSoftChoice cu
           elim (cases_Bool (is_observed q phase x)) [
             | inr no_more ↦ no_more
             | inl inside ↦
-                let s = split cut blif facts i p m step supported (h.formed p.at.cell m supported) in
+                let s = split cut blif facts i p m step supported (formed_cell cut blif facts p.at.cell m h supported) in
                 let pin = pin_of_input cut blif facts i p m step s.0 s.1 s.2 s.3 phase x input.0 lt input.1 input.2 inside in
                 let watched = pin_observed (with_circuit k c) phase (at x) (w, pin.0, on, subst (λ (pins : List WholePin). Among pins pin.0) (sym inputs_are) pin.1, pin.2, pin.3) in
                 absurd (false≢true (sym e ∙ watched))
@@ -222,7 +223,7 @@ module _ (cut : Cut) (blif : Blif) (facts : List CellFacts) (h : IsSoftChoice cu
           elim (cases_Bool (is_constrained t.rules (cell_at t.design p.at.cell).name)) [
             | inr no_more ↦ no_more
             | inl yes_it_is ↦
-                let port = input_of cut blif facts i p m step supported (h.formed p.at.cell m supported) x input in
+                let port = input_of cut blif facts i p m step supported (formed_cell cut blif facts p.at.cell m h supported) x input in
                 let above : Among p.at.ports (at port.0.net) = subst (λ (nets : List ℕ). Among nets (at port.0.net)) (sym ports_at) (map_among (λ (y : CellPort). at y.net) (ports_of q) port.0 port.1) in
                 let watched =
                 instance_observed (with_circuit k c) phase (at x) (

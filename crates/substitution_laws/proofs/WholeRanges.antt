@@ -13,6 +13,7 @@ use Rattle.substitution_laws.proofs.ChosenLaws.{chosen_steps_are_at_gates, outpu
 use Rattle.substitution_laws.proofs.WholeCells.{front_of, whole_chosen}
 use Rattle.substitution_laws.specs.Chosen.{IsSoftChoice}
 use Rattle.formed_cells.specs.Formed.{IsFormed}
+use Rattle.substitution_laws.proofs.FormedCells.{formed_cell}
 use Rattle.substitution_laws.specs.Wholes.{CircuitsHaveRanges}
 use Rattle.vrt_model.proofs.Filtered.{filter_among}
 use Rattle.vrt_model.proofs.Lists.{among_filter_map, at_there, filter_map_among, map_among}
@@ -137,7 +138,7 @@ module _ (cut : Cut) (blif : Blif) (facts : List CellFacts) (n : ℕ) (c : Circu
   q = compared_at cut.top blif p m
 
   formed : IsFormed q
-  formed = h.formed p.at.cell m supported
+  formed = formed_cell cut blif facts p.at.cell m h supported
 
   abbrev below : ℕ → Type 0
   below s = s < length q.model.signals
