@@ -1,19 +1,16 @@
 -- Holds of the flat circuit, and the rules that fall on nets.
-use Rattle.std.proofs.Common.{◌≡◌, ◌<◌, ◌≤◌, ◌+◌, ◌∷◌, ◌⊎◌, [], ℕ, zero, suc, not, cond, List, Bool, true, false, map, flat_map, length, Option, Some, None, refl, ap, sym, ◌∙◌, subst, arith, get_or, inl, inr}
-use Rattle.std.specs.Prelude.{bytes_eq, filter_map, find, nat_lt, option_map, position, slice_get, unwrap_or, ◌==◌}
-use Rattle.std.specs.List.{enumerate_from, list_any, position_or_len}
+use Rattle.std.proofs.Common.{◌≡◌, ◌<◌, ◌+◌, ◌∷◌, ◌⊎◌, [], ℕ, zero, suc, not, cond, List, Bool, true, false, length, Option, Some, None, refl, ap, sym, ◌∙◌, subst, arith, inl, inr}
+use Rattle.std.specs.Prelude.{bytes_eq, filter_map, find, nat_lt, option_map}
+use Rattle.std.specs.List.{enumerate_from, list_any}
 use Rattle.std.proofs.lemmas.Bool.{ltb-true}
-use Rattle.std.proofs.lemmas.Bool.Decides.{nat_tests}
-use Rattle.std.proofs.lemmas.List.Quantifiers.{position-Some}
-use Rattle.std.proofs.lemmas.Option.{none-some, same_Some, slice_get-get_or}
-use Rattle.std.proofs.lemmas.Slice.Eq.{bytes_eq-Decides}
-use Rattle.cell_inside.proofs.ShiftedPlaces.{prefix_below}
+use Rattle.std.proofs.lemmas.Option.{none-some, same_Some}
+use Rattle.placed_cells.proofs.CellNames.{cell_of_name}
 use Rattle.placed_cells.proofs.DepthLaws.{named_inside}
-use Rattle.placed_cells.proofs.ListLaws.{enumerated, in_enumerated}
+use Rattle.placed_cells.proofs.ListLaws.{in_enumerated}
 use Rattle.placed_cells.specs.Rows.{own_size}
 use Rattle.placed_cells.specs.Splits.{is_net_in}
 use Rattle.vrt_model.proofs.Lists.{among_filter_map, at_there, filter_map_among}
-use Rattle.vrt_model.proofs.Members.{among_any, among_flat_map, any_among, find_among, find_none, flat_map_among}
+use Rattle.vrt_model.proofs.Members.{among_flat_map, any_among, find_among, find_none, flat_map_among}
 use Rattle.vrt_model.proofs.Tests.{some_or_none}
 use Rattle.vrt_model.specs.Comparison.{cell_at}
 use Rattle.vrt_model.specs.FlatCircuit.{Ruled, falls_on, flat_circuit_of, flat_hold, flat_holds, flat_nets, is_outermost, rule_on, rules_on}
@@ -24,19 +21,10 @@ use Rattle.vrt_model.specs.Lists.{Among, At}
 use Rattle.vrt_model.specs.Unrolled.{Place, Top, all_places, cell_named, deepest, instances_at, instances_from, own_count, places_in, top_place}
 use Rattle.vrt_model.specs.declared.circuit.FlatNet.{FlatNet}
 use Rattle.vrt_model.specs.declared.circuit.Hold.{Hold}
-use Rattle.vrt_model.specs.declared.design.Cell.{Cell}
 use Rattle.vrt_model.specs.declared.design.Design.{Design}
 use Rattle.vrt_model.specs.declared.design.InstanceCard.{InstanceCard}
 use Rattle.vrt_model.specs.declared.rules.HoldRule.{HoldRule}
 use Rattle.vrt_model.specs.declared.rules.Rules.{Rules}
-
--- ---- places in lists
-
-position_there : {X : Type 0} (p : X → Bool) (xs : List X) → list_any p xs ≡ true → position p xs ≡ None → ⊥
-position_there p xs h e = within (position_or_len p xs) (length xs) (prefix_below p xs h) e
-  where
-    within : (n count : ℕ) → n < count → cond (nat_lt n count) (Some n) None ≡ None → ⊥
-    within n count lt e = let t : nat_lt n count ≡ true = grind (arith, nat_tests, lt) in none-some n (sym e ∙ ap (λ (b : Bool). cond b (Some n) None) t)
 
 -- ---- rules
 
@@ -128,24 +116,5 @@ module _ (t : Top) where
 -- a rule of a cell is on a net of it
 pub hold_named : (design : Design) (rules : Rules) → IsDesign design → AreHoldNets design rules → (k : ℕ) → k < length design.cells → (rule : HoldRule) → Among rules.holds rule → bytes_eq rule.cell (cell_at design k).name ≡ true
     → is_net_in (cell_at design k) rule.net ≡ true
-hold_named design rules is nets k lt rule m same = subst (λ (n : ℕ). is_net_in (cell_at design n) rule.net ≡ true) (by_place (position named design.cells) refl) (nets rule m)
-  where
-    named : Cell → Bool
-    named c = bytes_eq c.name rule.cell
-
-    here : (c : Cell) × At design.cells k c
-    here = at_there design.cells k lt
-
-    is_here : cell_at design k ≡ here.0
-    is_here = ap (λ (o : Option Cell). unwrap_or o (record { line = 0; name = []; ports = []; devices = []; instances = [] })) here.1
-
-    name_is : rule.cell ≡ here.0.name
-    name_is = (bytes_eq-Decides rule.cell (cell_at design k).name).0 same ∙ ap (λ (c : Cell). c.name) is_here
-
-    by_place : (o : Option ℕ) → position named design.cells ≡ o → unwrap_or o 0 ≡ k
-    by_place None e = absurd (position_there named design.cells (among_any named design.cells here.0 (k, here.1) ((bytes_eq-Decides here.0.name rule.cell).1 (sym name_is))) e)
-    by_place (Some j) e =
-        let none : Cell = record { line = 0; name = []; ports = []; devices = []; instances = [] } in
-        let found = position-Some named design.cells j none e in
-        is.names j k (get_or design.cells j none) here.0 (slice_get-get_or design.cells j none found.0) here.1
-        (subst (λ (name : List ℕ). bytes_eq (get_or design.cells j none).name name ≡ true) name_is found.1)
+hold_named design rules is nets k lt rule m same =
+    subst (λ (n : ℕ). is_net_in (cell_at design n) rule.net ≡ true) (cell_of_name design is k lt rule.cell same) (nets rule m)

@@ -14,6 +14,7 @@ use Rattle.placed_cells.proofs.AboveLaws.{instances_are_shifted, net_high, nets_
 use Rattle.placed_cells.proofs.DepthLaws.{ordered_is_within_depth}
 use Rattle.placed_cells.proofs.FlatNetLaws.{NamedSupplies, name_inside, net_count, plain_behind, supply_low, supply_there}
 use Rattle.placed_cells.proofs.HoldLaws.{FallsThere, cells_there, held_by, hold_named, none_falls}
+use Rattle.placed_cells.proofs.NamedLaws.{hold_nets_are_there}
 use Rattle.placed_cells.proofs.ListLaws.{zip_left, zip_right}
 use Rattle.placed_cells.proofs.RowLaws.{all_in_row, in_row, row_ends}
 use Rattle.placed_cells.proofs.SplitLaws.{bounds}
@@ -23,7 +24,7 @@ use Rattle.placed_cells.specs.Instances.{FlatCircuitShowsInside, HasPlacedPorts,
 use Rattle.placed_cells.specs.Rows.{AreInRow, size_inside}
 use Rattle.placed_cells.specs.Splits.{IsSplit, is_net_in}
 use Rattle.vrt_model.proofs.Lists.{at_back, map_among}
-use Rattle.vrt_model.proofs.Members.{among_any, among_either, among_flat_map, among_later, among_left, among_map, among_right, any_among, flat_map_among}
+use Rattle.vrt_model.proofs.Members.{among_any, among_either, among_flat_map, among_left, among_map, among_right, any_among, flat_map_among}
 use Rattle.vrt_model.specs.CellRules.{supply_of}
 use Rattle.vrt_model.specs.Comparison.{cell_at}
 use Rattle.vrt_model.specs.FlatCircuit.{flat_circuit_of, flat_device, flat_devices, flat_nets, is_keeper, level_of}
@@ -413,9 +414,9 @@ split_at t number p depth before behind split =
     first (suc d) = refl
 
 pub instance_is_placed : InstanceIsPlaced
-instance_is_placed t pairing i p depth before behind c exposed drive design ordered nets there ties split none roles holds shows ports =
+instance_is_placed t pairing i p depth before behind c exposed drive design ordered there ties split none roles holds shows ports =
     placed t pairing.ports (suc i) p depth before behind split (instances_are_tied t i p ordered.cards ties (split_at t (suc i) p depth before behind split)) none
-    (split.within (ordered_is_within_depth t t.cell ordered there)) c shows exposed drive (λ at name role value a b same. (roles.supplies at name role value a b).0 same) holds design nets there ports
+    (split.within (ordered_is_within_depth t t.cell ordered there)) c shows exposed drive (λ at name role value a b same. (roles.supplies at name role value a b).0 same) holds design (hold_nets_are_there t.design t.rules ordered) there ports
 
 pub flat_circuit_shows_inside : FlatCircuitShowsInside
 unfolding flat_circuit_of

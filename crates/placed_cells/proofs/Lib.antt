@@ -1,4 +1,5 @@
 pub mod AboveLaws
+pub mod CellNames
 pub mod CutLaws
 pub mod DepthLaws
 pub mod FlatNetLaws
@@ -6,6 +7,7 @@ pub mod HoldLaws
 pub mod InstanceLaws
 pub mod ListLaws
 pub mod NameLaws
+pub mod NamedLaws
 pub mod PathLaws
 pub mod RowLaws
 pub mod SplitLaws

@@ -7,7 +7,7 @@ use Rattle.placed_cells.specs.Above.{net_above, place_alone}
 use Rattle.placed_cells.specs.Splits.{IsSplit}
 use Rattle.vrt_model.specs.Comparison.{cell_at}
 use Rattle.vrt_model.specs.FlatCircuit.{flat_circuit, flat_circuit_of, flat_device, flat_devices, flat_nets}
-use Rattle.vrt_model.specs.Hierarchy.{AreHoldNets, IsOrdered}
+use Rattle.vrt_model.specs.Hierarchy.{IsOrdered}
 use Rattle.vrt_model.specs.Inputs.{IsDesign}
 use Rattle.vrt_model.specs.Known.{IsHeld, IsPlain}
 use Rattle.vrt_model.specs.Lists.{Among}
@@ -59,7 +59,7 @@ pub record HasPlacedPorts (cell c : Circuit) (at : ℕ → ℕ) (base : ℕ) (ex
 abbrev pub InstanceIsPlaced : Type 0
 InstanceIsPlaced =
     (t : Top) (pairing : Pairing) (i : ℕ) (p : Place) (depth : ℕ) (before behind : List Place) (c : Circuit) (exposed : ℕ → Bool) (drive : ℕ → ℕ)
-    → IsDesign t.design → IsOrdered t.design t.rules → AreHoldNets t.design t.rules → t.cell < length t.design.cells → supply_tie t ≡ None → IsSplit t (suc i) p depth before behind
+    → IsDesign t.design → IsOrdered t.design t.rules → t.cell < length t.design.cells → supply_tie t ≡ None → IsSplit t (suc i) p depth before behind
     → NamesNoGlobal t deepest p.cell → HasRoles t.rules (cell_at t.design p.cell) pairing
     → (flat_circuit t.design t.rules p.cell pairing).holds ≡ [] → ShowsInside t p depth before behind c
     → HasPlacedPorts (flat_circuit t.design t.rules p.cell pairing) c (net_above t p) (place_alone t p).base exposed drive

@@ -197,7 +197,7 @@ module _ (cut : Cut) (blif : Blif) (facts : List CellFacts) (i : ℕ) (p : Numbe
 
   pub placed : (drive : ℕ → ℕ) → IsPlaced k.circuit c at (λ n. false) drive
   placed drive =
-      instance_is_placed t k.pairing i p.at depth front back c (λ n. false) drive step.netlist.design step.netlist.ordered step.netlist.hold_nets step.netlist.there step.netlist.ties split
+      instance_is_placed t k.pairing i p.at depth front back c (λ n. false) drive step.netlist.design step.netlist.ordered step.netlist.there step.netlist.ties split
       (none cut blif facts i p m step) step.roles (no_holds cut blif facts i p m step) shows (ports drive)
 
 -- ---- the laws

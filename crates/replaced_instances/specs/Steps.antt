@@ -12,7 +12,7 @@ use Rattle.vrt_model.specs.CheckedParts.{checked_devices}
 use Rattle.vrt_model.specs.Comparison.{CellPort, Comparison, cell_at}
 use Rattle.vrt_model.specs.Cut.{Cut, NumberedPlace, numbered_places}
 use Rattle.vrt_model.specs.Facts.{IsTrueOf, output_ports}
-use Rattle.vrt_model.specs.Hierarchy.{AreHoldNets, IsOrdered}
+use Rattle.vrt_model.specs.Hierarchy.{IsOrdered}
 use Rattle.vrt_model.specs.Inputs.{IsDesign}
 use Rattle.vrt_model.specs.Known.{is_plain_at}
 use Rattle.vrt_model.specs.Lists.{Among, At}
@@ -31,7 +31,6 @@ use Rattle.vrt_model.specs.declared.whole.CellFacts.{CellFacts}
 pub record IsSoundNetlist (t : Top) : Type 0 where
   pub design : IsDesign t.design
   pub ordered : IsOrdered t.design t.rules
-  pub hold_nets : AreHoldNets t.design t.rules
   pub there : t.cell < length t.design.cells
   pub ties : supply_tie t ≡ None
 

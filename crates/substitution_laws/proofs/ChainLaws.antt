@@ -1,15 +1,15 @@
 -- Along the chain from the flat circuit to the checked one nothing is wrong in the one exactly where nothing is wrong in the other.
-use Rattle.std.proofs.Common.{◌≡◌, ℕ, zero, suc, ◌<◌, Bool, true, false, not, List, length, Option, Some, None, ◌+◌, refl, ap, ap₂, sym, ◌∙◌, subst, arith, inl, inr}
-use Rattle.std.specs.Prelude.{All, drop, filter, option_map, slice_get, unwrap_or}
+use Rattle.std.proofs.Common.{◌≡◌, ℕ, zero, suc, ◌<◌, Bool, true, not, List, length, ◌+◌, refl, ap, ap₂, sym, ◌∙◌, subst, arith, inl, inr}
+use Rattle.std.specs.Prelude.{All, drop, filter}
 use Rattle.std.specs.List.{enumerate_from}
-use Rattle.std.proofs.lemmas.Bool.{cases_Bool, false≢true}
+use Rattle.std.proofs.lemmas.Bool.{cases_Bool}
 use Rattle.std.proofs.lemmas.Option.{slice_get_within}
 use Rattle.checked_chain.proofs.EndLaws.{chain_begins_flat, chain_ends_checked}
 use Rattle.checked_chain.proofs.LinkLaws.{circuits_are_acyclic}
 use Rattle.checked_chain.proofs.StepLaws.{none_more_is_same}
 use Rattle.checked_chain.proofs.ThereLaws.{chain_is_there}
 use Rattle.checked_chain.specs.Arcs.{AreOutputsApart, AreWholeOutputsApart}
-use Rattle.checked_chain.specs.Holds.{AreEndsShown, IsEndShown, IsOfChain}
+use Rattle.checked_chain.specs.Holds.{IsOfChain}
 use Rattle.channel_parts.specs.OneSolution.{HasOneSolution}
 use Rattle.placed_cells.proofs.SplitLaws.{places_in_stand_together}
 use Rattle.placed_cells.specs.Above.{net_above}
@@ -24,9 +24,10 @@ use Rattle.substitution_laws.proofs.EndsLaws.{chosen_ends_are_shown}
 use Rattle.substitution_laws.proofs.FormedCells.{formed_cell}
 use Rattle.substitution_laws.proofs.OneMoreLaws.{one_more}
 use Rattle.substitution_laws.proofs.SeenNets.{HasPortsWithin, port_range, seen_within}
-use Rattle.substitution_laws.proofs.WholeCells.{inside_of_all, whole_chosen, wholes_are_determined}
+use Rattle.substitution_laws.proofs.ToldLaws.{chain_told, ends_before}
+use Rattle.substitution_laws.proofs.WholeCells.{whole_chosen, wholes_are_determined}
 use Rattle.substitution_laws.proofs.WholeRanges.{circuits_have_ranges}
-use Rattle.substitution_laws.specs.Agreement.{ChainIsAlwaysSolved, CheckedCircuitsAgree, IsChainTold, IsCheckedSoftly}
+use Rattle.substitution_laws.specs.Agreement.{ChainIsAlwaysSolved, CheckedCircuitsAgree, IsCheckedSoftly}
 use Rattle.substitution_laws.specs.Steps.{IsStepOf}
 use Rattle.vrt_model.proofs.Filtered.{device_among, filter_among}
 use Rattle.vrt_model.proofs.Lists.{at_there, map_among, map_at}
@@ -34,7 +35,7 @@ use Rattle.vrt_model.proofs.Members.{all_among, among_map}
 use Rattle.vrt_model.specs.Checked.{IsCircuitWith, before, top_of, with_circuit}
 use Rattle.vrt_model.specs.Circuits.{IsNet}
 use Rattle.vrt_model.specs.Comparison.{Comparison, is_observed, phase_at}
-use Rattle.vrt_model.specs.Cut.{Cut, NumberedPlace, is_inside_whole, is_instance_shown, numbered_places}
+use Rattle.vrt_model.specs.Cut.{Cut, NumberedPlace, is_inside_whole, numbered_places}
 use Rattle.vrt_model.specs.FlatCircuit.{flat_circuit_of, flat_instance, flat_instances, flat_nets}
 use Rattle.vrt_model.specs.Groups.{groups_of}
 use Rattle.vrt_model.specs.Held.{setting_of}
@@ -46,8 +47,6 @@ use Rattle.vrt_model.specs.declared.blif.Blif.{Blif}
 use Rattle.vrt_model.specs.declared.circuit.Circuit.{Circuit}
 use Rattle.vrt_model.specs.declared.circuit.FlatInstance.{FlatInstance}
 use Rattle.vrt_model.specs.declared.circuit.FlatNet.{FlatNet}
-use Rattle.vrt_model.specs.declared.circuit.HoldEnd.{HoldEnd}
-use Rattle.vrt_model.specs.declared.circuit.HoldEnd.TheVariants.{Own, Latch}
 use Rattle.vrt_model.specs.declared.groups.Group.{Group}
 use Rattle.vrt_model.specs.declared.whole.CellFacts.{CellFacts}
 use Rattle.whole_ranks.proofs.SolvedLaws.{acyclic_nets_have_one_solution}
@@ -69,28 +68,6 @@ listed_at t j r e =
     let make : ℕ × Place → NumberedPlace = λ q. record { number = q.0; at = q.1 } in
     let number : 0 + j ≡ j = omega arith in
     subst (λ (x : ℕ). At (numbered_places t) j (record { number = x; at = r })) number (map_at make (enumerate_from 0 (all_places t)) j (0 + j, r) (enumerated_at 0 (all_places t) j r e))
-
--- ---- ends
-
--- what is shown where more instances are whole is shown where fewer are
-shown_before : (cut : Cut) (n i : ℕ) → is_instance_shown cut i ≡ true → is_instance_shown (before cut n) i ≡ true
-shown_before cut n i e = by_place (slice_get (all_places cut.top) (suc i)) e
-  where
-    by_place : (o : Option Place) → unwrap_or (option_map (λ (at : Place). not (is_inside_whole cut at)) o) true ≡ true → unwrap_or (option_map (λ (at : Place). not (is_inside_whole (before cut n) at)) o) true ≡ true
-    by_place None f = refl
-    by_place (Some at) f =
-        elim (cases_Bool (is_inside_whole (before cut n) at)) [
-          | inr out ↦ ap not out
-          | inl inside ↦ absurd (false≢true (sym (ap not (inside_of_all cut n at inside)) ∙ f))
-        ]
-
-pub ends_before : (cut : Cut) (n : ℕ) → AreEndsShown cut → AreEndsShown (before cut n)
-ends_before cut n ends hold on = by_end hold.end (ends hold on)
-  where
-    by_end : (e : HoldEnd) → IsEndShown cut e → IsEndShown (before cut n) e
-    by_end (Own net) there = tt
-    by_end (Latch None element) there = tt
-    by_end (Latch (Some i) element) there = shown_before cut n i there
 
 module _ (k : Comparison) (cut : Cut) (blif : Blif) (facts : List CellFacts) (c : Circuit) (h : IsCheckedSoftly k cut blif facts c) where
   abbrev t : Top
@@ -123,11 +100,11 @@ module _ (k : Comparison) (cut : Cut) (blif : Blif) (facts : List CellFacts) (c 
         let same : step.0 ≡ m = ap model (sym step.1.paired ∙ paired) in
         subst (λ (j : ℕ). AreOutputsApart (comparison_of t.design blif t.rules p.at.cell j)) same (formed_cell cut blif facts p.at.cell step.0 h.choice step.2).signals.one_port
 
-    solved_at : IsChainTold cut blif facts → n < length (all_places t) → (phase : ℕ) (bits : List Bool) → phase < length t.rules.phases
+    solved_at : n < length (all_places t) → (phase : ℕ) (bits : List Bool) → phase < length t.rules.phases
         → HasOneSolution d (phase_at t.rules phase) (is_observed (with_circuit k d) phase) (setting_of (with_circuit k d) phase bits)
-    solved_at told low phase bits lt =
+    solved_at low phase bits lt =
         let ranges = circuits_have_ranges cut blif facts n d h.choice h.formed (ends_before cut n (chosen_ends_are_shown cut blif facts h.choice)) circuit in
-        let one = told n phase d circuit lt in
+        let one = chain_told k cut blif facts c h n phase d circuit lt in
         acyclic_nets_have_one_solution d (phase_at t.rules phase) (is_observed (with_circuit k d) phase) (setting_of (with_circuit k d) phase bits) one.known one.arcs ranges
         (record {
           gates = λ e on. gate_observed (with_circuit k d) phase e.gate.0 (e, (device_among true d e on).0, refl);
@@ -136,10 +113,10 @@ module _ (k : Comparison) (cut : Cut) (blif : Blif) (facts : List CellFacts) (c 
         (wholes_are_determined k cut blif facts phase n d h.top h.choice lt circuit) one.table one.tested
         (circuits_are_acyclic cut blif facts d n phase h.choice.read.valid outputs_apart h.choice.tried circuit lt low (h.acyclic phase lt))
 
-    pub always_solved : IsChainTold cut blif facts → n < length (all_places t) → IsAlwaysSolved (with_circuit k d)
-    always_solved told low phase bits lt =
+    pub always_solved : n < length (all_places t) → IsAlwaysSolved (with_circuit k d)
+    always_solved low phase bits lt =
         subst (λ (u : Top). HasOneSolution d (phase_at u.rules phase) (is_observed (with_circuit k d) phase) (setting_of (with_circuit k d) phase bits)) h.top
-        (solved_at told low phase bits (subst (λ (u : Top). phase < length u.rules.phases) (sym h.top) lt))
+        (solved_at low phase bits (subst (λ (u : Top). phase < length u.rules.phases) (sym h.top) lt))
 
   -- ---- the chain
 
@@ -183,26 +160,26 @@ module _ (k : Comparison) (cut : Cut) (blif : Blif) (facts : List CellFacts) (c 
         },
       )
 
-  step_agrees : IsChainTold cut blif facts → (i : ℕ) (d e : Circuit) → suc i < length (all_places t) → cut.choice i ≡ true → IsCircuitWith (before cut i) blif facts d → IsCircuitWith (before cut (suc i)) blif facts e
+  step_agrees : (i : ℕ) (d e : Circuit) → suc i < length (all_places t) → cut.choice i ≡ true → IsCircuitWith (before cut i) blif facts d → IsCircuitWith (before cut (suc i)) blif facts e
       → AgreesWith (with_circuit k d) (with_circuit k e)
-  step_agrees told i d e low chosen before_it after =
+  step_agrees i d e low chosen before_it after =
       let s = step_at i d e low chosen before_it after in
       let p = s.0 in
       let q = compared_at t blif p s.1 in
       one_more_whole_agrees (with_circuit k d) q e (net_above t p.at) (λ j. j) (fresh_place (before cut i) blif facts q) (is_outside_at t s.2 p.at)
       (λ n. not (is_inside_at q.circuit (net_above t p.at) n)) (λ n. 0)
       (λ phase lt. one_more k cut blif facts i p s.1 s.2 s.3 s.4 d e s.5 phase (subst (λ (u : Top). phase < length u.rules.phases) (sym h.top) lt))
-      (always_solved i d before_it told (omega (arith, low))) (always_solved (suc i) e after told low)
+      (always_solved i d before_it (omega (arith, low))) (always_solved (suc i) e after low)
       (chain_keeps_valuations k blif facts (before cut i) (before cut (suc i)) d e (of_chain i d before_it) (of_chain (suc i) e after)).1
 
-  pub agrees_at : IsChainTold cut blif facts → (n : ℕ) (d : Circuit) → n < length (all_places t) → IsCircuitWith (before cut n) blif facts d → AgreesWith k (with_circuit k d)
-  agrees_at told zero d low circuit = itself d ((chain_begins_flat cut blif facts d).0 circuit ∙ sym h.flat)
-  agrees_at told (suc i) d low circuit =
+  pub agrees_at : (n : ℕ) (d : Circuit) → n < length (all_places t) → IsCircuitWith (before cut n) blif facts d → AgreesWith k (with_circuit k d)
+  agrees_at zero d low circuit = itself d ((chain_begins_flat cut blif facts d).0 circuit ∙ sym h.flat)
+  agrees_at (suc i) d low circuit =
       elim (cases_Bool (cut.choice i)) [
-        | inr not_chosen ↦ agrees_at told i d (omega (arith, low)) (subst (λ (x : Cut). IsCircuitWith x blif facts d) (none_more_is_same cut i not_chosen) circuit)
+        | inr not_chosen ↦ agrees_at i d (omega (arith, low)) (subst (λ (x : Cut). IsCircuitWith x blif facts d) (none_more_is_same cut i not_chosen) circuit)
         | inl chosen ↦
             let there = chain_is_there cut blif facts c i h.circuit in
-            agreement_is_transitive k there.0 d (agrees_at told i there.0 (omega (arith, low)) there.1) (step_agrees told i there.0 d low chosen there.1 circuit)
+            agreement_is_transitive k there.0 d (agrees_at i there.0 (omega (arith, low)) there.1) (step_agrees i there.0 d low chosen there.1 circuit)
       ]
 
   -- behind the last instance it is the checked circuit
@@ -217,7 +194,7 @@ module _ (k : Comparison) (cut : Cut) (blif : Blif) (facts : List CellFacts) (c 
       by_count (suc n) lt = (n, refl)
 
 pub chain_is_always_solved : ChainIsAlwaysSolved
-chain_is_always_solved k cut blif facts c n d h told low circuit = always_solved k cut blif facts c h n d circuit told low
+chain_is_always_solved k cut blif facts c n d h low circuit = always_solved k cut blif facts c h n d circuit low
 
 pub checked_circuits_agree : CheckedCircuitsAgree
-checked_circuits_agree k cut blif facts c h told = (let last = at_last k cut blif facts c h in agrees_at k cut blif facts c h told last.0 c last.1 last.2)
+checked_circuits_agree k cut blif facts c h = (let last = at_last k cut blif facts c h in agrees_at k cut blif facts c h last.0 c last.1 last.2)

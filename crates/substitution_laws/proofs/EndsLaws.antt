@@ -9,6 +9,7 @@ use Rattle.checked_chain.proofs.EndPlaces.{ends_stay_shown}
 use Rattle.placed_cells.proofs.FlatNetLaws.{net_count}
 use Rattle.placed_cells.proofs.HoldLaws.{cells_there, hold_named, none_falls}
 use Rattle.placed_cells.proofs.NameLaws.{NetsHave, all_have}
+use Rattle.placed_cells.proofs.NamedLaws.{hold_nets_are_there}
 use Rattle.placed_cells.proofs.SplitLaws.{places_in_stand_together, port_below, top_globals}
 use Rattle.placed_cells.specs.Splits.{is_net_in}
 use Rattle.replaced_instances.proofs.StepInstances.{FitsPlace, fitting, place_inside, zip_at_right}
@@ -78,7 +79,7 @@ module _ (cut : Cut) (blif : Blif) (facts : List CellFacts) (h : IsSoftChoice cu
       let net : ℕ = net_at own s.0 rule.net in
       let s_there : Among (all_places own) s.0 = (suc inner.0, s.1) in
       let p_cell = cells_there t step.1.netlist.there p.at (suc i, there) in
-      let is = hold_named t.design t.rules step.1.netlist.design step.1.netlist.hold_nets s.0.cell (cells_there own p_cell s.0 s_there) rule on named in
+      let is = hold_named t.design t.rules step.1.netlist.design (hold_nets_are_there t.design t.rules step.1.netlist.ordered) s.0.cell (cells_there own p_cell s.0 s_there) rule on named in
       none_falls own (no_holds cut blif facts i p m step.1) net (name_in_range own s.0 rule.net s_there is)
       (s.0, rule, s_there, on, and_from (bytes_eq rule.cell (cell_at t.design s.0.cell).name) (net == net) named (eq-eqb net net refl))
 

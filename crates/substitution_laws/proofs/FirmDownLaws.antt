@@ -15,8 +15,9 @@ use Rattle.substitution_laws.proofs.ChainLaws.{at_last, is_itself, step_at}
 use Rattle.substitution_laws.proofs.FormedCells.{formed_cell}
 use Rattle.substitution_laws.proofs.LogicCells.{logic_cell}
 use Rattle.substitution_laws.proofs.StepDownLaws.{steps_go_down}
+use Rattle.substitution_laws.proofs.ToldLaws.{cell_parted}
 use Rattle.substitution_laws.specs.Agreement.{IsCheckedSoftly}
-use Rattle.substitution_laws.specs.FirmDown.{AreCellsParted, FirmGroundReachesFlat}
+use Rattle.substitution_laws.specs.FirmDown.{FirmGroundReachesFlat}
 use Rattle.substitution_laws.specs.StepDowns.{ArePathsApart}
 use Rattle.substitution_laws.specs.Steps.{IsStepOf}
 use Rattle.vrt_model.proofs.Filtered.{device_among}
@@ -35,7 +36,7 @@ use Rattle.vrt_model.specs.declared.whole.CellFacts.{CellFacts}
 use Rattle.whole_ranks.proofs.RankLaws.{acyclic_nets_have_ranks}
 use Rattle.whole_solutions.proofs.ObservedCases.{gate_observed}
 
-module _ (k : Comparison) (cut : Cut) (blif : Blif) (facts : List CellFacts) (c : Circuit) (h : IsCheckedSoftly k cut blif facts c) (apart : ArePathsApart cut.top) (parted : AreCellsParted cut blif)
+module _ (k : Comparison) (cut : Cut) (blif : Blif) (facts : List CellFacts) (c : Circuit) (h : IsCheckedSoftly k cut blif facts c) (apart : ArePathsApart cut.top)
     (phase : ℕ) (lt : phase < length cut.top.rules.phases) (setting : Setting) (kind : FaultKind) (ok : IsFoundByRank kind) where
   abbrev t : Top
   t = cut.top
@@ -46,19 +47,19 @@ module _ (k : Comparison) (cut : Cut) (blif : Blif) (facts : List CellFacts) (c 
     q = compared_at t blif p m
 
     known : ℕ → Bool
-    known n = is_some ((parted p.at.cell m phase s.step.supported lt).told.known n)
+    known n = is_some ((cell_parted cut blif facts h.choice p.at.cell m phase s.step.supported).told.known n)
 
     known_is : (n : ℕ) → (known n ≡ true) ↔ ((v : Bool) × IsKnown q.circuit (phase_at t.rules phase) n v)
     unfolding known
     known_is n =
-        let one = (parted p.at.cell m phase s.step.supported lt).told in (
+        let one = (cell_parted cut blif facts h.choice p.at.cell m phase s.step.supported).told in (
           λ e. (let v = some_of (one.known n) e in (v.0, (one.table n v.0).0 v.1)),
           λ v. ap is_some ((one.table n v.0).1 v.1),
         )
 
-    rank_is : (rank : ℕ → ℕ) × IsCellRanked q.circuit (phase_at t.rules phase) (is_observed q phase) known (parted p.at.cell m phase s.step.supported lt).together rank
+    rank_is : (rank : ℕ → ℕ) × IsCellRanked q.circuit (phase_at t.rules phase) (is_observed q phase) known (cell_parted cut blif facts h.choice p.at.cell m phase s.step.supported).together rank
     rank_is =
-        let one = parted p.at.cell m phase s.step.supported lt in
+        let one = cell_parted cut blif facts h.choice p.at.cell m phase s.step.supported in
         let cell = logic_cell cut blif facts i p m s.step.at_gates s.step.supported (formed_cell cut blif facts p.at.cell m s.step.choice s.step.supported) phase lt in
         let ranks = acyclic_nets_have_ranks q.circuit (phase_at t.rules phase) one.told.arcs cell.ranges one.told.tested (s.step.supported.acyclic phase lt).0 in (
           ranks.0,
@@ -74,9 +75,9 @@ module _ (k : Comparison) (cut : Cut) (blif : Blif) (facts : List CellFacts) (c 
     step_down : (n : ℕ) → IsOnFirmGround (with_circuit k e) phase setting kind n → (l : ℕ) × IsSamePlaceIn e d kind n l × IsOnFirmGround (with_circuit k d) phase setting kind l
     step_down n ground =
         let down = steps_go_down k cut blif facts i p m depth front back d e phase setting lt apart s in
-        let ranked = subst (λ (u : Top). IsCellRanked q.circuit (phase_at u.rules phase) (is_observed q phase) known (parted p.at.cell m phase s.step.supported lt).together rank_is.0) s.first.top rank_is.1 in
+        let ranked = subst (λ (u : Top). IsCellRanked q.circuit (phase_at u.rules phase) (is_observed q phase) known (cell_parted cut blif facts h.choice p.at.cell m phase s.step.supported).together rank_is.0) s.first.top rank_is.1 in
         firm_ground_goes_down (with_circuit k d) phase setting q.circuit e (net_above t p.at) (λ j. j) (fresh_place (before cut i) blif facts q) (is_outside_at t depth p.at)
-        (λ l. not (is_inside_at q.circuit (net_above t p.at) l)) (is_observed q phase) known (parted p.at.cell m phase s.step.supported lt).together (λ l. 0) rank_is.0 down.0 (flat_instance p.at) kind n down.1 ranked ground
+        (λ l. not (is_inside_at q.circuit (net_above t p.at) l)) (is_observed q phase) known (cell_parted cut blif facts h.choice p.at.cell m phase s.step.supported).together (λ l. 0) rank_is.0 down.0 (flat_instance p.at) kind n down.1 ranked ground
 
   pub down_at : (n : ℕ) (d : Circuit) (l : ℕ) → n < length (all_places t) → IsCircuitWith (before cut n) blif facts d → IsOnFirmGround (with_circuit k d) phase setting kind l
       → (m : ℕ) × IsSamePlaceIn d k.circuit kind l m × IsOnFirmGround k phase setting kind m
@@ -96,5 +97,5 @@ module _ (k : Comparison) (cut : Cut) (blif : Blif) (facts : List CellFacts) (c 
       ]
 
 pub firm_ground_reaches_flat : FirmGroundReachesFlat
-firm_ground_reaches_flat k cut blif facts c phase setting kind n h apart parted lt ok ground =
-    let last = at_last k cut blif facts c h in down_at k cut blif facts c h apart parted phase lt setting kind ok last.0 c n last.1 last.2 ground
+firm_ground_reaches_flat k cut blif facts c phase setting kind n h apart lt ok ground =
+    let last = at_last k cut blif facts c h in down_at k cut blif facts c h apart phase lt setting kind ok last.0 c n last.1 last.2 ground

@@ -18,8 +18,7 @@ use Rattle.substitution_laws.proofs.ChainLaws.{always_solved, at_last, is_itself
 use Rattle.substitution_laws.proofs.EndsLaws.{chosen_ends_are_shown}
 use Rattle.substitution_laws.proofs.FirmDownLaws.{firm_ground_reaches_flat}
 use Rattle.substitution_laws.proofs.OrderedLaws.{checked_circuit_is_ordered}
-use Rattle.substitution_laws.specs.Agreement.{IsChainTold, IsCheckedSoftly}
-use Rattle.substitution_laws.specs.FirmDown.{AreCellsParted}
+use Rattle.substitution_laws.specs.Agreement.{IsCheckedSoftly}
 use Rattle.substitution_laws.specs.FirstFaults.{FirstFaultsStandBelow}
 use Rattle.substitution_laws.specs.StepDowns.{ArePathsApart}
 use Rattle.vrt_model.proofs.Lists.{at_map}
@@ -103,12 +102,12 @@ module _ (k : Comparison) (cut : Cut) (blif : Blif) (facts : List CellFacts) (c 
   unfolding flat_circuit_of
   flat_pins out on = absurd (no_pins k.circuit (ap (λ (x : Circuit). x.wholes) h.flat) on.0 out on.1)
 
-  pub flat_solved : IsChainTold cut blif facts → IsAlwaysSolved k
-  flat_solved told =
+  pub flat_solved : IsAlwaysSolved k
+  flat_solved =
       subst (λ (x : Comparison). IsAlwaysSolved x) (sym (is_itself k cut blif facts c h k.circuit refl))
-      (always_solved k cut blif facts c h 0 k.circuit ((chain_begins_flat cut blif facts k.circuit).1 h.flat) told (some_place t))
+      (always_solved k cut blif facts c h 0 k.circuit ((chain_begins_flat cut blif facts k.circuit).1 h.flat) (some_place t))
 
-  module _ (apart : ArePathsApart cut.top) (told : IsChainTold cut blif facts) (parted : AreCellsParted cut blif) (fault : FaultAt) (f : Finding) (ok : IsFoundByRank f.kind)
+  module _ (apart : ArePathsApart cut.top) (fault : FaultAt) (f : Finding) (ok : IsFoundByRank f.kind)
       (describes : Describes (with_circuit k c) fault f) (first : IsFirst (with_circuit k c) f) where
     abbrev found : IsFinding (with_circuit k c) f
     found = first.in_phase.found
@@ -125,11 +124,11 @@ module _ (k : Comparison) (cut : Cut) (blif : Blif) (facts : List CellFacts) (c 
     firm : IsOnFirmGround (with_circuit k c) f.phase setting f.kind f.at
     firm =
         let last = at_last k cut blif facts c h in
-        let ordered = checked_circuit_is_ordered k cut blif facts c f.phase (setting_of (with_circuit k c) f.phase f.bits) h apart (told last.0 f.phase c last.2 lt) lt in
+        let ordered = checked_circuit_is_ordered k cut blif facts c f.phase (setting_of (with_circuit k c) f.phase f.bits) h apart lt in
         subst (λ (s : Setting). IsOnFirmGround (with_circuit k c) f.phase s f.kind f.at) same_setting (first_fault_is_firm (with_circuit k c) f ordered.0 ordered.1 first.in_phase ok)
 
     down : (m : ℕ) × IsSamePlaceIn c k.circuit f.kind f.at m × IsOnFirmGround k f.phase setting f.kind m
-    down = firm_ground_reaches_flat k cut blif facts c f.phase setting f.kind f.at h apart parted lt ok firm
+    down = firm_ground_reaches_flat k cut blif facts c f.phase setting f.kind f.at h apart lt ok firm
 
     abbrev flat : Finding
     flat = record { phase = f.phase; kind = f.kind; at = down.0; bits = f.bits }
@@ -139,7 +138,7 @@ module _ (k : Comparison) (cut : Cut) (blif : Blif) (facts : List CellFacts) (c 
 
     flat_found : IsFinding k flat
     flat_found =
-        let one = flat_solved told f.phase f.bits found.phase in
+        let one = flat_solved f.phase f.bits found.phase in
         record {
           phase = found.phase;
           meets = (constraints_are_same k blif facts cut c chain f.phase f.bits).0 found.meets;
@@ -161,4 +160,4 @@ module _ (k : Comparison) (cut : Cut) (blif : Blif) (facts : List CellFacts) (c 
     stands_below = (flat, flat_described, flat_found, subst (λ (kind : FaultKind). IsSamePlace cut kind down.0 f.at) (sym describes.kind) place)
 
 pub first_faults_stand_below : FirstFaultsStandBelow
-first_faults_stand_below k cut blif facts c fault f h apart told parted ok describes first = stands_below k cut blif facts c h apart told parted fault f ok describes first
+first_faults_stand_below k cut blif facts c fault f h apart ok describes first = stands_below k cut blif facts c h apart fault f ok describes first

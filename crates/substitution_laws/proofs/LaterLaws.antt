@@ -21,7 +21,8 @@ use Rattle.replaced_cells.specs.Agreement.{HaveSameBits}
 use Rattle.replaced_cells.specs.Faults.{IsSameIn}
 use Rattle.replaced_cells.specs.OneMoreWhole.{IsOneMoreWhole, all_bits}
 use Rattle.replaced_instances.specs.Steps.{compared_at, fresh_place, is_inside_at, is_outside_at}
-use Rattle.substitution_laws.proofs.ChainLaws.{always_solved, at_last, ends_before, is_itself, of_chain, ports_within, step_at}
+use Rattle.substitution_laws.proofs.ToldLaws.{ends_before}
+use Rattle.substitution_laws.proofs.ChainLaws.{always_solved, at_last, is_itself, of_chain, ports_within, step_at}
 use Rattle.substitution_laws.proofs.ChosenLaws.{chosen_steps_are_at_gates}
 use Rattle.substitution_laws.proofs.EndsLaws.{chosen_ends_are_shown}
 use Rattle.substitution_laws.proofs.FirstLaws.{flat_solved}
@@ -30,7 +31,7 @@ use Rattle.substitution_laws.proofs.PrintedBits.{printed_same}
 use Rattle.substitution_laws.proofs.SeenNets.{seen_within}
 use Rattle.substitution_laws.proofs.WholeCells.{IsChosenAt, shown, wholes_are_determined}
 use Rattle.substitution_laws.proofs.WholeRanges.{circuits_have_ranges}
-use Rattle.substitution_laws.specs.Agreement.{IsChainTold, IsCheckedSoftly}
+use Rattle.substitution_laws.specs.Agreement.{IsCheckedSoftly}
 use Rattle.substitution_laws.specs.LaterFaults.{IsFoundLater, LaterFaultsStandBelow}
 use Rattle.substitution_laws.specs.Steps.{IsStepOf}
 use Rattle.vrt_model.proofs.Filtered.{device_among}
@@ -151,7 +152,7 @@ module _ (k : Comparison) (f : Finding) (first : IsFirst k f) (later : IsFoundLa
 
 -- ---- along the chain
 
-module _ (k : Comparison) (cut : Cut) (blif : Blif) (facts : List CellFacts) (c : Circuit) (h : IsCheckedSoftly k cut blif facts c) (told : IsChainTold cut blif facts)
+module _ (k : Comparison) (cut : Cut) (blif : Blif) (facts : List CellFacts) (c : Circuit) (h : IsCheckedSoftly k cut blif facts c)
     (phase : ℕ) (vals : List Bool) (lt : phase < length k.rules.phases) (g : Assignment) (kind : FaultKind) (later : IsFoundLater kind) (at : ℕ) (value wanted : Option Bool) where
   abbrev t : Top
   t = cut.top
@@ -172,7 +173,7 @@ module _ (k : Comparison) (cut : Cut) (blif : Blif) (facts : List CellFacts) (c 
   one_solution n d low circuit =
       subst (λ (s : Setting). HasOneSolution d (phase_at k.rules phase) (is_observed (with_circuit k d) phase) s)
       (settings_are_same k blif facts (before cut n) d (of_chain k cut blif facts c h n d circuit) phase vals).1
-      (always_solved k cut blif facts c h n d circuit told low phase vals lt)
+      (always_solved k cut blif facts c h n d circuit low phase vals lt)
 
   module _ (i : ℕ) (d e : Circuit) (low : suc i < length (all_places t)) (chosen : cut.choice i ≡ true) (circuit : IsCircuitWith (before cut i) blif facts d) (after : IsCircuitWith (before cut (suc i)) blif facts e)
       (there : IsThere e) where
@@ -289,7 +290,7 @@ module _ (k : Comparison) (cut : Cut) (blif : Blif) (facts : List CellFacts) (c 
 
 -- ---- the first fault
 
-module _ (k : Comparison) (cut : Cut) (blif : Blif) (facts : List CellFacts) (c : Circuit) (f : Finding) (h : IsCheckedSoftly k cut blif facts c) (told : IsChainTold cut blif facts) (later : IsFoundLater f.kind)
+module _ (k : Comparison) (cut : Cut) (blif : Blif) (facts : List CellFacts) (c : Circuit) (f : Finding) (h : IsCheckedSoftly k cut blif facts c) (later : IsFoundLater f.kind)
     (first : IsFirst (with_circuit k c) f) where
   abbrev last_found : IsFinding (with_circuit k c) f
   last_found = first.in_phase.found
@@ -336,7 +337,7 @@ module _ (k : Comparison) (cut : Cut) (blif : Blif) (facts : List CellFacts) (c 
     flat_below : (a : Partial) × Solves k f.phase (setting_of k f.phase f.bits) a × Stands k f.phase (setting_of k f.phase f.bits) a g f.kind f.at
         × ((e : Assignment) → Assigns k f.phase (setting_of k f.phase f.bits) e → IsPrintedWith k f.phase (setting_of k f.phase f.bits) a e f.kind f.at fault.circuit fault.wanted)
     flat_below =
-        goes_down k cut blif facts c h told f.phase f.bits last_found.phase g f.kind later f.at fault.circuit fault.wanted last.0 c last.1 last.2
+        goes_down k cut blif facts c h f.phase f.bits last_found.phase g f.kind later f.at fault.circuit fault.wanted last.0 c last.1 last.2
         (record {
           bits = last_found.stands.0;
           solves = subst (λ (s : Setting). Solves (with_circuit k c) f.phase s last_found.stands.0) same_setting last_found.stands.2;
@@ -360,7 +361,7 @@ module _ (k : Comparison) (cut : Cut) (blif : Blif) (facts : List CellFacts) (c 
 
     -- each solution of the flat circuit has the same bits
     flat_one : HasOneSolution k.circuit (phase_at k.rules f.phase) (is_observed k f.phase) (setting_of k f.phase f.bits)
-    flat_one = flat_solved k cut blif facts c h told f.phase f.bits last_found.phase
+    flat_one = flat_solved k cut blif facts c h f.phase f.bits last_found.phase
 
     later_described : Describes k fault f
     later_described =
@@ -374,4 +375,4 @@ module _ (k : Comparison) (cut : Cut) (blif : Blif) (facts : List CellFacts) (c 
     later_stands = (f, later_described, later_found, subst (λ (x : FaultKind). IsSamePlace cut x f.at f.at) (sym describes.kind) place)
 
 pub later_faults_stand_below : LaterFaultsStandBelow
-later_faults_stand_below k cut blif facts c fault f h told later describes first = later_stands k cut blif facts c f h told later first fault describes
+later_faults_stand_below k cut blif facts c fault f h later describes first = later_stands k cut blif facts c f h later first fault describes

@@ -14,6 +14,7 @@ pub mod PrintedBits
 pub mod SeenNets
 pub mod StepDownLaws
 pub mod SubstitutionLaws
+pub mod ToldLaws
 pub mod WholeCells
 pub mod WholePins
 pub mod WholeRanges

@@ -12,7 +12,8 @@ use Rattle.replaced_cells.proofs.BrokenLaws.{assumes_constrain, clocks_constrain
 use Rattle.replaced_instances.proofs.OutputPorts.{pin_at}
 use Rattle.replaced_instances.proofs.StepPorts.{pins_shifted}
 use Rattle.replaced_instances.specs.Steps.{IsStepAtGates, compared_at}
-use Rattle.substitution_laws.proofs.ChainLaws.{at_last, ends_before, ports_within}
+use Rattle.substitution_laws.proofs.ChainLaws.{at_last, ports_within}
+use Rattle.substitution_laws.proofs.ToldLaws.{CanBeTold, chain_told, ends_before}
 use Rattle.substitution_laws.proofs.ChosenLaws.{chosen_steps_are_at_gates}
 use Rattle.substitution_laws.proofs.EndsLaws.{chosen_ends_are_shown}
 use Rattle.substitution_laws.proofs.SeenNets.{seen_within}
@@ -20,7 +21,7 @@ use Rattle.substitution_laws.proofs.StepDownLaws.{instance_of_whole}
 use Rattle.substitution_laws.proofs.WholeCells.{count_nets, ports_at, whole_chosen, wholes_are_determined}
 use Rattle.substitution_laws.proofs.WholeRanges.{circuits_have_ranges}
 use Rattle.substitution_laws.specs.Chosen.{IsSoftChoice}
-use Rattle.substitution_laws.specs.Agreement.{CanBeTold, IsCheckedSoftly}
+use Rattle.substitution_laws.specs.Agreement.{IsCheckedSoftly}
 use Rattle.substitution_laws.specs.FirstFaults.{CheckedCircuitIsOrdered}
 use Rattle.substitution_laws.specs.StepDowns.{ArePathsApart}
 use Rattle.vrt_model.proofs.Filtered.{device_among}
@@ -144,7 +145,10 @@ module _ (k : Comparison) (cut : Cut) (blif : Blif) (facts : List CellFacts) (c 
       ] in
       instance_observed (with_circuit k c) phase n (y, found.2, on, (found.0, found.4), found.6, constrained)
 
-  module _ (told : CanBeTold c (phase_at cut.top.rules phase)) (setting : Setting) where
+  told : CanBeTold c (phase_at cut.top.rules phase)
+  told = chain_told k cut blif facts c h last.0 phase c last.2 lt
+
+  module _ (setting : Setting) where
     pub known : ℕ → Bool
     known n = is_some (told.known n)
 
@@ -176,7 +180,7 @@ module _ (k : Comparison) (cut : Cut) (blif : Blif) (facts : List CellFacts) (c 
         }
 
 pub checked_circuit_is_ordered : CheckedCircuitIsOrdered
-checked_circuit_is_ordered k cut blif facts c phase setting h apart told lt = (
-  known k cut blif facts c h apart phase lt told setting,
-  is_ordered k cut blif facts c h apart phase lt told setting,
+checked_circuit_is_ordered k cut blif facts c phase setting h apart lt = (
+  known k cut blif facts c h apart phase lt setting,
+  is_ordered k cut blif facts c h apart phase lt setting,
 )

@@ -8,7 +8,9 @@ use Rattle.cell_inside.specs.Placed.{IsSupply}
 use Rattle.checked_chain.proofs.ChoiceLaws.{numbered_at}
 use Rattle.checked_chain.proofs.OrderLaws.{chosen_are_apart}
 use Rattle.placed_cells.proofs.AboveLaws.{instances_are_shifted}
+use Rattle.placed_cells.proofs.HoldLaws.{cells_there}
 use Rattle.placed_cells.proofs.ListLaws.{zip_right}
+use Rattle.placed_cells.proofs.NamedLaws.{assumed_ports_are_there}
 use Rattle.placed_cells.specs.Above.{net_above}
 use Rattle.replaced_cells.proofs.BrokenLaws.{assumes_constrain, clocks_constrain}
 use Rattle.replaced_cells.specs.OneMoreWhole.{all_bits}
@@ -166,8 +168,13 @@ module _ (cut : Cut) (blif : Blif) (facts : List CellFacts) (h : IsSoftChoice cu
       ∙ ap (map at) (sym (nets_of_ports 0 names nets q.pairing.ports (count_nets t.rules 2 names) step.roles.each))
       ∙ map-map at (λ (port : CellPort). port.net) (ports_of q)
 
+  cell_there : p.at.cell < length t.design.cells
+  cell_there = cells_there t h.netlist.there p.at (suc i, place_there cut blif facts i p m step)
+
   pub given : (phase : ℕ) → HasGivenPorts q phase
-  given phase = paired_ports_are_given t.design blif t.rules p.at.cell m phase supported (h.assumed p.at.cell phase)
+  given phase =
+      paired_ports_are_given t.design blif t.rules p.at.cell m phase supported
+      (λ e name there on. assumed_ports_are_there t.design t.rules p.at.cell phase e name h.netlist.design h.netlist.ordered cell_there there on)
 
   -- the instance stands in each circuit of the chain in which it is whole
   pub shown : (n : ℕ) → Among (checked_instances (before cut n)) (flat_instance p.at)

@@ -1,7 +1,6 @@
 -- The flat circuit of a cell and its checked one, where the facts say of no output how strongly it drives: nothing is wrong in the one
 -- exactly where nothing is wrong in the other.
-use Rattle.std.specs.Prelude.{◌≡◌, ℕ, ◌<◌, Bool, List, Option, length}
-use Rattle.known_nets.specs.KnownTables.{IsKnownTable}
+use Rattle.std.specs.Prelude.{◌≡◌, ℕ, ◌<◌, List, length}
 use Rattle.replaced_cells.specs.Agreement.{AgreesWith, IsAlwaysSolved}
 use Rattle.substitution_laws.specs.Chosen.{IsSoftChoice}
 use Rattle.vrt_model.specs.Checked.{IsCircuitWith, before, top_of, with_circuit}
@@ -15,16 +14,7 @@ use Rattle.vrt_model.specs.Unrolled.{all_places}
 use Rattle.vrt_model.specs.Unsupported.{IsAcyclic}
 use Rattle.vrt_model.specs.declared.blif.Blif.{Blif}
 use Rattle.vrt_model.specs.declared.circuit.Circuit.{Circuit}
-use Rattle.vrt_model.specs.declared.rules.Phase.{Phase}
 use Rattle.vrt_model.specs.declared.whole.CellFacts.{CellFacts}
-use Rattle.whole_ranks.specs.Ranks.{TestsArcs}
-
--- which nets of a circuit are known in a phase, and along which arcs its ranks rise, can be told
-pub record CanBeTold (c : Circuit) (phase : Phase) : Type 0 where
-  pub known : ℕ → Option Bool
-  pub table : IsKnownTable c phase known
-  pub arcs : ℕ → ℕ → Bool
-  pub tested : TestsArcs c phase arcs
 
 -- a circuit with the instances of such a choice whole, of a comparison whose own circuit is the flat one, well formed and without cycles
 pub record IsCheckedSoftly (k : Comparison) (cut : Cut) (blif : Blif) (facts : List CellFacts) (c : Circuit) : Type 0 where
@@ -36,20 +26,15 @@ pub record IsCheckedSoftly (k : Comparison) (cut : Cut) (blif : Blif) (facts : L
   pub acyclic : (phase : ℕ) → phase < length cut.top.rules.phases → IsAcyclic (HasArc (flat_circuit_of cut.top) (phase_at cut.top.rules phase))
   pub circuit : IsCircuitWith cut blif facts c
 
--- what is known in each circuit of its chain can be told
-abbrev pub IsChainTold : Cut → Blif → List CellFacts → Type 0
-IsChainTold cut blif facts =
-    (n phase : ℕ) (d : Circuit) → IsCircuitWith (before cut n) blif facts d → phase < length cut.top.rules.phases → CanBeTold d (phase_at cut.top.rules phase)
-
 -- The law: each circuit of the chain has exactly one solution in each phase at each valuation.
 abbrev pub ChainIsAlwaysSolved : Type 0
 ChainIsAlwaysSolved =
     (k : Comparison) (cut : Cut) (blif : Blif) (facts : List CellFacts) (c : Circuit) (n : ℕ) (d : Circuit)
-    → IsCheckedSoftly k cut blif facts c → IsChainTold cut blif facts → n < length (all_places cut.top) → IsCircuitWith (before cut n) blif facts d
+    → IsCheckedSoftly k cut blif facts c → n < length (all_places cut.top) → IsCircuitWith (before cut n) blif facts d
     → IsAlwaysSolved (with_circuit k d)
 
 -- The law: so nothing is wrong in the flat circuit exactly where nothing is wrong in the checked one.
 abbrev pub CheckedCircuitsAgree : Type 0
 CheckedCircuitsAgree =
     (k : Comparison) (cut : Cut) (blif : Blif) (facts : List CellFacts) (c : Circuit)
-    → IsCheckedSoftly k cut blif facts c → IsChainTold cut blif facts → AgreesWith k (with_circuit k c)
+    → IsCheckedSoftly k cut blif facts c → AgreesWith k (with_circuit k c)

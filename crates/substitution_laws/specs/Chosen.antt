@@ -1,18 +1,13 @@
 -- Choices of instances by facts that say of no output how strongly it drives: each chosen instance meets gates alone.
-use Rattle.std.specs.Prelude.{◌≡◌, ℕ, suc, ◌<◌, true, List, Some, length}
+use Rattle.std.specs.Prelude.{◌≡◌, ℕ, suc, ◌<◌, true, List, length}
 use Rattle.replaced_instances.specs.Steps.{IsSoundNetlist, IsStepAtGates, compared_at}
 use Rattle.formed_cells.specs.Formed.{AreRead}
-use Rattle.vrt_model.specs.CellRules.{assumed}
 use Rattle.vrt_model.specs.Checked.{IsChoice}
-use Rattle.vrt_model.specs.Comparison.{cell_at}
 use Rattle.vrt_model.specs.Cut.{Cut, NumberedPlace, numbered_places}
-use Rattle.vrt_model.specs.Expressions.{names_in}
 use Rattle.vrt_model.specs.Facts.{IsTrueOf}
-use Rattle.vrt_model.specs.Lists.{Among, At, place_of}
-use Rattle.vrt_model.specs.Unrolled.{Top}
+use Rattle.vrt_model.specs.Lists.{At}
 use Rattle.vrt_model.specs.Unsupported.{IsSupported}
 use Rattle.vrt_model.specs.declared.blif.Blif.{Blif}
-use Rattle.vrt_model.specs.declared.rules.Expr.{Expr}
 use Rattle.vrt_model.specs.declared.whole.CellFacts.{CellFacts}
 use Rattle.vrt_model.specs.declared.whole.Drive.{Drive}
 use Rattle.vrt_model.specs.declared.whole.Drive.TheVariants.{Soft}
@@ -22,17 +17,10 @@ use Rattle.whole_ranks.specs.WholeCells.{IsLogicCell}
 abbrev pub AreSoft : List CellFacts → Type 0
 AreSoft facts = (cell j : ℕ) (f : CellFacts) (drive : Drive) → At facts cell f → At f.drives j drive → drive ≡ Soft
 
--- each name in an `assume` of a cell is that of a port
-abbrev pub AreAssumedPorts : Top → Type 0
-AreAssumedPorts t =
-    (cell phase : ℕ) (e : Expr) (name : List ℕ) → Among (assumed t.rules (cell_at t.design cell).name phase) e → Among (names_in e) name
-    → (place : ℕ) × (place_of (cell_at t.design cell).ports name ≡ Some place)
-
 -- a netlist, models and rules as readers give them; true facts without drives; and the instances that are chosen by these, one by one
 pub record IsSoftChoice (cut : Cut) (blif : Blif) (facts : List CellFacts) : Type 0 where
   pub netlist : IsSoundNetlist cut.top
   pub read : AreRead blif cut.top.rules
-  pub assumed : AreAssumedPorts cut.top
   pub told : (cell : ℕ) (f : CellFacts) → At facts cell f → IsTrueOf cut.top.design blif cut.top.rules cell f
   pub soft : AreSoft facts
   pub tried : IsChoice cut blif facts

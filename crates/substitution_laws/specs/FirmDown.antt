@@ -1,38 +1,22 @@
 -- Faults on firm ground in the circuits of a chain are on firm ground in the flat circuit.
-use Rattle.std.specs.Prelude.{◌≡◌, ℕ, ◌↔◌, ◌<◌, Bool, true, List, length}
+use Rattle.std.specs.Prelude.{ℕ, ◌<◌, List, length}
 use Rattle.firm_faults.specs.FirmGround.{IsFoundByRank, IsOnFirmGround}
 use Rattle.firm_faults.specs.StepDown.{IsSamePlaceIn}
-use Rattle.substitution_laws.specs.Agreement.{CanBeTold, IsCheckedSoftly}
+use Rattle.substitution_laws.specs.Agreement.{IsCheckedSoftly}
 use Rattle.substitution_laws.specs.StepDowns.{ArePathsApart}
 use Rattle.vrt_model.specs.Checked.{with_circuit}
-use Rattle.vrt_model.specs.Comparison.{Comparison, phase_at}
+use Rattle.vrt_model.specs.Comparison.{Comparison}
 use Rattle.vrt_model.specs.Cut.{Cut}
-use Rattle.vrt_model.specs.Known.{IsTogether}
-use Rattle.vrt_model.specs.Reading.{bare}
 use Rattle.vrt_model.specs.State.{Setting}
-use Rattle.vrt_model.specs.Unsupported.{IsSupported, comparison_of}
 use Rattle.vrt_model.specs.declared.blif.Blif.{Blif}
 use Rattle.vrt_model.specs.declared.circuit.Circuit.{Circuit}
-use Rattle.vrt_model.specs.declared.rules.Phase.{Phase}
 use Rattle.vrt_model.specs.declared.verdict.FaultKind.{FaultKind}
 use Rattle.vrt_model.specs.declared.whole.CellFacts.{CellFacts}
-
--- besides, which nets are in one part can be told
-pub record CanBeParted (c : Circuit) (phase : Phase) : Type 0 where
-  pub told : CanBeTold c phase
-  pub together : ℕ → ℕ → Bool
-  pub parts : (n m : ℕ) → (together n m ≡ true) ↔ IsTogether c phase bare n m
-
--- so it can for each supported cell
-abbrev pub AreCellsParted : Cut → Blif → Type 0
-AreCellsParted cut blif =
-    (cell m phase : ℕ) → IsSupported cut.top.design blif cut.top.rules cell m → phase < length cut.top.rules.phases
-    → CanBeParted (comparison_of cut.top.design blif cut.top.rules cell m).circuit (phase_at cut.top.rules phase)
 
 -- The law: what is on firm ground in the checked circuit is on firm ground in the flat one, at the same net or instance.
 abbrev pub FirmGroundReachesFlat : Type 0
 FirmGroundReachesFlat =
     (k : Comparison) (cut : Cut) (blif : Blif) (facts : List CellFacts) (c : Circuit) (phase : ℕ) (setting : Setting) (kind : FaultKind) (n : ℕ)
-    → IsCheckedSoftly k cut blif facts c → ArePathsApart cut.top → AreCellsParted cut blif → phase < length cut.top.rules.phases → IsFoundByRank kind
+    → IsCheckedSoftly k cut blif facts c → ArePathsApart cut.top → phase < length cut.top.rules.phases → IsFoundByRank kind
     → IsOnFirmGround (with_circuit k c) phase setting kind n
     → (m : ℕ) × IsSamePlaceIn c k.circuit kind n m × IsOnFirmGround k phase setting kind m

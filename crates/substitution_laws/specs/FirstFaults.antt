@@ -1,12 +1,11 @@
 -- The first fault of the checked circuit, where it is found while the nets are solved, stands in the flat circuit.
 use Rattle.std.specs.Prelude.{ℕ, ◌<◌, Bool, List, length}
 use Rattle.firm_faults.specs.FirmGround.{IsFoundByRank, IsOrderedAt}
-use Rattle.substitution_laws.specs.Agreement.{CanBeTold, IsChainTold, IsCheckedSoftly}
-use Rattle.substitution_laws.specs.FirmDown.{AreCellsParted}
+use Rattle.substitution_laws.specs.Agreement.{IsCheckedSoftly}
 use Rattle.substitution_laws.specs.StepDowns.{ArePathsApart}
 use Rattle.vrt_model.specs.Checked.{with_circuit}
 use Rattle.vrt_model.specs.CheckedVerdicts.{IsSamePlace}
-use Rattle.vrt_model.specs.Comparison.{Comparison, phase_at}
+use Rattle.vrt_model.specs.Comparison.{Comparison}
 use Rattle.vrt_model.specs.Cut.{Cut}
 use Rattle.vrt_model.specs.Places.{Finding, IsFinding, IsFirst}
 use Rattle.vrt_model.specs.State.{Setting}
@@ -20,7 +19,7 @@ use Rattle.vrt_model.specs.declared.whole.CellFacts.{CellFacts}
 abbrev pub CheckedCircuitIsOrdered : Type 0
 CheckedCircuitIsOrdered =
     (k : Comparison) (cut : Cut) (blif : Blif) (facts : List CellFacts) (c : Circuit) (phase : ℕ) (setting : Setting)
-    → IsCheckedSoftly k cut blif facts c → ArePathsApart cut.top → CanBeTold c (phase_at cut.top.rules phase) → phase < length cut.top.rules.phases
+    → IsCheckedSoftly k cut blif facts c → ArePathsApart cut.top → phase < length cut.top.rules.phases
     → (known : ℕ → Bool) × IsOrderedAt (with_circuit k c) phase setting known
 
 -- The law: the first fault of the checked circuit, if it is a fight, a float or a broken constraint, is one of the flat circuit, at the
@@ -28,6 +27,6 @@ CheckedCircuitIsOrdered =
 abbrev pub FirstFaultsStandBelow : Type 0
 FirstFaultsStandBelow =
     (k : Comparison) (cut : Cut) (blif : Blif) (facts : List CellFacts) (c : Circuit) (fault : FaultAt) (f : Finding)
-    → IsCheckedSoftly k cut blif facts c → ArePathsApart cut.top → IsChainTold cut blif facts → AreCellsParted cut blif → IsFoundByRank f.kind
+    → IsCheckedSoftly k cut blif facts c → ArePathsApart cut.top → IsFoundByRank f.kind
     → Describes (with_circuit k c) fault f → IsFirst (with_circuit k c) f
     → (flat : Finding) × Describes k fault flat × IsFinding k flat × IsSamePlace cut fault.kind flat.at f.at

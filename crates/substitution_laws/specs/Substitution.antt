@@ -1,8 +1,7 @@
 -- A checked cell's model stands for it in the cells above.
 use Rattle.std.specs.Prelude.{List}
 use Rattle.replaced_cells.specs.Agreement.{AgreesWith}
-use Rattle.substitution_laws.specs.Agreement.{IsChainTold, IsCheckedSoftly}
-use Rattle.substitution_laws.specs.FirmDown.{AreCellsParted}
+use Rattle.substitution_laws.specs.Agreement.{IsCheckedSoftly}
 use Rattle.substitution_laws.specs.StepDowns.{ArePathsApart}
 use Rattle.vrt_model.specs.Checked.{with_circuit}
 use Rattle.vrt_model.specs.CheckedVerdicts.{IsSamePlace}
@@ -26,5 +25,5 @@ FirstStands k cut j =
 abbrev pub SubstitutionHolds : Type 0
 SubstitutionHolds =
     (k : Comparison) (cut : Cut) (blif : Blif) (facts : List CellFacts) (c : Circuit)
-    → IsCheckedSoftly k cut blif facts c → ArePathsApart cut.top → IsChainTold cut blif facts → AreCellsParted cut blif
+    → IsCheckedSoftly k cut blif facts c → ArePathsApart cut.top
     → AgreesWith k (with_circuit k c) × FirstStands k cut (with_circuit k c)
