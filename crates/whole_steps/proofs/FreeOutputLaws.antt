@@ -1,0 +1,105 @@
+-- A net with a soft output of a whole instance shows the bit that drives it: it is a source, and no other root of that level is there.
+use Rattle.std.proofs.Common.{◌≡◌, ℕ, Bool, false, List, [], ◌∷◌, length, arith, ap, refl, sym, subst, ◌∙◌, inl, inr}
+use Rattle.std.proofs.lemmas.Bool.{false≢true}
+use Rattle.vrt_model.proofs.GivenNets.{clear_from_source, source_strength}
+use Rattle.vrt_model.proofs.Laws.{one_strength, shows_from}
+use Rattle.vrt_model.proofs.Lists.{at_map, map_at, one_at}
+use Rattle.vrt_model.proofs.Members.{all_among, at_none}
+use Rattle.vrt_model.proofs.Networks.{network_levels}
+use Rattle.vrt_model.specs.Circuits.{IsHold}
+use Rattle.vrt_model.specs.FlatCircuit.{net_id}
+use Rattle.vrt_model.specs.Lists.{At}
+use Rattle.vrt_model.specs.Networks.{HasLevels, HasRanges, IsSource}
+use Rattle.vrt_model.specs.Path.{Hop, IsPath, IsRoot, Network, Root, end_of, level_of_drive}
+use Rattle.vrt_model.specs.Reading.{is_given}
+use Rattle.vrt_model.specs.Response.{IsClear, IsStrength, Reaches}
+use Rattle.vrt_model.specs.State.{OutputPin, State, network_of, output_pins}
+use Rattle.vrt_model.specs.declared.circuit.Circuit.{Circuit}
+use Rattle.vrt_model.specs.declared.circuit.FlatNet.{FlatNet}
+use Rattle.vrt_model.specs.declared.whole.Drive.{Drive}
+use Rattle.vrt_model.specs.declared.whole.Whole.{Whole}
+use Rattle.vrt_model.specs.declared.whole.WholePin.{WholePin}
+use Rattle.whole_steps.specs.FreeOutputs.{FreeOutputsShow, HasFreeOutputs}
+
+-- a circuit without whole instances has no outputs
+pub flat_outputs_free : (c : Circuit) → c.wholes ≡ [] → HasFreeOutputs c
+flat_outputs_free c none = record {
+  soft = λ at out e. absurd (no_pin at out e);
+  plain = λ at out e. absurd (no_pin at out e);
+  channels = λ at out d n e m j. no_pin at out e;
+  one = λ at k out other e f same. absurd (no_pin at out e);
+}
+  where
+    no_pin : (at : ℕ) (out : OutputPin) → At (output_pins c) at out → ⊥
+    no_pin at out e = at_none at out (subst (λ (ws : List Whole). At (output_pins (record c { wholes = ws })) at out) none e)
+
+-- a path without hops is its root
+bare_root : (w : Network) (root : Root) (hops : List Hop) → hops ≡ [] → IsPath w root hops → IsClear w root hops → IsRoot w root × (end_of root hops ≡ root.net) × IsStrength w root.net root.level
+bare_root w root [] none p c = (p, refl, c)
+bare_root w root (hop ∷ hops) none p c = absurd (let more = ap (λ (hs : List Hop). length hs) none in omega (arith, more))
+
+module _ (c : Circuit) (which : Bool) (held : ℕ → Bool) (s : State) (ranges : HasRanges c) (free : HasFreeOutputs c)
+    (at : ℕ) (out : OutputPin) (here : At (output_pins c) at out) where
+  abbrev w : Network
+  w = network_of c which held s
+
+  abbrev n : ℕ
+  n = out.pin.net.0
+
+  levels : HasLevels w
+  levels = network_levels c which held s ranges
+
+  pin_here : At w.outputs at out.pin
+  pin_here = map_at (λ (o : OutputPin). o.pin) (output_pins c) at out here
+
+  abbrev root_here : Root
+  root_here = record { net = n; level = 8; value = s.driven at }
+
+  is_root : IsRoot w root_here
+  is_root = inr (inr (at, out.pin, pin_here, refl, ap (λ (d : Drive). level_of_drive 8 d) (sym (free.soft at out here)), refl))
+
+  -- it is a source
+  pub output_source : IsSource w n
+  output_source = (root_here, is_root, refl, refl)
+
+  -- a root of the source level there is that of the output
+  one_value : (root : Root) → IsRoot w root → root.net ≡ n → root.level ≡ 8 → root.value ≡ s.driven at
+  one_value root from same top = elim from [
+    | inl g ↦
+        let net = free.plain at out here in
+        let one : g.0 ≡ net.0 = one_at c.nets n g.0 net.0 (subst (λ (m : ℕ). At c.nets m g.0) same g.1) net.1 in
+        let plain : is_given g.0.kind ≡ false = ap (λ (k : FlatNet). is_given k.kind) one ∙ ap is_given net.2 in
+        absurd (false≢true (sym plain ∙ g.2))
+    | inr other ↦ elim other [
+      | inl h ↦
+          let fits = all_among (IsHold c) c.holds h.1 ranges.holds (h.0, h.2) in
+          let most = fits.size.1 in
+          let is = h.4 in
+          absurd (omega (arith, most, is, top))
+      | inr o ↦
+          let from_pin = at_map (λ (q : OutputPin). q.pin) (output_pins c) o.0 o.1 o.2 in
+          let net : out.pin.net.0 ≡ from_pin.0.pin.net.0 = sym same ∙ o.3 ∙ ap (λ (p : WholePin). p.net.0) (sym from_pin.2) in
+          let one : at ≡ o.0 = free.one at o.0 out from_pin.0 here from_pin.1 (ap net_id net) in
+          o.5 ∙ ap s.driven (sym one)
+    ]
+  ]
+
+  only : (v : Bool) → Reaches w n v → v ≡ s.driven at
+  only v r =
+      let none = clear_from_source w levels r.0 r.1 r.2 r.3 (subst (IsSource w) (sym r.4) output_source) in
+      let bare = bare_root w r.0 r.1 none r.2 r.3 in
+      let net : r.0.net ≡ n = sym bare.1 ∙ r.4 in
+      let level = one_strength w n r.0.level 8 (subst (λ (m : ℕ). IsStrength w m r.0.level) net bare.2) (source_strength w levels n output_source) in
+      sym r.5 ∙ one_value r.0 bare.0 net level
+
+pub free_outputs_show : FreeOutputsShow
+free_outputs_show c which held s ranges free at out here =
+    shows_from (network_of c which held s) out.pin.net.0 (s.driven at) (
+      record { net = out.pin.net.0; level = 8; value = s.driven at },
+      [],
+      is_root c which held s ranges free at out here,
+      source_strength (network_of c which held s) (network_levels c which held s ranges) out.pin.net.0 (output_source c which held s ranges free at out here),
+      refl,
+      refl,
+    )
+    (λ v r. only c which held s ranges free at out here v r)

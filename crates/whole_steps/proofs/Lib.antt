@@ -1,0 +1,4 @@
+pub mod FreeOutputLaws
+pub mod GivenLaws
+pub mod OutputLaws
+pub mod TableLaws

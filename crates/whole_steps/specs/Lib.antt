@@ -1,0 +1,4 @@
+pub mod FreeOutputs
+pub mod Logic
+pub mod Tables
+pub mod Words
