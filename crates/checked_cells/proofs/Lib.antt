@@ -1,0 +1,5 @@
+pub mod CircuitLaws
+pub mod GivenLaws
+pub mod OutputLaws
+pub mod PlacesAlone
+pub mod WholeLaws
