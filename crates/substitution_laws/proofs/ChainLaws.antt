@@ -24,7 +24,7 @@ use Rattle.substitution_laws.proofs.EndsLaws.{chosen_ends_are_shown}
 use Rattle.substitution_laws.proofs.FormedCells.{formed_cell}
 use Rattle.substitution_laws.proofs.OneMoreLaws.{one_more}
 use Rattle.substitution_laws.proofs.SeenNets.{HasPortsWithin, port_range, seen_within}
-use Rattle.substitution_laws.proofs.ToldLaws.{chain_told, ends_before}
+use Rattle.substitution_laws.proofs.ToldLaws.{ends_before}
 use Rattle.substitution_laws.proofs.WholeCells.{whole_chosen, wholes_are_determined}
 use Rattle.substitution_laws.proofs.WholeRanges.{circuits_have_ranges}
 use Rattle.substitution_laws.specs.Agreement.{ChainIsAlwaysSolved, CheckedCircuitsAgree, IsCheckedSoftly}
@@ -104,13 +104,12 @@ module _ (k : Comparison) (cut : Cut) (blif : Blif) (facts : List CellFacts) (c 
         → HasOneSolution d (phase_at t.rules phase) (is_observed (with_circuit k d) phase) (setting_of (with_circuit k d) phase bits)
     solved_at low phase bits lt =
         let ranges = circuits_have_ranges cut blif facts n d h.choice h.formed (ends_before cut n (chosen_ends_are_shown cut blif facts h.choice)) circuit in
-        let one = chain_told k cut blif facts c h n phase d circuit lt in
-        acyclic_nets_have_one_solution d (phase_at t.rules phase) (is_observed (with_circuit k d) phase) (setting_of (with_circuit k d) phase bits) one.known one.arcs ranges
+        acyclic_nets_have_one_solution d (phase_at t.rules phase) (is_observed (with_circuit k d) phase) (setting_of (with_circuit k d) phase bits) ranges
         (record {
           gates = λ e on. gate_observed (with_circuit k d) phase e.gate.0 (e, (device_among true d e on).0, refl);
           nets = λ m seen. seen_within (with_circuit k d) phase m ranges ports_within seen;
         })
-        (wholes_are_determined k cut blif facts phase n d h.top h.choice lt circuit) one.table one.tested
+        (wholes_are_determined k cut blif facts phase n d h.top h.choice lt circuit)
         (circuits_are_acyclic cut blif facts d n phase h.choice.read.valid outputs_apart h.choice.tried circuit lt low (h.acyclic phase lt))
 
     pub always_solved : n < length (all_places t) → IsAlwaysSolved (with_circuit k d)

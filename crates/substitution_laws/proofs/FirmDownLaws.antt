@@ -1,6 +1,5 @@
 -- Firm ground goes down the chain to the flat circuit.
-use Rattle.std.proofs.Common.{◌≡◌, ◌↔◌, ℕ, zero, suc, ◌<◌, not, Bool, true, List, length, refl, ap, sym, ◌∙◌, subst, arith, inl, inr}
-use Rattle.std.specs.Prelude.{is_some}
+use Rattle.std.proofs.Common.{◌≡◌, ◌↔◌, ℕ, zero, suc, ◌<◌, not, Bool, true, List, length, refl, sym, ◌∙◌, subst, arith, inl, inr}
 use Rattle.std.proofs.lemmas.Bool.{cases_Bool}
 use Rattle.checked_chain.proofs.EndLaws.{chain_begins_flat}
 use Rattle.checked_chain.proofs.StepLaws.{none_more_is_same}
@@ -9,24 +8,26 @@ use Rattle.firm_faults.proofs.StepChainLaws.{own_place, same_on}
 use Rattle.firm_faults.proofs.StepLaws.{firm_ground_goes_down}
 use Rattle.firm_faults.specs.FirmGround.{IsFoundByRank, IsOnFirmGround}
 use Rattle.firm_faults.specs.StepDown.{IsCellRanked, IsSamePlaceIn}
+use Rattle.known_nets.specs.Wired.{IsWired}
 use Rattle.placed_cells.specs.Above.{net_above}
 use Rattle.replaced_instances.specs.Steps.{compared_at, fresh_place, is_inside_at, is_outside_at}
 use Rattle.substitution_laws.proofs.ChainLaws.{at_last, is_itself, step_at}
 use Rattle.substitution_laws.proofs.FormedCells.{formed_cell}
 use Rattle.substitution_laws.proofs.LogicCells.{logic_cell}
 use Rattle.substitution_laws.proofs.StepDownLaws.{steps_go_down}
-use Rattle.substitution_laws.proofs.ToldLaws.{cell_parted}
+use Rattle.substitution_laws.proofs.ToldLaws.{cell_wired}
 use Rattle.substitution_laws.specs.Agreement.{IsCheckedSoftly}
 use Rattle.substitution_laws.specs.FirmDown.{FirmGroundReachesFlat}
 use Rattle.substitution_laws.specs.StepDowns.{ArePathsApart}
 use Rattle.substitution_laws.specs.Steps.{IsStepOf}
+use Rattle.told_circuits.proofs.ToldLaws.{known_nets_have_test, parts_have_test}
 use Rattle.vrt_model.proofs.Filtered.{device_among}
-use Rattle.vrt_model.proofs.Tests.{some_of}
 use Rattle.vrt_model.specs.Checked.{IsCircuitWith, before, with_circuit}
 use Rattle.vrt_model.specs.Comparison.{Comparison, is_observed, phase_at}
 use Rattle.vrt_model.specs.Cut.{Cut, NumberedPlace}
 use Rattle.vrt_model.specs.FlatCircuit.{flat_instance}
-use Rattle.vrt_model.specs.Known.{IsKnown}
+use Rattle.vrt_model.specs.Known.{IsKnown, IsTogether}
+use Rattle.vrt_model.specs.Reading.{bare}
 use Rattle.vrt_model.specs.State.{Setting}
 use Rattle.vrt_model.specs.Unrolled.{Place, Top, all_places}
 use Rattle.vrt_model.specs.declared.blif.Blif.{Blif}
@@ -46,28 +47,25 @@ module _ (k : Comparison) (cut : Cut) (blif : Blif) (facts : List CellFacts) (c 
     abbrev q : Comparison
     q = compared_at t blif p m
 
-    known : ℕ → Bool
-    known n = is_some ((cell_parted cut blif facts h.choice p.at.cell m phase s.step.supported).told.known n)
+    wired : IsWired q.circuit
+    wired = cell_wired cut blif facts p.at.cell m h.choice s.step.supported
 
-    known_is : (n : ℕ) → (known n ≡ true) ↔ ((v : Bool) × IsKnown q.circuit (phase_at t.rules phase) n v)
-    unfolding known
-    known_is n =
-        let one = (cell_parted cut blif facts h.choice p.at.cell m phase s.step.supported).told in (
-          λ e. (let v = some_of (one.known n) e in (v.0, (one.table n v.0).0 v.1)),
-          λ v. ap is_some ((one.table n v.0).1 v.1),
-        )
+    known : (known : ℕ → Bool) × ((n : ℕ) → (known n ≡ true) ↔ ((v : Bool) × IsKnown q.circuit (phase_at t.rules phase) n v))
+    known = known_nets_have_test q.circuit (phase_at t.rules phase) wired
 
-    rank_is : (rank : ℕ → ℕ) × IsCellRanked q.circuit (phase_at t.rules phase) (is_observed q phase) known (cell_parted cut blif facts h.choice p.at.cell m phase s.step.supported).together rank
+    together : (test : ℕ → ℕ → Bool) × ((n l : ℕ) → (test n l ≡ true) ↔ IsTogether q.circuit (phase_at t.rules phase) bare n l)
+    together = parts_have_test q.circuit (phase_at t.rules phase) bare wired
+
+    rank_is : (rank : ℕ → ℕ) × IsCellRanked q.circuit (phase_at t.rules phase) (is_observed q phase) known.0 together.0 rank
     rank_is =
-        let one = cell_parted cut blif facts h.choice p.at.cell m phase s.step.supported in
         let cell = logic_cell cut blif facts i p m s.step.at_gates s.step.supported (formed_cell cut blif facts p.at.cell m s.step.choice s.step.supported) phase lt in
-        let ranks = acyclic_nets_have_ranks q.circuit (phase_at t.rules phase) one.told.arcs cell.ranges one.told.tested (s.step.supported.acyclic phase lt).0 in (
+        let ranks = acyclic_nets_have_ranks q.circuit (phase_at t.rules phase) wired (s.step.supported.acyclic phase lt).0 in (
           ranks.0,
           record {
             ranges = cell.ranges;
             gates = λ g on. gate_observed q phase g.gate.0 (g, (device_among true q.circuit g on).0, refl);
-            known_nets = known_is;
-            parts = one.parts;
+            known_nets = known.1;
+            parts = together.1;
             ranking = ranks.1;
           },
         )
@@ -75,9 +73,9 @@ module _ (k : Comparison) (cut : Cut) (blif : Blif) (facts : List CellFacts) (c 
     step_down : (n : ℕ) → IsOnFirmGround (with_circuit k e) phase setting kind n → (l : ℕ) × IsSamePlaceIn e d kind n l × IsOnFirmGround (with_circuit k d) phase setting kind l
     step_down n ground =
         let down = steps_go_down k cut blif facts i p m depth front back d e phase setting lt apart s in
-        let ranked = subst (λ (u : Top). IsCellRanked q.circuit (phase_at u.rules phase) (is_observed q phase) known (cell_parted cut blif facts h.choice p.at.cell m phase s.step.supported).together rank_is.0) s.first.top rank_is.1 in
+        let ranked = subst (λ (u : Top). IsCellRanked q.circuit (phase_at u.rules phase) (is_observed q phase) known.0 together.0 rank_is.0) s.first.top rank_is.1 in
         firm_ground_goes_down (with_circuit k d) phase setting q.circuit e (net_above t p.at) (λ j. j) (fresh_place (before cut i) blif facts q) (is_outside_at t depth p.at)
-        (λ l. not (is_inside_at q.circuit (net_above t p.at) l)) (is_observed q phase) known (cell_parted cut blif facts h.choice p.at.cell m phase s.step.supported).together (λ l. 0) rank_is.0 down.0 (flat_instance p.at) kind n down.1 ranked ground
+        (λ l. not (is_inside_at q.circuit (net_above t p.at) l)) (is_observed q phase) known.0 together.0 (λ l. 0) rank_is.0 down.0 (flat_instance p.at) kind n down.1 ranked ground
 
   pub down_at : (n : ℕ) (d : Circuit) (l : ℕ) → n < length (all_places t) → IsCircuitWith (before cut n) blif facts d → IsOnFirmGround (with_circuit k d) phase setting kind l
       → (m : ℕ) × IsSamePlaceIn d k.circuit kind l m × IsOnFirmGround k phase setting kind m

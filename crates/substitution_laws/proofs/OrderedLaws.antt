@@ -13,7 +13,7 @@ use Rattle.replaced_instances.proofs.OutputPorts.{pin_at}
 use Rattle.replaced_instances.proofs.StepPorts.{pins_shifted}
 use Rattle.replaced_instances.specs.Steps.{IsStepAtGates, compared_at}
 use Rattle.substitution_laws.proofs.ChainLaws.{at_last, ports_within}
-use Rattle.substitution_laws.proofs.ToldLaws.{CanBeTold, chain_told, ends_before}
+use Rattle.substitution_laws.proofs.ToldLaws.{chain_wired, ends_before}
 use Rattle.substitution_laws.proofs.ChosenLaws.{chosen_steps_are_at_gates}
 use Rattle.substitution_laws.proofs.EndsLaws.{chosen_ends_are_shown}
 use Rattle.substitution_laws.proofs.SeenNets.{seen_within}
@@ -24,6 +24,7 @@ use Rattle.substitution_laws.specs.Chosen.{IsSoftChoice}
 use Rattle.substitution_laws.specs.Agreement.{IsCheckedSoftly}
 use Rattle.substitution_laws.specs.FirstFaults.{CheckedCircuitIsOrdered}
 use Rattle.substitution_laws.specs.StepDowns.{ArePathsApart}
+use Rattle.told_circuits.proofs.ToldLaws.{known_nets_have_test}
 use Rattle.vrt_model.proofs.Filtered.{device_among}
 use Rattle.vrt_model.proofs.Lists.{at_map, map_among, map_at, one_at}
 use Rattle.vrt_model.proofs.Members.{any_among}
@@ -145,21 +146,11 @@ module _ (k : Comparison) (cut : Cut) (blif : Blif) (facts : List CellFacts) (c 
       ] in
       instance_observed (with_circuit k c) phase n (y, found.2, on, (found.0, found.4), found.6, constrained)
 
-  told : CanBeTold c (phase_at cut.top.rules phase)
-  told = chain_told k cut blif facts c h last.0 phase c last.2 lt
+  pub known : (test : ℕ → Bool) × ((n : ℕ) → (test n ≡ true) ↔ ((v : Bool) × IsKnown c (phase_at t.rules phase) n v))
+  known = known_nets_have_test c (phase_at t.rules phase) (chain_wired k cut blif facts c h last.0 phase c last.2 lt)
 
   module _ (setting : Setting) where
-    pub known : ℕ → Bool
-    known n = is_some (told.known n)
-
-    known_is : (n : ℕ) → (known n ≡ true) ↔ ((v : Bool) × IsKnown c (phase_at t.rules phase) n v)
-    unfolding known
-    known_is n = (
-      λ e. (let v = some_of (told.known n) e in (v.0, (told.table n v.0).0 v.1)),
-      λ v. ap is_some ((told.table n v.0).1 v.1),
-    )
-
-    pub is_ordered : IsOrderedAt (with_circuit k c) phase setting known
+    pub is_ordered : IsOrderedAt (with_circuit k c) phase setting known.0
     is_ordered =
         let ranges = circuits_have_ranges cut blif facts last.0 c h.choice h.formed (ends_before cut last.0 (chosen_ends_are_shown cut blif facts h.choice)) last.2 in
         let determined = subst (λ (u : Top). AreDetermined c (phase_at u.rules phase) (is_observed (with_circuit k c) phase)) h.top (wholes_are_determined k cut blif facts phase last.0 c h.top h.choice lt last.2) in
@@ -169,7 +160,7 @@ module _ (k : Comparison) (cut : Cut) (blif : Blif) (facts : List CellFacts) (c 
             wholes = determined;
             gates = λ d on. gate_observed (with_circuit k c) phase d.gate.0 (d, (device_among true c d on).0, refl);
             nets = λ n s. seen_within (with_circuit k c) phase n ranges (ports_within k cut blif facts c h last.0 c last.2) s;
-            tested = subst (λ (u : Top). (n : ℕ) → (known n ≡ true) ↔ ((v : Bool) × IsKnown c (phase_at u.rules phase) n v)) h.top known_is;
+            tested = subst (λ (u : Top). (n : ℕ) → (known.0 n ≡ true) ↔ ((v : Bool) × IsKnown c (phase_at u.rules phase) n v)) h.top known.1;
             ranking = ranking;
           };
           known_bits = λ a solves n v s is.
@@ -181,6 +172,6 @@ module _ (k : Comparison) (cut : Cut) (blif : Blif) (facts : List CellFacts) (c 
 
 pub checked_circuit_is_ordered : CheckedCircuitIsOrdered
 checked_circuit_is_ordered k cut blif facts c phase setting h apart lt = (
-  known k cut blif facts c h apart phase lt setting,
+  (known k cut blif facts c h apart phase lt).0,
   is_ordered k cut blif facts c h apart phase lt setting,
 )

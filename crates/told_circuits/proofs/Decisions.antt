@@ -4,6 +4,7 @@ use Rattle.std.specs.Prelude.{◌↔◌, bytes_eq}
 use Rattle.std.proofs.lemmas.Bool.{cases_eq, false≢true}
 use Rattle.std.proofs.lemmas.Option.{none-some, same_Some}
 use Rattle.std.proofs.lemmas.Slice.Eq.{bytes_eq-Decides}
+use Rattle.told_circuits.specs.Told.{HasTest}
 use Rattle.vrt_model.proofs.Members.{among_later, at_none}
 use Rattle.vrt_model.specs.Lists.{At, Among}
 use Rattle.vrt_model.specs.Path.{Joins}
@@ -41,6 +42,10 @@ not_decided P (inr none) = inl none
 
 pub same_number : (m n : ℕ) → IsDecided (m ≡ n)
 same_number m n = cases_eq m n
+
+pub none_decided : {X : Type 0} (o : Option X) → IsDecided (o ≡ None)
+none_decided None = inl refl
+none_decided (Some x) = inr (λ e. none-some x (sym e))
 
 pub same_name : (a b : List ℕ) → IsDecided (a ≡ b)
 same_name a b = decided_by (a ≡ b) (bytes_eq a b) (bytes_eq-Decides a b)
@@ -97,5 +102,5 @@ so_is P (inl p) = (λ e. p, λ q. refl)
 so_is P (inr none) = (λ e. absurd (false≢true e), λ q. absurd (none q))
 
 -- a relation of numbers that is decided at each two has a test
-pub has_test : (R : ℕ → ℕ → Type 0) → ((n m : ℕ) → IsDecided (R n m)) → (test : ℕ → ℕ → Bool) × ((n m : ℕ) → (test n m ≡ true) ↔ R n m)
+pub has_test : (R : ℕ → ℕ → Type 0) → ((n m : ℕ) → IsDecided (R n m)) → HasTest R
 has_test R each = (λ n m. is_so (R n m) (each n m), λ n m. so_is (R n m) (each n m))

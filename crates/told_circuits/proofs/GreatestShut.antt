@@ -7,7 +7,7 @@ use Rattle.std.proofs.lemmas.Option.{none-some, same_Some, slice_get_within}
 use Rattle.known_nets.proofs.NetKinds.{is_plain_is, plain_is}
 use Rattle.known_nets.proofs.ShutLaws.{has_number_is}
 use Rattle.known_nets.specs.KnownTables.{HasFixedNets, HasGateBits}
-use Rattle.told_circuits.proofs.Decisions.{IsDecided, as_decided, both_decided, decided_by, either_decided, listed, not_decided, same_number, some_end, some_in}
+use Rattle.told_circuits.proofs.Decisions.{IsDecided, as_decided, both_decided, decided_by, either_decided, listed, none_decided, not_decided, same_number, some_end, some_in}
 use Rattle.told_circuits.proofs.Falling.{left_of, left_there, number_listed, until_done, without, without_fewer}
 use Rattle.vrt_model.proofs.Filtered.{among_kept, filter_among}
 use Rattle.vrt_model.specs.Known.{HasFixedBit, IsDriven, IsFixed, IsHeld, IsPlain, IsShut, is_plain_at}
@@ -104,10 +104,6 @@ module _ (c : Circuit) (phase : Phase) (known : ℕ → Option Bool) where
   abbrev IsOpened : List ℕ → ℕ → Type 0
   IsOpened xs n = (IsHeld c n ⊎ IsDriven c n) ⊎ ((d : Device) × Among (devices_of true c) d × Opens xs n d)
 
-  unknown_decided : (o : Option Bool) → IsDecided (o ≡ None)
-  unknown_decided None = inl refl
-  unknown_decided (Some v) = inr (λ e. none-some v (sym e))
-
   conducts_decided : (d : Device) → IsDecided (conducts (bits_of known) d ≡ true)
   conducts_decided d = decided_by (conducts (bits_of known) d ≡ true) (conducts (bits_of known) d) (λ e. e, λ e. e)
 
@@ -115,7 +111,7 @@ module _ (c : Circuit) (phase : Phase) (known : ℕ → Option Bool) where
   opens_decided xs n d =
       some_end (λ m. (known d.gate.0 ≡ None) ⊎ ((conducts (bits_of known) d ≡ true) × ((¬ Among xs m) × (¬ IsOneBit c phase m))))
       (λ m. either_decided (known d.gate.0 ≡ None) ((conducts (bits_of known) d ≡ true) × ((¬ Among xs m) × (¬ IsOneBit c phase m)))
-      (unknown_decided (known d.gate.0))
+      (none_decided (known d.gate.0))
       (both_decided (conducts (bits_of known) d ≡ true) ((¬ Among xs m) × (¬ IsOneBit c phase m)) (conducts_decided d)
       (both_decided (¬ Among xs m) (¬ IsOneBit c phase m) (not_decided (Among xs m) (listed xs m)) (not_decided (IsOneBit c phase m) (fixed_decided c phase m)))))
       d n

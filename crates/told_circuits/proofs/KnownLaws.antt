@@ -8,7 +8,7 @@ use Rattle.known_nets.proofs.ShutLaws.{has_number_is}
 use Rattle.known_nets.proofs.TableLaws.{fixed_has, fixed_known, fixed_table}
 use Rattle.known_nets.specs.KnownTables.{AreKnown, HasFixedNets, IsClosedTable, IsKnownTable, known_at}
 use Rattle.known_nets.specs.Wired.{IsWired}
-use Rattle.told_circuits.proofs.Decisions.{IsDecided, both_decided, listed, some_in}
+use Rattle.told_circuits.proofs.Decisions.{IsDecided, both_decided, listed, none_decided, some_in}
 use Rattle.told_circuits.proofs.Falling.{left_there, until_done, without, without_fewer}
 use Rattle.told_circuits.proofs.GreatestShut.{bits_of, bits_read, greatest, plain_listed, plain_nets, unopened_gates, unopened_shut}
 use Rattle.vrt_model.proofs.Decidable.{some_response}
@@ -63,10 +63,6 @@ module _ (c : Circuit) (phase : Phase) (wired : IsWired c) where
   -- the net is in the greatest shut set, is not known, and shows a bit
   abbrev IsLearned : (ℕ → Option Bool) → ℕ → Type 0
   IsLearned known n = Among (greatest c phase known).0 n × ((known n ≡ None) × ((v : Bool) × IsResponse (view known) n (Shows v)))
-
-  none_decided : (o : Option Bool) → IsDecided (o ≡ None)
-  none_decided None = inl refl
-  none_decided (Some v) = inr (λ e. none-some v (sym e))
 
   learned_decided : (known : ℕ → Option Bool) (n : ℕ) → IsDecided (IsLearned known n)
   learned_decided known n =

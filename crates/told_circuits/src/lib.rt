@@ -5,4 +5,4 @@
 
 mod told;
 
-pub use told::{arcs_can_be_told, known_nets_can_be_told, parts_can_be_told};
+pub use told::{known_nets_have_table, known_nets_have_test, parts_have_test, rank_arcs_have_test};

@@ -1,18 +1,23 @@
 //! Known nets, parts and arcs.
 
-ghost use Rattle.told_circuits.specs.Told.{ArcsCanBeTold, KnownNetsCanBeTold, PartsCanBeTold};
+ghost use Rattle.told_circuits.specs.Told.{KnownNetsHaveTable, KnownNetsHaveTest, PartsHaveTest, RankArcsHaveTest};
 
-/// Which nets are known in a phase, and with which bit, can be told.
-pub fn known_nets_can_be_told()
-    ensures { KnownNetsCanBeTold }
+/// A table has exactly the nets that are known in a phase, with their bits.
+pub fn known_nets_have_table()
+    ensures { KnownNetsHaveTable }
 {}
 
-/// So it can which nets are in one part, since the devices that can conduct are those whose gate is not known to keep them from it.
-pub fn parts_can_be_told()
-    ensures { PartsCanBeTold }
+/// So a test says which nets are known.
+pub fn known_nets_have_test()
+    ensures { KnownNetsHaveTest }
 {}
 
-/// So it can along which arcs the ranks of nets rise: from gates, and over the links of whole instances.
-pub fn arcs_can_be_told()
-    ensures { ArcsCanBeTold }
+/// One says which nets are in one part, since the devices that can conduct are those whose gate is not known to keep them from it.
+pub fn parts_have_test()
+    ensures { PartsHaveTest }
+{}
+
+/// And one along which arcs the ranks of nets rise: from gates, and over the links of whole instances.
+pub fn rank_arcs_have_test()
+    ensures { RankArcsHaveTest }
 {}

@@ -1,11 +1,12 @@
 -- Nets have ranks exactly where arcs have no cycle.
-use Rattle.std.proofs.Common.{◌≡◌, ℕ, suc, ◌<◌, ◌⊎◌, Bool, true, length, arith, subst, ◌∙◌, ap, inl, inr}
+use Rattle.std.proofs.Common.{◌≡◌, ◌↔◌, ℕ, suc, ◌<◌, ◌⊎◌, Bool, true, length, arith, subst, ◌∙◌, ap, inl, inr}
 use Rattle.std.proofs.lemmas.Bool.{cases_Bool}
 use Rattle.std.proofs.lemmas.Option.{slice_get_within}
 use Rattle.channel_parts.proofs.Acyclic.{ranks_acyclic}
 use Rattle.channel_parts.proofs.ArcLaws.{arc_to_plain, counts_arc}
 use Rattle.channel_parts.proofs.PartLaws.{ranks_even}
 use Rattle.known_nets.proofs.NetKinds.{is_plain_is, plain_is}
+use Rattle.told_circuits.proofs.ToldLaws.{rank_arcs_have_test}
 use Rattle.vrt_model.proofs.Filtered.{device_among}
 use Rattle.vrt_model.proofs.Members.{all_among}
 use Rattle.vrt_model.proofs.Ranked.{plain_not_given}
@@ -16,7 +17,7 @@ use Rattle.vrt_model.specs.declared.circuit.Circuit.{Circuit}
 use Rattle.vrt_model.specs.declared.rules.Phase.{Phase}
 use Rattle.vrt_model.specs.declared.whole.Link.{Link}
 use Rattle.whole_ranks.proofs.ChainRanks.{AreChainRanks, chain_ranks, highest, highest_above, highest_reached}
-use Rattle.whole_ranks.specs.Ranks.{AcyclicNetsHaveRanks, PartsHaveOneRank, RankedNetsAreAcyclic, TestsArcs}
+use Rattle.whole_ranks.specs.Ranks.{AcyclicNetsHaveRanks, PartsHaveOneRank, RankedNetsAreAcyclic}
 
 -- ---- arcs
 
@@ -32,7 +33,7 @@ arc_from_net c phase n m ranges (inr (w, link, leads)) =
 
 -- ---- ranks from arcs without a cycle
 
-module _ (c : Circuit) (phase : Phase) (test : ℕ → ℕ → Bool) (ranges : HasRanges c) (tests : TestsArcs c phase test) (rank : ℕ → ℕ)
+module _ (c : Circuit) (phase : Phase) (test : ℕ → ℕ → Bool) (ranges : HasRanges c) (tests : (n m : ℕ) → (test n m ≡ true) ↔ HasRankArc c phase n m) (rank : ℕ → ℕ)
     (are : AreChainRanks test (is_plain_at c) (length c.nets) rank) where
   plain_rank : (m : ℕ) → IsPlain c m → rank m ≡ suc (highest (λ n. test n m) rank (length c.nets))
   plain_rank m p = are.next m (is_plain_is c m p)
@@ -63,10 +64,11 @@ module _ (c : Circuit) (phase : Phase) (test : ℕ → ℕ → Bool) (ranges : H
   }
 
 pub acyclic_nets_have_ranks : AcyclicNetsHaveRanks
-acyclic_nets_have_ranks c phase test ranges tests acyclic =
-    let found = chain_ranks test (is_plain_at c) (length c.nets) (λ m t. let p = plain_is c m t in slice_get_within c.nets m p.0 p.1)
-    (HasArc c phase) (λ n m t. counts_arc c phase n m ((tests n m).0 t)) acyclic in
-    (found.0, chain_ranking c phase test ranges tests found.0 found.1)
+acyclic_nets_have_ranks c phase wired acyclic =
+    let arcs = rank_arcs_have_test c phase wired in
+    let found = chain_ranks arcs.0 (is_plain_at c) (length c.nets) (λ m t. let p = plain_is c m t in slice_get_within c.nets m p.0 p.1)
+    (HasArc c phase) (λ n m t. counts_arc c phase n m ((arcs.1 n m).0 t)) acyclic in
+    (found.0, chain_ranking c phase arcs.0 wired.ranges arcs.1 found.0 found.1)
 
 -- ---- where there are ranks
 

@@ -1,7 +1,6 @@
 -- Circuits with determined whole instances, whose nets have ranks, have one solution.
-use Rattle.std.specs.Prelude.{ℕ, Bool, Option}
+use Rattle.std.specs.Prelude.{ℕ, Bool}
 use Rattle.channel_parts.specs.OneSolution.{AreDetermined, AreObserved, HasDrives, HasOneSolution, KnownStand}
-use Rattle.known_nets.specs.KnownTables.{IsKnownTable}
 use Rattle.known_nets.specs.Wired.{AreOutputsPlain}
 use Rattle.vrt_model.specs.Known.{HasArc, IsRanking}
 use Rattle.vrt_model.specs.Networks.{HasRanges}
@@ -9,7 +8,6 @@ use Rattle.vrt_model.specs.State.{Setting}
 use Rattle.vrt_model.specs.Unsupported.{IsAcyclic}
 use Rattle.vrt_model.specs.declared.circuit.Circuit.{Circuit}
 use Rattle.vrt_model.specs.declared.rules.Phase.{Phase}
-use Rattle.whole_ranks.specs.Ranks.{TestsArcs}
 
 -- The law: known nets stand, as the law of one solution asks.
 abbrev pub KnownNetsStand : Type 0
@@ -27,14 +25,13 @@ RankedNetsHaveDrives =
 -- The law: so there is exactly one solution.
 abbrev pub RankedNetsHaveOneSolution : Type 0
 RankedNetsHaveOneSolution =
-    (c : Circuit) (phase : Phase) (observed : ℕ → Bool) (setting : Setting) (known : ℕ → Option Bool) (rank : ℕ → ℕ)
-    → HasRanges c → AreObserved c observed → AreDetermined c phase observed → IsKnownTable c phase known → IsRanking c phase rank
+    (c : Circuit) (phase : Phase) (observed : ℕ → Bool) (setting : Setting) (rank : ℕ → ℕ)
+    → HasRanges c → AreObserved c observed → AreDetermined c phase observed → IsRanking c phase rank
     → HasOneSolution c phase observed setting
 
 -- The law: as there is where the arcs have no cycle.
 abbrev pub AcyclicNetsHaveOneSolution : Type 0
 AcyclicNetsHaveOneSolution =
-    (c : Circuit) (phase : Phase) (observed : ℕ → Bool) (setting : Setting) (known : ℕ → Option Bool) (test : ℕ → ℕ → Bool)
-    → HasRanges c → AreObserved c observed → AreDetermined c phase observed → IsKnownTable c phase known
-    → TestsArcs c phase test → IsAcyclic (HasArc c phase)
+    (c : Circuit) (phase : Phase) (observed : ℕ → Bool) (setting : Setting)
+    → HasRanges c → AreObserved c observed → AreDetermined c phase observed → IsAcyclic (HasArc c phase)
     → HasOneSolution c phase observed setting

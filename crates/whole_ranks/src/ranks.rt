@@ -3,7 +3,7 @@
 ghost use Rattle.whole_ranks.specs.Ranks.{AcyclicNetsHaveRanks, PartsHaveOneRank, RankedNetsAreAcyclic};
 
 /// Where the arcs have no cycle, the nets have ranks: a plain net has the rank above all nets from which arcs that count lead to
-/// it. It asks for a test of these arcs.
+/// it.
 pub fn acyclic_nets_have_ranks()
     ensures { AcyclicNetsHaveRanks }
 {}

@@ -8,13 +8,12 @@ pub fn ranked_nets_have_drives()
     ensures { RankedNetsHaveDrives }
 {}
 
-/// Such a circuit has exactly one solution, for any bits of the inputs and holds, where all its gates are observed. It asks for a
-/// table of the known nets.
+/// Such a circuit has exactly one solution, for any bits of the inputs and holds, where all its gates are observed.
 pub fn ranked_nets_have_one_solution()
     ensures { RankedNetsHaveOneSolution }
 {}
 
-/// So it has where each whole instance is determined and the arcs have no cycle, given a test of the arcs too.
+/// So it has where each whole instance is determined and the arcs have no cycle.
 pub fn acyclic_nets_have_one_solution()
     ensures { AcyclicNetsHaveOneSolution }
 {}
