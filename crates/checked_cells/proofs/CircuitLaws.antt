@@ -1,13 +1,12 @@
 -- A checked circuit has the nets, as many holds and the groups of the flat one, some of its instances, and is well formed.
 use Rattle.std.proofs.Common.{◌≡◌, ℕ, zero, suc, ◌+◌, ◌<◌, ◌≤◌, ◌++◌, not, cond, Bool, true, false, List, [], ◌∷◌, drop, length, map, refl, ap, sym, subst, ◌∙◌, arith}
 use Rattle.std.specs.Prelude.{All, filter, flat_map}
-use Rattle.std.proofs.lemmas.Bool.{false≢true}
-use Rattle.std.proofs.lemmas.List.{length-append, length-map}
-use Rattle.checked_cells.proofs.OutputLaws.{shown_before}
+use Rattle.std.proofs.lemmas.List.{length-map}
 use Rattle.checked_cells.proofs.WholeLaws.{ranges}
 use Rattle.checked_cells.specs.Circuits.{CheckedCircuitsAreFormed, CheckedCircuitsShare, SharesCircuit}
-use Rattle.checked_chain.proofs.EndLaws.{chain_begins_flat}
 use Rattle.checked_chain.proofs.GroupLaws.{groups_are_same}
+use Rattle.checked_chain.specs.Holds.{IsOfChain}
+use Rattle.substitution_laws.proofs.BudgetLaws.{fewer_devices}
 use Rattle.substitution_laws.proofs.EndsLaws.{chosen_ends_are_shown}
 use Rattle.substitution_laws.specs.Agreement.{IsCheckedSoftly}
 use Rattle.vrt_model.proofs.Filtered.{filter_among}
@@ -42,19 +41,6 @@ fewer_pass {X} test (x ∷ xs) = by_test (test x) (fewer_pass test xs)
     by_test : (b : Bool) → length (filter test xs) ≤ length xs → length (cond b (x ∷ filter test xs) (filter test xs)) ≤ suc (length xs)
     by_test true rest = omega (arith, rest)
     by_test false rest = omega (arith, rest)
-
--- lists of what passes a test are together not longer than those of what passes a weaker one
-fewer_of : {X Y : Type 0} (f : X → List Y) (p q : X → Bool) → ((x : X) → p x ≡ true → q x ≡ true) → (xs : List X)
-    → length (flat_map f (filter p xs)) ≤ length (flat_map f (filter q xs))
-fewer_of f p q weaker [] = omega arith
-fewer_of {X} {Y} f p q weaker (x ∷ xs) = by_tests (p x) (q x) (weaker x) (fewer_of f p q weaker xs)
-  where
-    by_tests : (a b : Bool) → (a ≡ true → b ≡ true) → length (flat_map f (filter p xs)) ≤ length (flat_map f (filter q xs))
-        → length (flat_map f (cond a (x ∷ filter p xs) (filter p xs))) ≤ length (flat_map f (cond b (x ∷ filter q xs) (filter q xs)))
-    by_tests true true w rest = let left = length-append (f x) (flat_map f (filter p xs)) in let right = length-append (f x) (flat_map f (filter q xs)) in omega (arith, rest, left, right)
-    by_tests true false w rest = absurd (false≢true (w refl))
-    by_tests false true w rest = let right = length-append (f x) (flat_map f (filter q xs)) in omega (arith, rest, right)
-    by_tests false false w rest = rest
 
 module _ (k : Comparison) (cut : Cut) (blif : Blif) (facts : List CellFacts) (c : Circuit) (h : IsCheckedSoftly k cut blif facts c) where
   abbrev t : Top
@@ -92,14 +78,8 @@ module _ (k : Comparison) (cut : Cut) (blif : Blif) (facts : List CellFacts) (c 
 
   -- ---- it is well formed
 
-  fewer_devices : length c.devices ≤ length (flat_circuit_of t).devices
-  fewer_devices =
-      let cards : NumberedPlace → List Device = λ p. map (flat_device t p.at) (cell_at t.design p.at.cell).devices in
-      let flat = (chain_begins_flat cut blif facts (flat_circuit_of t)).1 refl in
-      let less = fewer_of cards (λ (p : NumberedPlace). not (is_left_out cut p)) (λ (p : NumberedPlace). not (is_left_out (before cut 0) p)) (shown_before cut 0) (numbered_places t) in
-      let here = ap (λ (ds : List Device). length ds) h.circuit.devices in
-      let there = ap (λ (ds : List Device). length ds) flat.devices in
-      omega (arith, less, here, there)
+  chain : IsOfChain k blif facts cut c
+  chain = record { top = h.top; flat = h.flat; groups = h.groups; circuit = h.circuit; ends = chosen_ends_are_shown cut blif facts h.choice }
 
   fewer_instances : length c.instances ≤ length (flat_circuit_of t).instances
   unfolding flat_circuit_of
@@ -127,11 +107,12 @@ module _ (k : Comparison) (cut : Cut) (blif : Blif) (facts : List CellFacts) (c 
       let net_limit = h.formed.net_limit in
       let device_limit = h.formed.device_limit in
       let instance_limit = h.formed.instance_limit in
-      let devices = fewer_devices in
+      let devices = fewer_devices k blif facts cut c chain in
+      let flat = ap (λ (x : Circuit). length x.devices) h.flat in
       let instances = fewer_instances in
       record {
         net_limit = omega (arith, nets, net_limit);
-        device_limit = omega (arith, devices, device_limit);
+        device_limit = omega (arith, devices, flat, device_limit);
         instance_limit = omega (arith, instances, instance_limit);
         devices = good.devices;
         holds = good.holds;

@@ -1,7 +1,7 @@
 -- The outputs of the whole instances of a checked circuit meet gates alone.
 use Rattle.std.proofs.Common.{◌≡◌, ◌⊎◌, ℕ, zero, suc, ◌+◌, ◌<◌, ◌&&◌, ◌++◌, not, cond, Bool, true, false, List, length, map, refl, ap, sym, subst, ◌∙◌, arith, inl, inr}
 use Rattle.std.specs.Prelude.{nat_lt}
-use Rattle.std.proofs.lemmas.Bool.{and_parts, cases_Bool, false≢true, ltb-true, or_cases, or_left, or_right}
+use Rattle.std.proofs.lemmas.Bool.{and_parts, cases_Bool, false≢true, ltb-true}
 use Rattle.cell_inside.specs.Inside.{Touches}
 use Rattle.checked_chain.proofs.DriveLaws.{last_there}
 use Rattle.checked_chain.proofs.StepLaws.{none_more_is_same}
@@ -13,9 +13,10 @@ use Rattle.replaced_instances.proofs.PinOutputs.{pin_output, settled}
 use Rattle.replaced_instances.proofs.StepOutputs.{outputs_behind}
 use Rattle.replaced_instances.proofs.StepPlaced.{no_pin}
 use Rattle.replaced_instances.proofs.StepPorts.{no_channel, one_output, port_of_output}
+use Rattle.substitution_laws.proofs.BudgetLaws.{shown_of_fewer}
 use Rattle.substitution_laws.proofs.ChainLaws.{step_at}
 use Rattle.substitution_laws.proofs.ChosenLaws.{chosen_steps_are_at_gates, output_soft}
-use Rattle.substitution_laws.proofs.WholeCells.{inside_of_all, whole_chosen, wholes_are_determined}
+use Rattle.substitution_laws.proofs.WholeCells.{whole_chosen, wholes_are_determined}
 use Rattle.substitution_laws.specs.Agreement.{IsCheckedSoftly}
 use Rattle.vrt_model.proofs.Filtered.{among_kept, filter_among}
 use Rattle.vrt_model.proofs.Lists.{at_either}
@@ -23,7 +24,7 @@ use Rattle.vrt_model.proofs.Members.{among_flat_map, flat_map_among}
 use Rattle.vrt_model.specs.Checked.{before}
 use Rattle.vrt_model.specs.CheckedParts.{checked_devices}
 use Rattle.vrt_model.specs.Comparison.{Comparison, cell_at}
-use Rattle.vrt_model.specs.Cut.{Cut, NumberedPlace, is_inside_whole, is_left_out, is_whole, numbered_places, shown, whole_places}
+use Rattle.vrt_model.specs.Cut.{Cut, NumberedPlace, is_left_out, is_whole, numbered_places, shown, whole_places}
 use Rattle.vrt_model.specs.FlatCircuit.{flat_device, net_id}
 use Rattle.vrt_model.specs.Known.{IsPlain}
 use Rattle.vrt_model.specs.Lists.{Among, At}
@@ -43,37 +44,14 @@ use Rattle.whole_steps.specs.FreeOutputs.{HasFreeOutputs}
 
 -- ---- devices
 
-from_not : (b : Bool) → not b ≡ true → b ≡ false
-from_not true e = absurd (false≢true e)
-from_not false e = refl
-
-whole_of_all : (cut : Cut) (n j : ℕ) → is_whole (before cut n).choice j ≡ true → is_whole cut.choice j ≡ true
-whole_of_all cut n zero e = e
-whole_of_all cut n (suc j) e = (and_parts (cut.choice j) (nat_lt j n) e).0
-
--- what is shown with all chosen instances whole is shown with the first of them whole
-pub shown_before : (cut : Cut) (n : ℕ) (p : NumberedPlace) → not (is_left_out cut p) ≡ true → not (is_left_out (before cut n) p) ≡ true
-shown_before cut n p e =
-    elim (cases_Bool (is_left_out (before cut n) p)) [
-      | inr stays ↦ ap not stays
-      | inl out ↦ absurd (false≢true (sym (from_not (is_left_out cut p) e) ∙ more out))
-    ]
-  where
-    more : is_left_out (before cut n) p ≡ true → is_left_out cut p ≡ true
-    more out =
-        elim (or_cases (is_whole (before cut n).choice p.number) (is_inside_whole (before cut n) p.at) out) [
-          | inl whole ↦ or_left (is_whole cut.choice p.number) (is_inside_whole cut p.at) (whole_of_all cut n p.number whole)
-          | inr inside ↦ or_right (is_whole cut.choice p.number) (is_inside_whole cut p.at) (inside_of_all cut n p.at inside)
-        ]
-
--- so are its devices
+-- the devices that are shown with all chosen instances whole are shown with the first of them whole
 device_before : (cut : Cut) (n : ℕ) (d : Device) → Among (checked_devices cut) d → Among (checked_devices (before cut n)) d
 device_before cut n d on =
     let cards : NumberedPlace → List Device = λ p. map (flat_device cut.top p.at) (cell_at cut.top.design p.at.cell).devices in
     let from = among_flat_map cards (shown cut) d on in
     let kept = filter_among (λ (p : NumberedPlace). not (is_left_out cut p)) (numbered_places cut.top) from.0 from.1 in
     flat_map_among cards (shown (before cut n)) from.0 d
-    (among_kept (λ (p : NumberedPlace). not (is_left_out (before cut n) p)) (numbered_places cut.top) from.0 kept.0 (shown_before cut n from.0 kept.1)) from.2
+    (among_kept (λ (p : NumberedPlace). not (is_left_out (before cut n) p)) (numbered_places cut.top) from.0 kept.0 (shown_of_fewer cut n from.0 kept.1)) from.2
 
 soft_settled : (b : Bool) (d : Drive) → d ≡ Soft → cond b Soft d ≡ Soft
 soft_settled true d e = refl

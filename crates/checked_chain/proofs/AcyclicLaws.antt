@@ -41,7 +41,7 @@ none_first : (choice : ℕ → Bool) (n : ℕ) → is_whole (λ j. choice j && n
 none_first choice zero = refl
 none_first choice (suc k) = let late : nat_lt k 0 ≡ false = grind (arith, nat_tests) in and_right (choice k) (nat_lt k 0) late
 
-no_place : (cut : Cut) → whole_places (before cut 0) ≡ []
+pub no_place : (cut : Cut) → whole_places (before cut 0) ≡ []
 no_place cut = filter_none (λ (p : NumberedPlace). is_whole (before cut 0).choice p.number) (numbered_places cut.top) (λ p. none_first cut.choice p.number)
 
 without_links : (cut : Cut) (blif : Blif) (facts : List CellFacts) → IsCircuitWith (before cut 0) blif facts (circuit_with (before cut 0) blif facts)

@@ -1,5 +1,5 @@
 -- The first fault that is found rank by rank is on firm ground.
-use Rattle.std.proofs.Common.{◌≡◌, ℕ, zero, suc, ◌+◌, ◌<◌, ◌≤◌, ◌⊎◌, Bool, true, [], Option, Some, ltb, arith, ap, ap₂, subst, sym, refl, ◌∙◌, inl, inr}
+use Rattle.std.proofs.Common.{◌≡◌, ℕ, zero, suc, ◌+◌, ◌<◌, ◌≤◌, ◌⊎◌, Bool, true, List, [], Option, Some, ltb, arith, ap, ap₂, subst, sym, refl, ◌∙◌, inl, inr}
 use Rattle.std.specs.Prelude.{option_map, unwrap_or}
 use Rattle.std.proofs.lemmas.Bool.{cases_Bool, ltb-false, ltb-true}
 use Rattle.cell_inside.specs.Regions.{ArePinsPlain, AreRegions, IsGivenNet}
@@ -36,7 +36,7 @@ use Rattle.whole_solutions.proofs.RankedBits.{agreeing_state, ranked_solutions_h
 use Rattle.whole_solutions.proofs.RankedRegions.{net_in_region, ranks_give_regions, region_net, seen_in_base}
 use Rattle.whole_solutions.specs.Ranked.{IsRanked, known_or_lower, up_to}
 
-module _ (k : Comparison) (f : Finding) (known : ℕ → Bool) (ordered : IsOrderedAt k f.phase (setting_of k f.phase f.bits) known)
+module _ (k : Comparison) (originals : List FlatInstance) (f : Finding) (known : ℕ → Bool) (ordered : IsOrderedAt k originals f.phase (setting_of k f.phase f.bits) known)
     (first : IsFirstInPhase k f) (by_rank : IsFoundByRank f.kind) where
   abbrev c : Circuit
   c = k.circuit
@@ -125,9 +125,9 @@ module _ (k : Comparison) (f : Finding) (known : ℕ → Bool) (ordered : IsOrde
   own_bit : (m : ℕ) → observed m ≡ true → (v : Bool) × (a m ≡ Some v) → ShowsOwnBit k f.phase setting s m
   own_bit m seen has = (seen, (solves m (s.reading m) seen).0 (same_bit m seen has) s state_is agrees)
 
-  known_settles : (n : ℕ) (v : Bool) → IsKnown c phase n v → IsSettled k f.phase setting s n
+  known_settles : (n : ℕ) (v : Bool) → IsKnown c phase n v → IsSettled k originals f.phase setting s n
   known_settles =
-      known_settled k f.phase setting s ranked.gates
+      known_settled k originals f.phase setting s ranked.gates
       (λ n v seen is. let has = known_bits n v seen is in (agrees n v seen has, own_bit n seen (v, has)))
 
   -- ---- rank by rank
@@ -161,7 +161,7 @@ module _ (k : Comparison) (f : Finding) (known : ℕ → Bool) (ordered : IsOrde
 
   -- a net that constraints name has a lower rank than each net that the instance drives
   named_below : (w : Whole) (at : ℕ) (pin : WholePin) (i : FlatInstance) (n : ℕ) → Among c.wholes w → At w.outputs at pin → IsPlain c pin.net.0
-      → Among c.instances i → IsInstanceOfWhole w i → Among (nets_named_at k f.phase i) n → rank n < rank pin.net.0
+      → Among c.instances i → IsInstanceOfWhole c originals w i → Among (nets_named_at k f.phase i) n → rank n < rank pin.net.0
   named_below w at pin i n m e plain mi of there =
       let link = ordered.linked w i n at pin m mi of there e in
       ranked.ranking.above n pin.net.0 (inr (w, link.0, link.5, (m, link.1, link.2, link.3, (pin, subst (λ (j : ℕ). At w.outputs j pin) (sym link.4) e, itself plain))))
@@ -170,7 +170,7 @@ module _ (k : Comparison) (f : Finding) (known : ℕ → Bool) (ordered : IsOrde
   named_is at i e = ap (λ (o : Option FlatInstance). unwrap_or (option_map (λ (j : FlatInstance). named_nets_from (is_named k f.phase j) (cell_at k.design j.cell).ports j.ports) o) []) e
 
   unbroken : (most : ℕ) (w : Whole) (pin : WholePin) (i : FlatInstance) → most ≤ found_at → Among c.wholes w → Among w.outputs pin → up_to c rank most pin.net.0 ≡ true
-      → Among c.instances i → IsInstanceOfWhole w i → ¬ IsBrokenAt k f.phase s.reading i
+      → Among c.instances i → IsInstanceOfWhole c originals w i → ¬ IsBrokenAt k f.phase s.reading i
   unbroken most w pin i le m mp ins mi of broken =
       none_ahead Constraint mi.0 tt (i, mi.1, breaks_same k.design k.rules f.phase i (λ n. Some (s.reading n)) a same broken) (inl ahead)
     where
@@ -197,7 +197,7 @@ module _ (k : Comparison) (f : Finding) (known : ℕ → Bool) (ordered : IsOrde
           let e = ap (greatest_rank rank) (named_is mi.0 i mi.1) in
           omega (arith, lt, up, le, e)
 
-  backed : (most : ℕ) → most ≤ found_at → IsBacked k f.phase s (up_to c rank most) (known_or_lower c observed known rank most)
+  backed : (most : ℕ) → most ≤ found_at → IsBacked k originals f.phase s (up_to c rank most) (known_or_lower c observed known rank most)
   backed most le = record {
     linked = λ w at pin input m e ins mi link seen. linked_in most w at pin input m e ins link (pin_observed k f.phase input.net.0 (w, input, m, mi, seen, refl));
     named = λ w pin i n m mp ins mi of there.
@@ -207,7 +207,7 @@ module _ (k : Comparison) (f : Finding) (known : ℕ → Bool) (ordered : IsOrde
     unbroken = λ w pin i m mp ins mi of broken. unbroken most w pin i le m mp ins mi of broken;
   }
 
-  rank_settled : (bound n : ℕ) → IsPlain c n → rank n < bound → rank n ≤ found_at → IsSettled k f.phase setting s n
+  rank_settled : (bound n : ℕ) → IsPlain c n → rank n < bound → rank n ≤ found_at → IsSettled k originals f.phase setting s n
   rank_settled zero n plain lt le = absurd (omega (arith, lt))
   rank_settled (suc bound) n plain lt le =
       within (up_to c rank (rank n)) (known_or_lower c observed known rank (rank n)) (regions.each (rank n)) (backed (rank n) le)
@@ -222,25 +222,25 @@ module _ (k : Comparison) (f : Finding) (known : ℕ → Bool) (ordered : IsOrde
             rank_settled bound m net.0 (omega (arith, lt, under, less)) (omega (arith, le, under, less))
       ])
 
-  plain_settled : (n : ℕ) → IsPlain c n → rank n ≤ found_at → IsSettled k f.phase setting s n
+  plain_settled : (n : ℕ) → IsPlain c n → rank n ≤ found_at → IsSettled k originals f.phase setting s n
   plain_settled n plain le = rank_settled (suc (rank n)) n plain (omega arith) le
 
   -- ---- the fault itself
 
   named_firm : (at : ℕ) (i : FlatInstance) → At c.instances at i → greatest_rank rank (named_nets k f.phase at) ≤ found_at → 0 < turn_of f.kind
-      → (n : ℕ) → Among (nets_named_at k f.phase i) n → (IsSettled k f.phase setting s n × ShowsOwnBit k f.phase setting s n) × (a n ≡ Some (s.reading n))
+      → (n : ℕ) → Among (nets_named_at k f.phase i) n → (IsSettled k originals f.phase setting s n × ShowsOwnBit k f.phase setting s n) × (a n ≡ Some (s.reading n))
   named_firm at i e le turn n there =
       let seen = ordered.seen i n (at, e) there in
       let low = below_greatest rank (nets_named_at k f.phase i) n there in
       let same = ap (greatest_rank rank) (named_is at i e) in
       let up : rank n ≤ found_at = omega (arith, low, same, le) in
       let has = bits_below n seen (omega (arith, up, turn)) in
-      let settled_there : IsSettled k f.phase setting s n =
+      let settled_there : IsSettled k originals f.phase setting s n =
       elim (given_or_plain c n (ranked.nets n seen)) [ inl net ↦ given net | inr plain ↦ plain_settled n plain up ] in
       ((settled_there, own_bit n seen has), same_bit n seen has)
 
   firm_at : (kind : FaultKind) (at : ℕ) → IsFoundByRank kind → rank_at k f.phase rank kind at ≤ found_at → turn_of kind ≤ turn_of f.kind
-      → Stands k f.phase setting a g kind at → IsFirmIn k f.phase setting s kind at
+      → Stands k f.phase setting a g kind at → IsFirmIn k originals f.phase setting s kind at
   firm_at Fight at ok le turn there = (there.0, plain_settled at there.0 le, there.1 s state_is agrees)
   firm_at Float at ok le turn there =
       elim (given_or_plain c at (ranked.nets at there.0)) [
@@ -263,8 +263,8 @@ module _ (k : Comparison) (f : Finding) (known : ℕ → Bool) (ordered : IsOrde
   firm_at Enter at ok le turn there = absurd ok
 
 pub first_fault_is_firm : FirstFaultIsFirm
-first_fault_is_firm k f known ordered first by_rank = record {
-  state = s k f known ordered first by_rank;
-  is = state_is k f known ordered first by_rank;
-  firm = firm_at k f known ordered first by_rank f.kind f.at by_rank (omega arith) (omega arith) first.found.stands.4;
+first_fault_is_firm k originals f known ordered first by_rank = record {
+  state = s k originals f known ordered first by_rank;
+  is = state_is k originals f known ordered first by_rank;
+  firm = firm_at k originals f known ordered first by_rank f.kind f.at by_rank (omega arith) (omega arith) first.found.stands.4;
 }

@@ -1,5 +1,5 @@
 -- A shut set of a cell is a region of the circuit around it, where its gates have their bits.
-use Rattle.std.proofs.Common.{◌≡◌, ℕ, ◌&&◌, Bool, true, false, length, map, eqb, ap, subst, sym, refl, ◌∙◌, inl, inr}
+use Rattle.std.proofs.Common.{◌≡◌, ℕ, ◌&&◌, Bool, true, false, List, length, map, eqb, ap, subst, sym, refl, ◌∙◌, inl, inr}
 use Rattle.std.specs.List.{list_any, range_with_len}
 use Rattle.std.proofs.lemmas.Bool.{and_from, and_parts, eq-eqb, eqb-true, false≢true}
 use Rattle.std.proofs.lemmas.Option.{slice_get_within}
@@ -25,6 +25,7 @@ use Rattle.vrt_model.specs.Reading.{conducts, conducts_at, devices_of}
 use Rattle.vrt_model.specs.State.{OutputPin, Setting, State, output_pins}
 use Rattle.vrt_model.specs.declared.circuit.Circuit.{Circuit}
 use Rattle.vrt_model.specs.declared.circuit.Device.{Device}
+use Rattle.vrt_model.specs.declared.circuit.FlatInstance.{FlatInstance}
 use Rattle.vrt_model.specs.declared.whole.Whole.{Whole}
 use Rattle.vrt_model.specs.declared.whole.WholePin.{WholePin}
 
@@ -73,7 +74,7 @@ module _ (k : Comparison) (phase : ℕ) (setting : Setting) (cell : Circuit) (at
   no_pin : (w : Whole) (pin : WholePin) (m : ℕ) → Among k.circuit.wholes w → Among w.outputs pin → IsPlain cell m → pin.net.0 ≡ at m → ⊥
   no_pin w pin m a e plain is = false≢true (placed.pins (record { whole = w; pin = pin }) m (pin_among k.circuit w pin a e) plain is).0
 
-  module _ (s : State) (inside reading : ℕ → Bool) (shut : IsShut cell (phase_at k.rules phase) inside reading)
+  module _ (originals : List FlatInstance) (s : State) (inside reading : ℕ → Bool) (shut : IsShut cell (phase_at k.rules phase) inside reading)
       (same : (m l : ℕ) (d : Device) → inside m ≡ true → Among (devices_of true cell) d → Joins d m l → reading d.gate.0 ≡ s.reading (at d.gate.0)) where
     abbrev region : ℕ → Bool
     region = image cell at inside
@@ -133,7 +134,7 @@ module _ (k : Comparison) (phase : ℕ) (setting : Setting) (cell : Circuit) (at
     not_driven : (w : Whole) (pin : WholePin) → Among k.circuit.wholes w → Among w.outputs pin → region pin.net.0 ≡ true → ⊥
     not_driven w pin m e r = let from = of_image cell at inside pin.net.0 r in no_pin w pin from.0 m e (plain_in from.0 from.1) (sym from.2)
 
-    inner_backed : IsBacked k phase s region base
+    inner_backed : IsBacked k originals phase s region base
     inner_backed = record {
       linked = λ w j pin input m e r mi link seen. absurd (not_driven w pin m (j, e) r);
       named = λ w pin i n m e r mi of there. absurd (not_driven w pin m e r);
@@ -143,13 +144,13 @@ module _ (k : Comparison) (phase : ℕ) (setting : Setting) (cell : Circuit) (at
     -- so its nets are settled, where the gates of its devices are, and show their bits
     pub inner_settled :
         ((m l : ℕ) (d : Device) → inside m ≡ true → Among (devices_of true cell) d → Joins d m l
-        → ShowsOwnBit k phase setting s (at d.gate.0) × IsSettled k phase setting s (at d.gate.0))
-        → (n : ℕ) → inside n ≡ true → IsSettled k phase setting s (at n)
+        → ShowsOwnBit k phase setting s (at d.gate.0) × IsSettled k originals phase setting s (at d.gate.0))
+        → (n : ℕ) → inside n ≡ true → IsSettled k originals phase setting s (at n)
     inner_settled gates n ins =
         within region base inner_region inner_backed (in_image cell at inside n (at n) (plain_in n ins) ins refl) (λ m b. (ready m b).0) (λ m b. (ready m b).1)
       where
-        ready : (m : ℕ) → base m ≡ true → ShowsOwnBit k phase setting s m × IsSettled k phase setting s m
+        ready : (m : ℕ) → base m ≡ true → ShowsOwnBit k phase setting s m × IsSettled k originals phase setting s m
         ready m b =
             let gate = gate_of k.circuit region m b in
             let own = near gate.0 gate.3.0 gate.3.1 gate.3.2 gate.1 gate.3.3 in
-            subst (λ (y : ℕ). ShowsOwnBit k phase setting s y × IsSettled k phase setting s y) (sym own.2.gate ∙ gate.2) (gates own.3.0 own.3.1 own.0 own.3.2 own.1 own.3.3)
+            subst (λ (y : ℕ). ShowsOwnBit k phase setting s y × IsSettled k originals phase setting s y) (sym own.2.gate ∙ gate.2) (gates own.3.0 own.3.1 own.0 own.3.2 own.1 own.3.3)

@@ -26,6 +26,7 @@ use Rattle.vrt_model.specs.State.{IsState, Setting, State, network_of}
 use Rattle.vrt_model.specs.WholeInstances.{IsChain}
 use Rattle.vrt_model.specs.declared.circuit.Circuit.{Circuit}
 use Rattle.vrt_model.specs.declared.circuit.Device.{Device}
+use Rattle.vrt_model.specs.declared.circuit.FlatInstance.{FlatInstance}
 use Rattle.vrt_model.specs.declared.circuit.FlatNet.{FlatNet}
 use Rattle.vrt_model.specs.declared.circuit.Hold.{Hold}
 use Rattle.vrt_model.specs.declared.circuit.NetKind.{NetKind}
@@ -36,7 +37,7 @@ use Rattle.vrt_model.specs.declared.whole.Whole.{Whole}
 use Rattle.whole_solutions.proofs.GivenShow.{given_shows}
 use Rattle.whole_solutions.proofs.SettledSets.{set_responds, supply_bit}
 
-module _ (k : Comparison) (phase : ℕ) (setting : Setting) (cell whole_circuit : Circuit) (at : ℕ → ℕ) (drive : ℕ → ℕ) (placed : IsPlaced cell k.circuit at (λ n. false) drive)
+module _ (k : Comparison) (phase : ℕ) (setting : Setting) (cell whole_circuit : Circuit) (at : ℕ → ℕ) (drive : ℕ → ℕ) (originals : List FlatInstance) (placed : IsPlaced cell k.circuit at (λ n. false) drive)
     (s : State) (is : IsState k.circuit (phase_at k.rules phase) setting.inputs s) (ranges : HasRanges k.circuit)
     (gates_seen : (d : Device) → Among (devices_of true k.circuit) d → is_observed k phase d.gate.0 ≡ true)
     (observed known : ℕ → Bool) (together : ℕ → ℕ → Bool) (rank : ℕ → ℕ) (own : IsCellRanked cell (phase_at k.rules phase) observed known together rank)
@@ -47,7 +48,7 @@ module _ (k : Comparison) (phase : ℕ) (setting : Setting) (cell whole_circuit 
 
   -- a net of the cell is settled above, and shows the bit that it has there and in the cell
   abbrev pub IsReady : ℕ → Type 0
-  IsReady n = IsSettled k phase setting s (at n) × IsResponse (network_of k.circuit true setting.held s) (at n) (Shows (s.reading (at n))) × (s.reading (at n) ≡ bits n)
+  IsReady n = IsSettled k originals phase setting s (at n) × IsResponse (network_of k.circuit true setting.held s) (at n) (Shows (s.reading (at n))) × (s.reading (at n) ≡ bits n)
 
   -- all inputs from which arcs lead to a net are so
   abbrev pub HasReadyInputs : ℕ → Type 0
@@ -91,7 +92,7 @@ module _ (k : Comparison) (phase : ℕ) (setting : Setting) (cell whole_circuit 
         λ m l d i a j. sym (sol.known d.gate.0 (reading d.gate.0) (own.gates d a) (gates m l d i a j)) ∙ sym (gate m l d i a j).2 in
         let plain = (shut.plain n ins).0 in
         let bit : v ≡ s.reading (at n) = sym (sol.known n v seen (settled inside reading held driven shut ins reads gates shows)) ∙ sym (same_inside n plain) in (
-          inner_settled k phase setting cell at drive placed s inside reading shut same (λ m l d i a j. let g = gate m l d i a j in ((gate_seen d a, g.1), g.0)) n ins,
+          inner_settled k phase setting cell at drive placed originals s inside reading shut same (λ m l d i a j. let g = gate m l d i a j in ((gate_seen d a, g.1), g.0)) n ins,
           subst (λ (u : Bool). IsResponse (network_of k.circuit true setting.held s) (at n) (Shows u)) bit
               (set_responds cell k.circuit at (λ m. false) drive here setting.held s own.ranges ranges placed supplies inside reading held driven shut reads (λ m i e. false≢true e) same n (Shows v) ins shows),
           same_inside n plain,
@@ -153,7 +154,7 @@ module _ (k : Comparison) (phase : ℕ) (setting : Setting) (cell whole_circuit 
 
     -- a plain net is settled, and shows its bit if it is observed in the cell
     net_ready : (bound n : ℕ) → IsPlain cell n → rank n < bound → HasReadyInputs n
-        → IsSettled k phase setting s (at n) × (observed n ≡ true → IsReady n)
+        → IsSettled k originals phase setting s (at n) × (observed n ≡ true → IsReady n)
     net_ready zero n plain lt inputs = absurd (omega (arith, lt))
     net_ready (suc bound) n plain lt inputs =
         let gate : (m l : ℕ) (d : Device) → together n m ≡ true → Among (devices_of true cell) d → Joins d m l → IsReady d.gate.0 =
@@ -161,7 +162,7 @@ module _ (k : Comparison) (phase : ℕ) (setting : Setting) (cell whole_circuit 
         let same : (m l : ℕ) (d : Device) → together n m ≡ true → Among (devices_of true cell) d → Joins d m l → bits d.gate.0 ≡ s.reading (at d.gate.0) =
         λ m l d i a j. sym (gate m l d i a j).2 in
         let ins : together n n ≡ true = (own.parts n n).1 (itself plain) in
-        let firm = inner_settled k phase setting cell at drive placed s (together n) bits (part_shut n) same (λ m l d i a j. let g = gate m l d i a j in ((gate_seen d a, g.1), g.0)) n ins in (
+        let firm = inner_settled k phase setting cell at drive placed originals s (together n) bits (part_shut n) same (λ m l d i a j. let g = gate m l d i a j in ((gate_seen d a, g.1), g.0)) n ins in (
           firm,
           λ seen. (
             firm,

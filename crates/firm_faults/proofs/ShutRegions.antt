@@ -1,5 +1,5 @@
 -- A shut set is a region, settled by the gates at it; so known nets are settled.
-use Rattle.std.proofs.Common.{◌≡◌, ℕ, ◌&&◌, ◌||◌, Bool, true, eqb, subst, sym, refl, ◌∙◌, inl, inr}
+use Rattle.std.proofs.Common.{◌≡◌, ℕ, ◌&&◌, ◌||◌, Bool, true, List, eqb, subst, sym, refl, ◌∙◌, inl, inr}
 use Rattle.std.specs.List.{list_any}
 use Rattle.std.proofs.lemmas.Bool.{and_from, and_parts, eq-eqb, eqb-true, or_cases, or_left, or_right}
 use Rattle.cell_inside.specs.Regions.{IsRegion}
@@ -16,6 +16,7 @@ use Rattle.vrt_model.specs.Reading.{conducts_at, devices_of}
 use Rattle.vrt_model.specs.State.{Setting, State}
 use Rattle.vrt_model.specs.declared.circuit.Circuit.{Circuit}
 use Rattle.vrt_model.specs.declared.circuit.Device.{Device}
+use Rattle.vrt_model.specs.declared.circuit.FlatInstance.{FlatInstance}
 use Rattle.vrt_model.specs.declared.rules.Phase.{Phase}
 use Rattle.vrt_model.specs.declared.whole.Whole.{Whole}
 use Rattle.vrt_model.specs.declared.whole.WholePin.{WholePin}
@@ -57,7 +58,7 @@ gate_of c inside m e =
 not_driven : (c : Circuit) (phase : Phase) (inside reading : ℕ → Bool) → IsShut c phase inside reading → (w : Whole) (pin : WholePin) → Among c.wholes w → Among w.outputs pin → inside pin.net.0 ≡ true → ⊥
 not_driven c phase inside reading shut w pin m e ins = (shut.plain pin.net.0 ins).2 (w, pin, m, e, refl)
 
-module _ (k : Comparison) (phase : ℕ) (setting : Setting) (s : State) where
+module _ (k : Comparison) (originals : List FlatInstance) (phase : ℕ) (setting : Setting) (s : State) where
   -- where the gates at a shut set have their bits in the state, the set is a region
   shut_region : (inside reading : ℕ → Bool) → IsShut k.circuit (phase_at k.rules phase) inside reading → ((m : ℕ) → gates_at k.circuit inside m ≡ true → s.reading m ≡ reading m)
       → IsRegion k.circuit (phase_at k.rules phase) setting inside (gates_at k.circuit inside) s.reading
@@ -75,7 +76,7 @@ module _ (k : Comparison) (phase : ℕ) (setting : Setting) (s : State) where
         absurd (not_driven k.circuit (phase_at k.rules phase) inside reading shut out.whole out.pin from.0 from.1 ins);
   }
 
-  shut_backed : (inside reading base : ℕ → Bool) → IsShut k.circuit (phase_at k.rules phase) inside reading → IsBacked k phase s inside base
+  shut_backed : (inside reading base : ℕ → Bool) → IsShut k.circuit (phase_at k.rules phase) inside reading → IsBacked k originals phase s inside base
   shut_backed inside reading base shut = record {
     linked = λ w at pin input m e ins mi link seen. absurd (not_driven k.circuit (phase_at k.rules phase) inside reading shut w pin m (at, e) ins);
     named = λ w pin i n m e ins mi of there. absurd (not_driven k.circuit (phase_at k.rules phase) inside reading shut w pin m e ins);
@@ -85,14 +86,14 @@ module _ (k : Comparison) (phase : ℕ) (setting : Setting) (s : State) where
   module _ (gates_seen : (d : Device) → Among (devices_of true k.circuit) d → is_observed k phase d.gate.0 ≡ true)
       (known_shows : (n : ℕ) (v : Bool) → is_observed k phase n ≡ true → IsKnown k.circuit (phase_at k.rules phase) n v → (s.reading n ≡ v) × ShowsOwnBit k phase setting s n) where
     -- known nets are settled, where the state has the bits of known gates, which show them
-    pub known_settled : (n : ℕ) (v : Bool) → IsKnown k.circuit (phase_at k.rules phase) n v → IsSettled k phase setting s n
+    pub known_settled : (n : ℕ) (v : Bool) → IsKnown k.circuit (phase_at k.rules phase) n v → IsSettled k originals phase setting s n
     known_settled n v (fixed h) = given (h.0, h.1, fixed_given (phase_at k.rules phase) h.0.kind v h.2)
     known_settled n v (settled inside reading held driven shut ins own gates shows) =
         within inside (gates_at k.circuit inside) (shut_region inside reading shut (λ m b. (gate_has m b).0)) (shut_backed inside reading (gates_at k.circuit inside) shut) ins
         (λ m b. (gate_has m b).1)
         (λ m b.
         let d = gate_of k.circuit inside m b in
-        subst (IsSettled k phase setting s) d.2 (known_settled d.0.gate.0 (reading d.0.gate.0) (gates d.3.0 d.3.1 d.0 d.3.2 d.1 d.3.3)))
+        subst (IsSettled k originals phase setting s) d.2 (known_settled d.0.gate.0 (reading d.0.gate.0) (gates d.3.0 d.3.1 d.0 d.3.2 d.1 d.3.3)))
       where
         gate_has : (m : ℕ) → gates_at k.circuit inside m ≡ true → (s.reading m ≡ reading m) × ShowsOwnBit k phase setting s m
         gate_has m b =

@@ -15,7 +15,7 @@ use Rattle.firm_faults.proofs.InnerSettled.{inner_ready}
 use Rattle.firm_faults.proofs.StepStates.{compared_outside, given_below, outside_region, plain_below, state_below, whole_state}
 use Rattle.firm_faults.specs.FirmGround.{IsFirmIn, IsOnFirmGround}
 use Rattle.firm_faults.specs.Settled.{IsBacked, IsBrokenAt, IsInstanceOfWhole, IsSettled, ShowsOwnBit, given, nets_named_at, within}
-use Rattle.firm_faults.specs.StepDown.{FirmGroundGoesDown, IsCellRanked, IsInnerSolution, IsSamePlaceIn, IsStepDown}
+use Rattle.firm_faults.specs.StepDown.{FirmGroundGoesDown, HasOneMoreOriginal, IsCellRanked, IsInnerSolution, IsSamePlaceIn, IsStepDown}
 use Rattle.known_nets.proofs.WiredLaws.{pin_of_whole}
 use Rattle.vrt_model.proofs.Filtered.{device_among}
 use Rattle.vrt_model.proofs.GatesGiven.{plain_any}
@@ -45,8 +45,9 @@ use Rattle.vrt_model.specs.declared.whole.WholePin.{WholePin}
 use Rattle.whole_solutions.proofs.GivenShow.{given_shows}
 
 module _ (k : Comparison) (phase : ℕ) (setting : Setting) (cell whole_circuit : Circuit) (at place fresh : ℕ → ℕ) (remaining compared cell_observed known : ℕ → Bool)
-    (together : ℕ → ℕ → Bool) (drive rank : ℕ → ℕ) (x : Whole) (i : FlatInstance)
+    (together : ℕ → ℕ → Bool) (drive rank : ℕ → ℕ) (x : Whole) (i : FlatInstance) (originals whole_originals : List FlatInstance)
     (p : IsStepDown k phase setting cell whole_circuit at place fresh remaining compared cell_observed drive x i)
+    (more : HasOneMoreOriginal (phase_at k.rules phase) k.circuit whole_circuit originals whole_originals x i)
     (own : IsCellRanked cell (phase_at k.rules phase) cell_observed known together rank)
     (r : State) (is : IsState whole_circuit (phase_at k.rules phase) setting.inputs r) where
   abbrev here : Phase
@@ -167,7 +168,7 @@ module _ (k : Comparison) (phase : ℕ) (setting : Setting) (cell whole_circuit 
     -- what goes down of a net
     abbrev IsDown : ℕ → Type 0
     IsDown n =
-        IsSettled k phase setting s n × (ShowsOwnBit above phase setting r n → (sr n ≡ r.reading n) × ShowsOwnBit k phase setting s n)
+        IsSettled k originals phase setting s n × (ShowsOwnBit above phase setting r n → (sr n ≡ r.reading n) × ShowsOwnBit k phase setting s n)
         × (compared n ≡ true → (q : Response) → IsResponse view n q → IsResponse below n q)
 
     given_goes : (n : ℕ) → IsGivenNet whole_circuit n → IsDown n
@@ -180,7 +181,7 @@ module _ (k : Comparison) (phase : ℕ) (setting : Setting) (cell whole_circuit 
               subst (IsResponse below n) (ap Shows same ∙ one) (given_shown n (given_down n g)),
         )
 
-    module _ (region base : ℕ → Bool) (reg : IsRegion whole_circuit here setting region base r.reading) (backed : IsBacked above phase r region base)
+    module _ (region base : ℕ → Bool) (reg : IsRegion whole_circuit here setting region base r.reading) (backed : IsBacked above whole_originals phase r region base)
         (shows : (m : ℕ) → base m ≡ true → ShowsOwnBit above phase setting r m) (downs : (m : ℕ) → base m ≡ true → IsDown m) where
       same_base : (m : ℕ) → base m ≡ true → sr m ≡ r.reading m
       same_base m b = ((downs m b).1 (shows m b)).0
@@ -189,7 +190,7 @@ module _ (k : Comparison) (phase : ℕ) (setting : Setting) (cell whole_circuit 
       same_near m (inl b) = same_base m b
       same_near m (inr g) = kept m (λ o plain e. given_outside m o (given_down m g) plain e)
 
-      near_down : (m : ℕ) → (base m ≡ true) ⊎ IsGivenNet whole_circuit m → IsSettled k phase setting s m × IsResponse below m (Shows (sr m))
+      near_down : (m : ℕ) → (base m ≡ true) ⊎ IsGivenNet whole_circuit m → IsSettled k originals phase setting s m × IsResponse below m (Shows (sr m))
       near_down m (inl b) = ((downs m b).0, ((downs m b).1 (shows m b)).1.1)
       near_down m (inr g) = (given (given_down m g), given_shown m (given_down m g))
 
@@ -198,7 +199,7 @@ module _ (k : Comparison) (phase : ℕ) (setting : Setting) (cell whole_circuit 
       abbrev left : ℕ → Bool
       left n = region n && compared n
 
-      left_backed : IsBacked k phase s left base
+      left_backed : IsBacked k originals phase s left base
       left_backed = record {
         linked = λ w j pin input m e ins mi link seen.
             let v = p.wholes.wholes w m in
@@ -207,10 +208,9 @@ module _ (k : Comparison) (phase : ℕ) (setting : Setting) (cell whole_circuit 
             (subst (λ (ys : List WholePin). Among ys input) (sym v.2.inputs) mi) (v.2.links input j link) seen);
         named = λ w pin y n m e ins my of there. near_given n (named_near w pin y n m e ins my of there);
         unbroken = λ w pin y m e ins my of broken.
-            let v = p.wholes.wholes w m in
+            let v = more.stay w y of in
             let to = v.2.outputs e.0 pin e.1 in
-            backed.unbroken v.0 to.0 y v.1 (e.0, to.1) (subst (λ (z : Net). region z.0 ≡ true) (sym to.2) (and_parts (region pin.net.0) (compared pin.net.0) ins).0)
-            (p.of_wholes w y m my of) (of.0 ∙ sym v.2.cell, of.1 ∙ sym v.2.path)
+            backed.unbroken v.0 to.0 y (v.1.0, v.1.1) (e.0, to.1) (subst (λ (z : Net). region z.0 ≡ true) (sym to.2) (and_parts (region pin.net.0) (compared pin.net.0) ins).0) v.3 v.1
             (breaks_same k.design k.rules phase y (λ n. Some (sr n)) (λ n. Some (r.reading n)) (λ n there. ap (λ (b : Bool). Some b) (same_near n (named_near w pin y n m e ins my of there))) broken);
       }
         where
@@ -219,12 +219,11 @@ module _ (k : Comparison) (phase : ℕ) (setting : Setting) (cell whole_circuit 
           near_given n (inr g) = inr (given_down n g)
 
           named_near : (w : Whole) (pin : WholePin) (y : FlatInstance) (n : ℕ) → Among k.circuit.wholes w → Among w.outputs pin → left pin.net.0 ≡ true
-              → Among k.circuit.instances y → IsInstanceOfWhole w y → Among (nets_named_at k phase y) n → (base n ≡ true) ⊎ IsGivenNet whole_circuit n
+              → Among k.circuit.instances y → IsInstanceOfWhole k.circuit originals w y → Among (nets_named_at k phase y) n → (base n ≡ true) ⊎ IsGivenNet whole_circuit n
           named_near w pin y n m e ins my of there =
-              let v = p.wholes.wholes w m in
+              let v = more.stay w y of in
               let to = v.2.outputs e.0 pin e.1 in
-              backed.named v.0 to.0 y n v.1 (e.0, to.1) (subst (λ (z : Net). region z.0 ≡ true) (sym to.2) (and_parts (region pin.net.0) (compared pin.net.0) ins).0)
-              (p.of_wholes w y m my of) (of.0 ∙ sym v.2.cell, of.1 ∙ sym v.2.path) there
+              backed.named v.0 to.0 y n (v.1.0, v.1.1) (e.0, to.1) (subst (λ (z : Net). region z.0 ≡ true) (sym to.2) (and_parts (region pin.net.0) (compared pin.net.0) ins).0) v.3 v.1 there
 
       left_responds : (n : ℕ) → region n ≡ true → compared n ≡ true → (q : Response) → IsResponse view n q → IsResponse below n q
       left_responds n ins c q h =
@@ -245,7 +244,7 @@ module _ (k : Comparison) (phase : ℕ) (setting : Setting) (cell whole_circuit 
 
       unbroken : (j : ℕ) (pin : OutputPin) → At (output_pins whole_circuit) j pin → pin.whole ≡ x → region pin.pin.net.0 ≡ true → ¬ IsBrokenAt k phase r.reading i
       unbroken j pin e mine ins =
-          backed.unbroken x pin.pin i p.wholes.own (subst (λ (w : Whole). Among w.outputs pin.pin) mine (pin_of_whole whole_circuit pin (j, e)).1) ins p.instance p.of_whole
+          backed.unbroken x pin.pin i p.wholes.own (subst (λ (w : Whole). Among w.outputs pin.pin) mine (pin_of_whole whole_circuit pin (j, e)).1) ins p.instance more.own
 
       module _ (m j : ℕ) (pin : OutputPin) (plain : IsPlain cell m) (seen : cell_observed m ≡ true) (e : At (output_pins whole_circuit) j pin) (mine : pin.whole ≡ x)
           (net : pin.pin.net.0 ≡ at m) (ins : region (at m) ≡ true) (bits : ℕ → Bool) (sol : HasSolution bits) (same_inside : (o : ℕ) → IsPlain cell o → sr (at o) ≡ bits o) where
@@ -256,14 +255,14 @@ module _ (k : Comparison) (phase : ℕ) (setting : Setting) (cell whole_circuit 
         ins_pin = subst (λ (y : ℕ). region y ≡ true) (sym net) ins
 
         abbrev IsReadyAt : ℕ → Type 0
-        IsReadyAt n = IsSettled k phase setting s (at n) × IsResponse below (at n) (Shows (sr (at n))) × (sr (at n) ≡ bits n)
+        IsReadyAt n = IsSettled k originals phase setting s (at n) × IsResponse below (at n) (Shows (sr (at n))) × (sr (at n) ≡ bits n)
 
         near_ready : (n : ℕ) → IsGivenNet cell n → (base (at n) ≡ true) ⊎ IsGivenNet whole_circuit (at n) → IsReadyAt n
         near_ready n g near = let goes = near_down (at n) near in (goes.0, goes.1, same_near (at n) near ∙ sym (sol.given n g))
 
         clock_ready : (n : ℕ) (one : FlatNet) (clock : ClockRef) → At cell.nets n one → one.kind ≡ Clock clock → IsReadyAt n
         clock_ready n one clock f kind =
-            near_ready n (one, f, ap is_given kind) (backed.named x pin.pin i (at n) p.wholes.own among ins_pin p.instance p.of_whole (p.clocks n one clock f kind))
+            near_ready n (one, f, ap is_given kind) (backed.named x pin.pin i (at n) p.wholes.own among ins_pin p.instance more.own (p.clocks n one clock f kind))
 
         input_ready : (n : ℕ) (one : FlatNet) → At cell.nets n one → one.kind ≡ Input → IsChain (HasArc cell here) n m → IsReadyAt n
         input_ready n one f kind chain =
@@ -273,7 +272,7 @@ module _ (k : Comparison) (phase : ℕ) (setting : Setting) (cell whole_circuit 
 
         output_ready : IsReadyAt m
         output_ready =
-            inner_ready k phase setting cell whole_circuit at drive p.placed s s_is p.ranges p.gates cell_observed known together rank own x r bits sol same_inside clock_ready m plain input_ready seen
+            inner_ready k phase setting cell whole_circuit at drive originals p.placed s s_is p.ranges p.gates cell_observed known together rank own x r bits sol same_inside clock_ready m plain input_ready seen
 
         -- the bit that it shows with the cell whole is that of the solution
         same_reached : (v : Bool) → Reaches view (at m) v → sr (at m) ≡ v
@@ -323,7 +322,7 @@ module _ (k : Comparison) (phase : ℕ) (setting : Setting) (cell whole_circuit 
 
     -- ---- all settled nets that remain
 
-    goes_down : (n : ℕ) → IsSettled above phase setting r n → remaining n ≡ true → IsDown n
+    goes_down : (n : ℕ) → IsSettled above whole_originals phase setting r n → remaining n ≡ true → IsDown n
     goes_down n (given g) rem = given_goes n g
     goes_down n (within region base reg backed ins shows firm) rem =
         elim (cases_Bool (compared n)) [
@@ -331,18 +330,18 @@ module _ (k : Comparison) (phase : ℕ) (setting : Setting) (cell whole_circuit 
           | inr f ↦ output_goes region base reg backed shows (λ m b. goes_down m (firm m b) (p.seen m (shows m b).0).0) n ins rem f
         ]
 
-    no_fight : (n : ℕ) → IsSettled above phase setting r n → compared n ≡ false → IsResponse view n FightResponse → ⊥
+    no_fight : (n : ℕ) → IsSettled above whole_originals phase setting r n → compared n ≡ false → IsResponse view n FightResponse → ⊥
     no_fight n (given g) hidden fight = let inner = p.hidden n hidden in given_outside n inner.0 (given_down n g) inner.2 inner.1
     no_fight n (within region base reg backed ins shows firm) hidden fight =
         no_fight_in region base reg backed shows (λ m b. goes_down m (firm m b) (p.seen m (shows m b).0).0) n ins hidden fight
 
     abbrev IsGround : FaultKind → ℕ → Type 0
-    IsGround kind n = (m : ℕ) × IsSamePlaceIn whole_circuit k.circuit kind n m × IsOnFirmGround k phase setting kind m
+    IsGround kind n = (m : ℕ) × IsSamePlaceIn whole_circuit k.circuit kind n m × IsOnFirmGround k originals phase setting kind m
 
-    on_ground : (kind : FaultKind) (m : ℕ) → IsFirmIn k phase setting s kind m → IsOnFirmGround k phase setting kind m
+    on_ground : (kind : FaultKind) (m : ℕ) → IsFirmIn k originals phase setting s kind m → IsOnFirmGround k originals phase setting kind m
     on_ground kind m firm = record { state = s; is = s_is; firm = firm }
 
-    fight_goes : (n : ℕ) → IsFirmIn above phase setting r Fight n → IsGround Fight n
+    fight_goes : (n : ℕ) → IsFirmIn above whole_originals phase setting r Fight n → IsGround Fight n
     fight_goes n firm =
         elim (cases_Bool (compared n)) [
           | inl c ↦
@@ -351,7 +350,7 @@ module _ (k : Comparison) (phase : ℕ) (setting : Setting) (cell whole_circuit 
           | inr f ↦ absurd (no_fight n firm.1 f firm.2)
         ]
 
-    float_goes : (n : ℕ) → IsFirmIn above phase setting r Float n → IsGround Float n
+    float_goes : (n : ℕ) → IsFirmIn above whole_originals phase setting r Float n → IsGround Float n
     float_goes n firm =
         elim (cases_Bool (compared n)) [
           | inl c ↦
@@ -370,7 +369,7 @@ module _ (k : Comparison) (phase : ℕ) (setting : Setting) (cell whole_circuit 
             let to = p.outputs inner.0 inner.2 (subst (λ (y : ℕ). remaining y ≡ true) inner.1 (p.seen n firm.0).0) in
             floats_not n to.1.0 (r.driven to.1.0) refl firm.2 (driven_reaches n to.1.0 to.1.1 to.1.5 to.1.2 (to.1.4 ∙ sym inner.1))
 
-    constraint_goes : (n : ℕ) → IsFirmIn above phase setting r Constraint n → IsGround Constraint n
+    constraint_goes : (n : ℕ) → IsFirmIn above whole_originals phase setting r Constraint n → IsGround Constraint n
     constraint_goes n firm =
         let y : FlatInstance = firm.0 in
         let there = p.instances y (n, firm.1) in
@@ -385,7 +384,7 @@ module _ (k : Comparison) (phase : ℕ) (setting : Setting) (cell whole_circuit 
           ),
         )
 
-    by_kind : (kind : FaultKind) (n : ℕ) → IsFirmIn above phase setting r kind n → IsGround kind n
+    by_kind : (kind : FaultKind) (n : ℕ) → IsFirmIn above whole_originals phase setting r kind n → IsGround kind n
     by_kind Fight n firm = fight_goes n firm
     by_kind Float n firm = float_goes n firm
     by_kind Constraint n firm = constraint_goes n firm
@@ -433,7 +432,7 @@ module _ (k : Comparison) (phase : ℕ) (setting : Setting) (cell whole_circuit 
                 ]
           ]
 
-  pub firm_goes : (kind : FaultKind) (n : ℕ) → IsFirmIn above phase setting r kind n → (m : ℕ) × IsSamePlaceIn whole_circuit k.circuit kind n m × IsOnFirmGround k phase setting kind m
+  pub firm_goes : (kind : FaultKind) (n : ℕ) → IsFirmIn above whole_originals phase setting r kind n → (m : ℕ) × IsSamePlaceIn whole_circuit k.circuit kind n m × IsOnFirmGround k originals phase setting kind m
   firm_goes kind n firm =
       elim (p.inner r is) [
         | inl broken ↦ by_kind r.reading (λ o none. refl) (inl broken) kind n firm
@@ -441,5 +440,5 @@ module _ (k : Comparison) (phase : ℕ) (setting : Setting) (cell whole_circuit 
       ]
 
 pub firm_ground_goes_down : FirmGroundGoesDown
-firm_ground_goes_down k phase setting cell whole_circuit at place fresh remaining compared cell_observed known together drive rank x i kind n p own ground =
-    firm_goes k phase setting cell whole_circuit at place fresh remaining compared cell_observed known together drive rank x i p own ground.state ground.is kind n ground.firm
+firm_ground_goes_down k phase setting cell whole_circuit at place fresh remaining compared cell_observed known together drive rank x i originals whole_originals kind n p more own ground =
+    firm_goes k phase setting cell whole_circuit at place fresh remaining compared cell_observed known together drive rank x i originals whole_originals p more own ground.state ground.is kind n ground.firm

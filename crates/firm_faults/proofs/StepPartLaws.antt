@@ -47,8 +47,6 @@ replaced_instances_step_down k q phase setting whole_circuit at place fresh rema
   gates = λ d m. gate_observed k phase d.gate.0 (d, (device_among true k.circuit d m).0, refl);
   instances = p.instances.instances_back;
   instance = one.instance;
-  of_whole = one.of_whole;
-  of_wholes = one.of_wholes;
   links = one.links;
   clocks = one.clocks;
   inner = one.inner;

@@ -10,6 +10,7 @@ use Rattle.vrt_model.specs.Places.{is_named, named_nets_from}
 use Rattle.vrt_model.specs.Reading.{Partial, bare}
 use Rattle.vrt_model.specs.Response.{IsResponse, Response, Shows}
 use Rattle.vrt_model.specs.State.{IsState, Setting, State, network_of}
+use Rattle.vrt_model.specs.declared.circuit.Circuit.{Circuit}
 use Rattle.vrt_model.specs.declared.circuit.FlatInstance.{FlatInstance}
 use Rattle.vrt_model.specs.declared.whole.Whole.{Whole}
 use Rattle.vrt_model.specs.declared.whole.WholePin.{WholePin}
@@ -24,26 +25,27 @@ nets_named_at k phase i = named_nets_from (is_named k phase i) (cell_at k.design
 abbrev pub IsBrokenAt : Comparison → ℕ → (ℕ → Bool) → FlatInstance → Type 0
 IsBrokenAt k phase reading i = BreaksConstraint k.design k.rules phase (λ n. Some (reading n)) i
 
--- the instance is the one that a whole instance stands for
-abbrev pub IsInstanceOfWhole : Whole → FlatInstance → Type 0
-IsInstanceOfWhole w i = (i.cell ≡ w.cell) × (i.path ≡ w.path)
+-- The instance is the one that a whole instance of the circuit stands for. The originals are these, one for each whole instance, in their
+-- order: paths as texts do not tell them, since two instances may have one, as `x1/x2` beside the `x2` in an `x1`.
+abbrev pub IsInstanceOfWhole : Circuit → List FlatInstance → Whole → FlatInstance → Type 0
+IsInstanceOfWhole c originals w i = (place : ℕ) × At c.wholes place w × At originals place i
 
 -- ---- what is settled
 
 -- Where a whole instance drives a net of a region, the inputs that are linked to this output and observed inside, and the ports that the
 -- instance's constraints name, are in the region's base or given, and these constraints are kept in the state.
-pub record IsBacked (k : Comparison) (phase : ℕ) (s : State) (region base : ℕ → Bool) : Type 0 where
+pub record IsBacked (k : Comparison) (originals : List FlatInstance) (phase : ℕ) (s : State) (region base : ℕ → Bool) : Type 0 where
   pub linked :
       (w : Whole) (at : ℕ) (pin input : WholePin) → Among k.circuit.wholes w → At w.outputs at pin → region pin.net.0 ≡ true → Among w.inputs input
       → IsLinkedTo (phase_at k.rules phase) w input at → input.observed ≡ true
       → (base input.net.0 ≡ true) ⊎ IsGivenNet k.circuit input.net.0
   pub named :
       (w : Whole) (pin : WholePin) (i : FlatInstance) (n : ℕ) → Among k.circuit.wholes w → Among w.outputs pin → region pin.net.0 ≡ true
-      → Among k.circuit.instances i → IsInstanceOfWhole w i → Among (nets_named_at k phase i) n
+      → Among k.circuit.instances i → IsInstanceOfWhole k.circuit originals w i → Among (nets_named_at k phase i) n
       → (base n ≡ true) ⊎ IsGivenNet k.circuit n
   pub unbroken :
       (w : Whole) (pin : WholePin) (i : FlatInstance) → Among k.circuit.wholes w → Among w.outputs pin → region pin.net.0 ≡ true
-      → Among k.circuit.instances i → IsInstanceOfWhole w i → ¬ IsBrokenAt k phase s.reading i
+      → Among k.circuit.instances i → IsInstanceOfWhole k.circuit originals w i → ¬ IsBrokenAt k phase s.reading i
 
 -- the net is observed, and shows its own bit in the state
 abbrev pub ShowsOwnBit : Comparison → ℕ → Setting → State → ℕ → Type 0
@@ -51,20 +53,20 @@ ShowsOwnBit k phase setting s n =
     (is_observed k phase n ≡ true) × IsResponse (network_of k.circuit bare setting.held s) n (Shows (s.reading n))
 
 -- a net is settled where it is given, or in a region, each net of whose base shows its own bit and is settled
-pub data IsSettled (k : Comparison) (phase : ℕ) (setting : Setting) (s : State) : ℕ → Type 0 where
-  given : {n : ℕ} → IsGivenNet k.circuit n → IsSettled k phase setting s n
+pub data IsSettled (k : Comparison) (originals : List FlatInstance) (phase : ℕ) (setting : Setting) (s : State) : ℕ → Type 0 where
+  given : {n : ℕ} → IsGivenNet k.circuit n → IsSettled k originals phase setting s n
   within :
       {n : ℕ} (region base : ℕ → Bool)
       → IsRegion k.circuit (phase_at k.rules phase) setting region base s.reading
-      → IsBacked k phase s region base
+      → IsBacked k originals phase s region base
       → region n ≡ true
       → ((m : ℕ) → base m ≡ true → ShowsOwnBit k phase setting s m)
-      → ((m : ℕ) → base m ≡ true → IsSettled k phase setting s m)
-      → IsSettled k phase setting s n
+      → ((m : ℕ) → base m ≡ true → IsSettled k originals phase setting s m)
+      → IsSettled k originals phase setting s n
 
 -- The law: with each solution a settled net always responds as in the state, be it by a bit, a fight or a float.
 abbrev pub SettledNetsStand : Type 0
 SettledNetsStand =
-    (k : Comparison) (phase : ℕ) (setting : Setting) (s : State) (a : Partial)
+    (k : Comparison) (originals : List FlatInstance) (phase : ℕ) (setting : Setting) (s : State) (a : Partial)
     → HasRanges k.circuit → ArePinsPlain k.circuit → IsState k.circuit (phase_at k.rules phase) setting.inputs s → Solves k phase setting a
-    → (n : ℕ) (r : Response) → IsSettled k phase setting s n → IsResponse (network_of k.circuit bare setting.held s) n r → Responds k phase setting a bare n r
+    → (n : ℕ) (r : Response) → IsSettled k originals phase setting s n → IsResponse (network_of k.circuit bare setting.held s) n r → Responds k phase setting a bare n r

@@ -1,6 +1,6 @@
 -- A circuit with a cell in it, and the circuit in which this instance is left whole: what the law of firm ground asks of the two where the
 -- outputs of the instance meet gates alone. Nets keep their numbers.
-use Rattle.std.specs.Prelude.{◌≡◌, ◌⊎◌, ◌↔◌, ℕ, Bool, true, false}
+use Rattle.std.specs.Prelude.{◌≡◌, ◌⊎◌, ◌↔◌, ℕ, Bool, true, false, List}
 use Rattle.cell_inside.specs.LeftWhole.{IsLeftWhole}
 use Rattle.cell_inside.specs.Placed.{IsPlaced}
 use Rattle.cell_inside.specs.Regions.{ArePinsPlain, IsGivenNet}
@@ -56,6 +56,13 @@ pub record HasOneMoreWhole (phase : Phase) (c whole_circuit : Circuit) (place : 
   -- the models have an assignment at any bits of their inputs
   pub assigned : (w : Whole) (reading : ℕ → Bool) → Among whole_circuit.wholes w → (g : Assignment) × IsAssignment w.model (surroundings_of_whole phase w reading) g
 
+-- the originals of the whole instances stay, each that of the same whole instance, and i is that of x
+pub record HasOneMoreOriginal (phase : Phase) (c whole_circuit : Circuit) (originals whole_originals : List FlatInstance) (x : Whole) (i : FlatInstance) : Type 0 where
+  pub own : IsInstanceOfWhole whole_circuit whole_originals x i
+  pub stay :
+      (w : Whole) (y : FlatInstance) → IsInstanceOfWhole c originals w y
+      → (v : Whole) × IsInstanceOfWhole whole_circuit whole_originals v y × IsSameWhole phase w v × Among whole_circuit.instances y
+
 -- ---- the cell
 
 -- The cell alone: which of its nets are known, and which are in one part, can be told, and its nets have ranks; all gates are observed.
@@ -97,11 +104,9 @@ pub record IsStepDown (k : Comparison) (phase : ℕ) (setting : Setting) (cell w
   -- what is observed with the cell whole remains, and is observed with it in the circuit, where all gates are
   pub seen : (n : ℕ) → is_observed (with_circuit k whole_circuit) phase n ≡ true → (remaining n ≡ true) × (is_observed k phase n ≡ true)
   pub gates : (d : Device) → Among (devices_of bare k.circuit) d → is_observed k phase d.gate.0 ≡ true
-  -- the instances stay, x is one of them, and none inside the cell is that of another whole instance
+  -- the instances that are left are some of those that were there, and i is one
   pub instances : (y : FlatInstance) → Among whole_circuit.instances y → Among k.circuit.instances y
   pub instance : Among whole_circuit.instances i
-  pub of_whole : IsInstanceOfWhole x i
-  pub of_wholes : (w : Whole) (y : FlatInstance) → Among k.circuit.wholes w → Among k.circuit.instances y → IsInstanceOfWhole w y → Among whole_circuit.instances y
   -- each input from which a chain of arcs leads to an output inside is observed and linked to it, and the clock ports are named
   pub links :
       (j m n : ℕ) (pin : WholePin) (net : FlatNet) → At x.outputs j pin → IsPlain cell m → pin.net.0 ≡ at m → At cell.nets n net → net.kind ≡ Input
@@ -129,8 +134,9 @@ IsSamePlaceIn c d Enter at there = at ≡ there
 abbrev pub FirmGroundGoesDown : Type 0
 FirmGroundGoesDown =
     (k : Comparison) (phase : ℕ) (setting : Setting) (cell whole_circuit : Circuit) (at place fresh : ℕ → ℕ) (remaining compared cell_observed known : ℕ → Bool)
-    (together : ℕ → ℕ → Bool) (drive rank : ℕ → ℕ) (x : Whole) (i : FlatInstance) (kind : FaultKind) (n : ℕ)
+    (together : ℕ → ℕ → Bool) (drive rank : ℕ → ℕ) (x : Whole) (i : FlatInstance) (originals whole_originals : List FlatInstance) (kind : FaultKind) (n : ℕ)
     → IsStepDown k phase setting cell whole_circuit at place fresh remaining compared cell_observed drive x i
+    → HasOneMoreOriginal (phase_at k.rules phase) k.circuit whole_circuit originals whole_originals x i
     → IsCellRanked cell (phase_at k.rules phase) cell_observed known together rank
-    → IsOnFirmGround (with_circuit k whole_circuit) phase setting kind n
-    → (m : ℕ) × IsSamePlaceIn whole_circuit k.circuit kind n m × IsOnFirmGround k phase setting kind m
+    → IsOnFirmGround (with_circuit k whole_circuit) whole_originals phase setting kind n
+    → (m : ℕ) × IsSamePlaceIn whole_circuit k.circuit kind n m × IsOnFirmGround k originals phase setting kind m

@@ -3,7 +3,7 @@ use Rattle.std.specs.Prelude.{◌≡◌, ◌⊎◌, ℕ, Bool, true, false, is_s
 use Rattle.cell_inside.specs.LeftWhole.{IsLeftWhole}
 use Rattle.cell_inside.specs.Placed.{IsPlaced}
 use Rattle.cell_inside.specs.Regions.{ArePinsPlain}
-use Rattle.firm_faults.specs.Settled.{IsBrokenAt, IsInstanceOfWhole, nets_named_at}
+use Rattle.firm_faults.specs.Settled.{IsBrokenAt, nets_named_at}
 use Rattle.firm_faults.specs.StepDown.{HasOneMoreWhole, IsInnerSolution, IsStepDown}
 use Rattle.vrt_model.specs.Comparison.{CellPort, Comparison, is_observed, output_signal, phase_at, ports_of}
 use Rattle.vrt_model.specs.Determined.{IsLinkedTo}
@@ -40,8 +40,6 @@ pub record IsReplacedOver (k q : Comparison) (phase : ℕ) (whole_circuit : Circ
 -- linked to it, and the clock ports named; and in each state a constraint of it is broken, or the cell has a solution at its bits.
 pub record StandsForInstance (k q : Comparison) (phase : ℕ) (setting : Setting) (whole_circuit : Circuit) (at : ℕ → ℕ) (remaining : ℕ → Bool) (x : Whole) (i : FlatInstance) : Type 0 where
   pub instance : Among whole_circuit.instances i
-  pub of_whole : IsInstanceOfWhole x i
-  pub of_wholes : (w : Whole) (y : FlatInstance) → Among k.circuit.wholes w → Among k.circuit.instances y → IsInstanceOfWhole w y → Among whole_circuit.instances y
   pub outputs :
       (m : ℕ) → IsPlain q.circuit m → remaining (at m) ≡ true
       → (j : ℕ) × (pin : OutputPin) × At (output_pins whole_circuit) j pin × (pin.whole ≡ x) × (pin.pin.net.0 ≡ at m) × (level_of_drive 8 pin.pin.drive ≡ 8)

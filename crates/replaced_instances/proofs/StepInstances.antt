@@ -71,7 +71,7 @@ zip_at_right R [] (z ∷ ys) j y h e = absurd h
 zip_at_right {X} {Y} R (x ∷ xs) (z ∷ ys) zero y h e = (x, refl, subst (λ (w : Y). R x w) (same_Some z y e) h.0)
 zip_at_right R (x ∷ xs) (z ∷ ys) (suc j) y h e = zip_at_right R xs ys j y h.1 e
 
-zip_at_left : {X Y : Type 0} (R : X → Y → Type 0) (xs : List X) (ys : List Y) (j : ℕ) (x : X) → AllZip R xs ys → At xs j x → (y : Y) × At ys j y × R x y
+pub zip_at_left : {X Y : Type 0} (R : X → Y → Type 0) (xs : List X) (ys : List Y) (j : ℕ) (x : X) → AllZip R xs ys → At xs j x → (y : Y) × At ys j y × R x y
 zip_at_left R [] ys j x h e = absurd (none-some x e)
 zip_at_left R (z ∷ xs) [] j x h e = absurd h
 zip_at_left {X} {Y} R (z ∷ xs) (y ∷ ys) zero x h e = (y, refl, subst (λ (w : X). R w y) (same_Some z x e) h.0)

@@ -1,6 +1,7 @@
 -- Firm ground goes down the chain to the flat circuit.
-use Rattle.std.proofs.Common.{◌≡◌, ◌↔◌, ℕ, zero, suc, ◌<◌, not, Bool, true, List, length, refl, sym, ◌∙◌, subst, arith, inl, inr}
+use Rattle.std.proofs.Common.{◌≡◌, ◌↔◌, ℕ, zero, suc, ◌<◌, not, Bool, true, List, [], length, map, refl, ap, sym, ◌∙◌, subst, arith, inl, inr}
 use Rattle.std.proofs.lemmas.Bool.{cases_Bool}
+use Rattle.checked_chain.proofs.AcyclicLaws.{no_place}
 use Rattle.checked_chain.proofs.EndLaws.{chain_begins_flat}
 use Rattle.checked_chain.proofs.StepLaws.{none_more_is_same}
 use Rattle.checked_chain.proofs.ThereLaws.{chain_is_there}
@@ -11,14 +12,14 @@ use Rattle.firm_faults.specs.StepDown.{IsCellRanked, IsSamePlaceIn}
 use Rattle.known_nets.specs.Wired.{IsWired}
 use Rattle.placed_cells.specs.Above.{net_above}
 use Rattle.replaced_instances.specs.Steps.{compared_at, fresh_place, is_inside_at, is_outside_at}
-use Rattle.substitution_laws.proofs.ChainLaws.{at_last, is_itself, step_at}
+use Rattle.substitution_laws.proofs.ChainLaws.{is_itself, step_at}
 use Rattle.substitution_laws.proofs.FormedCells.{formed_cell}
 use Rattle.substitution_laws.proofs.LogicCells.{logic_cell}
 use Rattle.substitution_laws.proofs.StepDownLaws.{steps_go_down}
 use Rattle.substitution_laws.proofs.ToldLaws.{cell_wired}
 use Rattle.substitution_laws.specs.Agreement.{IsCheckedSoftly}
 use Rattle.substitution_laws.specs.FirmDown.{FirmGroundReachesFlat}
-use Rattle.substitution_laws.specs.StepDowns.{ArePathsApart}
+use Rattle.substitution_laws.specs.StepDowns.{whole_instances}
 use Rattle.substitution_laws.specs.Steps.{IsStepOf}
 use Rattle.told_circuits.proofs.ToldLaws.{known_nets_have_test, parts_have_test}
 use Rattle.vrt_model.proofs.Filtered.{device_among}
@@ -32,12 +33,13 @@ use Rattle.vrt_model.specs.State.{Setting}
 use Rattle.vrt_model.specs.Unrolled.{Place, Top, all_places}
 use Rattle.vrt_model.specs.declared.blif.Blif.{Blif}
 use Rattle.vrt_model.specs.declared.circuit.Circuit.{Circuit}
+use Rattle.vrt_model.specs.declared.circuit.FlatInstance.{FlatInstance}
 use Rattle.vrt_model.specs.declared.verdict.FaultKind.{FaultKind}
 use Rattle.vrt_model.specs.declared.whole.CellFacts.{CellFacts}
 use Rattle.whole_ranks.proofs.RankLaws.{acyclic_nets_have_ranks}
 use Rattle.whole_solutions.proofs.ObservedCases.{gate_observed}
 
-module _ (k : Comparison) (cut : Cut) (blif : Blif) (facts : List CellFacts) (c : Circuit) (h : IsCheckedSoftly k cut blif facts c) (apart : ArePathsApart cut.top)
+module _ (k : Comparison) (cut : Cut) (blif : Blif) (facts : List CellFacts) (c : Circuit) (h : IsCheckedSoftly k cut blif facts c)
     (phase : ℕ) (lt : phase < length cut.top.rules.phases) (setting : Setting) (kind : FaultKind) (ok : IsFoundByRank kind) where
   abbrev t : Top
   t = cut.top
@@ -70,22 +72,26 @@ module _ (k : Comparison) (cut : Cut) (blif : Blif) (facts : List CellFacts) (c 
           },
         )
 
-    step_down : (n : ℕ) → IsOnFirmGround (with_circuit k e) phase setting kind n → (l : ℕ) × IsSamePlaceIn e d kind n l × IsOnFirmGround (with_circuit k d) phase setting kind l
+    step_down : (n : ℕ) → IsOnFirmGround (with_circuit k e) (whole_instances (before cut (suc i))) phase setting kind n
+        → (l : ℕ) × IsSamePlaceIn e d kind n l × IsOnFirmGround (with_circuit k d) (whole_instances (before cut i)) phase setting kind l
     step_down n ground =
-        let down = steps_go_down k cut blif facts i p m depth front back d e phase setting lt apart s in
+        let down = steps_go_down k cut blif facts i p m depth front back d e phase setting lt s in
         let ranked = subst (λ (u : Top). IsCellRanked q.circuit (phase_at u.rules phase) (is_observed q phase) known.0 together.0 rank_is.0) s.first.top rank_is.1 in
         firm_ground_goes_down (with_circuit k d) phase setting q.circuit e (net_above t p.at) (λ j. j) (fresh_place (before cut i) blif facts q) (is_outside_at t depth p.at)
-        (λ l. not (is_inside_at q.circuit (net_above t p.at) l)) (is_observed q phase) known.0 together.0 (λ l. 0) rank_is.0 down.0 (flat_instance p.at) kind n down.1 ranked ground
+        (λ l. not (is_inside_at q.circuit (net_above t p.at) l)) (is_observed q phase) known.0 together.0 (λ l. 0) rank_is.0 down.0 (flat_instance p.at) (whole_instances (before cut i)) (whole_instances (before cut (suc i)))
+        kind n down.1 down.2 ranked ground
 
-  pub down_at : (n : ℕ) (d : Circuit) (l : ℕ) → n < length (all_places t) → IsCircuitWith (before cut n) blif facts d → IsOnFirmGround (with_circuit k d) phase setting kind l
-      → (m : ℕ) × IsSamePlaceIn d k.circuit kind l m × IsOnFirmGround k phase setting kind m
+  pub down_at : (n : ℕ) (d : Circuit) (l : ℕ) → n < length (all_places t) → IsCircuitWith (before cut n) blif facts d → IsOnFirmGround (with_circuit k d) (whole_instances (before cut n)) phase setting kind l
+      → (m : ℕ) × IsSamePlaceIn d k.circuit kind l m × IsOnFirmGround k [] phase setting kind m
   down_at zero d l low circuit ground =
       let same = (chain_begins_flat cut blif facts d).0 circuit ∙ sym h.flat in
-      subst (λ (x : Comparison). (m : ℕ) × IsSamePlaceIn d x.circuit kind l m × IsOnFirmGround x phase setting kind m) (sym (is_itself k cut blif facts c h d same))
-      (own_place k phase setting (λ j. d) kind ok d l ground)
+      subst (λ (x : Comparison). (m : ℕ) × IsSamePlaceIn d x.circuit kind l m × IsOnFirmGround x [] phase setting kind m) (sym (is_itself k cut blif facts c h d same))
+      (own_place k phase setting (λ j. d) (λ j. []) kind ok d [] l
+      (subst (λ (own : List FlatInstance). IsOnFirmGround (with_circuit k d) own phase setting kind l) (ap (map (λ (p : NumberedPlace). flat_instance p.at)) (no_place cut)) ground))
   down_at (suc i) d l low circuit ground =
       elim (cases_Bool (cut.choice i)) [
-        | inr not_chosen ↦ down_at i d l (omega (arith, low)) (subst (λ (x : Cut). IsCircuitWith x blif facts d) (none_more_is_same cut i not_chosen) circuit) ground
+        | inr not_chosen ↦ down_at i d l (omega (arith, low)) (subst (λ (x : Cut). IsCircuitWith x blif facts d) (none_more_is_same cut i not_chosen) circuit)
+            (subst (λ (x : Cut). IsOnFirmGround (with_circuit k d) (whole_instances x) phase setting kind l) (none_more_is_same cut i not_chosen) ground)
         | inl chosen ↦
             let there = chain_is_there cut blif facts c i h.circuit in
             let s = step_at k cut blif facts c h i there.0 d low chosen there.1 circuit in
@@ -95,5 +101,4 @@ module _ (k : Comparison) (cut : Cut) (blif : Blif) (facts : List CellFacts) (c 
       ]
 
 pub firm_ground_reaches_flat : FirmGroundReachesFlat
-firm_ground_reaches_flat k cut blif facts c phase setting kind n h apart lt ok ground =
-    let last = at_last k cut blif facts c h in down_at k cut blif facts c h apart phase lt setting kind ok last.0 c n last.1 last.2 ground
+firm_ground_reaches_flat k cut blif facts c n d phase setting kind at h low circuit lt ok ground = down_at k cut blif facts c h phase lt setting kind ok n d at low circuit ground

@@ -1,6 +1,5 @@
 -- The first fault of the checked circuit, where it is found while the nets are solved, is one of the flat circuit.
-use Rattle.std.proofs.Common.{◌≡◌, ℕ, ◌<◌, Bool, true, List, length, Option, refl, ap, sym, ◌∙◌, subst, inl, inr}
-use Rattle.std.specs.Prelude.{drop}
+use Rattle.std.proofs.Common.{◌≡◌, ℕ, ◌<◌, Bool, List, [], length, Option, refl, ap, sym, subst, inl, inr}
 use Rattle.cell_inside.specs.Regions.{ArePinsPlain}
 use Rattle.checked_chain.proofs.EndLaws.{chain_begins_flat}
 use Rattle.checked_chain.proofs.FindingLaws.{descriptions_move}
@@ -13,29 +12,28 @@ use Rattle.firm_faults.specs.FirmGround.{IsFoundByRank, IsOnFirmGround}
 use Rattle.firm_faults.specs.StepDown.{IsSamePlaceIn}
 use Rattle.replaced_cells.proofs.SolvedAlike.{no_pins}
 use Rattle.replaced_cells.specs.Agreement.{IsAlwaysSolved}
-use Rattle.replaced_instances.proofs.StepHides.{behind_first}
 use Rattle.substitution_laws.proofs.ChainLaws.{always_solved, at_last, is_itself, some_place}
 use Rattle.substitution_laws.proofs.EndsLaws.{chosen_ends_are_shown}
 use Rattle.substitution_laws.proofs.FirmDownLaws.{firm_ground_reaches_flat}
 use Rattle.substitution_laws.proofs.OrderedLaws.{checked_circuit_is_ordered}
 use Rattle.substitution_laws.specs.Agreement.{IsCheckedSoftly}
 use Rattle.substitution_laws.specs.FirstFaults.{FirstFaultsStandBelow}
-use Rattle.substitution_laws.specs.StepDowns.{ArePathsApart}
-use Rattle.vrt_model.proofs.Lists.{at_map}
+use Rattle.substitution_laws.specs.StepDowns.{whole_instances}
+use Rattle.vrt_model.proofs.Lists.{one_at}
 use Rattle.vrt_model.specs.Assignment.{Assignment}
-use Rattle.vrt_model.specs.Checked.{with_circuit}
+use Rattle.vrt_model.specs.Checked.{IsCircuitWith, before, with_circuit}
 use Rattle.vrt_model.specs.CheckedVerdicts.{IsSamePlace}
 use Rattle.vrt_model.specs.Comparison.{Comparison}
-use Rattle.vrt_model.specs.Cut.{Cut, is_instance_shown, moved_instance}
+use Rattle.vrt_model.specs.Cut.{Cut}
 use Rattle.vrt_model.specs.Faults.{Assigns, IsPrintedWith}
-use Rattle.vrt_model.specs.FlatCircuit.{flat_circuit_of, flat_instance, flat_instances}
+use Rattle.vrt_model.specs.FlatCircuit.{flat_circuit_of}
 use Rattle.vrt_model.specs.Held.{setting_of}
 use Rattle.vrt_model.specs.Lists.{At}
 use Rattle.vrt_model.specs.Networks.{HasRanges}
 use Rattle.vrt_model.specs.Places.{Finding, IsFinding, IsFirst}
 use Rattle.vrt_model.specs.Reading.{Partial}
 use Rattle.vrt_model.specs.State.{Setting}
-use Rattle.vrt_model.specs.Unrolled.{Top, all_places, path_text}
+use Rattle.vrt_model.specs.Unrolled.{Top, all_places}
 use Rattle.vrt_model.specs.Verdicts.{Describes}
 use Rattle.vrt_model.specs.declared.blif.Blif.{Blif}
 use Rattle.vrt_model.specs.declared.circuit.Circuit.{Circuit}
@@ -68,30 +66,33 @@ module _ (k : Comparison) (cut : Cut) (blif : Blif) (facts : List CellFacts) (c 
   chain : IsOfChain k blif facts cut c
   chain = record { top = h.top; flat = h.flat; groups = h.groups; circuit = h.circuit; ends = chosen_ends_are_shown cut blif facts h.choice }
 
-  -- an instance of the checked circuit, and the same one of the flat circuit, have one place
-  instance_place : ArePathsApart cut.top → (i j : ℕ) (y : FlatInstance) → At c.instances i y → At k.circuit.instances j y → (is_instance_shown cut j ≡ true) × (moved_instance cut j ≡ i)
+  -- ---- places
+
+  -- what is on firm ground at an instance is so at the place of this instance, also where the flat circuit has others like it
+  at_instance : (phase : ℕ) (setting : Setting) (i j : ℕ) (y : FlatInstance) → At c.instances i y → At k.circuit.instances j y → IsOnFirmGround k [] phase setting Constraint j
+      → (m : ℕ) × IsSamePlace cut Constraint m i × IsOnFirmGround k [] phase setting Constraint m
   unfolding flat_circuit_of
-  instance_place apart i j y here there =
+  at_instance phase setting i j y here there ground =
       let shown = instances_are_shown cut i y (subst (λ (xs : List FlatInstance). At xs i y) h.circuit.instances here) in
-      let flat : At (flat_instances t) j y = subst (λ (x : Circuit). At x.instances j y) h.flat there in
-      let one = at_map flat_instance (drop 1 (all_places t)) shown.0 y shown.3 in
-      let other = at_map flat_instance (drop 1 (all_places t)) j y flat in
-      let path : path_text one.0.path ≡ path_text other.0.path = ap (λ (z : FlatInstance). z.path) (one.2 ∙ sym other.2) in
-      let same = apart shown.0 j one.0 other.0 (behind_first (all_places t) shown.0 one.0 one.1) (behind_first (all_places t) j other.0 other.1) path in (
-        subst (λ (x : ℕ). is_instance_shown cut x ≡ true) same shown.1,
-        subst (λ (x : ℕ). moved_instance cut x ≡ i) same shown.2,
+      let own : At k.circuit.instances shown.0 ground.firm.0 =
+      subst (λ (z : FlatInstance). At k.circuit.instances shown.0 z) (one_at k.circuit.instances j y ground.firm.0 there ground.firm.1)
+      (subst (λ (x : Circuit). At x.instances shown.0 y) (sym h.flat) shown.3) in (
+        shown.0,
+        (shown.1, shown.2),
+        record { state = ground.state; is = ground.is; firm = (ground.firm.0, own, ground.firm.2, ground.firm.3) },
       )
 
-  same_place : ArePathsApart cut.top → (kind : FaultKind) (i j : ℕ) → IsFoundByRank kind → IsSamePlaceIn c k.circuit kind i j → IsSamePlace cut kind j i
-  same_place apart Fight i j ok is = sym is
-  same_place apart Float i j ok is = sym is
-  same_place apart Constraint i j ok is = instance_place apart i j is.0 is.1 is.2
-  same_place apart FightKept i j ok is = absurd ok
-  same_place apart Unsettled i j ok is = absurd ok
-  same_place apart Differs i j ok is = absurd ok
-  same_place apart Next i j ok is = absurd ok
-  same_place apart Apart i j ok is = absurd ok
-  same_place apart Enter i j ok is = absurd ok
+  at_place : (phase : ℕ) (setting : Setting) (kind : FaultKind) (i j : ℕ) → IsFoundByRank kind → IsSamePlaceIn c k.circuit kind i j → IsOnFirmGround k [] phase setting kind j
+      → (m : ℕ) × IsSamePlace cut kind m i × IsOnFirmGround k [] phase setting kind m
+  at_place phase setting Fight i j ok is ground = (j, sym is, ground)
+  at_place phase setting Float i j ok is ground = (j, sym is, ground)
+  at_place phase setting Constraint i j ok is ground = at_instance phase setting i j is.0 is.1 is.2 ground
+  at_place phase setting FightKept i j ok is ground = absurd ok
+  at_place phase setting Unsettled i j ok is ground = absurd ok
+  at_place phase setting Differs i j ok is ground = absurd ok
+  at_place phase setting Next i j ok is ground = absurd ok
+  at_place phase setting Apart i j ok is ground = absurd ok
+  at_place phase setting Enter i j ok is ground = absurd ok
 
   -- ---- the flat circuit
 
@@ -107,7 +108,7 @@ module _ (k : Comparison) (cut : Cut) (blif : Blif) (facts : List CellFacts) (c 
       subst (λ (x : Comparison). IsAlwaysSolved x) (sym (is_itself k cut blif facts c h k.circuit refl))
       (always_solved k cut blif facts c h 0 k.circuit ((chain_begins_flat cut blif facts k.circuit).1 h.flat) (some_place t))
 
-  module _ (apart : ArePathsApart cut.top) (fault : FaultAt) (f : Finding) (ok : IsFoundByRank f.kind)
+  module _ (fault : FaultAt) (f : Finding) (ok : IsFoundByRank f.kind)
       (describes : Describes (with_circuit k c) fault f) (first : IsFirst (with_circuit k c) f) where
     abbrev found : IsFinding (with_circuit k c) f
     found = first.in_phase.found
@@ -121,14 +122,19 @@ module _ (k : Comparison) (cut : Cut) (blif : Blif) (facts : List CellFacts) (c 
     lt : f.phase < length t.rules.phases
     lt = subst (λ (u : Top). f.phase < length u.rules.phases) (sym h.top) found.phase
 
-    firm : IsOnFirmGround (with_circuit k c) f.phase setting f.kind f.at
-    firm =
-        let last = at_last k cut blif facts c h in
-        let ordered = checked_circuit_is_ordered k cut blif facts c f.phase (setting_of (with_circuit k c) f.phase f.bits) h apart lt in
-        subst (λ (s : Setting). IsOnFirmGround (with_circuit k c) f.phase s f.kind f.at) same_setting (first_fault_is_firm (with_circuit k c) f ordered.0 ordered.1 first.in_phase ok)
+    abbrev last : (n : ℕ) × (n < length (all_places cut.top)) × IsCircuitWith (before cut n) blif facts c
+    last = at_last k cut blif facts c h
 
-    down : (m : ℕ) × IsSamePlaceIn c k.circuit f.kind f.at m × IsOnFirmGround k f.phase setting f.kind m
-    down = firm_ground_reaches_flat k cut blif facts c f.phase setting f.kind f.at h apart lt ok firm
+    firm : IsOnFirmGround (with_circuit k c) (whole_instances (before cut last.0)) f.phase setting f.kind f.at
+    firm =
+        let ordered = checked_circuit_is_ordered k cut blif facts c last.0 f.phase (setting_of (with_circuit k c) f.phase f.bits) h last.2 lt in
+        subst (λ (s : Setting). IsOnFirmGround (with_circuit k c) (whole_instances (before cut last.0)) f.phase s f.kind f.at) same_setting
+        (first_fault_is_firm (with_circuit k c) (whole_instances (before cut last.0)) f ordered.0 ordered.1 first.in_phase ok)
+
+    down : (m : ℕ) × IsSamePlace cut f.kind m f.at × IsOnFirmGround k [] f.phase setting f.kind m
+    down =
+        let flat = firm_ground_reaches_flat k cut blif facts c last.0 c f.phase setting f.kind f.at h last.1 last.2 lt ok firm in
+        at_place f.phase setting f.kind f.at flat.0 ok flat.1 flat.2
 
     abbrev flat : Finding
     flat = record { phase = f.phase; kind = f.kind; at = down.0; bits = f.bits }
@@ -142,22 +148,19 @@ module _ (k : Comparison) (cut : Cut) (blif : Blif) (facts : List CellFacts) (c 
         record {
           phase = found.phase;
           meets = (constraints_are_same k blif facts cut c chain f.phase f.bits).0 found.meets;
-          stands = (one.bits, found.stands.1, one.solves, assigns, firm_ground_stands k f.phase setting f.kind down.0 one.bits found.stands.1 flat_ranges flat_pins down.2 one.solves);
+          stands = (one.bits, found.stands.1, one.solves, assigns, firm_ground_stands k [] f.phase setting f.kind down.0 one.bits found.stands.1 flat_ranges flat_pins down.2 one.solves);
         }
-
-    place : IsSamePlace cut f.kind down.0 f.at
-    place = same_place apart f.kind f.at down.0 ok down.1
 
     flat_described : Describes k fault flat
     flat_described =
-        descriptions_move k blif facts cut c chain fault flat f (record { phase = refl; kind = refl; bits = refl; place = place })
+        descriptions_move k blif facts cut c chain fault flat f (record { phase = refl; kind = refl; bits = refl; place = down.1 })
         (λ a g solves gives.
         printed_bare (with_circuit k c) k f.phase (setting_of (with_circuit k c) f.phase f.bits) setting found.stands.0 a found.stands.1 g f.kind f.at down.0 fault.circuit fault.wanted ok
         (describes.values found.stands.0 found.stands.1 found.stands.2 found.stands.3))
         describes
 
     pub stands_below : (flat : Finding) × Describes k fault flat × IsFinding k flat × IsSamePlace cut fault.kind flat.at f.at
-    stands_below = (flat, flat_described, flat_found, subst (λ (kind : FaultKind). IsSamePlace cut kind down.0 f.at) (sym describes.kind) place)
+    stands_below = (flat, flat_described, flat_found, subst (λ (kind : FaultKind). IsSamePlace cut kind down.0 f.at) (sym describes.kind) down.1)
 
 pub first_faults_stand_below : FirstFaultsStandBelow
-first_faults_stand_below k cut blif facts c fault f h apart ok describes first = stands_below k cut blif facts c h apart fault f ok describes first
+first_faults_stand_below k cut blif facts c fault f h ok describes first = stands_below k cut blif facts c h fault f ok describes first

@@ -1,4 +1,5 @@
 pub mod BrokenTold
+pub mod BudgetLaws
 pub mod ChainLaws
 pub mod ChosenLaws
 pub mod EndsLaws
@@ -10,11 +11,13 @@ pub mod LaterLaws
 pub mod LogicCells
 pub mod OneMoreLaws
 pub mod OrderedLaws
+pub mod OriginalLaws
 pub mod PrintedBits
 pub mod SeenNets
 pub mod StepDownLaws
 pub mod SubstitutionLaws
 pub mod ToldLaws
+pub mod VerdictLaws
 pub mod WholeCells
 pub mod WholePins
 pub mod WholeRanges

@@ -6,24 +6,23 @@ use Rattle.std.proofs.lemmas.Bool.{or_cases}
 use Rattle.std.proofs.lemmas.Option.{none-some, same_Some}
 use Rattle.firm_faults.specs.FirmGround.{AreNamedNetsLinked, IsOrderedAt}
 use Rattle.firm_faults.specs.Settled.{nets_named_at}
-use Rattle.placed_cells.proofs.ListLaws.{zip_right}
 use Rattle.placed_cells.specs.Above.{net_above}
 use Rattle.replaced_cells.proofs.BrokenLaws.{assumes_constrain, clocks_constrain}
 use Rattle.replaced_instances.proofs.OutputPorts.{pin_at}
 use Rattle.replaced_instances.proofs.StepPorts.{pins_shifted}
 use Rattle.replaced_instances.specs.Steps.{IsStepAtGates, compared_at}
-use Rattle.substitution_laws.proofs.ChainLaws.{at_last, ports_within}
+use Rattle.substitution_laws.proofs.ChainLaws.{ports_within}
 use Rattle.substitution_laws.proofs.ToldLaws.{chain_wired, ends_before}
 use Rattle.substitution_laws.proofs.ChosenLaws.{chosen_steps_are_at_gates}
 use Rattle.substitution_laws.proofs.EndsLaws.{chosen_ends_are_shown}
 use Rattle.substitution_laws.proofs.SeenNets.{seen_within}
-use Rattle.substitution_laws.proofs.StepDownLaws.{instance_of_whole}
+use Rattle.substitution_laws.proofs.OriginalLaws.{place_of_original}
 use Rattle.substitution_laws.proofs.WholeCells.{count_nets, ports_at, whole_chosen, wholes_are_determined}
 use Rattle.substitution_laws.proofs.WholeRanges.{circuits_have_ranges}
 use Rattle.substitution_laws.specs.Chosen.{IsSoftChoice}
 use Rattle.substitution_laws.specs.Agreement.{IsCheckedSoftly}
 use Rattle.substitution_laws.specs.FirstFaults.{CheckedCircuitIsOrdered}
-use Rattle.substitution_laws.specs.StepDowns.{ArePathsApart}
+use Rattle.substitution_laws.specs.StepDowns.{whole_instances}
 use Rattle.told_circuits.proofs.ToldLaws.{known_nets_have_test}
 use Rattle.vrt_model.proofs.Filtered.{device_among}
 use Rattle.vrt_model.proofs.Lists.{at_map, map_among, map_at, one_at}
@@ -32,16 +31,16 @@ use Rattle.vrt_model.proofs.Tests.{some_of}
 use Rattle.vrt_model.specs.CellRules.{assumed, clock_of_port, is_constrained}
 use Rattle.vrt_model.specs.Checked.{IsCircuitWith, before, top_of, with_circuit}
 use Rattle.vrt_model.specs.Comparison.{CellPort, Comparison, cell_at, is_observed, phase_at, port_nets, ports_from, ports_of}
-use Rattle.vrt_model.specs.Cut.{Cut, NumberedPlace, whole_places}
+use Rattle.vrt_model.specs.Cut.{Cut, NumberedPlace}
 use Rattle.vrt_model.specs.Expressions.{names_in}
 use Rattle.vrt_model.specs.FlatCircuit.{flat_instance, net_id}
 use Rattle.vrt_model.specs.Known.{IsKnown}
 use Rattle.vrt_model.specs.Lists.{Among, At, has_name}
 use Rattle.vrt_model.specs.Places.{named_nets_from}
 use Rattle.vrt_model.specs.State.{Setting}
-use Rattle.vrt_model.specs.Unrolled.{Top, all_places}
+use Rattle.vrt_model.specs.Unrolled.{Top}
 use Rattle.vrt_model.specs.Unsupported.{IsSupported}
-use Rattle.vrt_model.specs.WholeInstances.{IsWholeAt, Pin, pins_of}
+use Rattle.vrt_model.specs.WholeInstances.{Pin, pins_of}
 use Rattle.vrt_model.specs.declared.blif.Blif.{Blif}
 use Rattle.vrt_model.specs.declared.circuit.Circuit.{Circuit}
 use Rattle.vrt_model.specs.declared.circuit.FlatInstance.{FlatInstance}
@@ -96,12 +95,9 @@ net_at_port cut blif facts h i p m step supported j port net e f =
 
 -- ---- the checked circuit
 
-module _ (k : Comparison) (cut : Cut) (blif : Blif) (facts : List CellFacts) (c : Circuit) (h : IsCheckedSoftly k cut blif facts c) (apart : ArePathsApart cut.top) (phase : ℕ) (lt : phase < length cut.top.rules.phases) where
+module _ (k : Comparison) (cut : Cut) (blif : Blif) (facts : List CellFacts) (c : Circuit) (h : IsCheckedSoftly k cut blif facts c) (n : ℕ) (circuit : IsCircuitWith (before cut n) blif facts c) (phase : ℕ) (lt : phase < length cut.top.rules.phases) where
   abbrev t : Top
   t = cut.top
-
-  abbrev last : (n : ℕ) × (n < length (all_places cut.top)) × IsCircuitWith (before cut n) blif facts c
-  last = at_last k cut blif facts c h
 
   -- the nets that the constraints of an instance name, by the netlist and its rules
   abbrev test_of : Top → FlatInstance → List ℕ → Bool
@@ -111,24 +107,23 @@ module _ (k : Comparison) (cut : Cut) (blif : Blif) (facts : List CellFacts) (c 
   named_by u y = named_nets_from (test_of u y) (cell_at u.design y.cell).ports y.ports
 
   -- a link that is marked leads from each to each output
-  linked : AreNamedNetsLinked (with_circuit k c) phase
-  linked w y n j pin on there is named here =
-      let from = zip_right (IsWholeAt (before cut last.0) blif facts) (whole_places (before cut last.0)) c.wholes w last.2.wholes on in
+  linked : AreNamedNetsLinked (with_circuit k c) (whole_instances (before cut n)) phase
+  linked w y net j pin on there is named here =
+      let from = place_of_original (before cut n) blif facts c w y circuit is in
       let p = from.0 in
-      let chosen = whole_chosen cut last.0 p from.1 in
+      let chosen = whole_chosen cut n p from.1 in
       let step = chosen_steps_are_at_gates cut blif facts chosen.0 p h.choice chosen.1.place chosen.1.chosen in
       let q = compared_at t blif p step.0 in
       let at : ℕ → ℕ = λ x. net_above t p.at x in
       let cell = cell_at t.design p.at.cell in
-      let itself = instance_of_whole cut blif facts last.0 c p chosen.0 step.0 w y apart last.2 step.1 from.2 there is in
-      let listed : Among (named_by t (flat_instance p.at)) n =
-      subst (λ (z : FlatInstance). Among (named_by t z) n) (sym itself) (subst (λ (u : Top). Among (named_by u y) n) (sym h.top) named) in
-      let found = named_from (test_of t (flat_instance p.at)) cell.ports (flat_instance p.at).ports n listed in
+      let listed : Among (named_by t (flat_instance p.at)) net =
+      subst (λ (z : FlatInstance). Among (named_by t z) net) (sym from.3) (subst (λ (u : Top). Among (named_by u y) net) (sym h.top) named) in
+      let found = named_from (test_of t (flat_instance p.at)) cell.ports (flat_instance p.at).ports net listed in
       let port = port_named 0 cell.ports (port_nets t.rules cell.ports) q.pairing.ports found.0 found.1 (count_nets t.rules 2 cell.ports) step.1.roles.each found.3 in
       let above : found.2.0 ≡ at port.0.net = net_at_port cut blif facts h.choice chosen.0 p step.0 step.1 step.2 found.0 port.0 found.2 port.1 found.4 in
       let pins : (x : CellPort) → Among (ports_of q) x → Among (pins_of q p.at) (pin_at at x) =
       λ x m. subst (λ (ps : List Pin). Among ps (pin_at at x)) (sym (pins_shifted cut blif facts chosen.0 p step.0 step.1)) (map_among (pin_at at) (ports_of q) x m) in
-      let to = output_pin (before cut last.0) blif facts p step.0 w step.1.paired from.2 pin (j, here) in
+      let to = output_pin (before cut n) blif facts p step.0 w step.1.paired from.2 pin (j, here) in
       let test : test_of t (flat_instance p.at) port.0.name ≡ true = ap (test_of t (flat_instance p.at)) port.2 ∙ found.5 in
       let link = (from.2.links step.0 step.1.paired).full phase (pin_at at port.0) to.0 pin j lt (pins port.0 (found.0, port.1)) to.1 (inr (test, (pin.signal, to.2))) here to.2 in
       let now = ap (λ (u : Top). (phase_at u.rules phase).name) h.top in
@@ -146,32 +141,32 @@ module _ (k : Comparison) (cut : Cut) (blif : Blif) (facts : List CellFacts) (c 
       ] in
       instance_observed (with_circuit k c) phase n (y, found.2, on, (found.0, found.4), found.6, constrained)
 
-  pub known : (test : ℕ → Bool) × ((n : ℕ) → (test n ≡ true) ↔ ((v : Bool) × IsKnown c (phase_at t.rules phase) n v))
-  known = known_nets_have_test c (phase_at t.rules phase) (chain_wired k cut blif facts c h last.0 phase c last.2 lt)
+  pub known : (test : ℕ → Bool) × ((m : ℕ) → (test m ≡ true) ↔ ((v : Bool) × IsKnown c (phase_at t.rules phase) m v))
+  known = known_nets_have_test c (phase_at t.rules phase) (chain_wired k cut blif facts c h n phase c circuit lt)
 
   module _ (setting : Setting) where
-    pub is_ordered : IsOrderedAt (with_circuit k c) phase setting known.0
+    pub is_ordered : IsOrderedAt (with_circuit k c) (whole_instances (before cut n)) phase setting known.0
     is_ordered =
-        let ranges = circuits_have_ranges cut blif facts last.0 c h.choice h.formed (ends_before cut last.0 (chosen_ends_are_shown cut blif facts h.choice)) last.2 in
-        let determined = subst (λ (u : Top). AreDetermined c (phase_at u.rules phase) (is_observed (with_circuit k c) phase)) h.top (wholes_are_determined k cut blif facts phase last.0 c h.top h.choice lt last.2) in
+        let ranges = circuits_have_ranges cut blif facts n c h.choice h.formed (ends_before cut n (chosen_ends_are_shown cut blif facts h.choice)) circuit in
+        let determined = subst (λ (u : Top). AreDetermined c (phase_at u.rules phase) (is_observed (with_circuit k c) phase)) h.top (wholes_are_determined k cut blif facts phase n c h.top h.choice lt circuit) in
         record {
           ranked = λ rank ranking. record {
             ranges = ranges;
             wholes = determined;
             gates = λ d on. gate_observed (with_circuit k c) phase d.gate.0 (d, (device_among true c d on).0, refl);
-            nets = λ n s. seen_within (with_circuit k c) phase n ranges (ports_within k cut blif facts c h last.0 c last.2) s;
+            nets = λ net s. seen_within (with_circuit k c) phase net ranges (ports_within k cut blif facts c h n c circuit) s;
             tested = subst (λ (u : Top). (n : ℕ) → (known.0 n ≡ true) ↔ ((v : Bool) × IsKnown c (phase_at u.rules phase) n v)) h.top known.1;
             ranking = ranking;
           };
-          known_bits = λ a solves n v s is.
+          known_bits = λ a solves net v s is.
               known_nets_are_solved c (phase_at k.rules phase) (is_observed (with_circuit k c) phase) setting a ranges (λ w pin on there. (determined w on).plain pin there)
-              (λ d on. gate_observed (with_circuit k c) phase d.gate.0 (d, (device_among true c d on).0, refl)) solves n v is s;
+              (λ d on. gate_observed (with_circuit k c) phase d.gate.0 (d, (device_among true c d on).0, refl)) solves net v is s;
           linked = linked;
           seen = seen;
         }
 
 pub checked_circuit_is_ordered : CheckedCircuitIsOrdered
-checked_circuit_is_ordered k cut blif facts c phase setting h apart lt = (
-  (known k cut blif facts c h apart phase lt).0,
-  is_ordered k cut blif facts c h apart phase lt setting,
+checked_circuit_is_ordered k cut blif facts c n phase setting h circuit lt = (
+  (known k cut blif facts c h n circuit phase lt).0,
+  is_ordered k cut blif facts c h n circuit phase lt setting,
 )

@@ -1,39 +1,36 @@
 -- One step of the chain goes down as the law of firm ground asks.
 use Rattle.std.proofs.Common.{◌≡◌, ◌⊎◌, ℕ, zero, suc, ◌<◌, ◌||◌, not, Bool, true, false, cond, List, [], ◌∷◌, length, Some, ap, sym, ◌∙◌, subst, inl, inr}
-use Rattle.std.specs.Prelude.{drop, filter, is_some}
+use Rattle.std.specs.Prelude.{is_some}
 use Rattle.std.specs.List.{list_any}
 use Rattle.std.proofs.lemmas.Bool.{or_right}
 use Rattle.std.proofs.lemmas.Option.{none-some, same_Some}
-use Rattle.checked_chain.proofs.ChoiceLaws.{numbered_at}
 use Rattle.firm_faults.proofs.StepPartLaws.{replaced_instances_step_down}
-use Rattle.firm_faults.specs.Settled.{IsBrokenAt, IsInstanceOfWhole}
-use Rattle.firm_faults.specs.StepDown.{HasOneMoreWhole, IsInnerSolution}
+use Rattle.firm_faults.specs.Settled.{IsBrokenAt}
+use Rattle.firm_faults.specs.StepDown.{HasOneMoreOriginal, HasOneMoreWhole, IsInnerSolution}
 use Rattle.firm_faults.specs.StepParts.{IsReplacedOver, StandsForInstance}
-use Rattle.placed_cells.proofs.ListLaws.{zip_right}
 use Rattle.placed_cells.specs.Above.{net_above}
 use Rattle.replaced_cells.proofs.States.{pins_plain}
 use Rattle.replaced_cells.specs.OneMoreWhole.{IsOneMoreWhole}
 use Rattle.replaced_instances.proofs.OutputPorts.{pin_at}
-use Rattle.replaced_instances.proofs.StepHides.{behind_first}
 use Rattle.replaced_instances.proofs.StepInstances.{input_role, pin_of_input}
 use Rattle.replaced_instances.proofs.StepPorts.{pins_shifted}
-use Rattle.replaced_instances.specs.Steps.{IsStepAtGates, compared_at, fresh_place, is_inside_at, is_outside_at}
-use Rattle.substitution_laws.proofs.ChosenLaws.{chosen_steps_are_at_gates}
+use Rattle.replaced_instances.specs.Steps.{compared_at, fresh_place, is_inside_at, is_outside_at}
 use Rattle.substitution_laws.proofs.FormedCells.{formed_cell}
 use Rattle.substitution_laws.proofs.InnerLaws.{inner_or_broken}
 use Rattle.substitution_laws.proofs.LogicCells.{input_of}
 use Rattle.substitution_laws.proofs.OneMoreLaws.{instance_is, instance_of, one_more}
-use Rattle.substitution_laws.proofs.WholeCells.{given, inputs_are, shown, whole_chosen}
+use Rattle.substitution_laws.proofs.OriginalLaws.{has_one_more_original}
+use Rattle.substitution_laws.proofs.WholeCells.{given, inputs_are}
 use Rattle.substitution_laws.proofs.WholePins.{has_one_more, pin_there, port_of, x, x_is, x_there}
-use Rattle.substitution_laws.specs.StepDowns.{ArePathsApart, StepsGoDown}
+use Rattle.substitution_laws.specs.StepDowns.{StepsGoDown, whole_instances}
 use Rattle.substitution_laws.specs.Steps.{IsStepOf}
-use Rattle.vrt_model.proofs.Filtered.{device_among, filter_among}
-use Rattle.vrt_model.proofs.Lists.{map_among, map_at, one_at}
-use Rattle.vrt_model.proofs.Members.{among_later, among_map}
+use Rattle.vrt_model.proofs.Filtered.{device_among}
+use Rattle.vrt_model.proofs.Lists.{map_among, map_at}
+use Rattle.vrt_model.proofs.Members.{among_later}
 use Rattle.vrt_model.specs.CellRules.{assumed, clock_of_port}
-use Rattle.vrt_model.specs.Checked.{IsCircuitWith, before, top_of, with_circuit}
+use Rattle.vrt_model.specs.Checked.{before, top_of, with_circuit}
 use Rattle.vrt_model.specs.Comparison.{CellPort, Comparison, cell_at, is_observed, phase_at, port_nets, ports_of}
-use Rattle.vrt_model.specs.Cut.{Cut, NumberedPlace, is_inside_whole, whole_places}
+use Rattle.vrt_model.specs.Cut.{Cut, NumberedPlace}
 use Rattle.vrt_model.specs.Determined.{IsLinkedTo}
 use Rattle.vrt_model.specs.Expressions.{names_in}
 use Rattle.vrt_model.specs.FlatCircuit.{flat_instance, net_id}
@@ -43,7 +40,7 @@ use Rattle.vrt_model.specs.Path.{level_of_drive}
 use Rattle.vrt_model.specs.Places.{named_nets_from}
 use Rattle.vrt_model.specs.Reading.{bare}
 use Rattle.vrt_model.specs.State.{Setting}
-use Rattle.vrt_model.specs.Unrolled.{Place, Top, all_places, path_text}
+use Rattle.vrt_model.specs.Unrolled.{Place, Top}
 use Rattle.vrt_model.specs.WholeInstances.{IsChain, IsWholeAt, Pin, pins_of}
 use Rattle.vrt_model.specs.declared.blif.Blif.{Blif}
 use Rattle.vrt_model.specs.declared.circuit.Circuit.{Circuit}
@@ -58,7 +55,6 @@ use Rattle.vrt_model.specs.declared.whole.CellFacts.{CellFacts}
 use Rattle.vrt_model.specs.declared.whole.Drive.{Drive}
 use Rattle.vrt_model.specs.declared.whole.Whole.{Whole}
 use Rattle.vrt_model.specs.declared.whole.WholePin.{WholePin}
-use Rattle.whole_ranks.proofs.PlaceLaws.{made_is}
 use Rattle.whole_solutions.proofs.ObservedCases.{gate_observed}
 
 -- the net of a named port is listed
@@ -74,24 +70,6 @@ named_there named (y ∷ names) (m ∷ nets) (suc j) name net e f is = by_test (
     by_test : (b : Bool) → Among (named_nets_from named names nets) net.0 → Among (cond b (m.0 ∷ named_nets_from named names nets) (named_nets_from named names nets)) net.0
     by_test true on = among_later m.0 (named_nets_from named names nets) net.0 on
     by_test false on = on
-
--- ---- the instance of a whole one
-
--- where paths are apart, the instance that a whole one stands for is the one at its place
-pub instance_of_whole : (cut : Cut) (blif : Blif) (facts : List CellFacts) (n : ℕ) (c : Circuit) (p : NumberedPlace) (i : ℕ) (m : ℕ) (w : Whole) (y : FlatInstance) → ArePathsApart cut.top
-    → IsCircuitWith (before cut n) blif facts c → IsStepAtGates cut blif facts i p m → IsWholeAt (before cut n) blif facts p w → Among c.instances y → IsInstanceOfWhole w y → flat_instance p.at ≡ y
-instance_of_whole cut blif facts n c p i m w y apart circuit step whole there is =
-    let t = cut.top in
-    let made = made_is (before cut n) blif facts p m w step.paired whole in
-    let test : Place → Bool = λ r. not (is_inside_whole (before cut n) r) in
-    let r = among_map flat_instance (filter test (drop 1 (all_places t))) y (subst (λ (xs : List FlatInstance). Among xs y) circuit.instances there) in
-    let kept = filter_among test (drop 1 (all_places t)) r.0 r.1 in
-    let path : path_text r.0.path ≡ path_text p.at.path = ap (λ (z : FlatInstance). z.path) r.2 ∙ (is.1 ∙ ap (λ (z : Whole). z.path) (sym made)) in
-    let here : At (all_places t) (suc i) p.at = (numbered_at t (suc i) p step.place).1 in
-    let number = apart kept.0.0 i r.0 p.at (behind_first (all_places t) kept.0.0 r.0 kept.0.1) here path in
-    let place : p.at ≡ r.0 =
-    one_at (all_places t) (suc kept.0.0) p.at r.0 (subst (λ (x : ℕ). At (all_places t) (suc x) p.at) (sym number) here) (behind_first (all_places t) kept.0.0 r.0 kept.0.1) in
-    ap flat_instance place ∙ r.2
 
 module _ (k : Comparison) (cut : Cut) (blif : Blif) (facts : List CellFacts) (i : ℕ) (p : NumberedPlace) (m depth : ℕ) (front back : List Place) (c whole_circuit : Circuit)
     (h : IsStepOf k cut blif facts i p m depth front back c whole_circuit) (phase : ℕ) (lt : phase < length cut.top.rules.phases) where
@@ -115,23 +93,6 @@ module _ (k : Comparison) (cut : Cut) (blif : Blif) (facts : List CellFacts) (i 
 
   abbrev one : IsOneMoreWhole (with_circuit k c) q phase whole_circuit at (λ j. j) (fresh_place (before cut i) blif facts q) (is_outside_at t depth p.at) (λ n. not (is_inside_at q.circuit at n)) (λ n. 0)
   one = one_more k cut blif facts i p m depth front back c whole_circuit h phase lt
-
-  -- ---- the instance
-
-  of_whole : IsInstanceOfWhole own (flat_instance p.at)
-  of_whole =
-      let made = made_is (before cut (suc i)) blif facts p m own h.step.at_gates.paired own_is in
-      (ap (λ (w : Whole). w.cell) made, ap (λ (w : Whole). w.path) made)
-
-  -- an instance that stands for another whole one is not inside
-  of_wholes : ArePathsApart t → (w : Whole) (y : FlatInstance) → Among c.wholes w → Among c.instances y → IsInstanceOfWhole w y → Among whole_circuit.instances y
-  of_wholes apart w y on there is =
-      let from = zip_right (IsWholeAt (before cut i) blif facts) (whole_places (before cut i)) c.wholes w h.step.circuit.wholes on in
-      let chosen = whole_chosen cut i from.0 from.1 in
-      let other = chosen_steps_are_at_gates cut blif facts chosen.0 from.0 h.step.choice chosen.1.place chosen.1.chosen in
-      let itself = instance_of_whole cut blif facts i c from.0 chosen.0 other.0 w y apart h.step.circuit other.1 from.2 there is in
-      subst (λ (z : FlatInstance). Among whole_circuit.instances z) itself
-      (subst (λ (xs : List FlatInstance). Among xs (flat_instance from.0.at)) (sym h.step.whole.instances) (shown cut blif facts h.step.choice chosen.0 from.0 other.0 other.1 other.2 (suc i)))
 
   -- ---- links
 
@@ -207,11 +168,9 @@ module _ (k : Comparison) (cut : Cut) (blif : Blif) (facts : List CellFacts) (i 
     hides = one.hides;
   }
 
-  pub stands_for : ArePathsApart t → (setting : Setting) → StandsForInstance (with_circuit k c) q phase setting whole_circuit at (is_outside_at t depth p.at) own (flat_instance p.at)
-  stands_for apart setting = record {
+  pub stands_for : (setting : Setting) → StandsForInstance (with_circuit k c) q phase setting whole_circuit at (is_outside_at t depth p.at) own (flat_instance p.at)
+  stands_for setting = record {
     instance = subst (λ (y : FlatInstance). Among whole_circuit.instances y) (instance_is k cut blif facts i p m depth front back c whole_circuit h phase lt) one.instance.1;
-    of_whole = of_whole;
-    of_wholes = of_wholes apart;
     outputs = λ l plain stays.
         let pin = pin_there cut blif facts i p m depth front back c whole_circuit h.step phase l plain stays in
         (pin.0, pin.1, pin.2, pin.3, pin.4, ap (λ (d : Drive). level_of_drive 8 d) pin.5);
@@ -227,7 +186,7 @@ module _ (k : Comparison) (cut : Cut) (blif : Blif) (facts : List CellFacts) (i 
   }
 
 pub steps_go_down : StepsGoDown
-steps_go_down k cut blif facts i p m depth front back c whole_circuit phase setting lt apart h =
+steps_go_down k cut blif facts i p m depth front back c whole_circuit phase setting lt h =
     let q = compared_at cut.top blif p m in
     let own = x cut blif facts i p m depth front back c whole_circuit h.step phase in (
       own,
@@ -235,5 +194,7 @@ steps_go_down k cut blif facts i p m depth front back c whole_circuit phase sett
           (λ n. not (is_inside_at q.circuit (net_above cut.top p.at) n)) (λ n. 0) own (flat_instance p.at)
           (replaced_over k cut blif facts i p m depth front back c whole_circuit h phase lt)
           (subst (λ (u : Top). HasOneMoreWhole (phase_at u.rules phase) c whole_circuit (λ j. j) own) h.first.top (has_one_more cut blif facts i p m depth front back c whole_circuit h.step phase k h.first.top lt))
-          (stands_for k cut blif facts i p m depth front back c whole_circuit h phase lt apart setting),
+          (stands_for k cut blif facts i p m depth front back c whole_circuit h phase lt setting),
+      subst (λ (u : Top). HasOneMoreOriginal (phase_at u.rules phase) c whole_circuit (whole_instances (before cut i)) (whole_instances (before cut (suc i))) own (flat_instance p.at)) h.first.top
+          (has_one_more_original cut blif facts i p m depth front back c whole_circuit h.step phase),
     )

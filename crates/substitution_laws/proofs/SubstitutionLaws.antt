@@ -22,10 +22,10 @@ when_found Apart = inr tt
 when_found Enter = inr tt
 
 pub substitution_holds : SubstitutionHolds
-substitution_holds k cut blif facts c h apart = (
+substitution_holds k cut blif facts c h = (
   checked_circuits_agree k cut blif facts c h,
   λ fault f describes first. elim (when_found f.kind) [
-    | inl bare ↦ first_faults_stand_below k cut blif facts c fault f h apart bare describes first
+    | inl bare ↦ first_faults_stand_below k cut blif facts c fault f h bare describes first
     | inr later ↦ later_faults_stand_below k cut blif facts c fault f h later describes first
   ],
 )

@@ -6,6 +6,7 @@ use Rattle.std.proofs.lemmas.Bool.{false≢true}
 use Rattle.std.proofs.lemmas.Grind.{flat_map-append}
 use Rattle.std.proofs.lemmas.List.{length-map}
 use Rattle.std.proofs.lemmas.Option.{none-some}
+use Rattle.std.proofs.lemmas.Slice.Zip.{AllZip-long}
 use Rattle.cell_inside.specs.Placed.{IsPlaced}
 use Rattle.firm_faults.specs.StepDown.{HasOneMoreWhole, IsSameWhole}
 use Rattle.placed_cells.proofs.ListLaws.{zip_left}
@@ -14,6 +15,7 @@ use Rattle.replaced_cells.specs.OneMoreWhole.{HasCellPins, HasSameSignal}
 use Rattle.replaced_instances.proofs.OutputPorts.{pin_at}
 use Rattle.replaced_instances.proofs.PinOutputs.{output_pin}
 use Rattle.replaced_instances.proofs.StepHides.{remaining_port}
+use Rattle.replaced_instances.proofs.StepInstances.{zip_at_left}
 use Rattle.replaced_instances.proofs.StepOutputs.{one_more_place, outputs_behind}
 use Rattle.replaced_instances.proofs.StepPlaced.{step_is_placed}
 use Rattle.replaced_instances.proofs.StepPorts.{output_plain, pins_shifted, plain_output}
@@ -22,7 +24,7 @@ use Rattle.substitution_laws.proofs.WholeCells.{whole_chosen, wholes_are_determi
 use Rattle.substitution_laws.proofs.ChosenLaws.{chosen_steps_are_at_gates}
 use Rattle.substitution_laws.specs.Pins.{IsStep, StepHasCellPins, StepHasOneMoreWhole}
 use Rattle.vrt_model.proofs.Filtered.{among_kept}
-use Rattle.vrt_model.proofs.Lists.{at_back, at_either, at_front, at_map, map_at, one_at}
+use Rattle.vrt_model.proofs.Lists.{at_back, at_either, at_front, at_last, at_map, map_at, one_at}
 use Rattle.vrt_model.proofs.Members.{among_later, among_left, among_map, among_right}
 use Rattle.vrt_model.specs.Checked.{before, top_of, with_circuit}
 use Rattle.vrt_model.specs.CheckedParts.{checked_devices}
@@ -225,6 +227,17 @@ module _ (cut : Cut) (blif : Blif) (facts : List CellFacts) (i : ℕ) (p : Numbe
   back_forth : AllZip (IsWholeAgain now) olds c.wholes
   back_forth =
       zip_both (IsWholeAt (before cut (suc i)) blif facts) (IsWholeAt (before cut i) blif facts) (IsWholeAgain now) (whole_places (before cut i)) olds c.wholes back_again split_wholes.3 step.circuit.wholes
+
+  -- each whole instance stays at its place in the list, and the further one is the last
+  pub whole_stays : (j : ℕ) (w : Whole) → At c.wholes j w → (v : Whole) × At whole_circuit.wholes j v × IsSameWhole now w v
+  whole_stays j w e =
+      let later = zip_at_left (IsWholeAgain now) c.wholes olds j w forth e in
+      (later.0, subst (λ (ws : List Whole). At ws j later.0) (sym split_wholes.2) (at_front olds (x ∷ []) j later.0 later.1), later.2.same)
+
+  pub x_last : At whole_circuit.wholes (length (whole_places (before cut i))) x
+  x_last =
+      let count = AllZip-long (IsWholeAt (before cut (suc i)) blif facts) (whole_places (before cut i)) olds split_wholes.3 in
+      subst (λ (ws : List Whole). At ws (length (whole_places (before cut i))) x) (sym split_wholes.2) (subst (λ (n : ℕ). At (olds ++ x ∷ []) n x) count (at_last olds x))
 
   pins_are : output_pins whole_circuit ≡ flat_map (pins_in now) olds ++ pins_in now x
   pins_are =

@@ -8,4 +8,5 @@ pub mod Pins
 pub mod StepDowns
 pub mod Steps
 pub mod Substitution
+pub mod Verdicts
 pub mod Wholes

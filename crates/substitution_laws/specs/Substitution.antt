@@ -2,7 +2,6 @@
 use Rattle.std.specs.Prelude.{List}
 use Rattle.replaced_cells.specs.Agreement.{AgreesWith}
 use Rattle.substitution_laws.specs.Agreement.{IsCheckedSoftly}
-use Rattle.substitution_laws.specs.StepDowns.{ArePathsApart}
 use Rattle.vrt_model.specs.Checked.{with_circuit}
 use Rattle.vrt_model.specs.CheckedVerdicts.{IsSamePlace}
 use Rattle.vrt_model.specs.Comparison.{Comparison}
@@ -25,5 +24,5 @@ FirstStands k cut j =
 abbrev pub SubstitutionHolds : Type 0
 SubstitutionHolds =
     (k : Comparison) (cut : Cut) (blif : Blif) (facts : List CellFacts) (c : Circuit)
-    → IsCheckedSoftly k cut blif facts c → ArePathsApart cut.top
+    → IsCheckedSoftly k cut blif facts c
     → AgreesWith k (with_circuit k c) × FirstStands k cut (with_circuit k c)

@@ -12,6 +12,7 @@ mod later;
 mod pins;
 mod steps;
 mod substitution;
+mod verdicts;
 mod wholes;
 
 pub use agreement::{chain_is_always_solved, checked_circuits_agree};
@@ -24,4 +25,5 @@ pub use later::later_faults_stand_below;
 pub use pins::{step_has_cell_pins, step_has_one_more_whole};
 pub use steps::steps_are_one_more_whole;
 pub use substitution::substitution_holds;
+pub use verdicts::{chain_needs_no_more, checked_verdicts_hold};
 pub use wholes::{circuits_have_ranges, wholes_are_determined, wholes_stand_for_cells};

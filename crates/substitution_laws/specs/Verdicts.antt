@@ -1,0 +1,28 @@
+-- A verdict of the checked circuit of a cell is one of the cell, where the facts say of no output how strongly it drives.
+use Rattle.std.specs.Prelude.{ℕ, ◌≤◌, List}
+use Rattle.checked_chain.specs.Holds.{IsOfChain}
+use Rattle.substitution_laws.specs.Agreement.{IsCheckedSoftly}
+use Rattle.vrt_model.specs.Budget.{enough_nodes}
+use Rattle.vrt_model.specs.Checked.{with_circuit}
+use Rattle.vrt_model.specs.CheckedVerdicts.{HasCheckedVerdict}
+use Rattle.vrt_model.specs.Comparison.{Comparison}
+use Rattle.vrt_model.specs.Cut.{Cut}
+use Rattle.vrt_model.specs.Verdicts.{HasVerdict}
+use Rattle.vrt_model.specs.declared.blif.Blif.{Blif}
+use Rattle.vrt_model.specs.declared.circuit.Circuit.{Circuit}
+use Rattle.vrt_model.specs.declared.verdict.Verdict.{Verdict}
+use Rattle.vrt_model.specs.declared.whole.CellFacts.{CellFacts}
+
+-- The law: a budget that is always enough for the flat circuit is enough for each circuit of its chain.
+abbrev pub ChainNeedsNoMore : Type 0
+ChainNeedsNoMore =
+    (k : Comparison) (blif : Blif) (facts : List CellFacts) (cut : Cut) (c : Circuit) (phase : ℕ)
+    → IsOfChain k blif facts cut c → enough_nodes (with_circuit k c) blif phase ≤ enough_nodes k blif phase
+
+-- The law: what the checked circuit is found to be, the cell is: equal, vacuous in a phase, or too large for the budget, with each phase
+-- before it equal; and its first fault is the cell's, at the same place and with the same words.
+abbrev pub CheckedVerdictsHold : Type 0
+CheckedVerdictsHold =
+    (k : Comparison) (cut : Cut) (blif : Blif) (facts : List CellFacts) (c : Circuit) (budget : ℕ) (verdict : Verdict)
+    → IsCheckedSoftly k cut blif facts c
+    → HasVerdict (with_circuit k c) blif budget verdict → HasCheckedVerdict k blif facts budget verdict
