@@ -78,7 +78,7 @@ module _ (k : Comparison) (cut : Cut) (blif : Blif) (facts : List CellFacts) (c 
 
   -- ---- it is well formed
 
-  chain : IsOfChain k blif facts cut c
+  pub chain : IsOfChain k blif facts cut c
   chain = record { top = h.top; flat = h.flat; groups = h.groups; circuit = h.circuit; ends = chosen_ends_are_shown cut blif facts h.choice }
 
   fewer_instances : length c.instances ≤ length (flat_circuit_of t).instances

@@ -2,4 +2,5 @@ pub mod CircuitLaws
 pub mod GivenLaws
 pub mod OutputLaws
 pub mod PlacesAlone
+pub mod VerdictLaws
 pub mod WholeLaws

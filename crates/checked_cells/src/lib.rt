@@ -5,6 +5,7 @@
 mod circuits;
 mod given;
 mod outputs;
+mod verdicts;
 
 pub use circuits::{checked_circuits_are_formed, checked_circuits_share};
 pub use given::checked_cells_are_soft;
@@ -12,3 +13,4 @@ pub use outputs::{
     checked_circuits_are_acyclic, checked_circuits_are_wired, checked_outputs_are_free,
     checked_wholes_are_determined, checked_wholes_are_logic,
 };
+pub use verdicts::{checked_variables_are_same, flat_verdicts_hold, found_verdicts_hold};
