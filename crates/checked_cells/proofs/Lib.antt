@@ -1,5 +1,6 @@
 pub mod CircuitLaws
 pub mod GivenLaws
+pub mod NoneWhole
 pub mod OutputLaws
 pub mod PlacesAlone
 pub mod VerdictLaws

@@ -8,7 +8,7 @@ mod outputs;
 mod verdicts;
 
 pub use circuits::{checked_circuits_are_formed, checked_circuits_share};
-pub use given::checked_cells_are_soft;
+pub use given::{checked_cells_are_soft, nothing_is_whole};
 pub use outputs::{
     checked_circuits_are_acyclic, checked_circuits_are_wired, checked_outputs_are_free,
     checked_wholes_are_determined, checked_wholes_are_logic,
