@@ -52,7 +52,7 @@ sum_of_mapped {X} {Y} f g (x ∷ xs) =
 -- ---- what is left out
 
 -- what is shown in the circuit is shown where fewer instances are whole
-shown_of_fewer : (cut : Cut) (n : ℕ) (p : NumberedPlace) → not (is_left_out cut p) ≡ true → not (is_left_out (before cut n) p) ≡ true
+pub shown_of_fewer : (cut : Cut) (n : ℕ) (p : NumberedPlace) → not (is_left_out cut p) ≡ true → not (is_left_out (before cut n) p) ≡ true
 shown_of_fewer cut n p e =
     elim (cases_Bool (is_left_out (before cut n) p)) [
       | inr stays ↦ ap not stays
@@ -72,7 +72,7 @@ module _ (k : Comparison) (blif : Blif) (facts : List CellFacts) (cut : Cut) (c 
   devices_of_place : NumberedPlace → List Device
   devices_of_place p = map (flat_device cut.top p.at) (cell_at cut.top.design p.at.cell).devices
 
-  fewer_devices : length c.devices ≤ length k.circuit.devices
+  pub fewer_devices : length c.devices ≤ length k.circuit.devices
   unfolding devices_of_place
   fewer_devices =
       let flat = (chain_begins_flat cut blif facts (flat_circuit_of cut.top)).1 refl in

@@ -92,7 +92,7 @@ module _ (k : Comparison) (cut : Cut) (blif : Blif) (facts : List CellFacts) (c 
           subst (λ (nets : List FlatNet). m.0 < length nets) (sym circuit.nets) low;
     }
 
-    outputs_apart : AreWholeOutputsApart (before cut n) blif
+    pub outputs_apart : AreWholeOutputsApart (before cut n) blif
     outputs_apart p m on paired =
         let is = whole_chosen cut n p on in
         let step = chosen_steps_are_at_gates cut blif facts is.0 p h.choice is.1.place is.1.chosen in

@@ -1,0 +1,5 @@
+use Rattle.checked_cells.proofs.WholeLaws.{checked_circuits_are_wired}
+use Rattle.checked_cells.proofs.outputs.checked_circuits_are_wired.Goals as goal
+
+pub returns : goal.returns
+returns c = checked_circuits_are_wired

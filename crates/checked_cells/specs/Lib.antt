@@ -1,0 +1,4 @@
+pub mod Circuits
+pub mod Given
+pub mod Outputs
+pub mod Verdicts
