@@ -5,7 +5,7 @@ use Rattle.std.proofs.lemmas.Bool.{and_parts, false≢true}
 use Rattle.checked_cells.specs.Given.{NothingIsWhole, is_candidate}
 use Rattle.checked_chain.proofs.ChoiceLaws.{numbered_at}
 use Rattle.checked_chain.proofs.EndLaws.{chain_begins_flat}
-use Rattle.substitution_laws.proofs.WholeCells.{front_of}
+use Rattle.replaced_instances.proofs.StepInstances.{front_of}
 use Rattle.vrt_model.proofs.Lists.{map_among}
 use Rattle.vrt_model.proofs.Members.{among_any}
 use Rattle.vrt_model.specs.Checked.{IsChoice, MayBeWhole, before, has_fact, keeps_inputs_free, names_no_global, observes_outputs, top_of}
