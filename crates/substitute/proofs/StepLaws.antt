@@ -112,7 +112,7 @@ module _ (cut : Cut) (i : ℕ) (p : NumberedPlace) (here : At (numbered_places c
       (front_same ∙ sym (filter_front whole_before (numbered_places cut.top) (suc i) (λ j o e le. at_number (is_whole (before cut i).choice) j o e ∙ none_behind j le)))
       (at_number (is_whole one.choice) (suc i) p here ∙ itself_whole)
 
-  outputs_with : (blif : Blif) (facts : List CellFacts) → all_outputs one blif facts ≡ all_outputs (before cut i) blif facts ++ outputs_of_place cut.top blif facts p
+  pub outputs_with : (blif : Blif) (facts : List CellFacts) → all_outputs one blif facts ≡ all_outputs (before cut i) blif facts ++ outputs_of_place cut.top blif facts p
   outputs_with blif facts =
       ap (flat_map (outputs_of_place cut.top blif facts)) places_are
       ∙ flat_map-append (outputs_of_place cut.top blif facts) (whole_places (before cut i)) (p ∷ [])

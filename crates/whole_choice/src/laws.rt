@@ -1,0 +1,23 @@
+//! Laws of instances that are chosen one after the other, each the contract of a function that does nothing.
+
+ghost use Rattle.whole_choice.specs.Chosen.{FrontIsAll, OneMoreBringsItsOwn, OneMoreIsDecided, OutputsStandApart};
+
+/// Where no instance is chosen from a place on, those before it are all.
+pub fn front_is_all()
+    ensures { FrontIsAll }
+{}
+
+/// Then none of their outputs is of the instance there.
+pub fn outputs_stand_apart()
+    ensures { OutputsStandApart }
+{}
+
+/// And where that instance is whole too, its outputs come behind theirs.
+pub fn one_more_brings_its_own()
+    ensures { OneMoreBringsItsOwn }
+{}
+
+/// Where the instances before one are decided by their marks, and it is rightly chosen or not, the instances up to it are decided.
+pub fn one_more_is_decided()
+    ensures { OneMoreIsDecided }
+{}
