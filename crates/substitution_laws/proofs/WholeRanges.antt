@@ -6,27 +6,31 @@ use Rattle.std.proofs.lemmas.Option.{none-some, same_Some, slice_get_within}
 use Rattle.blif_eval.proofs.Drivers.{interface_below}
 use Rattle.checked_chain.proofs.ChoiceLaws.{numbered_at}
 use Rattle.checked_chain.proofs.InstanceLaws.{instances_move}
-use Rattle.checked_chain.specs.Holds.{AreEndsShown, IsEndShown}
+use Rattle.checked_chain.specs.Holds.{IsEndShown}
 use Rattle.placed_cells.proofs.ListLaws.{zip_right}
 use Rattle.replaced_instances.proofs.StepInstances.{front_of}
 use Rattle.replaced_instances.specs.Steps.{compared_at}
-use Rattle.substitution_laws.proofs.ChosenLaws.{chosen_steps_are_at_gates, output_soft}
+use Rattle.substitution_laws.proofs.ChosenLaws.{chosen_steps_are_at_gates, output_soft, tried_steps_are_at_gates}
+use Rattle.substitution_laws.proofs.EndsLaws.{tried_ends_are_shown}
 use Rattle.substitution_laws.proofs.WholeCells.{whole_chosen}
-use Rattle.substitution_laws.specs.Chosen.{IsSoftChoice}
+use Rattle.substitution_laws.specs.Chosen.{IsSoftTrial}
+use Rattle.formed_cells.proofs.FormedLaws.{supported_cells_are_formed}
+use Rattle.replaced_instances.proofs.StepPlaced.{plain_with}
 use Rattle.formed_cells.specs.Formed.{IsFormed}
 use Rattle.substitution_laws.proofs.FormedCells.{formed_cell}
-use Rattle.substitution_laws.specs.Wholes.{CircuitsHaveRanges, CutsHaveRanges, IsFormedCut}
+use Rattle.substitution_laws.specs.Wholes.{CircuitsHaveRanges, CutsHaveRanges, IsFormedCut, TriedCircuitsAreWired}
 use Rattle.vrt_model.proofs.Filtered.{filter_among}
 use Rattle.vrt_model.proofs.Lists.{among_filter_map, at_there, filter_map_among, map_among}
 use Rattle.vrt_model.proofs.Members.{all_among, all_by, among_flat_map, among_later, among_map, flat_map_among}
 use Rattle.vrt_model.specs.Assignment.{Tied}
-use Rattle.vrt_model.specs.Checked.{IsCircuitWith, before}
+use Rattle.vrt_model.specs.Checked.{IsCircuitWith, before, with_one}
 use Rattle.vrt_model.specs.CheckedParts.{checked_devices, moved_end}
 use Rattle.vrt_model.specs.Circuits.{IsCircuit, IsDevice, IsDrive, IsEnd, IsHold, IsNet, IsWhole}
 use Rattle.vrt_model.specs.Comparison.{CellPort, Comparison, cell_at, input_signal, is_observed, output_signal, ports_of}
 use Rattle.vrt_model.specs.Cut.{Cut, NumberedPlace, is_left_out, is_whole, moved_instance, numbered_places, shown, whole_places}
 use Rattle.vrt_model.specs.FlatCircuit.{flat_circuit_of, flat_device, flat_devices, flat_holds, flat_instance, flat_instances, net_id}
 use Rattle.vrt_model.specs.FlatModels.{IsFlatModel}
+use Rattle.vrt_model.specs.Known.{IsPlain}
 use Rattle.vrt_model.specs.Lists.{Among, At}
 use Rattle.vrt_model.specs.Unrolled.{Place, Top, all_places}
 use Rattle.vrt_model.specs.PairedPorts.{Model, paired_model}
@@ -237,3 +241,46 @@ circuits_have_ranges cut blif facts n c h flat ends circuit =
       ends = ends;
     })
     circuit
+
+-- ---- instances that are tried
+
+module _ (cut : Cut) (blif : Blif) (facts : List CellFacts) (c : Circuit) (h : IsSoftTrial cut blif facts) (circuit : IsCircuitWith cut blif facts c) where
+  -- a place that is left whole is that of a chosen instance
+  chosen_place : (p : NumberedPlace) → Among (whole_places cut) p → (i : ℕ) × At (numbered_places cut.top) (suc i) p × (cut.choice i ≡ true)
+  chosen_place p on =
+      let kept = filter_among (λ (o : NumberedPlace). is_whole cut.choice o.number) (numbered_places cut.top) p on in
+      by_number kept.0.0 kept.0.1 (subst (λ (n : ℕ). is_whole cut.choice n ≡ true) (numbered_at cut.top kept.0.0 p kept.0.1).0 kept.1)
+    where
+      by_number : (n : ℕ) → At (numbered_places cut.top) n p → is_whole cut.choice n ≡ true → (i : ℕ) × At (numbered_places cut.top) (suc i) p × (cut.choice i ≡ true)
+      by_number zero there e = absurd (false≢true e)
+      by_number (suc i) there e = (i, there, e)
+
+  formed_cut : IsCircuit (flat_circuit_of cut.top) → IsFormedCut cut blif facts
+  formed_cut flat = record {
+    flat = flat;
+    cells = λ p on.
+        (let is = chosen_place p on in
+        let step = tried_steps_are_at_gates cut blif facts is.0 p h is.1 is.2 in
+        (step.0, step.1.paired, supported_cells_are_formed cut.top.design blif cut.top.rules p.at.cell step.0 h.read step.2));
+    soft = h.soft;
+    ends = tried_ends_are_shown cut blif facts h;
+  }
+
+  -- the outputs are at plain nets
+  plain_outputs : (w : Whole) (pin : WholePin) → Among c.wholes w → Among w.outputs pin → IsPlain c pin.net.0
+  plain_outputs w pin on there =
+      let from = zip_right (IsWholeAt cut blif facts) (whole_places cut) c.wholes w circuit.wholes on in
+      let is = chosen_place from.0 from.1 in
+      let step = tried_steps_are_at_gates cut blif facts is.0 from.0 h is.1 is.2 in
+      let settled : OutputAt → WholePin = λ o. settled_drive (checked_devices cut) (all_outputs cut blif facts) o in
+      let same = made_is cut blif facts from.0 step.0 w step.1.paired from.2 in
+      let o = among_map settled (outputs_of_place cut.top blif facts from.0) pin (subst (λ (pins : List WholePin). Among pins pin) (sym (ap (λ (x : Whole). x.outputs) same)) there) in
+      let may = (h.tried is.0 from.0 is.1 is.2).1 in
+      let plain = plain_with cut (with_one (before cut is.0) is.0) blif facts c circuit refl o.0.pin.net.0 (may.1.plain o.0 o.1).0 in
+      subst (λ (x : WholePin). IsPlain c x.net.0) o.2 plain
+
+pub tried_circuits_are_wired : TriedCircuitsAreWired
+tried_circuits_are_wired cut blif facts c h flat circuit = record {
+  ranges = cuts_have_ranges cut blif facts c (formed_cut cut blif facts c h circuit flat) circuit;
+  outputs = plain_outputs cut blif facts c h circuit;
+}

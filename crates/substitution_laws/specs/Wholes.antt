@@ -3,9 +3,10 @@
 use Rattle.std.specs.Prelude.{◌≡◌, ℕ, ◌<◌, List, length}
 use Rattle.checked_chain.specs.Holds.{AreEndsShown}
 use Rattle.formed_cells.specs.Formed.{IsFormed}
+use Rattle.known_nets.specs.Wired.{IsWired}
 use Rattle.placed_cells.specs.Above.{net_above}
 use Rattle.replaced_instances.specs.Steps.{IsStepAtGates, compared_at}
-use Rattle.substitution_laws.specs.Chosen.{AreSoft, IsSoftChoice}
+use Rattle.substitution_laws.specs.Chosen.{AreSoft, IsSoftChoice, IsSoftTrial}
 use Rattle.vrt_model.specs.Checked.{IsCircuitWith, before, top_of, with_circuit}
 use Rattle.vrt_model.specs.Circuits.{IsCircuit}
 use Rattle.vrt_model.specs.Comparison.{Comparison, is_observed, phase_at}
@@ -57,3 +58,9 @@ abbrev pub CircuitsHaveRanges : Type 0
 CircuitsHaveRanges =
     (cut : Cut) (blif : Blif) (facts : List CellFacts) (n : ℕ) (c : Circuit)
     → IsSoftChoice cut blif facts → IsCircuit (flat_circuit_of cut.top) → AreEndsShown (before cut n) → IsCircuitWith (before cut n) blif facts c → HasRanges c
+
+-- The law: so are those of the circuit of instances that are tried, whose outputs are at plain nets.
+abbrev pub TriedCircuitsAreWired : Type 0
+TriedCircuitsAreWired =
+    (cut : Cut) (blif : Blif) (facts : List CellFacts) (c : Circuit)
+    → IsSoftTrial cut blif facts → IsCircuit (flat_circuit_of cut.top) → IsCircuitWith cut blif facts c → IsWired c
