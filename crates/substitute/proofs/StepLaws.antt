@@ -141,10 +141,10 @@ module _ (cut : Cut) (blif : Blif) (facts : List CellFacts) (flat : Circuit) (is
   plain_to : (n : ℕ) → IsPlain with_it n → IsPlain flat n
   plain_to n h = subst (IsPlainIn n) nets_same h
 
-  plain_from : (n : ℕ) → IsPlain flat n → IsPlain with_it n
+  pub plain_from : (n : ℕ) → IsPlain flat n → IsPlain with_it n
   plain_from n h = subst (IsPlainIn n) (sym nets_same) h
 
-  held_to : (n : ℕ) → IsHeld with_it n → IsHeld flat n
+  pub held_to : (n : ℕ) → IsHeld with_it n → IsHeld flat n
   held_to n h =
       let found = among_map moved flat.holds h.0 (subst (λ (hs : List Hold). Among hs h.0) holds_same h.1) in
       (found.0, found.1, ap (λ (x : Hold). x.net.0) found.2 ∙ h.2)

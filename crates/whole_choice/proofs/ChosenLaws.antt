@@ -38,7 +38,7 @@ front_is_all cut i none = ap (λ (f : ℕ → Bool). let one : Cut = record { to
         ]
 
 -- the outputs of a place, by what its cell pairs with
-abbrev outputs_by : Top → Blif → List CellFacts → NumberedPlace → Paired → List OutputAt
+abbrev pub outputs_by : Top → Blif → List CellFacts → NumberedPlace → Paired → List OutputAt
 outputs_by t blif facts p paired =
     elim paired [ Model m ↦ own_outputs p.number (driven_pins facts (comparison_of t.design blif t.rules p.at.cell m) p.at) | _ ↦ [] ]
 

@@ -1,3 +1,4 @@
 pub mod Chosen
+pub mod Sound
 pub mod Taken
 pub mod Trial

@@ -1,5 +1,6 @@
 //! Laws of instances that are chosen one after the other, each the contract of a function that does nothing.
 
+ghost use Rattle.whole_choice.specs.Sound.{OpenAreAllowed};
 ghost use Rattle.whole_choice.specs.Chosen.{FrontIsAll, OneMoreBringsItsOwn, OneMoreIsDecided, OutputsStandApart};
 
 /// Where no instance is chosen from a place on, those before it are all.
@@ -20,4 +21,9 @@ pub fn one_more_brings_its_own()
 /// Where the instances before one are decided by their marks, and it is rightly chosen or not, the instances up to it are decided.
 pub fn one_more_is_decided()
     ensures { OneMoreIsDecided }
+{}
+
+/// An instance that passes all tests but that of cycles, and those before it that are chosen, are allowed, each besides those before it.
+pub fn open_are_allowed()
+    ensures { OpenAreAllowed }
 {}
