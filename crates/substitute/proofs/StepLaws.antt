@@ -138,7 +138,7 @@ module _ (cut : Cut) (blif : Blif) (facts : List CellFacts) (flat : Circuit) (is
   abbrev IsPlainIn : ℕ → List FlatNet → Type 0
   IsPlainIn n nets = (net : FlatNet) × At nets n net × (net.kind ≡ Plain)
 
-  plain_to : (n : ℕ) → IsPlain with_it n → IsPlain flat n
+  pub plain_to : (n : ℕ) → IsPlain with_it n → IsPlain flat n
   plain_to n h = subst (IsPlainIn n) nets_same h
 
   pub plain_from : (n : ℕ) → IsPlain flat n → IsPlain with_it n
@@ -149,7 +149,7 @@ module _ (cut : Cut) (blif : Blif) (facts : List CellFacts) (flat : Circuit) (is
       let found = among_map moved flat.holds h.0 (subst (λ (hs : List Hold). Among hs h.0) holds_same h.1) in
       (found.0, found.1, ap (λ (x : Hold). x.net.0) found.2 ∙ h.2)
 
-  held_from : (n : ℕ) → IsHeld flat n → IsHeld with_it n
+  pub held_from : (n : ℕ) → IsHeld flat n → IsHeld with_it n
   held_from n h = (moved h.0, subst (λ (hs : List Hold). Among hs (moved h.0)) (sym holds_same) (map_among moved flat.holds h.0 h.1), h.2)
 
 -- ---- phases

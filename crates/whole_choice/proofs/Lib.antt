@@ -1,2 +1,4 @@
 pub mod ChosenLaws
 pub mod SoundLaws
+pub mod RightLaws
+pub mod TakenLaws

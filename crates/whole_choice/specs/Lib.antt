@@ -1,4 +1,6 @@
 pub mod Chosen
+pub mod Cycles
+pub mod Right
 pub mod Sound
 pub mod Taken
 pub mod Trial
