@@ -2,3 +2,4 @@ pub mod ChosenLaws
 pub mod SoundLaws
 pub mod RightLaws
 pub mod TakenLaws
+pub mod CandidateLaws

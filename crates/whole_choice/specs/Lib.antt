@@ -1,3 +1,4 @@
+pub mod Candidates
 pub mod Chosen
 pub mod Cycles
 pub mod Right
