@@ -11,6 +11,7 @@ mod outputs;
 mod port_list;
 
 pub use laws::ports_within;
+pub use observe_lines::is_observed_port;
 pub use observed::{marked_nets, observed_nets};
 pub use outputs::output_wishes;
 pub use port_list::{Port, input_signal, output_signal, ports_by};

@@ -64,7 +64,7 @@ fn has_phase(rule: &ObserveRule, phase: u32) -> bool
 }
 
 /// Whether an output port is observed in a phase: in those of its rule, and in all where it has none.
-pub(crate) fn is_observed_port(
+pub fn is_observed_port(
     index: &RuleIndex,
     rules: &Rules,
     cell: &Text,

@@ -111,7 +111,7 @@ module _ (cut : Cut) (blif : Blif) (facts : List CellFacts) (i : ℕ) (p : Numbe
       by_number (suc j) e =
           let chosen = (and_parts (cut.choice j) (nat_lt j i) (subst (λ (n : ℕ). is_whole (before cut i).choice n ≡ true) e kept.1)).0 in
           let here = subst (λ (n : ℕ). At (numbered_places t) n from.0) (sym (numbered_at t kept.0.0 from.0 kept.0.1).0 ∙ e) kept.0.1 in
-          let there = ((step.tried j from.0 here).0 chosen).1.1 in
+          let there = (step.tried j from.0 here chosen).1.1 in
           plain_with (before cut i) (with_one (before cut j) j) blif facts c circuit refl o.pin.net.0 (there.plain o from.2).0
 
   -- ---- the ports

@@ -15,12 +15,12 @@ use Rattle.placed_cells.proofs.RowLaws.{port_count}
 use Rattle.placed_cells.proofs.TieLaws.{instances_are_tied}
 use Rattle.placed_cells.specs.Above.{IsTied, net_above, place_alone}
 use Rattle.replaced_instances.proofs.OutputPorts.{IsRising, NamedNets, driven_nets, flat_of_port, is_net_role, out_is_net, outputs_rise, pin_at, pins_are, port_of_flat}
-use Rattle.replaced_instances.specs.Steps.{IsStepAtGates, compared_at}
+use Rattle.replaced_instances.specs.Steps.{IsAllowedInstance, IsStepAtGates, compared_at}
 use Rattle.vrt_model.proofs.Filtered.{among_kept, filter_among}
 use Rattle.vrt_model.proofs.Lists.{at_front, at_map, at_there, map_at, one_at}
 use Rattle.vrt_model.proofs.Members.{at_all}
 use Rattle.vrt_model.specs.CellRules.{supply_of}
-use Rattle.vrt_model.specs.Checked.{MayBeWhole, before, has_fact, keeps_inputs_free, may_meet_channels, names_no_global, observes_outputs}
+use Rattle.vrt_model.specs.Checked.{before, has_fact, keeps_inputs_free, may_meet_channels, names_no_global, observes_outputs}
 use Rattle.vrt_model.specs.CheckedParts.{checked_devices}
 use Rattle.vrt_model.specs.Comparison.{Comparison, CellPort, cell_at, output_signal, ports_of}
 use Rattle.vrt_model.specs.Cut.{Cut, NumberedPlace, is_inside_whole}
@@ -102,13 +102,13 @@ module _ (cut : Cut) (blif : Blif) (facts : List CellFacts) (i : ℕ) (p : Numbe
   -- ---- what is known of the instance
 
   pub free : is_inside_whole (before cut i) p.at ≡ false
-  free = ((step.tried i p step.place).0 step.chosen).0
+  free = (step.tried i p step.place step.chosen).0
 
-  pub may : MayBeWhole (before cut i) blif facts i p m
+  pub may : IsAllowedInstance (before cut i) blif facts i p m
   may =
-      let there = ((step.tried i p step.place).0 step.chosen).1 in
+      let there = (step.tried i p step.place step.chosen).1 in
       let model : Paired → ℕ = λ x. elim x [ Model j ↦ j | Skipped ↦ 0 | Missing ↦ 0 ] in
-      subst (λ (j : ℕ). MayBeWhole (before cut i) blif facts i p j) (ap model (sym there.1.paired ∙ step.paired)) there.1
+      subst (λ (j : ℕ). IsAllowedInstance (before cut i) blif facts i p j) (ap model (sym there.1.paired ∙ step.paired)) there.1
 
   pub place_there : At (all_places t) (suc i) p.at
   place_there = (numbered_at t (suc i) p step.place).1

@@ -7,20 +7,20 @@ use Rattle.placed_cells.specs.Above.{net_above, place_alone}
 use Rattle.placed_cells.specs.Instances.{HasPlacedPorts}
 use Rattle.placed_cells.specs.Rows.{size_inside}
 use Rattle.placed_cells.specs.Splits.{IsSplit}
-use Rattle.vrt_model.specs.Checked.{IsChoice, IsCircuitWith, before}
+use Rattle.vrt_model.specs.Checked.{IsCircuitWith, before, circuit_with, is_cell_allowed, with_one}
 use Rattle.vrt_model.specs.CheckedParts.{checked_devices}
 use Rattle.vrt_model.specs.Comparison.{CellPort, Comparison, cell_at}
-use Rattle.vrt_model.specs.Cut.{Cut, NumberedPlace, numbered_places}
+use Rattle.vrt_model.specs.Cut.{Cut, NumberedPlace, is_inside_whole, numbered_places}
 use Rattle.vrt_model.specs.Facts.{IsTrueOf, output_ports}
 use Rattle.vrt_model.specs.Hierarchy.{IsOrdered}
 use Rattle.vrt_model.specs.Inputs.{IsDesign}
-use Rattle.vrt_model.specs.Known.{is_plain_at}
+use Rattle.vrt_model.specs.Known.{IsHeld, IsPlain, is_plain_at}
 use Rattle.vrt_model.specs.Lists.{Among, At}
 use Rattle.vrt_model.specs.PairedPorts.{HasRoles, Model, paired_model}
 use Rattle.vrt_model.specs.Unrolled.{Place, Top}
 use Rattle.vrt_model.specs.Unsupported.{comparison_of, supply_tie}
 use Rattle.vrt_model.specs.Variables.{places}
-use Rattle.vrt_model.specs.WholeInstances.{OutputAt, all_outputs, meets_gates_only, outputs_of_place}
+use Rattle.vrt_model.specs.WholeInstances.{OutputAt, all_outputs, is_output_allowed, meets_gates_only, outputs_of_place}
 use Rattle.vrt_model.specs.declared.blif.Blif.{Blif}
 use Rattle.vrt_model.specs.declared.circuit.Circuit.{Circuit}
 use Rattle.vrt_model.specs.declared.whole.CellFacts.{CellFacts}
@@ -38,12 +38,30 @@ pub record IsSoundNetlist (t : Top) : Type 0 where
 abbrev pub compared_at : Top → Blif → NumberedPlace → ℕ → Comparison
 compared_at t blif p m = comparison_of t.design blif t.rules p.at.cell m
 
+-- an instance meets what is asked of one that is left whole besides those of the choice, but for cycles: its cell allows it, and its outputs are
+-- plain nets without holds and are allowed
+pub record IsAllowedInstance (cut : Cut) (blif : Blif) (facts : List CellFacts) (i : ℕ) (p : NumberedPlace) (m : ℕ) : Type 0 where
+  pub paired : paired_model cut.top.design blif cut.top.rules p.at.cell ≡ Model m
+  pub cell : is_cell_allowed cut.top facts (compared_at cut.top blif p m) ≡ true
+  pub plain :
+      (o : OutputAt) → Among (outputs_of_place cut.top blif facts p) o
+      → IsPlain (circuit_with (with_one cut i) blif facts) o.pin.net.0 × (¬ IsHeld (circuit_with (with_one cut i) blif facts) o.pin.net.0)
+  pub allowed :
+      (o : OutputAt) → Among (outputs_of_place cut.top blif facts p) o
+      → is_output_allowed (checked_devices (with_one cut i)) (all_outputs (with_one cut i) blif facts) o ≡ true
+
+-- so does each chosen instance besides those before it, and it is not inside one of these
+abbrev pub AreAllowed : Cut → Blif → List CellFacts → Type 0
+AreAllowed cut blif facts =
+    (i : ℕ) (p : NumberedPlace) → At (numbered_places cut.top) (suc i) p → cut.choice i ≡ true
+    → (is_inside_whole (before cut i) p.at ≡ false) × ((m : ℕ) × IsAllowedInstance (before cut i) blif facts i p m)
+
 -- the instance at place i, whose cell pairs with model m, is among those that are left whole, which are tried one by one; what is told of
 -- cells is so; and where it and those before it are whole, each of its outputs meets gates alone
 pub record IsStepAtGates (cut : Cut) (blif : Blif) (facts : List CellFacts) (i : ℕ) (p : NumberedPlace) (m : ℕ) : Type 0 where
   pub netlist : IsSoundNetlist cut.top
   pub told : (cell : ℕ) (f : CellFacts) → At facts cell f → IsTrueOf cut.top.design blif cut.top.rules cell f
-  pub tried : IsChoice cut blif facts
+  pub tried : AreAllowed cut blif facts
   pub chosen : cut.choice i ≡ true
   pub place : At (numbered_places cut.top) (suc i) p
   pub paired : paired_model cut.top.design blif cut.top.rules p.at.cell ≡ Model m

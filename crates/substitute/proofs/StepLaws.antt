@@ -112,7 +112,7 @@ module _ (cut : Cut) (i : ℕ) (p : NumberedPlace) (here : At (numbered_places c
       (front_same ∙ sym (filter_front whole_before (numbered_places cut.top) (suc i) (λ j o e le. at_number (is_whole (before cut i).choice) j o e ∙ none_behind j le)))
       (at_number (is_whole one.choice) (suc i) p here ∙ itself_whole)
 
-  outputs_with : (blif : Blif) (facts : List CellFacts) → all_outputs one blif facts ≡ all_outputs (before cut i) blif facts ++ outputs_of_place cut.top blif facts p
+  pub outputs_with : (blif : Blif) (facts : List CellFacts) → all_outputs one blif facts ≡ all_outputs (before cut i) blif facts ++ outputs_of_place cut.top blif facts p
   outputs_with blif facts =
       ap (flat_map (outputs_of_place cut.top blif facts)) places_are
       ∙ flat_map-append (outputs_of_place cut.top blif facts) (whole_places (before cut i)) (p ∷ [])
@@ -138,18 +138,18 @@ module _ (cut : Cut) (blif : Blif) (facts : List CellFacts) (flat : Circuit) (is
   abbrev IsPlainIn : ℕ → List FlatNet → Type 0
   IsPlainIn n nets = (net : FlatNet) × At nets n net × (net.kind ≡ Plain)
 
-  plain_to : (n : ℕ) → IsPlain with_it n → IsPlain flat n
+  pub plain_to : (n : ℕ) → IsPlain with_it n → IsPlain flat n
   plain_to n h = subst (IsPlainIn n) nets_same h
 
-  plain_from : (n : ℕ) → IsPlain flat n → IsPlain with_it n
+  pub plain_from : (n : ℕ) → IsPlain flat n → IsPlain with_it n
   plain_from n h = subst (IsPlainIn n) (sym nets_same) h
 
-  held_to : (n : ℕ) → IsHeld with_it n → IsHeld flat n
+  pub held_to : (n : ℕ) → IsHeld with_it n → IsHeld flat n
   held_to n h =
       let found = among_map moved flat.holds h.0 (subst (λ (hs : List Hold). Among hs h.0) holds_same h.1) in
       (found.0, found.1, ap (λ (x : Hold). x.net.0) found.2 ∙ h.2)
 
-  held_from : (n : ℕ) → IsHeld flat n → IsHeld with_it n
+  pub held_from : (n : ℕ) → IsHeld flat n → IsHeld with_it n
   held_from n h = (moved h.0, subst (λ (hs : List Hold). Among hs (moved h.0)) (sym holds_same) (map_among moved flat.holds h.0 h.1), h.2)
 
 -- ---- phases

@@ -6,7 +6,7 @@ use std::alloc::Global;
 use vrt_model::{Cover, FlatModel, FlatNet, NoMemory, Seq, Text};
 
 /// A copy of a list.
-pub(crate) fn copy_items<T: Copy + Drop>(alloc: Global, items: &[T]) -> Result<Seq<T>, NoMemory>
+pub fn copy_items<T: Copy + Drop>(alloc: Global, items: &[T]) -> Result<Seq<T>, NoMemory>
     ensures { IfOk result (λ copy. copy ≡ items.now) }
 {
     let mut copy = Seq::new(alloc);

@@ -7,14 +7,15 @@ use Rattle.std.proofs.lemmas.Option.{none-some, same_Some}
 use Rattle.checked_chain.proofs.StepLaws.{one_more_is_next}
 use Rattle.placed_cells.proofs.ListLaws.{enumerated}
 use Rattle.replaced_instances.proofs.StepPorts.{fact_there}
-use Rattle.substitution_laws.proofs.FormedCells.{formed_cell}
-use Rattle.substitution_laws.specs.Chosen.{AreSoft, ChosenStepsAreAtGates}
+use Rattle.formed_cells.proofs.FormedLaws.{supported_cells_are_formed}
+use Rattle.replaced_instances.specs.Steps.{IsAllowedInstance, IsStepAtGates}
+use Rattle.substitution_laws.specs.Chosen.{AreSoft, ChosenStepsAreAtGates, IsSoftChoice, IsSoftTrial}
 use Rattle.vrt_model.proofs.Members.{among_map}
 use Rattle.vrt_model.specs.Checked.{MayBeWhole, before, has_fact, keeps_inputs_free, names_no_global, observes_outputs}
 use Rattle.vrt_model.specs.CheckedParts.{checked_devices}
 use Rattle.vrt_model.specs.Comparison.{Comparison, output_signal}
-use Rattle.vrt_model.specs.Cut.{Cut, NumberedPlace}
-use Rattle.vrt_model.specs.Lists.{Among}
+use Rattle.vrt_model.specs.Cut.{Cut, NumberedPlace, numbered_places}
+use Rattle.vrt_model.specs.Lists.{Among, At}
 use Rattle.vrt_model.specs.PairedPorts.{Paired, Model, Skipped, Missing, paired_model}
 use Rattle.vrt_model.specs.Unrolled.{Top}
 use Rattle.vrt_model.specs.Unsupported.{IsSupported, comparison_of}
@@ -90,12 +91,26 @@ module _ (facts : List CellFacts) (soft : AreSoft facts) where
 
 -- ---- steps
 
-pub chosen_steps_are_at_gates : ChosenStepsAreAtGates
-chosen_steps_are_at_gates cut blif facts i p h place chosen =
+pub trial_of : (cut : Cut) (blif : Blif) (facts : List CellFacts) → IsSoftChoice cut blif facts → IsSoftTrial cut blif facts
+trial_of cut blif facts h = record {
+  netlist = h.netlist;
+  read = h.read;
+  told = h.told;
+  soft = h.soft;
+  tried = λ i p place chosen.
+      (let there = (h.tried i p place).0 chosen in
+      let may : MayBeWhole (before cut i) blif facts i p there.1.0 = there.1.1 in
+      (there.0, (there.1.0, record { paired = may.paired; cell = may.cell; plain = may.plain; allowed = may.allowed })));
+}
+
+pub tried_steps_are_at_gates : (cut : Cut) (blif : Blif) (facts : List CellFacts) (i : ℕ) (p : NumberedPlace)
+    → IsSoftTrial cut blif facts → At (numbered_places cut.top) (suc i) p → cut.choice i ≡ true
+    → (m : ℕ) × IsStepAtGates cut blif facts i p m × IsSupported cut.top.design blif cut.top.rules p.at.cell m
+tried_steps_are_at_gates cut blif facts i p h place chosen =
     let t = cut.top in
-    let there = ((h.tried i p place).0 chosen).1 in
+    let there = (h.tried i p place chosen).1 in
     let m = there.0 in
-    let may : MayBeWhole (before cut i) blif facts i p m = there.1 in
+    let may : IsAllowedInstance (before cut i) blif facts i p m = there.1 in
     let k : Comparison = comparison_of t.design blif t.rules p.at.cell m in
     let fact = has_fact (λ (f : CellFacts). f.equal && f.stateless) facts k.cell in
     let one = and_parts (fact && names_no_global t k.cell && observes_outputs k) (keeps_inputs_free k) may.cell in
@@ -114,10 +129,13 @@ chosen_steps_are_at_gates cut blif facts i p h place chosen =
         chosen = chosen;
         place = place;
         paired = may.paired;
-        roles = (formed_cell cut blif facts p.at.cell m h supported).roles;
+        roles = (supported_cells_are_formed t.design blif t.rules p.at.cell m h.read supported).roles;
         gates = λ o on.
             sym (allowed_at_gates (checked_devices (before cut (suc i))) (all_outputs (before cut (suc i)) blif facts) o (output_soft facts h.soft t blif p o on))
             ∙ subst (λ (x : Cut). is_output_allowed (checked_devices x) (all_outputs x blif facts) o ≡ true) (one_more_is_next cut i chosen) (may.allowed o on);
       },
       supported,
     )
+
+pub chosen_steps_are_at_gates : ChosenStepsAreAtGates
+chosen_steps_are_at_gates cut blif facts i p h place chosen = tried_steps_are_at_gates cut blif facts i p (trial_of cut blif facts h) place chosen

@@ -175,7 +175,7 @@ module _ (cut : Cut) (blif : Blif) (facts : List CellFacts) (h : IsSoftChoice cu
       let out : is_inside_whole (before cut n) p.at ≡ false =
       elim (cases_Bool (is_inside_whole (before cut n) p.at)) [
         | inr no_more ↦ no_more
-        | inl inside ↦ absurd (false≢true (sym (chosen_are_apart cut blif facts i p step.netlist.design step.tried step.place step.chosen) ∙ inside_of_all cut n p.at inside))
+        | inl inside ↦ absurd (false≢true (sym (chosen_are_apart cut blif facts i p step.netlist.design h.tried step.place step.chosen) ∙ inside_of_all cut n p.at inside))
       ] in
       map_among flat_instance (filter test (drop 1 (all_places t))) p.at
       (among_kept test (drop 1 (all_places t)) p.at (i, front_of (all_places t) i p.at (place_there cut blif facts i p m step)) (ap not out))

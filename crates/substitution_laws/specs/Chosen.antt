@@ -1,6 +1,6 @@
 -- Choices of instances by facts that say of no output how strongly it drives: each chosen instance meets gates alone.
 use Rattle.std.specs.Prelude.{◌≡◌, ℕ, suc, ◌<◌, true, List, length}
-use Rattle.replaced_instances.specs.Steps.{IsSoundNetlist, IsStepAtGates, compared_at}
+use Rattle.replaced_instances.specs.Steps.{AreAllowed, IsSoundNetlist, IsStepAtGates, compared_at}
 use Rattle.formed_cells.specs.Formed.{AreRead}
 use Rattle.vrt_model.specs.Checked.{IsChoice}
 use Rattle.vrt_model.specs.Cut.{Cut, NumberedPlace, numbered_places}
@@ -24,6 +24,14 @@ pub record IsSoftChoice (cut : Cut) (blif : Blif) (facts : List CellFacts) : Typ
   pub told : (cell : ℕ) (f : CellFacts) → At facts cell f → IsTrueOf cut.top.design blif cut.top.rules cell f
   pub soft : AreSoft facts
   pub tried : IsChoice cut blif facts
+
+-- the same where cycles are not looked at: instances each of which is allowed besides those before it
+pub record IsSoftTrial (cut : Cut) (blif : Blif) (facts : List CellFacts) : Type 0 where
+  pub netlist : IsSoundNetlist cut.top
+  pub read : AreRead blif cut.top.rules
+  pub told : (cell : ℕ) (f : CellFacts) → At facts cell f → IsTrueOf cut.top.design blif cut.top.rules cell f
+  pub soft : AreSoft facts
+  pub tried : AreAllowed cut blif facts
 
 -- The law: where a chosen instance and those before it are whole, each of its outputs meets gates alone, and its cell is supported.
 abbrev pub ChosenStepsAreAtGates : Type 0

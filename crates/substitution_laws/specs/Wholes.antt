@@ -2,16 +2,19 @@
 -- strongly it drives.
 use Rattle.std.specs.Prelude.{◌≡◌, ℕ, ◌<◌, List, length}
 use Rattle.checked_chain.specs.Holds.{AreEndsShown}
+use Rattle.formed_cells.specs.Formed.{IsFormed}
+use Rattle.known_nets.specs.Wired.{IsWired}
 use Rattle.placed_cells.specs.Above.{net_above}
 use Rattle.replaced_instances.specs.Steps.{IsStepAtGates, compared_at}
-use Rattle.substitution_laws.specs.Chosen.{IsSoftChoice}
+use Rattle.substitution_laws.specs.Chosen.{AreSoft, IsSoftChoice, IsSoftTrial}
 use Rattle.vrt_model.specs.Checked.{IsCircuitWith, before, top_of, with_circuit}
 use Rattle.vrt_model.specs.Circuits.{IsCircuit}
 use Rattle.vrt_model.specs.Comparison.{Comparison, is_observed, phase_at}
-use Rattle.vrt_model.specs.Cut.{Cut, NumberedPlace}
+use Rattle.vrt_model.specs.Cut.{Cut, NumberedPlace, whole_places}
 use Rattle.vrt_model.specs.FlatCircuit.{flat_circuit_of}
 use Rattle.vrt_model.specs.Lists.{Among}
 use Rattle.vrt_model.specs.Networks.{HasRanges}
+use Rattle.vrt_model.specs.PairedPorts.{Model, paired_model}
 use Rattle.vrt_model.specs.Unsupported.{IsSupported}
 use Rattle.vrt_model.specs.WholeInstances.{IsWholeAt}
 use Rattle.vrt_model.specs.declared.blif.Blif.{Blif}
@@ -36,8 +39,28 @@ WholesAreDetermined =
     → cut.top ≡ top_of k → IsSoftChoice cut blif facts → phase < length cut.top.rules.phases → IsCircuitWith (before cut n) blif facts c
     → AreDetermined c (phase_at cut.top.rules phase) (is_observed (with_circuit k c) phase)
 
--- The law: numbers, levels and sizes are in range, where no end of a hold names an instance inside a whole one.
+-- a flat circuit that is well formed, of which instances are left whole: each of a cell that is well formed with its model, nothing is told of
+-- how strongly their outputs drive, and no end of a hold names an instance inside one
+pub record IsFormedCut (cut : Cut) (blif : Blif) (facts : List CellFacts) : Type 0 where
+  pub flat : IsCircuit (flat_circuit_of cut.top)
+  pub cells :
+      (p : NumberedPlace) → Among (whole_places cut) p
+      → (m : ℕ) × (paired_model cut.top.design blif cut.top.rules p.at.cell ≡ Model m) × IsFormed (compared_at cut.top blif p m)
+  pub soft : AreSoft facts
+  pub ends : AreEndsShown cut
+
+-- The law: then the numbers, levels and sizes of the circuit are in range.
+abbrev pub CutsHaveRanges : Type 0
+CutsHaveRanges = (cut : Cut) (blif : Blif) (facts : List CellFacts) (c : Circuit) → IsFormedCut cut blif facts → IsCircuitWith cut blif facts c → HasRanges c
+
+-- The law: so are those of a circuit of the chain, where no end of a hold names an instance inside a whole one.
 abbrev pub CircuitsHaveRanges : Type 0
 CircuitsHaveRanges =
     (cut : Cut) (blif : Blif) (facts : List CellFacts) (n : ℕ) (c : Circuit)
     → IsSoftChoice cut blif facts → IsCircuit (flat_circuit_of cut.top) → AreEndsShown (before cut n) → IsCircuitWith (before cut n) blif facts c → HasRanges c
+
+-- The law: so are those of the circuit of instances that are tried, whose outputs are at plain nets.
+abbrev pub TriedCircuitsAreWired : Type 0
+TriedCircuitsAreWired =
+    (cut : Cut) (blif : Blif) (facts : List CellFacts) (c : Circuit)
+    → IsSoftTrial cut blif facts → IsCircuit (flat_circuit_of cut.top) → IsCircuitWith cut blif facts c → IsWired c

@@ -1,6 +1,6 @@
 //! The whole instances of a circuit.
 
-ghost use Rattle.substitution_laws.specs.Wholes.{CircuitsHaveRanges, WholesAreDetermined, WholesStandForCells};
+ghost use Rattle.substitution_laws.specs.Wholes.{CircuitsHaveRanges, CutsHaveRanges, TriedCircuitsAreWired, WholesAreDetermined, WholesStandForCells};
 
 /// A whole instance stands for its cell: it has its model, its inputs and its outputs, and links from each input from which covers lead to
 /// one.
@@ -16,4 +16,14 @@ pub fn wholes_are_determined()
 /// The numbers of nets and signals, the levels and the sizes of the circuit are in range.
 pub fn circuits_have_ranges()
     ensures { CircuitsHaveRanges }
+{}
+
+/// So are those of the circuit of a cell of which some instances are left whole, each of a well-formed cell.
+pub fn cuts_have_ranges()
+    ensures { CutsHaveRanges }
+{}
+
+/// So are those of the circuit with instances that are tried, and the outputs of these are at plain nets.
+pub fn tried_circuits_are_wired()
+    ensures { TriedCircuitsAreWired }
 {}

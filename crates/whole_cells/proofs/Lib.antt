@@ -1,0 +1,5 @@
+pub mod EnteredLaws
+pub mod EntryLaws
+pub mod LinkedLaws
+pub mod SeenLaws
+pub mod TableLaws

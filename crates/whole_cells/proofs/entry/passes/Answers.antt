@@ -1,0 +1,12 @@
+use Rattle.std.proofs.Common.{◌&&◌, Bool, ap₂, sym, ◌∙◌}
+use Rattle.vrt_model.specs.Comparison.{cell_at}
+use Rattle.whole_cells.proofs.entry.passes.Goals as goal
+
+pub returns : goal.returns
+returns c k of ports =
+    c.both-all.ensures
+    ∙ ap₂ (λ (a b : Bool). a && b) c.in_ok-none.ensures
+    (c.both-inside.ensures
+    ∙ ap₂ (λ (a b : Bool). a && b)
+    (c.observes_outputs-seen.ensures k of.rules_are (ap₂ cell_at of.design_is of.cell_is ∙ sym c.cell_of-own.ensures) ports)
+    (c.keeps_inputs_free-free.ensures k of.circuit_is ports))

@@ -1,0 +1,13 @@
+use Rattle.std.proofs.Common.{◌≡◌, ◌<◌, ◌⊎◌, length, true}
+use Rattle.net_places.specs.declared.places.Place.{Place}
+use Rattle.vrt_model.specs.Lists.{Among, mark_at}
+use Rattle.whole_cells.proofs.table.used_cells.Given as goal
+
+-- each place has a mark at its cell, or is still to come
+abbrev pub invariant-places : goal.invariant-places
+invariant-places l =
+    (length l.used.items ≡ l.fn.count)
+    × ((p : Place) → Among l.fn.places p → (Among l.rest p) ⊎ (p.cell < l.fn.count → mark_at l.used.items p.cell ≡ true))
+
+abbrev pub decreases-places : goal.decreases-places
+decreases-places l = length l.rest

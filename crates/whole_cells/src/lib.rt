@@ -1,0 +1,17 @@
+//! The cells whose instances may be left whole, and what the instances of each have in common.
+#![tactic(auto)]
+
+mod entry;
+mod known;
+mod laws;
+mod links;
+mod own;
+mod seen;
+mod table;
+
+pub use entry::whole_cell;
+pub use known::is_known;
+pub use laws::{entered_are_apart, entered_are_whole_cells};
+pub use own::{Own, own_of};
+pub use seen::observes_outputs;
+pub use table::{used_cells, whole_cells};

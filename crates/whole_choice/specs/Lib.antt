@@ -1,0 +1,7 @@
+pub mod Candidates
+pub mod Chosen
+pub mod Cycles
+pub mod Right
+pub mod Sound
+pub mod Taken
+pub mod Trial

@@ -1,0 +1,17 @@
+//! Which instances of a cell are left whole: by marks at their places, one instance after the other.
+#![tactic(auto)]
+
+mod candidate;
+mod cycles;
+mod laws;
+mod taken;
+mod trial;
+
+pub use candidate::passes;
+pub use cycles::is_acyclic_with;
+pub use laws::{
+    acyclic_is_chosen, front_is_all, one_more_brings_its_own, one_more_is_decided,
+    open_are_allowed, others_are_left_out, outputs_stand_apart, taken_grow,
+};
+pub use taken::take_outputs;
+pub use trial::{are_outputs_open, marks_with};
