@@ -21,8 +21,8 @@ mod wholes;
 
 pub use acyclic::are_acyclic;
 pub use assembly::circuit_with;
-pub use copies::copy_items;
 pub use cell_tests::{keeps_inputs_free, names_no_global};
+pub use copies::copy_items;
 pub use holds::moved_holds;
 pub use inside::inside_marks;
 pub use instance::whole_at;
