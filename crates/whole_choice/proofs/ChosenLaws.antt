@@ -21,7 +21,7 @@ use Rattle.vrt_model.specs.Unsupported.{comparison_of}
 use Rattle.vrt_model.specs.WholeInstances.{OutputAt, all_outputs, driven_pins, outputs_of_place}
 use Rattle.vrt_model.specs.declared.blif.Blif.{Blif}
 use Rattle.vrt_model.specs.declared.whole.CellFacts.{CellFacts}
-use Rattle.whole_choice.specs.Chosen.{FrontIsAll, IsRightly, MarksOneMore, NoneFrom, OneMoreBringsItsOwn, OneMoreIsDecided, OutputsStandApart, cut_of}
+use Rattle.whole_choice.specs.Chosen.{FrontIsAll, IsRightly, MarksOneMore, NoneFrom, OneMoreBringsItsOwn, OneMoreIsDecided, OutputsStandApart, MarkedIsWithOne, cut_of}
 
 and_one : (b : Bool) → (b && true) ≡ b
 and_one true = refl
@@ -116,3 +116,9 @@ module _ (t : Top) (blif : Blif) (facts : List CellFacts) (i : ℕ) (old new : L
 
 pub one_more_is_decided : OneMoreIsDecided
 one_more_is_decided t blif facts i old new chosen none more rightly decided = both_now t blif facts i old new chosen none more rightly decided
+
+pub marked_is_with_one : MarkedIsWithOne
+marked_is_with_one t i old new more = ap (λ (f : ℕ → Bool). let one : Cut = record { top = t; choice = f } in one) (fun_ext same)
+  where
+    same : (j : ℕ) → mark_at new (suc j) ≡ (mark_at old (suc j) || (i == j))
+    same j = let turned : (suc j == suc i) ≡ (i == j) = grind (arith, nat_tests) in more (suc j) ∙ ap (λ (b : Bool). mark_at old (suc j) || b) turned

@@ -56,3 +56,7 @@ OneMoreIsDecided =
     → NoneFrom (cut_of t old) i → MarksOneMore old new i chosen → IsRightly (cut_of t old) blif facts i chosen
     → AreDecided (cut_of t old) blif facts (suc i)
     → NoneFrom (cut_of t new) (suc i) × AreDecided (cut_of t new) blif facts (suc i + 1)
+
+-- The law: with its mark the instance is whole besides the others.
+abbrev pub MarkedIsWithOne : Type 0
+MarkedIsWithOne = (t : Top) (i : ℕ) (old new : List Bool) → MarksOneMore old new i true → cut_of t new ≡ with_one (cut_of t old) i

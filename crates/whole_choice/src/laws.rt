@@ -3,7 +3,7 @@
 ghost use Rattle.whole_choice.specs.Right.{AcyclicIsChosen, ClosedIsLeftOut, InsideIsLeftOut, RefusedIsLeftOut};
 ghost use Rattle.whole_choice.specs.Taken.{TakenGrow};
 ghost use Rattle.whole_choice.specs.Sound.{OpenAreAllowed};
-ghost use Rattle.whole_choice.specs.Chosen.{FrontIsAll, OneMoreBringsItsOwn, OneMoreIsDecided, OutputsStandApart};
+ghost use Rattle.whole_choice.specs.Chosen.{MarkedIsWithOne, FrontIsAll, OneMoreBringsItsOwn, OneMoreIsDecided, OutputsStandApart};
 
 /// Where no instance is chosen from a place on, those before it are all.
 pub fn front_is_all()
@@ -45,4 +45,9 @@ pub fn others_are_left_out()
 /// Any other is rightly chosen exactly where the circuit with it has no cycle.
 pub fn acyclic_is_chosen()
     ensures { AcyclicIsChosen }
+{}
+
+/// With its mark an instance is whole besides the others.
+pub fn marked_is_with_one()
+    ensures { MarkedIsWithOne }
 {}
