@@ -2,6 +2,7 @@
 //! verdict.
 #![tactic(auto)]
 
+mod checked;
 mod flattened;
 mod flattening;
 mod hindrance;

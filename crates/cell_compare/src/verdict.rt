@@ -3,18 +3,19 @@
 ghost use Rattle.std.specs.Prelude.{◌≡◌, ◌≤◌, ◌<◌, [], None, Some, false, length, IfOk};
 ghost use Rattle.cell_compare.specs.Cells.{HasFacts, HasLine, HasRuns, IsComplete, IsFlattenedTo};
 ghost use Rattle.cell_compare.specs.Compared.{AreInputs};
+ghost use Rattle.checked_cells.specs.Given.{ArePlainFacts};
 ghost use Rattle.prepared_tables.specs.Prepared.{ArePrepared};
 ghost use Rattle.vrt_model.specs.Hierarchy.{IsOrdered};
 ghost use Rattle.vrt_model.specs.Inputs.{AreRules, IsBlif, IsDesign};
 ghost use Rattle.vrt_model.specs.Models.{AreModels};
 ghost use Rattle.vrt_model.specs.PairedPorts.{Model, model_of_paired, paired_model};
-ghost use Rattle.vrt_model.specs.Verdicts.{IsVerdict};
+ghost use Rattle.vrt_model.specs.CheckedVerdicts.{IsCheckedVerdict};
 
+use crate::checked::check_cell;
 use crate::flattened::Flattened;
 use crate::flattening::flatten_cell;
 use crate::hindrance::Hindrance;
 use crate::known_facts::{facts_of, is_bare, no_facts};
-use crate::phases::check_cell;
 use phase_terms::Comparison;
 use prepared_tables::{Prepared, is_skipped_with, model_of_with, prepare};
 use std::alloc::Global;
@@ -63,12 +64,14 @@ fn compare_with(
     rules: &Rules,
     cell: u32,
     model: u32,
+    facts: &Seq<CellFacts>,
 ) -> Result<Compared, NoMemory>
     requires budget { (65536 ≤ budget) × (budget ≤ 64000000) }
     requires prepared { ArePrepared design.now blif.now rules.now prepared.now }
     requires inputs { AreInputs design.now blif.now rules.now cell }
+    requires facts { ArePlainFacts design.now blif.now rules.now facts.now }
     requires paired { paired_model design.now blif.now rules.now cell ≡ Model model }
-    ensures verdict { IfOk result (λ c. IsVerdict design.now blif.now rules.now budget cell c.verdict) }
+    ensures verdict { IfOk result (λ c. IsCheckedVerdict design.now blif.now rules.now facts.now budget cell c.verdict) }
     ensures line { IfOk result (λ c. HasLine design.now blif.now rules.now cell c.verdict c.flattened) }
     ensures flattened { IfOk result (λ c. IsFlattenedTo design.now blif.now rules.now cell (Some c.verdict) c.flattened) }
     ensures facts { IfOk result (λ c. HasFacts design.now blif.now rules.now cell c.verdict c.facts) }
@@ -90,7 +93,7 @@ fn compare_with(
         model: &flattened.model,
         groups: &flattened.groups,
     };
-    let verdict = check_cell(alloc, budget, compared)?;
+    let verdict = check_cell(alloc, budget, prepared, blif, compared, facts)?;
     let bare = is_bare(&flattened.circuit, &flattened.model);
     let facts = facts_of(alloc, &verdict, flattened.pairing.ports.as_slice(), bare)?;
     Ok(Compared {
@@ -136,25 +139,29 @@ pub fn compare_prepared(
     requires rules { AreRules rules.now }
     requires cell { cell < length design.now.cells }
     requires ordered { IsOrdered design.now rules.now }
-    ensures verdict { IfOk result (λ c. IsVerdict design.now blif.now rules.now budget cell c.verdict) }
+    requires facts { ArePlainFacts design.now blif.now rules.now facts.now }
+    ensures verdict { IfOk result (λ c. IsCheckedVerdict design.now blif.now rules.now facts.now budget cell c.verdict) }
     ensures line { IfOk result (λ c. HasLine design.now blif.now rules.now cell c.verdict c.flattened) }
     ensures flattened { IfOk result (λ c. IsFlattenedTo design.now blif.now rules.now cell (Some c.verdict) c.flattened) }
     ensures facts { IfOk result (λ c. HasFacts design.now blif.now rules.now cell c.verdict c.facts) }
     ensures complete { IfOk result (λ c. IsComplete design.now blif.now rules.now budget cell c.verdict) }
     ensures runs { IfOk result (λ c. HasRuns design.now blif.now rules.now cell c.verdict) }
 {
-    let _unread = facts;
     if is_skipped_with(prepared, design, rules, cell) {
         return Ok(without(alloc, Verdict::Skipped));
     }
     match paired_number(prepared, design, blif, rules, cell) {
-        Some(model) => compare_with(alloc, budget, prepared, design, blif, rules, cell, model),
+        Some(model) => compare_with(
+            alloc, budget, prepared, design, blif, rules, cell, model, facts,
+        ),
         None => Ok(without(alloc, Verdict::Unsupported(Why::NoModel))),
     }
 }
 
-/// The verdict on a cell, with all its instances unrolled. Phase by phase its circuit is compared with its model by diagrams,
-/// which take at most `budget` nodes in each phase. What is known of other cells is not looked at yet.
+/// The verdict on a cell. Phase by phase its circuit is compared with its model by diagrams, which take at most `budget` nodes in
+/// each phase. An instance of a cell that is known as equal and stateless is left whole, and the model of its cell stands for it,
+/// where its outputs meet gates alone and the other conditions of the checked circuit hold; all others are unrolled. Each verdict
+/// is that of the flat circuit. A fault stands there, and is the first by the order of places of the checked circuit.
 ///
 /// `Budget` comes only with more than four variables, where the nodes that its phase may need are more than the budget;
 /// beside it and want of memory each verdict comes exactly where it holds.
@@ -174,7 +181,8 @@ pub fn compare(
     requires rules { AreRules rules.now }
     requires cell { cell < length design.now.cells }
     requires ordered { IsOrdered design.now rules.now }
-    ensures verdict { IfOk result (λ c. IsVerdict design.now blif.now rules.now budget cell c.verdict) }
+    requires facts { ArePlainFacts design.now blif.now rules.now facts.now }
+    ensures verdict { IfOk result (λ c. IsCheckedVerdict design.now blif.now rules.now facts.now budget cell c.verdict) }
     ensures line { IfOk result (λ c. HasLine design.now blif.now rules.now cell c.verdict c.flattened) }
     ensures flattened { IfOk result (λ c. IsFlattenedTo design.now blif.now rules.now cell (Some c.verdict) c.flattened) }
     ensures facts { IfOk result (λ c. HasFacts design.now blif.now rules.now cell c.verdict c.facts) }

@@ -1,5 +1,6 @@
 -- The steps give the verdict, the line, what is known, and the runs.
 use Rattle.std.proofs.Common.{List, subst}
+use Rattle.cell_compare.proofs.CheckedLaws.{checkable}
 use Rattle.cell_compare.proofs.CompleteLaws.{complete}
 use Rattle.cell_compare.proofs.ReadyLaws.{ready}
 use Rattle.cell_compare.proofs.VerdictLaws.{facts_with, line_with, runs_with, told}
@@ -16,7 +17,7 @@ check_cell-requires-clause-tables c = c.requires.prepared.index_is.rules_are
 
 pub returns-clause-verdict : goal.returns-clause-verdict
 returns-clause-verdict c =
-    told c.args.design.now c.args.blif.now c.args.rules.now c.args.cell c.args.model c.in-Ok.flattened c.requires.inputs c.in-Ok.ensures c.args.budget c.in_ok-verdict.verdict
+    told c.args.design.now c.args.blif.now c.args.rules.now c.args.cell c.args.model c.in-Ok.flattened c.requires.inputs c.in-Ok.ensures c.args.facts.now c.args.budget c.in_ok-verdict.verdict
     c.in_ok-verdict.ensures
 
 pub returns-clause-line : goal.returns-clause-line
@@ -25,20 +26,24 @@ returns-clause-line c =
 
 pub returns-clause-facts : goal.returns-clause-facts
 returns-clause-facts c =
-    facts_with c.args.design.now c.args.blif.now c.args.rules.now c.args.cell c.args.model c.in-Ok.flattened c.requires.inputs c.in-Ok.ensures c.args.budget c.in_ok-verdict.verdict
+    facts_with c.args.design.now c.args.blif.now c.args.rules.now c.args.cell c.args.model c.in-Ok.flattened c.requires.inputs c.in-Ok.ensures c.args.facts.now c.args.budget c.in_ok-verdict.verdict
     c.is_bare-bare.result c.in_ok-facts.facts c.is_bare-bare.ensures c.in_ok-verdict.ensures
     (subst (λ (roles : List PortRole). AreSoft roles c.is_bare-bare.result c.in_ok-verdict.verdict c.in_ok-facts.facts) c.as_slice.ensures c.in_ok-facts.ensures)
 
 pub returns-clause-complete : goal.returns-clause-complete
 returns-clause-complete c =
-    complete c.args.design.now c.args.blif.now c.args.rules.now c.args.budget c.args.cell c.in_ok-verdict.verdict
-    (told c.args.design.now c.args.blif.now c.args.rules.now c.args.cell c.args.model c.in-Ok.flattened c.requires.inputs c.in-Ok.ensures c.args.budget c.in_ok-verdict.verdict
+    complete c.args.design.now c.args.blif.now c.args.rules.now c.args.facts.now c.args.budget c.args.cell c.in_ok-verdict.verdict
+    (told c.args.design.now c.args.blif.now c.args.rules.now c.args.cell c.args.model c.in-Ok.flattened c.requires.inputs c.in-Ok.ensures c.args.facts.now c.args.budget c.in_ok-verdict.verdict
     c.in_ok-verdict.ensures)
 
 pub returns-clause-runs : goal.returns-clause-runs
 returns-clause-runs c =
-    runs_with c.args.design.now c.args.blif.now c.args.rules.now c.args.cell c.args.model c.in-Ok.flattened c.requires.inputs c.in-Ok.ensures c.args.budget c.in_ok-verdict.verdict
+    runs_with c.args.design.now c.args.blif.now c.args.rules.now c.args.cell c.args.model c.in-Ok.flattened c.requires.inputs c.in-Ok.ensures c.args.facts.now c.args.budget c.in_ok-verdict.verdict
     c.in_ok-verdict.ensures
 
 pub returns-clause-flattened : goal.returns-clause-flattened
 returns-clause-flattened c = (c.args.model, c.in-Ok.ensures)
+
+pub check_cell-requires-clause-checkable : goal.check_cell-requires-clause-checkable
+check_cell-requires-clause-checkable c =
+    checkable c.args.design.now c.args.blif.now c.args.rules.now c.args.cell c.args.model c.in-Ok.flattened c.requires.inputs c.in-Ok.ensures c.args.facts.now c.requires.facts
