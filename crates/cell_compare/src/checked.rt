@@ -52,7 +52,7 @@ fn checked_circuit(
     prepared: &Prepared,
     blif: &Blif,
     compared: Comparison<'_>,
-    facts: &Seq<CellFacts>,
+    facts: &[CellFacts],
 ) -> Result<Option<Circuit>, NoMemory>
     requires prepared { ArePrepared compared.design.now blif.now compared.rules.now prepared.now }
     requires checkable { IsCheckable (comparison_in compared) blif.now facts.now }
@@ -61,7 +61,7 @@ fn checked_circuit(
     let _alloc = alloc;
     let _prepared = prepared;
     let _blif = blif;
-    if has_candidate(compared.circuit, facts.as_slice()) {
+    if has_candidate(compared.circuit, facts) {
         return Err(NoMemory);
     }
     Ok(None)
@@ -135,7 +135,7 @@ fn check_whole(
     budget: u32,
     blif: &Blif,
     compared: Comparison<'_>,
-    facts: &Seq<CellFacts>,
+    facts: &[CellFacts],
     vars: &[Vars],
     circuit: &Circuit,
 ) -> Result<Verdict, NoMemory>
@@ -160,7 +160,7 @@ fn check_flat(
     budget: u32,
     blif: &Blif,
     compared: Comparison<'_>,
-    facts: &Seq<CellFacts>,
+    facts: &[CellFacts],
     vars: &[Vars],
     plans: &[PhasePlan],
 ) -> Result<Verdict, NoMemory>
@@ -185,7 +185,7 @@ fn check_circuit(
     budget: u32,
     blif: &Blif,
     compared: Comparison<'_>,
-    facts: &Seq<CellFacts>,
+    facts: &[CellFacts],
     vars: &[Vars],
     plans: &[PhasePlan],
     checked: &Option<Circuit>,
@@ -213,7 +213,7 @@ fn check_planned(
     prepared: &Prepared,
     blif: &Blif,
     compared: Comparison<'_>,
-    facts: &Seq<CellFacts>,
+    facts: &[CellFacts],
     vars: &[Vars],
     plans: &[PhasePlan],
 ) -> Result<Verdict, NoMemory>
@@ -238,7 +238,7 @@ pub(crate) fn check_cell(
     prepared: &Prepared,
     blif: &Blif,
     compared: Comparison<'_>,
-    facts: &Seq<CellFacts>,
+    facts: &[CellFacts],
 ) -> Result<Verdict, NoMemory>
     requires budget { (65536 ≤ budget) × (budget ≤ 64000000) }
     requires prepared { ArePrepared compared.design.now blif.now compared.rules.now prepared.now }

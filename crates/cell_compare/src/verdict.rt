@@ -23,6 +23,7 @@ use vrt_model::{Blif, CellFacts, Design, NoMemory, Rules, Seq, Verdict, Why};
 
 /// The verdict on a cell, and what is known of the cell then, with its flat circuit and flat model, by which what the
 /// verdict speaks of is named.
+#[derive(Drop)]
 pub struct Compared {
     /// The answer for the cell, which is printed in one line.
     pub verdict: Verdict,
@@ -30,17 +31,6 @@ pub struct Compared {
     pub facts: CellFacts,
     /// What was compared; none for `Skipped` and where something stands in the way of circuit or model.
     pub flattened: Option<Flattened>,
-}
-
-/// By hand, so that letting go of one is a call.
-impl Drop for Compared {
-    fn drop(self) {
-        let Compared {
-            verdict: _verdict,
-            facts: _facts,
-            flattened: _flattened,
-        } = self;
-    }
 }
 
 /// A verdict on a cell that is not equal, without circuit and model.
@@ -64,7 +54,7 @@ fn compare_with(
     rules: &Rules,
     cell: u32,
     model: u32,
-    facts: &Seq<CellFacts>,
+    facts: &[CellFacts],
 ) -> Result<Compared, NoMemory>
     requires budget { (65536 ≤ budget) × (budget ≤ 64000000) }
     requires prepared { ArePrepared design.now blif.now rules.now prepared.now }
@@ -129,7 +119,7 @@ pub fn compare_prepared(
     blif: &Blif,
     rules: &Rules,
     cell: u32,
-    facts: &Seq<CellFacts>,
+    facts: &[CellFacts],
 ) -> Result<Compared, NoMemory>
     requires budget { (65536 ≤ budget) × (budget ≤ 64000000) }
     requires prepared { ArePrepared design.now blif.now rules.now prepared.now }
@@ -190,5 +180,14 @@ pub fn compare(
     ensures runs { IfOk result (λ c. HasRuns design.now blif.now rules.now cell c.verdict) }
 {
     let prepared = prepare(alloc, design, blif, rules)?;
-    compare_prepared(alloc, budget, &prepared, design, blif, rules, cell, facts)
+    compare_prepared(
+        alloc,
+        budget,
+        &prepared,
+        design,
+        blif,
+        rules,
+        cell,
+        facts.as_slice(),
+    )
 }
