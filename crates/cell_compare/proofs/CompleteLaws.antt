@@ -1,5 +1,5 @@
 -- A cell within reach is equal or has a fault.
-use Rattle.std.proofs.Common.{◌≡◌, ◌⊎◌, ℕ, ◌<◌, ◌≤◌, length, arith, ap, subst, sym, ◌∙◌, inl, inr}
+use Rattle.std.proofs.Common.{◌≡◌, ◌⊎◌, ℕ, ◌<◌, ◌≤◌, List, length, arith, ap, subst, sym, ◌∙◌, inl, inr}
 use Rattle.std.proofs.lemmas.Option.{none-some}
 use Rattle.cell_compare.specs.Cells.{IsComplete, IsWithinReach}
 use Rattle.vrt_model.specs.Budget.{enough_nodes}
@@ -8,7 +8,8 @@ use Rattle.vrt_model.specs.Equal.{IsVacuous}
 use Rattle.vrt_model.specs.Held.{sources_of}
 use Rattle.vrt_model.specs.PairedPorts.{Model, Skipped, paired_model}
 use Rattle.vrt_model.specs.Unsupported.{AcyclicBefore, IsCycleWhy, IsUnsupportedBy, comparison_of, why_early}
-use Rattle.vrt_model.specs.Verdicts.{IsVerdict, MayPassBudget}
+use Rattle.vrt_model.specs.CheckedVerdicts.{IsCheckedVerdict}
+use Rattle.vrt_model.specs.Verdicts.{MayPassBudget}
 use Rattle.vrt_model.specs.declared.blif.Blif.{Blif}
 use Rattle.vrt_model.specs.declared.design.Design.{Design}
 use Rattle.vrt_model.specs.declared.rules.Rules.{Rules}
@@ -16,6 +17,7 @@ use Rattle.vrt_model.specs.declared.verdict.Verdict.{Verdict}
 use Rattle.vrt_model.specs.declared.verdict.Verdict.TheVariants.{Equal, Skipped as IsSkipped, Fault, Vacuous, Budget, Unsupported}
 use Rattle.vrt_model.specs.declared.verdict.Why.{Why}
 use Rattle.vrt_model.specs.declared.verdict.Why.TheVariants.{Ports, Cycle, ModelCycle, Unmatched, DeviceModel, SupplyTie, OutputIsInput, TooManyVars, TooLarge, NoModel, NoClock}
+use Rattle.vrt_model.specs.declared.whole.CellFacts.{CellFacts}
 
 -- without cycles none is the first
 no_cycle : (k : Comparison) (why : Why) → AcyclicBefore k (length k.rules.phases) → IsCycleWhy k why → ⊥
@@ -52,13 +54,13 @@ module _ (design : Design) (blif : Blif) (rules : Rules) (budget cell m : ℕ) (
       by_reach (inl few) = let many = may.0 in omega (arith, few, many)
       by_reach (inr enough) = let passed = may.1 in omega (arith, enough, passed)
 
-pub complete : (design : Design) (blif : Blif) (rules : Rules) (budget cell : ℕ) (verdict : Verdict) → IsVerdict design blif rules budget cell verdict → IsComplete design blif rules budget cell verdict
-complete design blif rules budget cell Equal v m reach = tt
-complete design blif rules budget cell (Fault fault) v m reach = tt
-complete design blif rules budget cell IsSkipped v m reach = not_skipped design blif rules budget cell m reach v
-complete design blif rules budget cell (Unsupported why) v m reach = not_hindered design blif rules budget cell m reach why v
-complete design blif rules budget cell (Vacuous phase) v m reach =
+pub complete : (design : Design) (blif : Blif) (rules : Rules) (facts : List CellFacts) (budget cell : ℕ) (verdict : Verdict) → IsCheckedVerdict design blif rules facts budget cell verdict → IsComplete design blif rules budget cell verdict
+complete design blif rules facts budget cell Equal v m reach = tt
+complete design blif rules facts budget cell (Fault fault) v m reach = tt
+complete design blif rules facts budget cell IsSkipped v m reach = not_skipped design blif rules budget cell m reach v
+complete design blif rules facts budget cell (Unsupported why) v m reach = not_hindered design blif rules budget cell m reach why v
+complete design blif rules facts budget cell (Vacuous phase) v m reach =
     reach.met phase v.2.0 (subst (λ (n : ℕ). IsVacuous (comparison_of design blif rules cell n) phase) (one_model design blif rules budget cell m reach v.0 v.1.paired) v.2.1)
-complete design blif rules budget cell (Budget nodes phase) v m reach =
+complete design blif rules facts budget cell (Budget nodes phase) v m reach =
     not_passed design blif rules budget cell m reach phase v.2.0
     (subst (λ (n : ℕ). MayPassBudget (comparison_of design blif rules cell n) blif budget phase) (one_model design blif rules budget cell m reach v.0 v.1.paired) v.2.2)

@@ -1,5 +1,7 @@
 pub mod Causes
 pub mod CheckLaws
+pub mod CheckedLaws
+pub mod CheckedReady
 pub mod CompleteLaws
 pub mod InstanceLaws
 pub mod PairedInputs

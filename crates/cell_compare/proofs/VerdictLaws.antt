@@ -3,11 +3,11 @@ use Rattle.std.proofs.Common.{◌≡◌, ℕ, suc, Bool, true, false, List, [], 
 use Rattle.std.specs.Prelude.{◌↔◌, filter, option_map}
 use Rattle.std.proofs.lemmas.Bool.{true≢false}
 use Rattle.cell_compare.proofs.Causes.{by_variables, comparison_is}
-use Rattle.cell_compare.proofs.Passing.{may_pass}
 use Rattle.cell_compare.proofs.ReadyLaws.{well_formed}
 use Rattle.cell_compare.specs.Cells.{HasEarlyLine, HasFacts, HasLine, HasRuns, IsEarly}
 use Rattle.cell_compare.specs.Compared.{AreInputs, IsFlattened, comparison}
-use Rattle.cell_compare.specs.Works.{AreSoft, IsChecked, IsPlanned, IsTold, IsToldEarly, IsToldWhy, is_output_role}
+use Rattle.cell_compare.specs.Checked.{IsTold}
+use Rattle.cell_compare.specs.Works.{AreSoft, IsPlanned, IsToldEarly, IsToldWhy, is_output_role}
 use Rattle.cell_compare.specs.declared.flattened.Flattened.{Flattened}
 use Rattle.paired_ports.proofs.PortLists.{net_for_each}
 use Rattle.run_laws.proofs.WellFormed.{equal_runs}
@@ -19,7 +19,7 @@ use Rattle.vrt_model.specs.PairedPorts.{Paired, Model, model_of_paired, paired_m
 use Rattle.vrt_model.specs.Runs.{RunsMatch}
 use Rattle.vrt_model.specs.Unsupported.{AcyclicBefore, IsCycleWhy, IsSupported, IsUnsupportedBy, comparison_of, why_early, why_of}
 use Rattle.vrt_model.specs.VerdictText.{verdict_line}
-use Rattle.vrt_model.specs.Verdicts.{HasVerdict, IsVerdict}
+use Rattle.vrt_model.specs.CheckedVerdicts.{HasCheckedVerdict, IsCheckedVerdict}
 use Rattle.vrt_model.specs.declared.blif.Blif.{Blif}
 use Rattle.vrt_model.specs.declared.design.Design.{Design}
 use Rattle.vrt_model.specs.declared.pairing.PortRole.{PortRole}
@@ -54,7 +54,7 @@ module _ (design : Design) (blif : Blif) (rules : Rules) (cell m : ℕ) (f : Fla
   same = comparison_is design blif rules cell m f is
 
   -- what is planned is supported
-  supported : IsPlanned (comparison design rules cell f) → IsSupported design blif rules cell m
+  pub supported : IsPlanned (comparison design rules cell f) → IsSupported design blif rules cell m
   supported planned = record {
     paired = is.paired;
     early = by_variables design blif rules cell m f is ∙ ap (why_of (λ count. TooManyVars count)) planned.few;
@@ -62,15 +62,14 @@ module _ (design : Design) (blif : Blif) (rules : Rules) (cell m : ℕ) (f : Fla
   }
 
   -- what is found phase by phase is the verdict
-  checked : (budget : ℕ) (verdict : Verdict) → IsPlanned (comparison design rules cell f) → IsChecked (comparison design rules cell f) budget verdict → IsVerdict design blif rules budget cell verdict
-  checked budget Equal planned found = (m, supported planned, subst (λ (x : Comparison). HasVerdict x blif budget Equal) same found)
-  checked budget (Fault fault) planned found = (m, supported planned, subst (λ (x : Comparison). HasVerdict x blif budget (Fault fault)) same found)
-  checked budget (Vacuous phase) planned found = (m, supported planned, subst (λ (x : Comparison). HasVerdict x blif budget (Vacuous phase)) same found)
-  checked budget (Budget nodes phase) planned found =
-      let passed : HasVerdict (comparison design rules cell f) blif budget (Budget nodes phase) = (found.0, found.1, may_pass k blif budget phase (found.2 is.flat.wholes), found.3) in
-      (m, supported planned, subst (λ (x : Comparison). HasVerdict x blif budget (Budget nodes phase)) same passed)
-  checked budget IsSkipped planned found = absurd found
-  checked budget (Unsupported why) planned found = absurd found
+  checked : (facts : List CellFacts) (budget : ℕ) (verdict : Verdict) → IsPlanned (comparison design rules cell f) → HasCheckedVerdict (comparison design rules cell f) blif facts budget verdict
+      → IsCheckedVerdict design blif rules facts budget cell verdict
+  checked facts budget Equal planned found = (m, supported planned, subst (λ (x : Comparison). HasCheckedVerdict x blif facts budget Equal) same found)
+  checked facts budget (Fault fault) planned found = (m, supported planned, subst (λ (x : Comparison). HasCheckedVerdict x blif facts budget (Fault fault)) same found)
+  checked facts budget (Vacuous phase) planned found = (m, supported planned, subst (λ (x : Comparison). HasCheckedVerdict x blif facts budget (Vacuous phase)) same found)
+  checked facts budget (Budget nodes phase) planned found = (m, supported planned, subst (λ (x : Comparison). HasCheckedVerdict x blif facts budget (Budget nodes phase)) same found)
+  checked facts budget IsSkipped planned found = absurd found
+  checked facts budget (Unsupported why) planned found = absurd found
 
   -- too many variables, and the first cycle where they are few, are causes
   told_why : (why : Why) → IsToldWhy (comparison design rules cell f) why → IsUnsupportedBy design blif rules cell why
@@ -88,9 +87,10 @@ module _ (design : Design) (blif : Blif) (rules : Rules) (cell m : ℕ) (f : Fla
       )
 
   -- what is told of the cell is its verdict
-  pub told : (budget : ℕ) (verdict : Verdict) → IsTold (comparison design rules cell f) budget verdict → IsVerdict design blif rules budget cell verdict
-  told budget verdict (inl u) = subst (IsVerdict design blif rules budget cell) (sym u.1) (told_why u.0 u.2)
-  told budget verdict (inr c) = checked budget verdict c.0 c.1
+  pub told : (facts : List CellFacts) (budget : ℕ) (verdict : Verdict) → IsTold (comparison design rules cell f) blif facts budget verdict
+      → IsCheckedVerdict design blif rules facts budget cell verdict
+  told facts budget verdict (inl u) = subst (IsCheckedVerdict design blif rules facts budget cell) (sym u.1) (told_why u.0 u.2)
+  told facts budget verdict (inr c) = checked facts budget verdict c.0 c.1
 
   pub told_early : (o : Option Verdict) → IsToldEarly (comparison design rules cell f) o → IsEarly design blif rules cell o
   told_early None planned = (m, supported planned)
@@ -118,15 +118,15 @@ module _ (design : Design) (blif : Blif) (rules : Rules) (cell m : ℕ) (f : Fla
   of_cell P here n paired = subst (λ (x : ℕ). P (comparison_of design blif rules cell x)) (one_model n paired) (subst P same here)
 
   -- an equal verdict is one by the phases
-  found_equal : (budget : ℕ) → IsTold (comparison design rules cell f) budget Equal → IsEqual (comparison design rules cell f)
-  found_equal budget (inl u) = let never : Equal ≡ Unsupported u.0 = u.1 in cc
-  found_equal budget (inr c) = c.1
+  found_equal : (below : List CellFacts) (budget : ℕ) → IsTold (comparison design rules cell f) blif below budget Equal → IsEqual (comparison design rules cell f)
+  found_equal below budget (inl u) = let never : Equal ≡ Unsupported u.0 = u.1 in cc
+  found_equal below budget (inr c) = c.1
 
   -- each run of an equal cell shows the bits of its model
-  pub runs_with : (budget : ℕ) (verdict : Verdict) → IsTold (comparison design rules cell f) budget verdict → HasRuns design blif rules cell verdict
-  runs_with budget verdict t equal =
+  pub runs_with : (below : List CellFacts) (budget : ℕ) (verdict : Verdict) → IsTold (comparison design rules cell f) blif below budget verdict → HasRuns design blif rules cell verdict
+  runs_with below budget verdict t equal =
       of_cell RunsMatch
-      (equal_runs (comparison design rules cell f) (well_formed design blif rules cell m f inputs is) (found_equal budget (subst (IsTold (comparison design rules cell f) budget) equal t)))
+      (equal_runs (comparison design rules cell f) (well_formed design blif rules cell m f inputs is) (found_equal below budget (subst (IsTold (comparison design rules cell f) blif below budget) equal t)))
 
   -- soft drives are true of any output
   soft_drive : (x : Comparison) (port : CellPort) (drive : Drive) → drive ≡ Soft → IsTrueDrive x port drive
@@ -138,14 +138,14 @@ module _ (design : Design) (blif : Blif) (rules : Rules) (cell m : ℕ) (f : Fla
       let names = (cell_at design cell).ports in outputs_among 0 names (port_nets rules names) f.pairing.ports (net_for_each rules 2 names) is.roles.each
 
   -- what is noted of the cell is true
-  pub facts_with : (budget : ℕ) (verdict : Verdict) (bare : Bool) (facts : CellFacts) → (bare ≡ true) ↔ ((f.circuit.holds ≡ []) × (f.model.latches ≡ []))
-      → IsTold (comparison design rules cell f) budget verdict → AreSoft f.pairing.ports bare verdict facts → HasFacts design blif rules cell verdict facts
-  facts_with budget verdict bare facts is_bare t soft = record {
+  pub facts_with : (below : List CellFacts) (budget : ℕ) (verdict : Verdict) (bare : Bool) (facts : CellFacts) → (bare ≡ true) ↔ ((f.circuit.holds ≡ []) × (f.model.latches ≡ []))
+      → IsTold (comparison design rules cell f) blif below budget verdict → AreSoft f.pairing.ports bare verdict facts → HasFacts design blif rules cell verdict facts
+  facts_with below budget verdict bare facts is_bare t soft = record {
     equal = soft.equal;
     stateless = of_cell (λ (x : Comparison). (facts.stateless ≡ true) ↔ ((verdict ≡ Equal) × (x.circuit.holds ≡ []) × (x.model.latches ≡ []))) state_here;
     no_state = by_state facts.stateless refl;
     is_true = record {
-      supported = λ e. let v = told budget Equal (equal_told e) in (v.0, v.1);
+      supported = λ e. let v = told below budget Equal (equal_told e) in (v.0, v.1);
       compared = of_cell (λ (x : Comparison). IsTrueFor x facts) true_here;
     };
     soft = soft.soft;
@@ -153,8 +153,8 @@ module _ (design : Design) (blif : Blif) (rules : Rules) (cell m : ℕ) (f : Fla
     no_drives = soft.no_drives;
   }
     where
-      equal_told : facts.equal ≡ true → IsTold (comparison design rules cell f) budget Equal
-      equal_told e = subst (IsTold (comparison design rules cell f) budget) (soft.equal.0 e) t
+      equal_told : facts.equal ≡ true → IsTold (comparison design rules cell f) blif below budget Equal
+      equal_told e = subst (IsTold (comparison design rules cell f) blif below budget) (soft.equal.0 e) t
 
       state_here : (facts.stateless ≡ true) ↔ ((verdict ≡ Equal) × (f.circuit.holds ≡ []) × (f.model.latches ≡ []))
       state_here = (
@@ -168,7 +168,7 @@ module _ (design : Design) (blif : Blif) (rules : Rules) (cell m : ℕ) (f : Fla
 
       true_here : IsTrueFor (comparison design rules cell f) facts
       true_here = record {
-        equal = λ e. found_equal budget (equal_told e);
+        equal = λ e. found_equal below budget (equal_told e);
         stateless = λ e. (let none = is_bare.0 (soft.stateless.0 e).1 in (none.0, none.1));
         drives = λ j port drive out at. soft_drive k port drive (all_among (λ (d : Drive). d ≡ Soft) facts.drives drive soft.soft (j, at));
       }

@@ -1,4 +1,5 @@
 pub mod Cells
+pub mod Checked
 pub mod Compared
 pub mod Sizes
 pub mod Steps

@@ -137,10 +137,6 @@ IsChecked k budget (Budget nodes phase) = (phase < length k.rules.phases) × (no
 IsChecked k budget Skipped = ⊥
 IsChecked k budget (Unsupported why) = ⊥
 
--- what is told of a comparison
-abbrev pub IsTold : Comparison → ℕ → Verdict → Type 0
-IsTold k budget verdict = ((why : Why) × (verdict ≡ Unsupported why) × IsToldWhy k why) ⊎ (IsPlanned k × IsChecked k budget verdict)
-
 -- what is told of it where nothing but a cause is asked
 abbrev pub IsToldEarly : Comparison → Option Verdict → Type 0
 IsToldEarly k None = IsPlanned k

@@ -70,7 +70,7 @@ pub(crate) fn is_bare(circuit: &Circuit, model: &FlatModel) -> bool
 }
 
 /// Whether both hold.
-fn both(a: bool, b: bool) -> bool
+pub(crate) fn both(a: bool, b: bool) -> bool
     ensures { result ≡ (a && b) }
 {
     a && b

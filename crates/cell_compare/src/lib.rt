@@ -2,6 +2,7 @@
 //! verdict.
 #![tactic(auto)]
 
+mod checked;
 mod comparison;
 mod flattened;
 mod flattening;

@@ -1,7 +1,7 @@
 //! The phases of a comparison in their order, in one store.
 
 ghost use Rattle.std.specs.Prelude.{◌≡◌, ◌<◌, ◌≤◌, length, IfOk};
-ghost use Rattle.cell_compare.specs.Works.{AreVars, ArePlans, AreWithin, HasRoom, IsAcyclicPlan, IsChecked, IsTold, IsToldEarly, ArePhaseVars, PhaseTells};
+ghost use Rattle.cell_compare.specs.Works.{AreVars, ArePlans, AreWithin, HasRoom, IsAcyclicPlan, IsChecked, IsToldEarly, ArePhaseVars, PhaseTells};
 ghost use Rattle.phase_open.specs.Given.{AreFew};
 ghost use Rattle.phase_terms.specs.Ready.{IsReady, comparison_in};
 ghost use Rattle.phase_terms.specs.Stores.{counts_of};
@@ -104,7 +104,7 @@ fn search(
 }
 
 /// What is found phase by phase, with at most `budget` nodes in each.
-fn check_phases(
+pub(crate) fn check_phases(
     alloc: Global,
     budget: u32,
     compared: Comparison<'_>,
@@ -122,27 +122,6 @@ fn check_phases(
     let words = word_count(counts);
     let mut store = Store::with_budget(alloc, budget, words, counts.variables)?;
     search(&mut store, alloc, budget, compared, vars, plans, counts)
-}
-
-/// The verdict on a comparison: too many variables, or a cycle in a phase, or what is found phase by phase.
-pub(crate) fn check_cell(
-    alloc: Global,
-    budget: u32,
-    compared: Comparison<'_>,
-) -> Result<Verdict, NoMemory>
-    requires budget { (65536 ≤ budget) × (budget ≤ 64000000) }
-    requires ready { IsReady (comparison_in compared) }
-    requires wholes { IsWholeTable compared.circuit.now compared.wholes.drivers.now compared.wholes.plans.now }
-    requires tables { AreRuleTables compared.rules.now compared.index.now }
-    ensures { IfOk result (IsTold (comparison_in compared.entry) budget) }
-{
-    let mut vars = Seq::new(alloc);
-    let mut plans = Seq::new(alloc);
-    match work_out(alloc, compared, &mut vars, &mut plans) {
-        Ok(()) => check_phases(alloc, budget, compared, vars.as_slice(), plans.as_slice()),
-        Err(Hindrance::Because(why)) => Ok(Verdict::Unsupported(why)),
-        Err(Hindrance::NoMemory) => Err(NoMemory),
-    }
 }
 
 /// The verdict on a comparison that has too many variables or a cycle in a phase; none on another.

@@ -3,25 +3,27 @@
 ghost use Rattle.std.specs.Prelude.{◌≡◌, ◌≤◌, ◌<◌, [], None, Some, false, length, IfOk};
 ghost use Rattle.cell_compare.specs.Cells.{HasFacts, HasLine, HasRuns, IsComplete, IsFlattenedTo};
 ghost use Rattle.cell_compare.specs.Compared.{AreInputs};
+ghost use Rattle.checked_cells.specs.Given.{ArePlainFacts};
 ghost use Rattle.prepared_tables.specs.Prepared.{ArePrepared};
 ghost use Rattle.vrt_model.specs.Hierarchy.{IsOrdered};
 ghost use Rattle.vrt_model.specs.Inputs.{AreRules, IsBlif, IsDesign};
 ghost use Rattle.vrt_model.specs.Models.{AreModels};
 ghost use Rattle.vrt_model.specs.PairedPorts.{Model, model_of_paired, paired_model};
-ghost use Rattle.vrt_model.specs.Verdicts.{IsVerdict};
+ghost use Rattle.vrt_model.specs.CheckedVerdicts.{IsCheckedVerdict};
 
+use crate::checked::check_cell;
 use crate::comparison::flat_comparison;
 use crate::flattened::Flattened;
 use crate::flattening::flatten_cell;
 use crate::hindrance::Hindrance;
 use crate::known_facts::{facts_of, is_bare, no_facts};
-use crate::phases::check_cell;
 use prepared_tables::{Prepared, is_skipped_with, model_of_with, prepare};
 use std::alloc::Global;
 use vrt_model::{Blif, CellFacts, Design, NoMemory, Rules, Seq, Verdict, Why};
 
 /// The verdict on a cell, and what is known of the cell then, with its flat circuit and flat model, by which what the
 /// verdict speaks of is named.
+#[derive(Drop)]
 pub struct Compared {
     /// The answer for the cell, which is printed in one line.
     pub verdict: Verdict,
@@ -29,17 +31,6 @@ pub struct Compared {
     pub facts: CellFacts,
     /// What was compared; none for `Skipped` and where something stands in the way of circuit or model.
     pub flattened: Option<Flattened>,
-}
-
-/// By hand, so that letting go of one is a call.
-impl Drop for Compared {
-    fn drop(self) {
-        let Compared {
-            verdict: _verdict,
-            facts: _facts,
-            flattened: _flattened,
-        } = self;
-    }
 }
 
 /// A verdict on a cell that is not equal, without circuit and model.
@@ -63,12 +54,14 @@ fn compare_with(
     rules: &Rules,
     cell: u32,
     model: u32,
+    facts: &[CellFacts],
 ) -> Result<Compared, NoMemory>
     requires budget { (65536 ≤ budget) × (budget ≤ 64000000) }
     requires prepared { ArePrepared design.now blif.now rules.now prepared.now }
     requires inputs { AreInputs design.now blif.now rules.now cell }
+    requires facts { ArePlainFacts design.now blif.now rules.now facts.now }
     requires paired { paired_model design.now blif.now rules.now cell ≡ Model model }
-    ensures verdict { IfOk result (λ c. IsVerdict design.now blif.now rules.now budget cell c.verdict) }
+    ensures verdict { IfOk result (λ c. IsCheckedVerdict design.now blif.now rules.now facts.now budget cell c.verdict) }
     ensures line { IfOk result (λ c. HasLine design.now blif.now rules.now cell c.verdict c.flattened) }
     ensures flattened { IfOk result (λ c. IsFlattenedTo design.now blif.now rules.now cell (Some c.verdict) c.flattened) }
     ensures facts { IfOk result (λ c. HasFacts design.now blif.now rules.now cell c.verdict c.facts) }
@@ -81,7 +74,7 @@ fn compare_with(
         Err(Hindrance::NoMemory) => return Err(NoMemory),
     };
     let compared = flat_comparison(prepared, design, rules, cell, &flattened);
-    let verdict = check_cell(alloc, budget, compared)?;
+    let verdict = check_cell(alloc, budget, prepared, blif, compared, facts)?;
     let bare = is_bare(&flattened.circuit, &flattened.model);
     let facts = facts_of(alloc, &verdict, flattened.pairing.ports.as_slice(), bare)?;
     Ok(Compared {
@@ -117,7 +110,7 @@ pub fn compare_prepared(
     blif: &Blif,
     rules: &Rules,
     cell: u32,
-    facts: &Seq<CellFacts>,
+    facts: &[CellFacts],
 ) -> Result<Compared, NoMemory>
     requires budget { (65536 ≤ budget) × (budget ≤ 64000000) }
     requires prepared { ArePrepared design.now blif.now rules.now prepared.now }
@@ -127,25 +120,29 @@ pub fn compare_prepared(
     requires rules { AreRules rules.now }
     requires cell { cell < length design.now.cells }
     requires ordered { IsOrdered design.now rules.now }
-    ensures verdict { IfOk result (λ c. IsVerdict design.now blif.now rules.now budget cell c.verdict) }
+    requires facts { ArePlainFacts design.now blif.now rules.now facts.now }
+    ensures verdict { IfOk result (λ c. IsCheckedVerdict design.now blif.now rules.now facts.now budget cell c.verdict) }
     ensures line { IfOk result (λ c. HasLine design.now blif.now rules.now cell c.verdict c.flattened) }
     ensures flattened { IfOk result (λ c. IsFlattenedTo design.now blif.now rules.now cell (Some c.verdict) c.flattened) }
     ensures facts { IfOk result (λ c. HasFacts design.now blif.now rules.now cell c.verdict c.facts) }
     ensures complete { IfOk result (λ c. IsComplete design.now blif.now rules.now budget cell c.verdict) }
     ensures runs { IfOk result (λ c. HasRuns design.now blif.now rules.now cell c.verdict) }
 {
-    let _unread = facts;
     if is_skipped_with(prepared, design, rules, cell) {
         return Ok(without(alloc, Verdict::Skipped));
     }
     match paired_number(prepared, design, blif, rules, cell) {
-        Some(model) => compare_with(alloc, budget, prepared, design, blif, rules, cell, model),
+        Some(model) => compare_with(
+            alloc, budget, prepared, design, blif, rules, cell, model, facts,
+        ),
         None => Ok(without(alloc, Verdict::Unsupported(Why::NoModel))),
     }
 }
 
-/// The verdict on a cell, with all its instances unrolled. Phase by phase its circuit is compared with its model by diagrams,
-/// which take at most `budget` nodes in each phase. What is known of other cells is not looked at yet.
+/// The verdict on a cell. Phase by phase its circuit is compared with its model by diagrams, which take at most `budget` nodes in
+/// each phase. An instance of a cell that is known as equal and stateless is left whole, and the model of its cell stands for it,
+/// where its outputs meet gates alone and the other conditions of the checked circuit hold; all others are unrolled. Each verdict
+/// is that of the flat circuit. A fault stands there, and is the first by the order of places of the checked circuit.
 ///
 /// `Budget` comes only with more than four variables, where the nodes that its phase may need are more than the budget;
 /// beside it and want of memory each verdict comes exactly where it holds.
@@ -165,7 +162,8 @@ pub fn compare(
     requires rules { AreRules rules.now }
     requires cell { cell < length design.now.cells }
     requires ordered { IsOrdered design.now rules.now }
-    ensures verdict { IfOk result (λ c. IsVerdict design.now blif.now rules.now budget cell c.verdict) }
+    requires facts { ArePlainFacts design.now blif.now rules.now facts.now }
+    ensures verdict { IfOk result (λ c. IsCheckedVerdict design.now blif.now rules.now facts.now budget cell c.verdict) }
     ensures line { IfOk result (λ c. HasLine design.now blif.now rules.now cell c.verdict c.flattened) }
     ensures flattened { IfOk result (λ c. IsFlattenedTo design.now blif.now rules.now cell (Some c.verdict) c.flattened) }
     ensures facts { IfOk result (λ c. HasFacts design.now blif.now rules.now cell c.verdict c.facts) }
@@ -173,5 +171,14 @@ pub fn compare(
     ensures runs { IfOk result (λ c. HasRuns design.now blif.now rules.now cell c.verdict) }
 {
     let prepared = prepare(alloc, design, blif, rules)?;
-    compare_prepared(alloc, budget, &prepared, design, blif, rules, cell, facts)
+    compare_prepared(
+        alloc,
+        budget,
+        &prepared,
+        design,
+        blif,
+        rules,
+        cell,
+        facts.as_slice(),
+    )
 }

@@ -63,7 +63,7 @@ fn phase_plan(alloc: Global, compared: Comparison<'_>, phase: u32) -> Result<Pha
 }
 
 /// The plan of each phase, or the first cycle, phase by phase, the circuit's before the model's.
-fn add_plans(
+pub(crate) fn add_plans(
     alloc: Global,
     compared: Comparison<'_>,
     plans: &mut Seq<PhasePlan>,

@@ -26,6 +26,7 @@ use Rattle.vrt_model.specs.declared.design.Cell.{Cell}
 use Rattle.vrt_model.specs.declared.design.Design.{Design}
 use Rattle.vrt_model.specs.declared.rules.Rules.{Rules}
 use Rattle.vrt_model.specs.declared.verdict.Verdict.{Verdict}
+use Rattle.vrt_model.specs.declared.whole.CellFacts.{CellFacts}
 
 module _ {E : Type 0} (design : Design) (blif : Blif) (rules : Rules) (n : ℕ) (cell : Cell) (named : cell ≡ cell_at design n) where
   -- the line of a cell that is not compared
@@ -78,6 +79,6 @@ classes_told design blif rules n cell f lines named early made found =
     })
 
 -- the same for a task in other words
-pub task_told : {E : Type 0} (design : Design) (blif : Blif) (rules : Rules) (n : ℕ) (task own : Task) (r : Result CellLines E) → task ≡ own
-    → IfOk r (λ t. IsOfTask own design blif rules n t.count t.lines) → IfOk r (λ t. IsOfTask task design blif rules n t.count t.lines)
-task_told design blif rules n task own r is told = subst (λ (x : Task). IfOk r (λ t. IsOfTask x design blif rules n t.count t.lines)) (sym is) told
+pub task_told : {E : Type 0} (design : Design) (blif : Blif) (rules : Rules) (known then : List CellFacts) (n : ℕ) (task own : Task) (r : Result CellLines E) → task ≡ own
+    → IfOk r (λ t. IsOfTask own design blif rules known n t.count t.lines then) → IfOk r (λ t. IsOfTask task design blif rules known n t.count t.lines then)
+task_told design blif rules known then n task own r is told = subst (λ (x : Task). IfOk r (λ t. IsOfTask x design blif rules known n t.count t.lines then)) (sym is) told

@@ -1,3 +1,4 @@
+pub mod KnownLaws
 pub mod CellLaws
 pub mod ClassLaws
 pub mod EnterShown

@@ -15,6 +15,7 @@ use Rattle.vrt_model.specs.declared.blif.Blif.{Blif}
 use Rattle.vrt_model.specs.declared.design.Design.{Design}
 use Rattle.vrt_model.specs.declared.rules.Rules.{Rules}
 use Rattle.vrt_model.specs.declared.verdict.Verdict.{Verdict}
+use Rattle.vrt_model.specs.declared.whole.CellFacts.{CellFacts}
 
 -- of a cell that is skipped or not supported the line of that verdict
 pub record IsNotCompared (design : Design) (blif : Blif) (rules : Rules) (cell : ℕ) (count : Count) (lines : List (List ℕ)) : Type 0 where
@@ -35,10 +36,10 @@ pub record HasClassLines (design : Design) (blif : Blif) (rules : Rules) (cell :
 abbrev pub IsClassed : Design → Blif → Rules → ℕ → Count → List (List ℕ) → Type 0
 IsClassed design blif rules cell count lines = IsNotCompared design blif rules cell count lines ⊎ HasClassLines design blif rules cell count lines
 
--- what is written of a cell for a task
-abbrev pub IsOfTask : Task → Design → Blif → Rules → ℕ → Count → List (List ℕ) → Type 0
+-- what is written of a cell for a task, and what is known before and then; classes tell nothing of a cell
+abbrev pub IsOfTask : Task → Design → Blif → Rules → List CellFacts → ℕ → Count → List (List ℕ) → List CellFacts → Type 0
 IsOfTask (Check budget) design blif rules = IsChecked design blif rules budget
-IsOfTask Classes design blif rules = IsClassed design blif rules
+IsOfTask Classes design blif rules = λ known cell count lines then. IsClassed design blif rules cell count lines × (then ≡ known)
 
 -- a budget of nodes that diagrams can have
 abbrev pub IsBudget : ℕ → Type 0

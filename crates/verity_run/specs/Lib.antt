@@ -1,6 +1,7 @@
 pub mod Asked
 pub mod Classes
 pub mod Given
+pub mod Known
 pub mod Messages
 pub mod Named
 pub mod Reads

@@ -1,22 +1,24 @@
 -- Reports: what is written of cells one behind the other, the status with it, and how a report begins.
-use Rattle.std.specs.Prelude.{◌≡◌, ◌≢◌, ◌⊎◌, ◌<◌, ◌++◌, ◌∷◌, [], ℕ, List, Bool, true, false, All, cond, length, map, take}
+use Rattle.std.specs.Prelude.{◌≡◌, ◌≢◌, ◌⊎◌, ◌<◌, ◌++◌, ◌∷◌, [], ℕ, List, Bool, true, false, All, cond, length, map, replicate, set, take}
 use Rattle.std.specs.Io.KnownBytes.{Appends, Keeps}
 use Rattle.std.specs.List.{list_any}
 use Rattle.std.specs.declared.option.Option.{Option}
-use Rattle.cell_compare.specs.Cells.{HasRuns}
+use Rattle.cell_compare.specs.Cells.{HasFacts, HasRuns}
 use Rattle.vrt_io.specs.Causes.{Rose}
 use Rattle.verity_run.specs.Messages.{joined}
 use Rattle.verity_run.specs.declared.status.Count.{Count}
 use Rattle.verity_run.specs.declared.status.Count.TheVariants.{Nothing, Pending, Faulty}
 use Rattle.verity_run.specs.declared.status.Status.{Status}
 use Rattle.verity_run.specs.declared.status.Status.TheVariants.{AllEqual, NoMemory, ReadFault, SomeFault, Undecided, Usage, WriteFault}
+use Rattle.vrt_model.specs.CheckedVerdicts.{IsCheckedVerdict}
 use Rattle.vrt_model.specs.Lists.{Among}
-use Rattle.vrt_model.specs.Verdicts.{Answer, IsVerdict, answer_line, report}
+use Rattle.vrt_model.specs.Verdicts.{Answer, answer_line, report}
 use Rattle.vrt_model.specs.declared.blif.Blif.{Blif}
 use Rattle.vrt_model.specs.declared.design.Design.{Design}
 use Rattle.vrt_model.specs.declared.rules.Rules.{Rules}
 use Rattle.vrt_model.specs.declared.verdict.Verdict.{Verdict}
 use Rattle.vrt_model.specs.declared.verdict.Verdict.TheVariants.{Equal, Skipped, Fault, Vacuous, Budget, Unsupported}
+use Rattle.vrt_model.specs.declared.whole.CellFacts.{CellFacts}
 
 -- ---- the status
 
@@ -52,6 +54,21 @@ pub data Reports (IsOf : ℕ → Count → List (List ℕ) → Type 0) : List �
       → cells' ≡ cells ++ n ∷ [] → status' ≡ with_count status count → lines' ≡ lines ++ own
       → Reports IsOf cells' status' lines'
 
+-- Here `IsOf` says besides what is known of all cells before this one is looked at, and then.
+
+-- before the first cell this is known; each cell more adds to it
+pub data ReportsKnowing (IsOf : List CellFacts → ℕ → Count → List (List ℕ) → List CellFacts → Type 0) (start : List CellFacts) : List ℕ → Status → List (List ℕ) → List CellFacts → Type 0 where
+  no_cell : ReportsKnowing IsOf start [] AllEqual [] start
+  one_more :
+      {cells cells' : List ℕ} {status status' : Status} {lines lines' : List (List ℕ)} {known known' : List CellFacts} (n : ℕ) (count : Count) (own : List (List ℕ))
+      → ReportsKnowing IsOf start cells status lines known → IsOf known n count own known'
+      → cells' ≡ cells ++ n ∷ [] → status' ≡ with_count status count → lines' ≡ lines ++ own
+      → ReportsKnowing IsOf start cells' status' lines' known'
+
+-- whatever is known then
+abbrev pub ReportsFrom : (List CellFacts → ℕ → Count → List (List ℕ) → List CellFacts → Type 0) → List CellFacts → List ℕ → Status → List (List ℕ) → Type 0
+ReportsFrom IsOf start cells status lines = (known : List CellFacts) × ReportsKnowing IsOf start cells status lines known
+
 -- lines with which the report of cells begins: with some behind them they are the report of the first cells, however many
 abbrev pub Begins : (List ℕ → Status → List (List ℕ) → Type 0) → List ℕ → List (List ℕ) → Type 0
 Begins IsReport cells lines = (count : ℕ) × (status : Status) × (rest : List (List ℕ)) × IsReport (take count cells) status (lines ++ rest)
@@ -66,13 +83,31 @@ AreThere design cells = (n : ℕ) → Among cells n → n < length design.cells
 abbrev pub cell_line : Design → Blif → Rules → ℕ → Verdict → List ℕ
 cell_line design blif rules cell verdict = answer_line design blif rules (record { cell = cell; verdict = verdict }) ++ 10 ∷ []
 
--- what a check writes of a cell: the line of its verdict; where it is equal, each of its runs shows the bits of its model
-pub record IsChecked (design : Design) (blif : Blif) (rules : Rules) (budget cell : ℕ) (count : Count) (lines : List (List ℕ)) : Type 0 where
+-- at first nothing is known of any cell
+abbrev pub nothing_known : Design → List CellFacts
+nothing_known design = replicate (length design.cells) (record { equal = false; stateless = false; drives = [] })
+
+-- What a check writes of a cell, where this is known of the cells before: the line of its verdict; where it is equal, each of its runs
+-- shows the bits of its model; and what is then known of it is noted.
+pub record IsChecked (design : Design) (blif : Blif) (rules : Rules) (budget : ℕ) (known : List CellFacts) (cell : ℕ) (count : Count) (lines : List (List ℕ)) (then : List CellFacts) : Type 0 where
   pub verdict : Verdict
-  pub is : IsVerdict design blif rules budget cell verdict
+  pub facts : CellFacts
+  pub is : IsCheckedVerdict design blif rules known budget cell verdict
   pub runs : HasRuns design blif rules cell verdict
+  pub is_so : HasFacts design blif rules cell verdict facts
+  pub noted : then ≡ set known cell facts
   pub counts : count ≡ counted verdict
   pub line : lines ≡ cell_line design blif rules cell verdict ∷ []
+
+-- each verdict is that of its cell where what the verdicts before it say of their cells is known: that these are equal, and stateless
+pub data AreVerdicts (design : Design) (blif : Blif) (rules : Rules) (budget : ℕ) : List Answer → List CellFacts → Type 0 where
+  no_verdict : AreVerdicts design blif rules budget [] (nothing_known design)
+  one_verdict :
+      {answers answers' : List Answer} {known known' : List CellFacts} (a : Answer) (facts : CellFacts)
+      → AreVerdicts design blif rules budget answers known
+      → IsCheckedVerdict design blif rules known budget a.cell a.verdict → HasFacts design blif rules a.cell a.verdict facts
+      → answers' ≡ answers ++ a ∷ [] → known' ≡ set known a.cell facts
+      → AreVerdicts design blif rules budget answers' known'
 
 abbrev pub is_fault : Verdict → Bool
 is_fault Equal = false
@@ -104,7 +139,7 @@ answer_lines design blif rules answers = map (λ (a : Answer). answer_line desig
 pub record ReportsCells (design : Design) (blif : Blif) (rules : Rules) (budget : ℕ) (cells : List ℕ) (status : Status) (lines : List (List ℕ)) : Type 0 where
   pub answers : List Answer
   pub on : map (λ (a : Answer). a.cell) answers ≡ cells
-  pub verdicts : All (λ (a : Answer). IsVerdict design blif rules budget a.cell a.verdict) answers
+  pub verdicts : (known : List CellFacts) × AreVerdicts design blif rules budget answers known
   pub runs : All (λ (a : Answer). HasRuns design blif rules a.cell a.verdict) answers
   pub ended : status ≡ status_by answers
   pub lines_are : lines ≡ answer_lines design blif rules answers
@@ -113,31 +148,35 @@ pub record ReportsCells (design : Design) (blif : Blif) (rules : Rules) (budget 
 -- ---- what was put of a report
 
 -- the report of cells was put
-pub record PutsReport (IsOf : ℕ → Count → List (List ℕ) → Type 0) (cells : List ℕ) (status : Status) (old new : Option (List ℕ)) : Type 0 where
+pub record PutsReport (IsOf : List CellFacts → ℕ → Count → List (List ℕ) → List CellFacts → Type 0) (start : List CellFacts) (cells : List ℕ) (status : Status) (known : List CellFacts) (old new : Option (List ℕ)) : Type 0 where
   pub lines : List (List ℕ)
-  pub reports : Reports IsOf cells status lines
+  pub reports : ReportsKnowing IsOf start cells status lines known
   pub put : Appends old new (joined lines)
 
 -- The report was not put as a whole: the output failed, and a front of its first lines was put; or memory was wanting, and
 -- its first lines were.
-pub record StopsReport (IsOf : ℕ → Count → List (List ℕ) → Type 0) (cells : List ℕ) (status : Status) (old new : Option (List ℕ)) (before now : ℕ) : Type 0 where
+pub record StopsReport (IsOf : List CellFacts → ℕ → Count → List (List ℕ) → List CellFacts → Type 0) (start : List CellFacts) (cells : List ℕ) (status : Status) (old new : Option (List ℕ)) (before now : ℕ) : Type 0 where
   pub stopped : (status ≡ WriteFault) ⊎ (status ≡ NoMemory)
-  pub fault : status ≡ WriteFault → Rose before now × ((lines : List (List ℕ)) × Begins (Reports IsOf) cells lines × ((n : ℕ) × Appends old new (take n (joined lines))))
-  pub memory : status ≡ NoMemory → (lines : List (List ℕ)) × Begins (Reports IsOf) cells lines × Appends old new (joined lines)
+  pub fault : status ≡ WriteFault → Rose before now × ((lines : List (List ℕ)) × Begins (ReportsFrom IsOf start) cells lines × ((n : ℕ) × Appends old new (take n (joined lines))))
+  pub memory : status ≡ NoMemory → (lines : List (List ℕ)) × Begins (ReportsFrom IsOf start) cells lines × Appends old new (joined lines)
 
 -- the lines of a cell were put, and the status counts it
-pub record PutsCell (IsOf : ℕ → Count → List (List ℕ) → Type 0) (cell : ℕ) (status more : Status) (old new : Option (List ℕ)) : Type 0 where
+pub record PutsCell (IsOf : List CellFacts → ℕ → Count → List (List ℕ) → List CellFacts → Type 0) (known : List CellFacts) (cell : ℕ) (status more : Status) (then : List CellFacts) (old new : Option (List ℕ)) : Type 0 where
   pub count : Count
   pub lines : List (List ℕ)
-  pub is : IsOf cell count lines
+  pub is : IsOf known cell count lines then
   pub counts : more ≡ with_count status count
   pub put : Appends old new (joined lines)
 
 -- The run ends at a cell: the output failed in its lines, or memory was wanting, and the first of its lines were put, or nothing.
-pub record StopsCell (IsOf : ℕ → Count → List (List ℕ) → Type 0) (cell : ℕ) (status : Status) (old new : Option (List ℕ)) (before now : ℕ) : Type 0 where
+pub record StopsCell (IsOf : List CellFacts → ℕ → Count → List (List ℕ) → List CellFacts → Type 0) (known : List CellFacts) (cell : ℕ) (status : Status) (old new : Option (List ℕ)) (before now : ℕ) : Type 0 where
   pub stopped : (status ≡ WriteFault) ⊎ (status ≡ NoMemory)
-  pub fault : status ≡ WriteFault → (count : Count) × (lines : List (List ℕ)) × IsOf cell count lines × (Rose before now × ((n : ℕ) × Appends old new (take n (joined lines))))
-  pub memory : status ≡ NoMemory → Keeps old new ⊎ ((count : Count) × (lines : List (List ℕ)) × IsOf cell count lines × ((k : ℕ) × Appends old new (joined (take k lines))))
+  pub fault :
+      status ≡ WriteFault
+      → (count : Count) × (lines : List (List ℕ)) × (then : List CellFacts) × IsOf known cell count lines then × (Rose before now × ((n : ℕ) × Appends old new (take n (joined lines))))
+  pub memory :
+      status ≡ NoMemory
+      → Keeps old new ⊎ ((count : Count) × (lines : List (List ℕ)) × (then : List CellFacts) × IsOf known cell count lines then × ((k : ℕ) × Appends old new (joined (take k lines))))
 
 -- a status that comes with files that were read
 pub record IsEnded (status : Status) : Type 0 where

@@ -1,6 +1,6 @@
 //! The report of cells: the lines of each, its verdict or its classes, are put before the next is looked at.
 
-ghost use Rattle.std.specs.Prelude.{◌≡◌, ◌<◌, ◌≤◌, ◌++◌, ◌∷◌, [], ℕ, List, None, IfOk, IfErr, length};
+ghost use Rattle.std.specs.Prelude.{◌≡◌, ◌<◌, ◌≤◌, ◌++◌, ◌∷◌, [], ℕ, List, None, IfOk, IfErr, false, length, replicate, set};
 ghost use Rattle.std.specs.Option.{option_copied};
 ghost use Rattle.cell_compare.specs.Cells.{HasEarlyLine, IsEarly, IsFlattenedTo};
 ghost use Rattle.channel_parts.specs.Classes.{AreClasses};
@@ -9,23 +9,27 @@ ghost use Rattle.mode_lines.specs.Lines.{class_lines};
 ghost use Rattle.prepared_tables.specs.Prepared.{ArePrepared};
 ghost use Rattle.verity_run.specs.Classes.{IsBudget, IsClassed, IsOfTask, IsTask};
 ghost use Rattle.verity_run.specs.Given.{AreFit};
-ghost use Rattle.verity_run.specs.Reports.{AreThere, IsChecked, PutsCell, PutsReport, StopsCell, StopsReport, counted};
+ghost use Rattle.verity_run.specs.Known.{IsKnown};
+ghost use Rattle.verity_run.specs.Reports.{AreThere, IsChecked, PutsCell, PutsReport, StopsCell, StopsReport, counted, nothing_known};
 ghost use Rattle.verity_run.specs.VerdictLines.{circuit_in, model_in};
 ghost use Rattle.vrt_model.specs.Circuits.{IsFlat};
 ghost use Rattle.vrt_model.specs.Comparison.{cell_at};
 ghost use Rattle.vrt_model.specs.Hierarchy.{IsOrdered};
 ghost use Rattle.vrt_model.specs.VerdictText.{verdict_line};
+ghost use Rattle.vrt_model.specs.declared.whole.CellFacts.{CellFacts as FactsValue};
 
 use crate::puts::put_lines;
 use crate::refusals::Inputs;
 use crate::status::{Count, Status, counted, with_count};
-use cell_compare::{EarlyCell, Flattened, compare_prepared, early_prepared};
+use cell_compare::{Compared, EarlyCell, Flattened, compare_prepared, early_prepared};
 use channel_parts::classes;
 use mode_lines::class_lines;
 use prepared_tables::Prepared;
 use std::alloc::Global;
 use vrt_io::Sink;
-use vrt_model::{Cell, Circuit, Design, FlatModel, NoMemory, Phase, Rules, Seq, Text, Verdict};
+use vrt_model::{
+    Cell, CellFacts, Circuit, Design, FlatModel, NoMemory, Phase, Rules, Seq, Text, Verdict,
+};
 use witness::verdict_text;
 
 /// What is asked of each cell.
@@ -123,23 +127,50 @@ pub fn verdict_lines(
     one_line(alloc, counted(verdict), line)
 }
 
-/// The verdict's line of the cell of a number.
+/// Nothing known of so many cells.
+fn nothing_known(alloc: Global, count: usize) -> Result<Vec<CellFacts>, NoMemory>
+    ensures { IfOk result (λ known. known.items ≡ replicate count (record { equal = false; stateless = false; drives = [] })) }
+{
+    let mut known = Vec::new(alloc);
+    for _cell in 0..count {
+        let nothing = CellFacts {
+            equal: false,
+            stateless: false,
+            drives: Seq::new(alloc),
+        };
+        if known.push(nothing).is_err() {
+            return Err(NoMemory);
+        }
+    }
+    Ok(known)
+}
+
+/// Notes what is known of a cell.
+fn note(known: &mut Vec<CellFacts>, number: u32, facts: CellFacts)
+    requires number { number < length known.old.items }
+    ensures { known.new.items ≡ set known.old.items number facts }
+{
+    known[number as usize] = facts;
+}
+
+/// The verdict's line of the cell of a number, by what is known of the cells before; what is known of it then is noted.
 fn checked(
     alloc: Global,
     budget: u32,
     prepared: &Prepared,
     inputs: &Inputs,
     number: u32,
+    known: &mut Vec<CellFacts>,
 ) -> Result<CellLines, NoMemory>
     requires budget { IsBudget budget }
     requires prepared { ArePrepared inputs.now.design inputs.now.blif inputs.now.rules prepared.now }
     requires fit { AreFit inputs.now.design inputs.now.blif inputs.now.rules }
     requires ordered { IsOrdered inputs.now.design inputs.now.rules }
     requires number { number < length inputs.now.design.cells }
-    ensures { IfOk result (λ t. IsChecked inputs.now.design inputs.now.blif inputs.now.rules budget number t.count t.lines) }
+    requires known { IsKnown inputs.now.design inputs.now.blif inputs.now.rules known.old.items }
+    ensures checked { IfOk result (λ t. IsChecked inputs.now.design inputs.now.blif inputs.now.rules budget known.old.items number t.count t.lines known.new.items) }
+    ensures known { IsKnown inputs.now.design inputs.now.blif inputs.now.rules known.new.items }
 {
-    // nothing that is known of other cells is looked at yet
-    let facts = Seq::new(alloc);
     let compared = compare_prepared(
         alloc,
         budget,
@@ -148,15 +179,22 @@ fn checked(
         &inputs.blif,
         &inputs.rules,
         number,
-        &facts,
+        known.as_slice(),
     )?;
-    verdict_lines(
+    let lines = verdict_lines(
         alloc,
         cell_of(&inputs.design, number),
         &inputs.rules,
         &compared.verdict,
         &compared.flattened,
-    )
+    )?;
+    let Compared {
+        verdict: _verdict,
+        facts,
+        flattened: _flattened,
+    } = compared;
+    note(known, number, facts);
+    Ok(lines)
 }
 
 /// The lines of the classes of a flat circuit.
@@ -254,16 +292,19 @@ fn lines_for(
     prepared: &Prepared,
     inputs: &Inputs,
     number: u32,
+    known: &mut Vec<CellFacts>,
 ) -> Result<CellLines, NoMemory>
     requires task { IsTask task }
     requires prepared { ArePrepared inputs.now.design inputs.now.blif inputs.now.rules prepared.now }
     requires fit { AreFit inputs.now.design inputs.now.blif inputs.now.rules }
     requires ordered { IsOrdered inputs.now.design inputs.now.rules }
     requires number { number < length inputs.now.design.cells }
-    ensures { IfOk result (λ t. IsOfTask task inputs.now.design inputs.now.blif inputs.now.rules number t.count t.lines) }
+    requires known { IsKnown inputs.now.design inputs.now.blif inputs.now.rules known.old.items }
+    ensures lines { IfOk result (λ t. IsOfTask task inputs.now.design inputs.now.blif inputs.now.rules known.old.items number t.count t.lines known.new.items) }
+    ensures known { IsKnown inputs.now.design inputs.now.blif inputs.now.rules known.new.items }
 {
     match task {
-        Task::Check(budget) => checked(alloc, budget, prepared, inputs, number),
+        Task::Check(budget) => checked(alloc, budget, prepared, inputs, number, known),
         Task::Classes => classed(alloc, prepared, inputs, number),
     }
 }
@@ -276,6 +317,7 @@ fn report_cell<O: Sink>(
     inputs: &Inputs,
     number: u32,
     status: Status,
+    known: &mut Vec<CellFacts>,
     out: &mut O,
 ) -> Result<Status, Status>
     requires task { IsTask task }
@@ -283,11 +325,13 @@ fn report_cell<O: Sink>(
     requires fit { AreFit inputs.now.design inputs.now.blif inputs.now.rules }
     requires ordered { IsOrdered inputs.now.design inputs.now.rules }
     requires number { number < length inputs.now.design.cells }
-    ensures more { IfOk result (λ more. PutsCell (IsOfTask task inputs.now.design inputs.now.blif inputs.now.rules) number status more (O.written out.old) (O.written out.new)) }
-    ensures stopped { IfErr result (λ end. StopsCell (IsOfTask task inputs.now.design inputs.now.blif inputs.now.rules) number end (O.written out.old) (O.written out.new) (O.faults out.old) (O.faults out.new)) }
+    requires known { IsKnown inputs.now.design inputs.now.blif inputs.now.rules known.old.items }
+    ensures more { IfOk result (λ more. PutsCell (IsOfTask task inputs.now.design inputs.now.blif inputs.now.rules) known.old.items number status more known.new.items (O.written out.old) (O.written out.new)) }
+    ensures stopped { IfErr result (λ end. StopsCell (IsOfTask task inputs.now.design inputs.now.blif inputs.now.rules) known.old.items number end (O.written out.old) (O.written out.new) (O.faults out.old) (O.faults out.new)) }
+    ensures known { IsKnown inputs.now.design inputs.now.blif inputs.now.rules known.new.items }
     ensures later { O.faults out.old ≤ O.faults out.new }
 {
-    match lines_for(alloc, task, prepared, inputs, number) {
+    match lines_for(alloc, task, prepared, inputs, number, known) {
         Ok(found) => match put_lines(out, found.lines.as_slice()) {
             Ok(()) => Ok(with_count(status, found.count)),
             Err(end) => Err(end),
@@ -298,6 +342,36 @@ fn report_cell<O: Sink>(
 
 /// Looks at cells, in this order, and puts the lines of each before it looks at the next: the status of the report, or the
 /// status with which the run ends before its end.
+fn report_known<O: Sink>(
+    alloc: Global,
+    task: Task,
+    prepared: &Prepared,
+    inputs: &Inputs,
+    cells: &[u32],
+    known: &mut Vec<CellFacts>,
+    out: &mut O,
+) -> Result<Status, Status>
+    requires task { IsTask task }
+    requires prepared { ArePrepared inputs.now.design inputs.now.blif inputs.now.rules prepared.now }
+    requires fit { AreFit inputs.now.design inputs.now.blif inputs.now.rules }
+    requires ordered { IsOrdered inputs.now.design inputs.now.rules }
+    requires there { AreThere inputs.now.design cells.now }
+    requires known { IsKnown inputs.now.design inputs.now.blif inputs.now.rules known.old.items }
+    ensures put { IfOk result (λ status. PutsReport (IsOfTask task inputs.now.design inputs.now.blif inputs.now.rules) known.old.items cells.now status known.new.items (O.written out.old) (O.written out.new)) }
+    ensures stopped { IfErr result (λ end. StopsReport (IsOfTask task inputs.now.design inputs.now.blif inputs.now.rules) known.old.items cells.now end (O.written out.old) (O.written out.new) (O.faults out.old) (O.faults out.new)) }
+    ensures later { O.faults out.old ≤ O.faults out.new }
+{
+    let mut status = Status::AllEqual;
+    for number in cells {
+        match report_cell(alloc, task, prepared, inputs, *number, status, known, out) {
+            Ok(more) => status = more,
+            Err(end) => return Err(end),
+        }
+    }
+    Ok(status)
+}
+
+/// Looks at cells, in this order, where nothing is known of any at first.
 pub fn report_cells<O: Sink>(
     alloc: Global,
     task: Task,
@@ -311,16 +385,15 @@ pub fn report_cells<O: Sink>(
     requires fit { AreFit inputs.now.design inputs.now.blif inputs.now.rules }
     requires ordered { IsOrdered inputs.now.design inputs.now.rules }
     requires there { AreThere inputs.now.design cells.now }
-    ensures put { IfOk result (λ status. PutsReport (IsOfTask task inputs.now.design inputs.now.blif inputs.now.rules) cells.now status (O.written out.old) (O.written out.new)) }
-    ensures stopped { IfErr result (λ end. StopsReport (IsOfTask task inputs.now.design inputs.now.blif inputs.now.rules) cells.now end (O.written out.old) (O.written out.new) (O.faults out.old) (O.faults out.new)) }
+    ensures put { IfOk result (λ status. (known : List FactsValue) × PutsReport (IsOfTask task inputs.now.design inputs.now.blif inputs.now.rules) (nothing_known inputs.now.design) cells.now status known (O.written out.old) (O.written out.new)) }
+    ensures stopped { IfErr result (λ end. StopsReport (IsOfTask task inputs.now.design inputs.now.blif inputs.now.rules) (nothing_known inputs.now.design) cells.now end (O.written out.old) (O.written out.new) (O.faults out.old) (O.faults out.new)) }
     ensures later { O.faults out.old ≤ O.faults out.new }
 {
-    let mut status = Status::AllEqual;
-    for number in cells {
-        match report_cell(alloc, task, prepared, inputs, *number, status, out) {
-            Ok(more) => status = more,
-            Err(end) => return Err(end),
+    match nothing_known(alloc, inputs.design.cells.len()) {
+        Ok(nothing) => {
+            let mut known = nothing;
+            report_known(alloc, task, prepared, inputs, cells, &mut known, out)
         }
+        Err(_) => Err(Status::NoMemory),
     }
-    Ok(status)
 }

@@ -4,15 +4,15 @@ use Rattle.verity_run.proofs.answers.check_generated.Goals as goal
 
 pub tell_generated-requires-clause-fault : goal.tell_generated-requires-clause-fault
 tell_generated-requires-clause-fault g c =
-    (put_ends c.args.inputs.now.design c.args.inputs.now.blif c.args.inputs.now.rules c.args.budget c.args.cells.now _ _ _ c.in-Ok.ensures.put).written
+    (put_ends c.args.inputs.now.design c.args.inputs.now.blif c.args.inputs.now.rules c.args.budget c.args.cells.now _ c.in-Ok.ensures.put.0 _ _ c.in-Ok.ensures.put.1).written
 
 pub tell_generated-requires-clause-memory : goal.tell_generated-requires-clause-memory
 tell_generated-requires-clause-memory g c =
-    (put_ends c.args.inputs.now.design c.args.inputs.now.blif c.args.inputs.now.rules c.args.budget c.args.cells.now _ _ _ c.in-Ok.ensures.put).had
+    (put_ends c.args.inputs.now.design c.args.inputs.now.blif c.args.inputs.now.rules c.args.budget c.args.cells.now _ c.in-Ok.ensures.put.0 _ _ c.in-Ok.ensures.put.1).had
 
 pub returns-in-Ok : goal.returns-in-Ok
 returns-in-Ok g c =
-    generated_ends c.args.inputs.now.design c.args.inputs.now.blif c.args.inputs.now.rules c.args.budget c.args.size c.args.cells.now _ _ _ _ _ _ _ _ c.in-Ok.ensures.put
+    generated_ends c.args.inputs.now.design c.args.inputs.now.blif c.args.inputs.now.rules c.args.budget c.args.size c.args.cells.now _ _ c.in-Ok.ensures.put.0 _ _ _ _ _ _ c.in-Ok.ensures.put.1
     c.report_cells.ensures.later c.tell_generated.ensures
 
 pub returns-in-Err : goal.returns-in-Err

@@ -1,5 +1,5 @@
 use Rattle.verity_run.proofs.ClassLaws.{task_told}
 use Rattle.verity_run.proofs.report.lines_for.Goals as goal
 
-pub returns-in-Check : goal.returns-in-Check
-returns-in-Check c = task_told c.args.inputs.now.design c.args.inputs.now.blif c.args.inputs.now.rules c.args.number c.args.task _ c.checked.result c.in-Check.is c.checked.ensures
+pub returns-in-Check-clause-lines : goal.returns-in-Check-clause-lines
+returns-in-Check-clause-lines c = task_told c.args.inputs.now.design c.args.inputs.now.blif c.args.inputs.now.rules _ _ c.args.number c.args.task _ c.checked.result c.in-Check.is c.checked.ensures.checked

@@ -1,0 +1,59 @@
+-- What is told of a comparison whose checked circuit is looked through.
+use Rattle.std.specs.Prelude.{◌≡◌, ℕ, ◌+◌, ◌*◌, ◌⊎◌, ◌&&◌, Bool, true, false, List, length, nat_lt, Option, Some, None, option_map, slice_get, unwrap_or}
+use Rattle.cell_compare.specs.Works.{IsPlanned, IsToldWhy}
+use Rattle.checked_cells.specs.Given.{IsCheckedOf}
+use Rattle.substitution_laws.specs.Agreement.{IsCheckedSoftly}
+use Rattle.vrt_model.specs.Checked.{top_of}
+use Rattle.vrt_model.specs.CheckedVerdicts.{HasCheckedVerdict}
+use Rattle.vrt_model.specs.Comparison.{Comparison}
+use Rattle.vrt_model.specs.FlatCircuit.{flat_circuit_of}
+use Rattle.vrt_model.specs.declared.blif.Blif.{Blif}
+use Rattle.vrt_model.specs.declared.circuit.Circuit.{Circuit}
+use Rattle.vrt_model.specs.declared.groups.Vars.{Vars}
+use Rattle.vrt_model.specs.declared.verdict.Verdict.{Verdict}
+use Rattle.vrt_model.specs.declared.verdict.Verdict.TheVariants.{Equal, Skipped, Fault, Vacuous, Budget, Unsupported}
+use Rattle.vrt_model.specs.declared.verdict.Why.{Why}
+use Rattle.vrt_model.specs.declared.whole.CellFacts.{CellFacts}
+
+-- ---- the checked circuit
+
+-- the circuit of the comparison is the flat one of its cell; and a checked circuit of it, once nothing stands in the way of its phases,
+-- is made of instances each output of which meets gates alone
+pub record IsCheckable (k : Comparison) (blif : Blif) (facts : List CellFacts) : Type 0 where
+  pub flat : k.circuit ≡ flat_circuit_of (top_of k)
+  pub soft : (c : Circuit) → IsPlanned k → (is : IsCheckedOf k blif facts c) → IsCheckedSoftly k is.0 blif facts c
+
+-- the checked circuit, none where it is the flat one
+abbrev pub CheckedGives : Comparison → Blif → List CellFacts → Option Circuit → Type 0
+CheckedGives k blif facts None = IsCheckedOf k blif facts k.circuit
+CheckedGives k blif facts (Some c) = IsCheckedOf k blif facts c
+
+-- the comparison with another circuit that has the same groups of holds
+abbrev pub over : Comparison → Circuit → Comparison
+over k c = record k { circuit = c }
+
+-- ---- the budget
+
+-- a phase with more than four variables may pass the budget by the nets and devices of the circuit alone
+abbrev pub is_passed : ℕ → Circuit → Bool
+is_passed budget c = nat_lt budget (32 * (1000 * (length c.nets + 1) * (length c.nets + length c.devices + 1)))
+
+-- a phase has more than four variables
+abbrev pub has_many : List Vars → ℕ → Bool
+has_many vars phase = unwrap_or (option_map (λ (v : Vars). nat_lt 4 (length v.sources)) (slice_get vars phase)) false
+
+-- a verdict may be told: where it says that the budget is used up, it is so by the variables of the phase and the flat circuit alone
+abbrev pub is_settled : ℕ → Circuit → List Vars → Verdict → Bool
+is_settled budget c vars (Budget nodes phase) = has_many vars phase && is_passed budget c
+is_settled budget c vars Equal = true
+is_settled budget c vars (Fault fault) = true
+is_settled budget c vars (Vacuous phase) = true
+is_settled budget c vars Skipped = true
+is_settled budget c vars (Unsupported why) = true
+
+-- ---- what is told
+
+-- what is told of a comparison: what stands in the way of its phases, or what is found in those of its checked circuit
+abbrev pub IsTold : Comparison → Blif → List CellFacts → ℕ → Verdict → Type 0
+IsTold k blif facts budget verdict =
+    ((why : Why) × (verdict ≡ Unsupported why) × IsToldWhy k why) ⊎ (IsPlanned k × HasCheckedVerdict k blif facts budget verdict)

@@ -1,0 +1,331 @@
+//! The verdict on a comparison: what stands in the way of its phases, or what is found in those of its checked circuit.
+
+ghost use Rattle.std.specs.Prelude.{◌≡◌, ◌&&◌, ◌≤◌, [], true, length, IfOk};
+ghost use Rattle.std.specs.List.{list_any};
+ghost use Rattle.cell_compare.specs.Checked.{CheckedGives, IsCheckable, IsTold, has_many, is_passed, is_settled, over};
+ghost use Rattle.cell_compare.specs.Works.{AreVars, ArePlans, IsChecked, IsPlanned};
+ghost use Rattle.checked_cells.specs.Given.{IsCheckedOf, is_candidate};
+ghost use Rattle.phase_terms.specs.Ready.{IsReady, comparison_in};
+ghost use Rattle.prepared_tables.specs.Prepared.{ArePrepared};
+ghost use Rattle.rule_index.specs.Tables.{AreRuleTables};
+ghost use Rattle.vrt_model.specs.Checked.{has_fact};
+ghost use Rattle.vrt_model.specs.CheckedVerdicts.{HasCheckedVerdict};
+ghost use Rattle.vrt_model.specs.Circuits.{IsCircuit};
+ghost use Rattle.vrt_model.specs.Networks.{HasRanges};
+ghost use Rattle.vrt_model.specs.declared.whole.CellFacts.{CellFacts as FactsValue};
+ghost use Rattle.whole_steps.specs.Tables.{AreOrders, IsWholeTable};
+
+use crate::hindrance::Hindrance;
+use crate::known_facts::both;
+use crate::phases::check_phases;
+use crate::works::{add_plans, work_out};
+use blif_eval::{ModelPlan, PlanFault};
+use phase_terms::{Comparison, PhasePlan};
+use prepared_tables::Prepared;
+use std::alloc::Global;
+use vrt_model::{Blif, CellFacts, Circuit, NoMemory, Seq, Vars, Verdict};
+use whole_steps::{WholeTable, model_orders, output_drivers};
+
+/// Whether a cell is known as equal and stateless.
+fn is_known(facts: &[CellFacts], cell: u32) -> bool
+    ensures { result ≡ has_fact (λ (f : FactsValue). f.equal && f.stateless) facts.now cell }
+{
+    match facts.get(cell as usize) {
+        Some(known) => both(known.equal, known.stateless),
+        None => false,
+    }
+}
+
+/// Whether an instance is of a cell that is known as equal and stateless.
+fn has_candidate(circuit: &Circuit, facts: &[CellFacts]) -> bool
+    ensures { result ≡ list_any (is_candidate facts.now) circuit.now.instances }
+{
+    let mut rest = circuit.instances.as_slice();
+    'instances: while let Some((instance, behind)) = rest.split_first() {
+        if is_known(facts, instance.cell) {
+            return true;
+        }
+        rest = behind;
+    }
+    false
+}
+
+/// The checked circuit of a comparison; none where it is the flat one.
+fn checked_circuit(
+    alloc: Global,
+    prepared: &Prepared,
+    blif: &Blif,
+    compared: Comparison<'_>,
+    facts: &[CellFacts],
+) -> Result<Option<Circuit>, NoMemory>
+    requires prepared { ArePrepared compared.design.now blif.now compared.rules.now prepared.now }
+    requires checkable { IsCheckable (comparison_in compared) blif.now facts.now }
+    ensures { IfOk result (CheckedGives (comparison_in compared.entry) blif.now facts.now) }
+{
+    let _alloc = alloc;
+    let _prepared = prepared;
+    let _blif = blif;
+    if has_candidate(compared.circuit, facts) {
+        return Err(NoMemory);
+    }
+    Ok(None)
+}
+
+/// Whether a phase with more than four variables may pass the budget by the nets and devices of the circuit alone.
+fn is_passed(budget: u32, circuit: &Circuit) -> bool
+    requires { IsCircuit circuit.now }
+    ensures { result ≡ is_passed budget circuit.now }
+{
+    let nets = circuit.nets.len() as u64;
+    let devices = circuit.devices.len() as u64;
+    (budget as u64) < 32 * (1000 * (nets + 1) * (nets + devices + 1))
+}
+
+/// Whether a phase has more than four variables.
+fn has_many(vars: &[Vars], phase: u32) -> bool
+    ensures { result ≡ has_many vars.now phase }
+{
+    match vars.get(phase as usize) {
+        Some(one) => 4 < one.sources.len(),
+        None => false,
+    }
+}
+
+/// Whether a verdict may be told: where it says that the budget is used up, the phase has more than four variables, and the nets and
+/// devices of the flat circuit alone pass the budget.
+fn is_settled(budget: u32, flat: &Circuit, vars: &[Vars], verdict: &Verdict) -> bool
+    requires { IsCircuit flat.now }
+    ensures { result ≡ is_settled budget flat.now vars.now verdict.now }
+{
+    match verdict {
+        Verdict::Budget { phase, .. } => both(has_many(vars, *phase), is_passed(budget, flat)),
+        Verdict::Equal => true,
+        Verdict::Skipped => true,
+        Verdict::Fault(_) => true,
+        Verdict::Vacuous { .. } => true,
+        Verdict::Unsupported(_) => true,
+    }
+}
+
+/// A verdict that may be told; where it may not, the diagrams do not fit.
+fn settled(
+    budget: u32,
+    flat: &Circuit,
+    vars: &[Vars],
+    verdict: Verdict,
+) -> Result<Verdict, NoMemory>
+    requires { IsCircuit flat.now }
+    ensures same { IfOk result (λ settled. settled ≡ verdict) }
+    ensures settled { IfOk result (λ settled. is_settled budget flat.now vars.now settled ≡ true) }
+{
+    if !is_settled(budget, flat, vars, &verdict) {
+        return Err(NoMemory);
+    }
+    Ok(verdict)
+}
+
+/// The orders of the models of whole instances. No model leads around, where each is that of a supported cell.
+fn orders_of(alloc: Global, circuit: &Circuit) -> Result<Seq<ModelPlan>, NoMemory>
+    requires { HasRanges circuit.now }
+    ensures { IfOk result (λ orders. AreOrders circuit.now.wholes (length circuit.now.wholes) orders) }
+{
+    match model_orders(alloc, circuit) {
+        Ok(orders) => Ok(orders),
+        // the cell of a whole instance is known as equal, so it is supported, and its model has no cycle
+        Err(PlanFault::ModelCycle { .. }) => Err(NoMemory),
+        Err(PlanFault::NoMemory) => Err(NoMemory),
+    }
+}
+
+/// A comparison with another circuit that has the same groups of holds, and what is made of the whole instances of this circuit.
+fn over<'a>(
+    compared: Comparison<'a>,
+    circuit: &'a Circuit,
+    wholes: WholeTable<'a>,
+) -> Comparison<'a>
+    requires wholes { IsWholeTable circuit.now wholes.drivers.now wholes.plans.now }
+    ensures is { comparison_in result ≡ over (comparison_in compared.entry) circuit.now }
+    ensures index { result.index.now ≡ compared.entry.index.now }
+    ensures wholes { IsWholeTable result.circuit.now result.wholes.drivers.now result.wholes.plans.now }
+{
+    Comparison {
+        design: compared.design,
+        rules: compared.rules,
+        index: compared.index,
+        cell: compared.cell,
+        pairing: compared.pairing,
+        circuit,
+        wholes,
+        model: compared.model,
+        groups: compared.groups,
+    }
+}
+
+/// What is found phase by phase in a circuit of a comparison that has these variables.
+fn check_over(
+    alloc: Global,
+    budget: u32,
+    compared: Comparison<'_>,
+    vars: &[Vars],
+) -> Result<Verdict, NoMemory>
+    requires budget { (65536 ≤ budget) × (budget ≤ 64000000) }
+    requires ready { IsReady (comparison_in compared) }
+    requires wholes { IsWholeTable compared.circuit.now compared.wholes.drivers.now compared.wholes.plans.now }
+    requires tables { AreRuleTables compared.rules.now compared.index.now }
+    requires vars { AreVars (comparison_in compared) (length compared.rules.now.phases) vars.now }
+    ensures { IfOk result (IsChecked (comparison_in compared.entry) budget) }
+{
+    let mut plans = Seq::new(alloc);
+    match add_plans(alloc, compared, &mut plans) {
+        Ok(()) => check_phases(alloc, budget, compared, vars, plans.as_slice()),
+        Err(_) => Err(NoMemory),
+    }
+}
+
+/// The verdict on a comparison by its checked circuit, in which some instance is whole. Its arcs have no cycle, as those of the flat
+/// circuit.
+fn check_whole(
+    alloc: Global,
+    budget: u32,
+    blif: &Blif,
+    compared: Comparison<'_>,
+    facts: &[CellFacts],
+    vars: &[Vars],
+    circuit: &Circuit,
+) -> Result<Verdict, NoMemory>
+    requires budget { (65536 ≤ budget) × (budget ≤ 64000000) }
+    requires ready { IsReady (comparison_in compared) }
+    requires tables { AreRuleTables compared.rules.now compared.index.now }
+    requires checkable { IsCheckable (comparison_in compared) blif.now facts.now }
+    requires planned { IsPlanned (comparison_in compared) }
+    requires vars { AreVars (comparison_in compared) (length compared.rules.now.phases) vars.now }
+    requires checked { IsCheckedOf (comparison_in compared) blif.now facts.now circuit.now }
+    ensures { IfOk result (HasCheckedVerdict (comparison_in compared.entry) blif.now facts.now budget) }
+{
+    let _blif = blif;
+    let _facts = facts;
+    let drivers = output_drivers(alloc, circuit)?;
+    let orders = orders_of(alloc, circuit)?;
+    let wholes = WholeTable {
+        drivers: drivers.as_slice(),
+        plans: orders.as_slice(),
+    };
+    let found = check_over(alloc, budget, over(compared, circuit, wholes), vars)?;
+    let verdict = settled(budget, compared.circuit, vars, found)?;
+    Ok(verdict)
+}
+
+/// The verdict on a comparison by its flat circuit, in which no instance is whole.
+fn check_flat(
+    alloc: Global,
+    budget: u32,
+    blif: &Blif,
+    compared: Comparison<'_>,
+    facts: &[CellFacts],
+    vars: &[Vars],
+    plans: &[PhasePlan],
+) -> Result<Verdict, NoMemory>
+    requires budget { (65536 ≤ budget) × (budget ≤ 64000000) }
+    requires ready { IsReady (comparison_in compared) }
+    requires wholes { IsWholeTable compared.circuit.now compared.wholes.drivers.now compared.wholes.plans.now }
+    requires checkable { IsCheckable (comparison_in compared) blif.now facts.now }
+    requires planned { IsPlanned (comparison_in compared) }
+    requires vars { AreVars (comparison_in compared) (length compared.rules.now.phases) vars.now }
+    requires plans { ArePlans (comparison_in compared) (length compared.rules.now.phases) plans.now }
+    requires checked { IsCheckedOf (comparison_in compared) blif.now facts.now compared.circuit.now }
+    ensures { IfOk result (HasCheckedVerdict (comparison_in compared.entry) blif.now facts.now budget) }
+{
+    let _blif = blif;
+    let _facts = facts;
+    let verdict = check_phases(alloc, budget, compared, vars, plans)?;
+    Ok(verdict)
+}
+
+/// The verdict on a comparison in whose way nothing stands, by its checked circuit, where there is one beside the flat one.
+fn check_circuit(
+    alloc: Global,
+    budget: u32,
+    blif: &Blif,
+    compared: Comparison<'_>,
+    facts: &[CellFacts],
+    vars: &[Vars],
+    plans: &[PhasePlan],
+    checked: &Option<Circuit>,
+) -> Result<Verdict, NoMemory>
+    requires budget { (65536 ≤ budget) × (budget ≤ 64000000) }
+    requires ready { IsReady (comparison_in compared) }
+    requires wholes { IsWholeTable compared.circuit.now compared.wholes.drivers.now compared.wholes.plans.now }
+    requires tables { AreRuleTables compared.rules.now compared.index.now }
+    requires checkable { IsCheckable (comparison_in compared) blif.now facts.now }
+    requires planned { IsPlanned (comparison_in compared) }
+    requires vars { AreVars (comparison_in compared) (length compared.rules.now.phases) vars.now }
+    requires plans { ArePlans (comparison_in compared) (length compared.rules.now.phases) plans.now }
+    requires checked { CheckedGives (comparison_in compared) blif.now facts.now checked.now }
+    ensures { IfOk result (HasCheckedVerdict (comparison_in compared.entry) blif.now facts.now budget) }
+{
+    match checked {
+        None => check_flat(alloc, budget, blif, compared, facts, vars, plans),
+        Some(circuit) => check_whole(alloc, budget, blif, compared, facts, vars, circuit),
+    }
+}
+
+/// The verdict on a comparison in whose way nothing stands: what is found phase by phase in its checked circuit.
+fn check_planned(
+    alloc: Global,
+    budget: u32,
+    prepared: &Prepared,
+    blif: &Blif,
+    compared: Comparison<'_>,
+    facts: &[CellFacts],
+    vars: &[Vars],
+    plans: &[PhasePlan],
+) -> Result<Verdict, NoMemory>
+    requires budget { (65536 ≤ budget) × (budget ≤ 64000000) }
+    requires prepared { ArePrepared compared.design.now blif.now compared.rules.now prepared.now }
+    requires ready { IsReady (comparison_in compared) }
+    requires wholes { IsWholeTable compared.circuit.now compared.wholes.drivers.now compared.wholes.plans.now }
+    requires tables { AreRuleTables compared.rules.now compared.index.now }
+    requires checkable { IsCheckable (comparison_in compared) blif.now facts.now }
+    requires planned { IsPlanned (comparison_in compared) }
+    requires vars { AreVars (comparison_in compared) (length compared.rules.now.phases) vars.now }
+    requires plans { ArePlans (comparison_in compared) (length compared.rules.now.phases) plans.now }
+    ensures { IfOk result (HasCheckedVerdict (comparison_in compared.entry) blif.now facts.now budget) }
+{
+    let checked = checked_circuit(alloc, prepared, blif, compared, facts)?;
+    check_circuit(alloc, budget, blif, compared, facts, vars, plans, &checked)
+}
+
+/// The verdict on a comparison: too many variables, or a cycle in a phase, or what is found phase by phase.
+pub(crate) fn check_cell(
+    alloc: Global,
+    budget: u32,
+    prepared: &Prepared,
+    blif: &Blif,
+    compared: Comparison<'_>,
+    facts: &[CellFacts],
+) -> Result<Verdict, NoMemory>
+    requires budget { (65536 ≤ budget) × (budget ≤ 64000000) }
+    requires prepared { ArePrepared compared.design.now blif.now compared.rules.now prepared.now }
+    requires ready { IsReady (comparison_in compared) }
+    requires wholes { IsWholeTable compared.circuit.now compared.wholes.drivers.now compared.wholes.plans.now }
+    requires tables { AreRuleTables compared.rules.now compared.index.now }
+    requires checkable { IsCheckable (comparison_in compared) blif.now facts.now }
+    ensures { IfOk result (IsTold (comparison_in compared.entry) blif.now facts.now budget) }
+{
+    let mut vars = Seq::new(alloc);
+    let mut plans = Seq::new(alloc);
+    match work_out(alloc, compared, &mut vars, &mut plans) {
+        Ok(()) => check_planned(
+            alloc,
+            budget,
+            prepared,
+            blif,
+            compared,
+            facts,
+            vars.as_slice(),
+            plans.as_slice(),
+        ),
+        Err(Hindrance::Because(why)) => Ok(Verdict::Unsupported(why)),
+        Err(Hindrance::NoMemory) => Err(NoMemory),
+    }
+}
