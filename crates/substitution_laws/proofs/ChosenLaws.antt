@@ -39,7 +39,7 @@ allowed_at_gates devices outputs one soft =
     ap (λ (d : Drive). meets_gates_only devices outputs one || fits_drive devices outputs one d) soft ∙ or_false (meets_gates_only devices outputs one)
 
 module _ (facts : List CellFacts) (soft : AreSoft facts) where
-  told_soft : (cell j : ℕ) → drive_in facts cell j ≡ Soft
+  pub told_soft : (cell j : ℕ) → drive_in facts cell j ≡ Soft
   told_soft cell j = by_entry (slice_get facts cell) refl
     where
       by_drive : (f : CellFacts) (o : Option Drive) → slice_get facts cell ≡ Some f → slice_get f.drives j ≡ o → unwrap_or o Soft ≡ Soft
@@ -50,7 +50,7 @@ module _ (facts : List CellFacts) (soft : AreSoft facts) where
       by_entry None e = refl
       by_entry (Some f) e = by_drive f (slice_get f.drives j) e refl
 
-  pin_soft : (cell j : ℕ) (pins : List Pin) (pin : WholePin) → Among (driven_pins_from facts cell j pins) pin → pin.drive ≡ Soft
+  pub pin_soft : (cell j : ℕ) (pins : List Pin) (pin : WholePin) → Among (driven_pins_from facts cell j pins) pin → pin.drive ≡ Soft
   pin_soft cell j [] pin m = absurd (none-some pin m.1)
   pin_soft cell j (p ∷ pins) pin m = by_signal (output_signal p.port.role) m (λ k n. pin_soft cell k pins pin n)
     where
