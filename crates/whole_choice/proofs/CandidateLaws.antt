@@ -1,15 +1,13 @@
 -- A candidate and its tests.
-use Rattle.std.proofs.Common.{◌≡◌, ℕ, suc, ◌++◌, true, false, List, Bool, Option, ap, subst, sym, ◌∙◌}
+use Rattle.std.proofs.Common.{◌≡◌, ℕ, suc, ◌++◌, true, false, List, Bool, subst, sym, ◌∙◌}
 use Rattle.std.specs.Prelude.{◌==◌, ◌↔◌}
 use Rattle.std.proofs.lemmas.Bool.{false≢true}
 use Rattle.checked_chain.proofs.ChoiceLaws.{numbered_at}
-use Rattle.net_places.specs.declared.whole.Unrolled.{Unrolled}
 use Rattle.substitute.proofs.FlatLaws.{flat_parts}
 use Rattle.substitute.specs.Acyclic.{AreAcyclic}
 use Rattle.substitute.specs.Outputs.{AreOpen, own_outputs}
 use Rattle.substitute.specs.declared.marks.Marks.{Marks}
 use Rattle.substitute.specs.declared.outputs.NetMarks.{NetMarks}
-use Rattle.substitute.specs.declared.whole_cell.WholeCell.{WholeCell}
 use Rattle.vrt_model.specs.Checked.{IsCircuitWith, with_one}
 use Rattle.vrt_model.specs.CheckedParts.{checked_devices}
 use Rattle.vrt_model.specs.Cut.{Cut, NumberedPlace}
@@ -20,21 +18,21 @@ use Rattle.vrt_model.specs.declared.rules.Phase.{Phase}
 use Rattle.vrt_model.specs.declared.whole.CellFacts.{CellFacts}
 use Rattle.vrt_model.specs.declared.whole.WholePin.{WholePin}
 use Rattle.whole_choice.proofs.ChosenLaws.{outputs_stand_apart}
-use Rattle.whole_choice.proofs.RightLaws.{acyclic_is_chosen, closed_is_left_out}
+use Rattle.whole_choice.proofs.RightLaws.{acyclic_is_chosen, closed_is_left_out, open_is_chosen}
 use Rattle.whole_choice.proofs.SoundLaws.{open_are_allowed}
 use Rattle.whole_choice.specs.Candidates.{IsCandidate}
 use Rattle.whole_choice.specs.Chosen.{IsRightly}
 use Rattle.whole_choice.specs.Cycles.{IsTriedSoundly}
 use Rattle.whole_choice.specs.Right.{AreItsOutputsOpen}
 use Rattle.whole_choice.specs.Trial.{IsTried}
+use Rattle.whole_choice.specs.declared.tables.Tables.{Tables}
 
-module _ (cut : Cut) (blif : Blif) (facts : List CellFacts) (i : ℕ) (p : NumberedPlace) (m : ℕ) (flat : Circuit) (unrolled : Unrolled) (owners : List ℕ) (table : List (Option WholeCell))
-    (own : Marks) (nets : NetMarks) (pins : List WholePin) (phases : List Phase) (is : IsCandidate cut blif facts i p m flat unrolled owners table own nets pins phases) where
-  pub is_tried : IsTried (with_one cut i) flat own owners nets (all_outputs cut blif facts) p.number
+module _ (asked : Bool) (cut : Cut) (blif : Blif) (facts : List CellFacts) (i : ℕ) (p : NumberedPlace) (m : ℕ) (tables : Tables) (own : Marks) (nets : NetMarks) (pins : List WholePin) (is : IsCandidate asked cut blif facts i p m tables own nets pins) where
+  pub is_tried : IsTried (with_one cut i) tables.flat.now own tables.owners.now nets (all_outputs cut blif facts) p.number
   is_tried = record {
     marks = is.by.marks;
     places = is.by.places;
-    devices = (flat_parts cut.top flat is.next.flat_is).devices;
+    devices = (flat_parts cut.top tables.flat.now is.next.flat_is).devices;
     held = is.held;
     taken = is.taken;
     apart = λ o on.
@@ -42,16 +40,16 @@ module _ (cut : Cut) (blif : Blif) (facts : List CellFacts) (i : ℕ) (p : Numbe
   }
 
   abbrev Open : List WholePin → Type 0
-  Open ps = AreOpen flat (checked_devices (with_one cut i)) (all_outputs cut blif facts ++ own_outputs p.number ps) (own_outputs p.number ps)
+  Open ps = AreOpen tables.flat.now (checked_devices (with_one cut i)) (all_outputs cut blif facts ++ own_outputs p.number ps) (own_outputs p.number ps)
 
-  pub opened : Open pins → AreItsOutputsOpen cut blif facts i p m flat
+  pub opened : Open pins → AreItsOutputsOpen cut blif facts i p m tables.flat.now
   opened free = subst Open is.pins_are free
 
-  pub shut : (bare : Bool) → bare ≡ false → (bare ≡ true) ↔ Open pins → IsRightly cut blif facts i false
+  pub shut : (bare : Bool) → bare ≡ false → (bare ≡ true) ↔ Open pins → IsRightly asked cut blif facts i false
   shut bare off tells =
-      closed_is_left_out cut blif facts i p m flat is.next (λ free. false≢true (sym off ∙ tells.1 (subst Open (sym is.pins_are) free)))
+      closed_is_left_out asked cut blif facts i p m tables.flat.now is.next (λ free. false≢true (sym off ∙ tells.1 (subst Open (sym is.pins_are) free)))
 
-  pub tried_soundly : Open pins → IsTriedSoundly (with_one cut i) blif facts flat unrolled owners table own phases
+  pub tried_soundly : Open pins → IsTriedSoundly (with_one cut i) blif facts tables own
   tried_soundly free = record {
     by = is.by;
     formed = is.ground.formed;
@@ -61,7 +59,7 @@ module _ (cut : Cut) (blif : Blif) (facts : List CellFacts) (i : ℕ) (p : Numbe
       told = is.ground.told;
       soft = is.ground.soft;
       tried =
-          open_are_allowed cut blif facts i p m flat
+          open_are_allowed asked cut blif facts i p m tables.flat.now
           (record {
             none = is.next.none;
             decided = is.decided;
@@ -75,7 +73,15 @@ module _ (cut : Cut) (blif : Blif) (facts : List CellFacts) (i : ℕ) (p : Numbe
     };
   }
 
-  pub decides : (free : Bool) → Open pins → (c : Circuit) × IsCircuitWith (with_one cut i) blif facts c × ((free ≡ true) ↔ AreAcyclic c phases) → IsRightly cut blif facts i free
-  decides free bare made =
-      acyclic_is_chosen cut blif facts i p m flat made.0 free is.next is.ground.read.valid is.outside is.cell (opened bare) is.ground.acyclic made.1 is.apart
-      (subst (λ (ps : List Phase). (free ≡ true) ↔ AreAcyclic made.0 ps) (sym is.phases_are) made.2)
+  -- where cycles are not asked for, open outputs are all
+  pub decides_open : asked ≡ false → Open pins → IsRightly asked cut blif facts i true
+  decides_open off bare =
+      subst (λ (b : Bool). IsRightly b cut blif facts i true) (sym off) (open_is_chosen cut blif facts i p m tables.flat.now is.next is.outside is.cell (opened bare))
+
+  -- else the test of cycles decides
+  pub decides : (free : Bool) → asked ≡ true → Open pins → (c : Circuit) × IsCircuitWith (with_one cut i) blif facts c × ((free ≡ true) ↔ AreAcyclic c tables.phases.now)
+      → IsRightly asked cut blif facts i free
+  decides free on bare made =
+      subst (λ (b : Bool). IsRightly b cut blif facts i free) (sym on)
+      (acyclic_is_chosen cut blif facts i p m tables.flat.now made.0 free is.next is.ground.read.valid is.outside is.cell (opened bare) is.ground.acyclic made.1 is.apart
+      (subst (λ (ps : List Phase). (free ≡ true) ↔ AreAcyclic made.0 ps) (sym is.phases_are) made.2))

@@ -1,27 +1,25 @@
 -- Instances that are chosen one after the other.
-use Rattle.std.proofs.Common.{◌≡◌, ℕ, suc, ◌+◌, ◌&&◌, ◌||◌, ◌++◌, Bool, true, false, List, [], arith, ap, refl, subst, sym, ◌∙◌, inl, inr}
+use Rattle.std.proofs.Common.{◌≡◌, ℕ, suc, ◌+◌, ◌<◌, ◌≤◌, ◌&&◌, ◌||◌, ◌++◌, Bool, true, false, List, [], arith, ap, refl, subst, sym, ◌∙◌, inl, inr}
 use Rattle.std.specs.Prelude.{◌==◌, ◌↔◌, nat_lt}
 use Rattle.std.specs.List.{enumerate_from}
 use Rattle.std.proofs.lemmas.Bool.{and_right, cases_lt, eqb-true, false_from_ne_true, false≢true}
 use Rattle.std.proofs.lemmas.Bool.Decides.{nat_tests}
 use Rattle.std.proofs.lemmas.Option.{none-some}
 use mathlib.Core.Path.{fun_ext}
-use Rattle.substitute.proofs.ChosenLaws.{decided_grow}
 use Rattle.substitute.proofs.StepLaws.{outputs_with}
-use Rattle.substitute.specs.Chosen.{AreDecided, IsDecided}
 use Rattle.substitute.specs.Outputs.{own_outputs, output_at}
 use Rattle.vrt_model.proofs.Filtered.{filter_among}
 use Rattle.vrt_model.proofs.Members.{among_flat_map, among_map}
-use Rattle.vrt_model.specs.Checked.{MayBeWhole, before, with_one}
-use Rattle.vrt_model.specs.Cut.{Cut, NumberedPlace, is_inside_whole, is_whole, numbered_places, whole_places}
-use Rattle.vrt_model.specs.Lists.{Among, mark_at}
+use Rattle.vrt_model.specs.Checked.{before, with_one}
+use Rattle.vrt_model.specs.Cut.{Cut, NumberedPlace, is_whole, numbered_places, whole_places}
+use Rattle.vrt_model.specs.Lists.{Among, At, mark_at}
 use Rattle.vrt_model.specs.PairedPorts.{Model, Missing, Paired, Skipped, paired_model}
 use Rattle.vrt_model.specs.Unrolled.{Top}
 use Rattle.vrt_model.specs.Unsupported.{comparison_of}
 use Rattle.vrt_model.specs.WholeInstances.{OutputAt, all_outputs, driven_pins, outputs_of_place}
 use Rattle.vrt_model.specs.declared.blif.Blif.{Blif}
 use Rattle.vrt_model.specs.declared.whole.CellFacts.{CellFacts}
-use Rattle.whole_choice.specs.Chosen.{FrontIsAll, IsRightly, MarksOneMore, NoneFrom, OneMoreBringsItsOwn, OneMoreIsDecided, OutputsStandApart, MarkedIsWithOne, cut_of}
+use Rattle.whole_choice.specs.Chosen.{AreRightly, FrontIsAll, IsRightAt, IsRightly, MarksOneMore, NoneFrom, OneMoreBringsItsOwn, OneMoreIsDecided, OutputsStandApart, MarkedIsWithOne, cut_of}
 
 and_one : (b : Bool) → (b && true) ≡ b
 and_one true = refl
@@ -77,8 +75,8 @@ or_both true c e = absurd (false≢true (sym e))
 or_both false true e = refl
 or_both false false e = refl
 
-module _ (t : Top) (blif : Blif) (facts : List CellFacts) (i : ℕ) (old new : List Bool) (chosen : Bool) (none : NoneFrom (cut_of t old) i) (more : MarksOneMore old new i chosen)
-    (rightly : IsRightly (cut_of t old) blif facts i chosen) (decided : AreDecided (cut_of t old) blif facts (suc i)) where
+module _ (asked : Bool) (t : Top) (blif : Blif) (facts : List CellFacts) (i : ℕ) (old new : List Bool) (chosen : Bool) (none : NoneFrom (cut_of t old) i) (more : MarksOneMore old new i chosen)
+    (rightly : IsRightly asked (cut_of t old) blif facts i chosen) (decided : AreRightly asked (cut_of t old) blif facts (suc i)) where
   apart : (n : ℕ) → (n ≡ suc i → ⊥) → mark_at new n ≡ mark_at old n
   apart n ne =
       let off : (n == suc i) ≡ false = grind (arith, nat_tests, ne) in more n ∙ ap (λ (b : Bool). mark_at old n || (chosen && b)) off ∙ or_none (mark_at old n) chosen
@@ -91,31 +89,46 @@ module _ (t : Top) (blif : Blif) (facts : List CellFacts) (i : ℕ) (old new : L
   none_now : NoneFrom (cut_of t new) (suc i)
   none_now j le = apart (suc j) (λ e. omega (arith, le, e)) ∙ none j (omega (arith, le))
 
-  front_same : before (cut_of t new) i ≡ cut_of t old
-  front_same = ap (λ (f : ℕ → Bool). let one : Cut = record { top = t; choice = f } in one) (fun_ext same)
+  -- those before an instance up to this one are the same
+  front_at : (j : ℕ) → j ≤ i → before (cut_of t new) j ≡ before (cut_of t old) j
+  front_at j le = ap (λ (f : ℕ → Bool). let one : Cut = record { top = t; choice = f } in one) (fun_ext same)
     where
-      same : (j : ℕ) → (mark_at new (suc j) && nat_lt j i) ≡ mark_at old (suc j)
-      same j =
-          elim (cases_lt j i) [
-            | inl lt ↦
-                let low : nat_lt j i ≡ true = grind (arith, nat_tests, lt) in
-                ap (λ (b : Bool). mark_at new (suc j) && b) low ∙ and_one (mark_at new (suc j)) ∙ apart (suc j) (λ e. omega (arith, lt, e))
-            | inr ge ↦ let high : nat_lt j i ≡ false = grind (arith, nat_tests, ge) in and_right (mark_at new (suc j)) (nat_lt j i) high ∙ sym (none j ge)
+      same : (k : ℕ) → (mark_at new (suc k) && nat_lt k j) ≡ (mark_at old (suc k) && nat_lt k j)
+      same k =
+          elim (cases_lt k j) [
+            | inl lt ↦ ap (λ (b : Bool). b && nat_lt k j) (apart (suc k) (λ e. omega (arith, lt, le, e)))
+            | inr ge ↦
+                let high : nat_lt k j ≡ false = grind (arith, nat_tests, ge) in and_right (mark_at new (suc k)) (nat_lt k j) high ∙ sym (and_right (mark_at old (suc k)) (nat_lt k j) high)
           ]
 
-  decided_now : IsDecided (cut_of t new) blif facts i
-  decided_now p there =
-      subst (λ (b : Bool). (b ≡ true) ↔ ((is_inside_whole (before (cut_of t new) i) p.at ≡ false) × ((m : ℕ) × MayBeWhole (before (cut_of t new) i) blif facts i p m))) (sym here_is)
-      (subst (λ (low : Cut). (chosen ≡ true) ↔ ((is_inside_whole low p.at ≡ false) × ((m : ℕ) × MayBeWhole low blif facts i p m))) (sym front_same) (rightly p there))
+  abbrev IsRightNow : ℕ → Type 0
+  IsRightNow j = (p : NumberedPlace) → At (numbered_places t) (suc j) p → IsRightAt asked (before (cut_of t new) j) blif facts j (mark_at new (suc j)) p
 
-  both_now : NoneFrom (cut_of t new) (suc i) × AreDecided (cut_of t new) blif facts (suc i + 1)
-  both_now = (
-    none_now,
-    decided_grow (cut_of t old) (cut_of t new) blif facts i refl (λ j lt. apart (suc j) (λ e. omega (arith, lt, e))) decided decided_now,
-  )
+  -- what is right besides some instances is so besides the same ones
+  right_now : (j : ℕ) (low : Cut) (was : Bool) (p : NumberedPlace) → before (cut_of t new) j ≡ low → mark_at new (suc j) ≡ was
+      → IsRightAt asked low blif facts j was p → IsRightAt asked (before (cut_of t new) j) blif facts j (mark_at new (suc j)) p
+  right_now j low was p same mark right =
+      subst (λ (b : Bool). IsRightAt asked (before (cut_of t new) j) blif facts j b p) (sym mark)
+      (subst (λ (x : Cut). IsRightAt asked x blif facts j was p) (sym same) right)
+
+  decided_here : IsRightNow i
+  decided_here p there =
+      right_now i (cut_of t old) chosen p (front_at i (omega arith) ∙ front_is_all (cut_of t old) i none) here_is (rightly p there)
+
+  decided_before : (j : ℕ) → j < i → IsRightNow j
+  decided_before j lt p there =
+      right_now j (before (cut_of t old) j) (mark_at old (suc j)) p (front_at j (omega (arith, lt))) (apart (suc j) (λ e. omega (arith, lt, e))) (decided j (omega (arith, lt)) p there)
+
+  decided_now : AreRightly asked (cut_of t new) blif facts (suc i + 1)
+  decided_now j lt =
+      elim (cases_lt j i) [
+        | inl low ↦ decided_before j low
+        | inr high ↦ subst IsRightNow (let last : i ≡ j = omega (arith, lt, high) in last) decided_here
+      ]
 
 pub one_more_is_decided : OneMoreIsDecided
-one_more_is_decided t blif facts i old new chosen none more rightly decided = both_now t blif facts i old new chosen none more rightly decided
+one_more_is_decided asked t blif facts i old new chosen none more rightly decided =
+    (none_now asked t blif facts i old new chosen none more rightly decided, decided_now asked t blif facts i old new chosen none more rightly decided)
 
 pub marked_is_with_one : MarkedIsWithOne
 marked_is_with_one t i old new more = ap (λ (f : ℕ → Bool). let one : Cut = record { top = t; choice = f } in one) (fun_ext same)

@@ -1,5 +1,7 @@
 pub mod ChosenLaws
-pub mod SoundLaws
 pub mod RightLaws
+pub mod SoundLaws
 pub mod TakenLaws
 pub mod CandidateLaws
+pub mod UnderwayLaws
+pub mod WholeLaws

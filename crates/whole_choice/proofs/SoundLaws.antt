@@ -5,28 +5,22 @@ use Rattle.std.proofs.lemmas.Bool.{and_right, cases_lt, eqb-true, false≢true}
 use Rattle.std.proofs.lemmas.Bool.Decides.{nat_tests}
 use mathlib.Core.Path.{fun_ext}
 use Rattle.replaced_instances.specs.Steps.{AreAllowed, IsAllowedInstance}
-use Rattle.substitute.proofs.StepLaws.{held_to, plain_from}
-use Rattle.substitute.specs.Outputs.{own_outputs}
 use Rattle.vrt_model.proofs.Lists.{one_at}
-use Rattle.vrt_model.specs.Checked.{MayBeWhole, before, with_one}
-use Rattle.vrt_model.specs.CheckedParts.{checked_devices}
-use Rattle.vrt_model.specs.Comparison.{Comparison}
+use Rattle.vrt_model.specs.Checked.{before, with_one}
 use Rattle.vrt_model.specs.Cut.{Cut, NumberedPlace, is_inside_whole, numbered_places}
-use Rattle.vrt_model.specs.Lists.{Among, At}
-use Rattle.vrt_model.specs.PairedPorts.{Paired, paired_model}
-use Rattle.vrt_model.specs.Unsupported.{comparison_of}
-use Rattle.vrt_model.specs.WholeInstances.{OutputAt, driven_pins, is_output_allowed, outputs_of_place}
+use Rattle.vrt_model.specs.Lists.{At}
 use Rattle.vrt_model.specs.declared.blif.Blif.{Blif}
 use Rattle.vrt_model.specs.declared.circuit.Circuit.{Circuit}
 use Rattle.vrt_model.specs.declared.whole.CellFacts.{CellFacts}
-use Rattle.whole_choice.proofs.ChosenLaws.{front_is_all, one_more_brings_its_own, outputs_by}
+use Rattle.whole_choice.proofs.ChosenLaws.{front_is_all}
+use Rattle.whole_choice.proofs.RightLaws.{allowed, allowed_of}
 use Rattle.whole_choice.specs.Sound.{IsOpenBeside, OpenAreAllowed}
 
 or_off : (b c : Bool) → c ≡ false → (b || c) ≡ b
 or_off true c e = refl
 or_off false c e = e
 
-module _ (cut : Cut) (blif : Blif) (facts : List CellFacts) (i : ℕ) (p : NumberedPlace) (m : ℕ) (flat : Circuit) (is : IsOpenBeside cut blif facts i p m flat) where
+module _ (cut : Cut) (blif : Blif) (facts : List CellFacts) (i : ℕ) (p : NumberedPlace) (m : ℕ) (flat : Circuit) (asked : Bool) (is : IsOpenBeside asked cut blif facts i p m flat) where
   abbrev later : Cut
   later = with_one cut i
 
@@ -51,32 +45,13 @@ module _ (cut : Cut) (blif : Blif) (facts : List CellFacts) (i : ℕ) (p : Numbe
   earlier : (j : ℕ) (q : NumberedPlace) → At (numbered_places cut.top) (suc j) q → j < i → cut.choice j ≡ true → Allowed (before cut j) j q
   earlier j q there lt chosen =
       let known = (is.decided j (omega (arith, lt)) q there).0 chosen in
-      let may : MayBeWhole (before cut j) blif facts j q known.1.0 = known.1.1 in
-      (known.0, (known.1.0, record { paired = may.paired; cell = may.cell; plain = may.plain; allowed = may.allowed }))
+      (known.0, (known.1.0, allowed_of asked (before cut j) blif facts j q known.1.0 known.1.1))
 
   -- the one that is tried
-  abbrev own : List OutputAt
-  own = own_outputs p.number (driven_pins facts (comparison_of cut.top.design blif cut.top.rules p.at.cell m) p.at)
-
-  own_is : outputs_of_place cut.top blif facts p ≡ own
-  own_is = ap (outputs_by cut.top blif facts p) is.paired
-
   tried : Allowed cut i p
   tried = (
     is.outside,
-    (
-      m,
-      record {
-        paired = is.paired;
-        cell = is.cell;
-        plain = λ o on.
-            (let free = is.outputs.plain o (subst (λ (os : List OutputAt). Among os o) own_is on) in
-            (plain_from later blif facts flat is.flat_is o.pin.net.0 free.0, λ held. free.1 (held_to later blif facts flat is.flat_is o.pin.net.0 held)));
-        allowed = λ o on.
-            subst (λ (os : List OutputAt). is_output_allowed (checked_devices later) os o ≡ true) (sym (one_more_brings_its_own cut blif facts i m p is.none is.place is.paired))
-            (is.outputs.allowed o (subst (λ (os : List OutputAt). Among os o) own_is on));
-      },
-    ),
+    (m, allowed cut blif facts i p m flat (record { none = is.none; place = is.place; paired = is.paired; flat_is = is.flat_is }) is.cell is.outputs),
   )
 
   chosen_before : (j : ℕ) → (cut.choice j || (i == j)) ≡ true → (j < i) × (cut.choice j ≡ true) ⊎ (i ≡ j)
@@ -97,4 +72,4 @@ module _ (cut : Cut) (blif : Blif) (facts : List CellFacts) (i : ℕ) (p : Numbe
       ]
 
 pub open_are_allowed : OpenAreAllowed
-open_are_allowed cut blif facts i p m flat is = allowed_all cut blif facts i p m flat is
+open_are_allowed asked cut blif facts i p m flat is = allowed_all cut blif facts i p m flat asked is

@@ -1,16 +1,13 @@
 -- An instance that is tried next, with what stands in the tables.
-use Rattle.std.specs.Prelude.{◌≡◌, ℕ, suc, true, false, List, Option}
+use Rattle.std.specs.Prelude.{◌≡◌, ℕ, suc, Bool, true, false, List}
 use Rattle.checked_chain.specs.Arcs.{AreWholeOutputsApart}
 use Rattle.formed_cells.specs.Formed.{AreRead}
 use Rattle.known_nets.specs.Incidence.{AreHeldMarks}
-use Rattle.net_places.specs.declared.whole.Unrolled.{Unrolled}
 use Rattle.replaced_instances.specs.Steps.{IsSoundNetlist}
 use Rattle.substitute.specs.Acyclic.{AreAcyclic}
-use Rattle.substitute.specs.Chosen.{AreDecided}
 use Rattle.substitute.specs.Outputs.{AreSoft as AreSoftPins, AreTaken}
 use Rattle.substitute.specs.declared.marks.Marks.{Marks}
 use Rattle.substitute.specs.declared.outputs.NetMarks.{NetMarks}
-use Rattle.substitute.specs.declared.whole_cell.WholeCell.{WholeCell}
 use Rattle.substitution_laws.specs.Chosen.{AreSoft}
 use Rattle.vrt_model.specs.Checked.{is_cell_allowed, with_one}
 use Rattle.vrt_model.specs.Circuits.{IsCircuit}
@@ -22,11 +19,12 @@ use Rattle.vrt_model.specs.Unsupported.{comparison_of}
 use Rattle.vrt_model.specs.WholeInstances.{all_outputs, driven_pins}
 use Rattle.vrt_model.specs.declared.blif.Blif.{Blif}
 use Rattle.vrt_model.specs.declared.circuit.Circuit.{Circuit}
-use Rattle.vrt_model.specs.declared.rules.Phase.{Phase}
 use Rattle.vrt_model.specs.declared.whole.CellFacts.{CellFacts}
 use Rattle.vrt_model.specs.declared.whole.WholePin.{WholePin}
 use Rattle.whole_choice.specs.Cycles.{IsTriedBy}
+use Rattle.whole_choice.specs.Chosen.{AreRightly}
 use Rattle.whole_choice.specs.Right.{IsNext}
+use Rattle.whole_choice.specs.declared.tables.Tables.{Tables}
 
 -- a sound netlist with models and rules as readers give them, true facts that tell no drive, and a well-formed flat circuit without cycles
 pub record IsGround (t : Top) (blif : Blif) (facts : List CellFacts) (flat : Circuit) : Type 0 where
@@ -37,17 +35,18 @@ pub record IsGround (t : Top) (blif : Blif) (facts : List CellFacts) (flat : Cir
   pub formed : IsCircuit flat
   pub acyclic : AreAcyclic flat t.rules.phases
 
--- on this ground the next instance, behind those that are decided, is outside whole ones and of an allowed cell; and the tables are those with it
-pub record IsCandidate (cut : Cut) (blif : Blif) (facts : List CellFacts) (i : ℕ) (p : NumberedPlace) (m : ℕ) (flat : Circuit) (unrolled : Unrolled) (owners : List ℕ) (table : List (Option WholeCell)) (own : Marks) (nets : NetMarks) (pins : List WholePin) (phases : List Phase) : Type 0 where
-  pub ground : IsGround cut.top blif facts flat
-  pub phases_are : cut.top.rules.phases ≡ phases
-  pub next : IsNext cut blif i p m flat
-  pub decided : AreDecided cut blif facts (suc i)
+-- on this ground the next instance, behind those that are rightly chosen or not, is outside whole ones and of an allowed cell; and the marks are
+-- those with it
+pub record IsCandidate (asked : Bool) (cut : Cut) (blif : Blif) (facts : List CellFacts) (i : ℕ) (p : NumberedPlace) (m : ℕ) (tables : Tables) (own : Marks) (nets : NetMarks) (pins : List WholePin) : Type 0 where
+  pub ground : IsGround cut.top blif facts tables.flat.now
+  pub phases_are : cut.top.rules.phases ≡ tables.phases.now
+  pub next : IsNext cut blif i p m tables.flat.now
+  pub decided : AreRightly asked cut blif facts (suc i)
   pub outside : is_inside_whole cut p.at ≡ false
   pub cell : is_cell_allowed cut.top facts (comparison_of cut.top.design blif cut.top.rules p.at.cell m) ≡ true
-  pub by : IsTriedBy (with_one cut i) blif facts flat unrolled owners table own phases
+  pub by : IsTriedBy (with_one cut i) blif facts tables own
   pub apart : AreWholeOutputsApart (with_one cut i) blif
-  pub held : AreHeldMarks flat nets.held.items
+  pub held : AreHeldMarks tables.flat.now nets.held.items
   pub taken : AreTaken (all_outputs cut blif facts) nets.taken.items
   pub pins_are : pins ≡ driven_pins facts (comparison_of cut.top.design blif cut.top.rules p.at.cell m) p.at
   pub soft_pins : AreSoftPins pins

@@ -1,6 +1,6 @@
 -- Instances that are chosen one after the other, by marks at their places.
-use Rattle.std.specs.Prelude.{◌≡◌, ◌↔◌, ℕ, suc, ◌+◌, ◌≤◌, ◌==◌, Bool, false, true, ◌&&◌, ◌||◌, List, ◌++◌}
-use Rattle.substitute.specs.Chosen.{AreDecided}
+use Rattle.std.specs.Prelude.{◌≡◌, ◌↔◌, ℕ, suc, ◌+◌, ◌<◌, ◌≤◌, ◌==◌, Bool, false, true, ◌&&◌, ◌||◌, List, ◌++◌}
+use Rattle.replaced_instances.specs.Steps.{IsAllowedInstance}
 use Rattle.substitute.specs.Outputs.{own_outputs}
 use Rattle.vrt_model.specs.Checked.{MayBeWhole, before, with_one}
 use Rattle.vrt_model.specs.Cut.{Cut, NumberedPlace, is_inside_whole, numbered_places}
@@ -42,20 +42,31 @@ OneMoreBringsItsOwn =
 abbrev pub MarksOneMore : List Bool → List Bool → ℕ → Bool → Type 0
 MarksOneMore old new i chosen = (n : ℕ) → mark_at new n ≡ (mark_at old n || (chosen && (n == suc i)))
 
--- an instance is chosen exactly where it is not inside a whole one and may be left whole besides those of the marks
-abbrev pub IsRightly : Cut → Blif → List CellFacts → ℕ → Bool → Type 0
-IsRightly cut blif facts i chosen =
-    (p : NumberedPlace) → At (numbered_places cut.top) (suc i) p
-    → (chosen ≡ true) ↔ ((is_inside_whole cut p.at ≡ false) × ((m : ℕ) × MayBeWhole cut blif facts i p m))
+-- an instance may be chosen besides those of a choice: it may be left whole; where cycles are not asked for, the other tests alone count
+abbrev pub MayBeChosen : Bool → Cut → Blif → List CellFacts → ℕ → NumberedPlace → ℕ → Type 0
+MayBeChosen true cut blif facts i p m = MayBeWhole cut blif facts i p m
+MayBeChosen false cut blif facts i p m = IsAllowedInstance cut blif facts i p m
 
--- The law: where the instances before one are decided by their marks, and it is rightly chosen or not, the instances up to it are
--- decided.
+-- the instance at a place is rightly chosen besides those of a choice: exactly where it is not inside a whole one, and may be chosen
+abbrev pub IsRightAt : Bool → Cut → Blif → List CellFacts → ℕ → Bool → NumberedPlace → Type 0
+IsRightAt asked cut blif facts i chosen p =
+    (chosen ≡ true) ↔ ((is_inside_whole cut p.at ≡ false) × ((m : ℕ) × MayBeChosen asked cut blif facts i p m))
+
+abbrev pub IsRightly : Bool → Cut → Blif → List CellFacts → ℕ → Bool → Type 0
+IsRightly asked cut blif facts i chosen = (p : NumberedPlace) → At (numbered_places cut.top) (suc i) p → IsRightAt asked cut blif facts i chosen p
+
+-- so is each instance whose place is below a number, besides those before it
+abbrev pub AreRightly : Bool → Cut → Blif → List CellFacts → ℕ → Type 0
+AreRightly asked cut blif facts n =
+    (i : ℕ) → suc i < n → (p : NumberedPlace) → At (numbered_places cut.top) (suc i) p → IsRightAt asked (before cut i) blif facts i (cut.choice i) p
+
+-- The law: where the instances before one are rightly chosen or not by their marks, and so is this one, all up to it are.
 abbrev pub OneMoreIsDecided : Type 0
 OneMoreIsDecided =
-    (t : Top) (blif : Blif) (facts : List CellFacts) (i : ℕ) (old new : List Bool) (chosen : Bool)
-    → NoneFrom (cut_of t old) i → MarksOneMore old new i chosen → IsRightly (cut_of t old) blif facts i chosen
-    → AreDecided (cut_of t old) blif facts (suc i)
-    → NoneFrom (cut_of t new) (suc i) × AreDecided (cut_of t new) blif facts (suc i + 1)
+    (asked : Bool) (t : Top) (blif : Blif) (facts : List CellFacts) (i : ℕ) (old new : List Bool) (chosen : Bool)
+    → NoneFrom (cut_of t old) i → MarksOneMore old new i chosen → IsRightly asked (cut_of t old) blif facts i chosen
+    → AreRightly asked (cut_of t old) blif facts (suc i)
+    → NoneFrom (cut_of t new) (suc i) × AreRightly asked (cut_of t new) blif facts (suc i + 1)
 
 -- The law: with its mark the instance is whole besides the others.
 abbrev pub MarkedIsWithOne : Type 0

@@ -5,3 +5,5 @@ pub mod Right
 pub mod Sound
 pub mod Taken
 pub mod Trial
+pub mod Underway
+pub mod Whole

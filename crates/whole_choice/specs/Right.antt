@@ -34,25 +34,33 @@ AreItsOutputsOpen cut blif facts i p m flat =
 -- The law: an instance that is inside a whole one is rightly left out.
 abbrev pub InsideIsLeftOut : Type 0
 InsideIsLeftOut =
-    (cut : Cut) (blif : Blif) (facts : List CellFacts) (i : ℕ) (p : NumberedPlace)
-    → At (numbered_places cut.top) (suc i) p → is_inside_whole cut p.at ≡ true → IsRightly cut blif facts i false
+    (asked : Bool) (cut : Cut) (blif : Blif) (facts : List CellFacts) (i : ℕ) (p : NumberedPlace)
+    → At (numbered_places cut.top) (suc i) p → is_inside_whole cut p.at ≡ true → IsRightly asked cut blif facts i false
 
 -- The law: so is one of a cell that is not allowed with any model.
 abbrev pub RefusedIsLeftOut : Type 0
 RefusedIsLeftOut =
-    (cut : Cut) (blif : Blif) (facts : List CellFacts) (i : ℕ) (p : NumberedPlace)
+    (asked : Bool) (cut : Cut) (blif : Blif) (facts : List CellFacts) (i : ℕ) (p : NumberedPlace)
     → At (numbered_places cut.top) (suc i) p
     → ((m : ℕ) → paired_model cut.top.design blif cut.top.rules p.at.cell ≡ Model m
     → ¬ (is_cell_allowed cut.top facts (comparison_of cut.top.design blif cut.top.rules p.at.cell m) ≡ true))
-    → IsRightly cut blif facts i false
+    → IsRightly asked cut blif facts i false
 
 -- The law: so is one whose outputs are not open.
 abbrev pub ClosedIsLeftOut : Type 0
 ClosedIsLeftOut =
-    (cut : Cut) (blif : Blif) (facts : List CellFacts) (i : ℕ) (p : NumberedPlace) (m : ℕ) (flat : Circuit)
-    → IsNext cut blif i p m flat → ¬ AreItsOutputsOpen cut blif facts i p m flat → IsRightly cut blif facts i false
+    (asked : Bool) (cut : Cut) (blif : Blif) (facts : List CellFacts) (i : ℕ) (p : NumberedPlace) (m : ℕ) (flat : Circuit)
+    → IsNext cut blif i p m flat → ¬ AreItsOutputsOpen cut blif facts i p m flat → IsRightly asked cut blif facts i false
 
--- The law: any other is rightly chosen exactly where the circuit with it has no cycle, if the flat circuit has none.
+-- The law: any other is rightly chosen where cycles are not asked for.
+abbrev pub OpenIsChosen : Type 0
+OpenIsChosen =
+    (cut : Cut) (blif : Blif) (facts : List CellFacts) (i : ℕ) (p : NumberedPlace) (m : ℕ) (flat : Circuit)
+    → IsNext cut blif i p m flat → is_inside_whole cut p.at ≡ false
+    → is_cell_allowed cut.top facts (comparison_of cut.top.design blif cut.top.rules p.at.cell m) ≡ true
+    → AreItsOutputsOpen cut blif facts i p m flat → IsRightly false cut blif facts i true
+
+-- The law: where they are asked for, it is so exactly where the circuit with it has no cycle, if the flat circuit has none.
 abbrev pub AcyclicIsChosen : Type 0
 AcyclicIsChosen =
     (cut : Cut) (blif : Blif) (facts : List CellFacts) (i : ℕ) (p : NumberedPlace) (m : ℕ) (flat circuit : Circuit) (free : Bool)
@@ -60,4 +68,4 @@ AcyclicIsChosen =
     → is_cell_allowed cut.top facts (comparison_of cut.top.design blif cut.top.rules p.at.cell m) ≡ true
     → AreItsOutputsOpen cut blif facts i p m flat → AreAcyclic flat cut.top.rules.phases
     → IsCircuitWith (with_one cut i) blif facts circuit → AreWholeOutputsApart (with_one cut i) blif
-    → (free ≡ true) ↔ AreAcyclic circuit cut.top.rules.phases → IsRightly cut blif facts i free
+    → (free ≡ true) ↔ AreAcyclic circuit cut.top.rules.phases → IsRightly true cut blif facts i free

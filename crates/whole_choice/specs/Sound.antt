@@ -1,7 +1,6 @@
 -- An instance that is tried besides those that are decided.
-use Rattle.std.specs.Prelude.{◌≡◌, ℕ, suc, true, false, List, ◌++◌}
+use Rattle.std.specs.Prelude.{◌≡◌, ℕ, suc, Bool, true, false, List, ◌++◌}
 use Rattle.replaced_instances.specs.Steps.{AreAllowed}
-use Rattle.substitute.specs.Chosen.{AreDecided}
 use Rattle.substitute.specs.Outputs.{AreOpen, own_outputs}
 use Rattle.vrt_model.specs.Checked.{is_cell_allowed, with_one}
 use Rattle.vrt_model.specs.CheckedParts.{checked_devices}
@@ -14,13 +13,13 @@ use Rattle.vrt_model.specs.WholeInstances.{all_outputs, driven_pins}
 use Rattle.vrt_model.specs.declared.blif.Blif.{Blif}
 use Rattle.vrt_model.specs.declared.circuit.Circuit.{Circuit}
 use Rattle.vrt_model.specs.declared.whole.CellFacts.{CellFacts}
-use Rattle.whole_choice.specs.Chosen.{NoneFrom}
+use Rattle.whole_choice.specs.Chosen.{AreRightly, NoneFrom}
 
--- the instances before number i are decided, and the one there, whose cell pairs with model m, is not inside a whole one, its cell allows it,
+-- the instances before number i are rightly chosen or not, and the one there, whose cell pairs with model m, is not inside a whole one, its cell allows it,
 -- and its outputs are open
-pub record IsOpenBeside (cut : Cut) (blif : Blif) (facts : List CellFacts) (i : ℕ) (p : NumberedPlace) (m : ℕ) (flat : Circuit) : Type 0 where
+pub record IsOpenBeside (asked : Bool) (cut : Cut) (blif : Blif) (facts : List CellFacts) (i : ℕ) (p : NumberedPlace) (m : ℕ) (flat : Circuit) : Type 0 where
   pub none : NoneFrom cut i
-  pub decided : AreDecided cut blif facts (suc i)
+  pub decided : AreRightly asked cut blif facts (suc i)
   pub place : At (numbered_places cut.top) (suc i) p
   pub paired : paired_model cut.top.design blif cut.top.rules p.at.cell ≡ Model m
   pub outside : is_inside_whole cut p.at ≡ false
@@ -34,5 +33,5 @@ pub record IsOpenBeside (cut : Cut) (blif : Blif) (facts : List CellFacts) (i : 
 -- The law: then all of these are allowed, each besides those before it.
 abbrev pub OpenAreAllowed : Type 0
 OpenAreAllowed =
-    (cut : Cut) (blif : Blif) (facts : List CellFacts) (i : ℕ) (p : NumberedPlace) (m : ℕ) (flat : Circuit)
-    → IsOpenBeside cut blif facts i p m flat → AreAllowed (with_one cut i) blif facts
+    (asked : Bool) (cut : Cut) (blif : Blif) (facts : List CellFacts) (i : ℕ) (p : NumberedPlace) (m : ℕ) (flat : Circuit)
+    → IsOpenBeside asked cut blif facts i p m flat → AreAllowed (with_one cut i) blif facts

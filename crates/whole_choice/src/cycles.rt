@@ -11,28 +11,40 @@ ghost use Rattle.vrt_model.specs.declared.circuit.Circuit.{Circuit as CircuitVal
 ghost use Rattle.vrt_model.specs.declared.whole.CellFacts.{CellFacts as FactsValue};
 ghost use Rattle.whole_choice.specs.Cycles.{IsTriedBy, IsTriedSoundly};
 
-use net_places::Unrolled;
+use crate::tables::Tables;
 use std::alloc::Global;
-use substitute::{Marks, WholeCell, are_acyclic, circuit_with};
-use vrt_model::{Circuit, NoMemory, Phase};
+use substitute::{Marks, are_acyclic, circuit_with};
+use vrt_model::{Circuit, NoMemory};
+
+/// The circuit in which the instances with marks are whole.
+pub(crate) fn circuit_by(
+    alloc: Global,
+    tables: Tables<'_>,
+    marks: &Marks,
+) -> Result<Circuit, NoMemory>
+    requires holds { All (IsHold tables.flat.now) tables.flat.now.holds }
+    requires small { AreSmall tables.unrolled.now.places }
+    ensures { IfOk result (λ circuit. (cut : Cut) (blif : BlifValue) (facts : List FactsValue) → IsTriedBy cut blif facts tables.entry marks.now → IsCircuitWith cut blif facts circuit) }
+{
+    let Tables {
+        phases,
+        flat,
+        unrolled,
+        owners,
+        cells,
+    } = tables;
+    circuit_with(alloc, phases, flat, unrolled, owners, cells, marks)
+}
 
 /// Whether the arcs of the circuit in which the instances with marks are whole have no cycle in any phase. The circuit is made
 /// for that, in time and memory in proportion to the flat circuit.
-pub fn is_acyclic_with(
-    alloc: Global,
-    phases: &[Phase],
-    flat: &Circuit,
-    unrolled: &Unrolled,
-    places: &[usize],
-    cells: &[Option<WholeCell>],
-    marks: &Marks,
-) -> Result<bool, NoMemory>
-    requires holds { All (IsHold flat.now) flat.now.holds }
-    requires small { AreSmall unrolled.now.places }
-    requires tried { (cut : Cut) × (blif : BlifValue) × (facts : List FactsValue) × IsTriedSoundly cut blif facts flat.now unrolled.now places.now cells.now marks.now phases.now }
-    ensures { IfOk result (λ free. (cut : Cut) (blif : BlifValue) (facts : List FactsValue) → IsTriedBy cut blif facts flat.now unrolled.now places.now cells.now marks.now phases.now → (circuit : CircuitValue) × IsCircuitWith cut blif facts circuit × ((free ≡ true) ↔ AreAcyclic circuit phases.now)) }
+pub fn is_acyclic_with(alloc: Global, tables: Tables<'_>, marks: &Marks) -> Result<bool, NoMemory>
+    requires holds { All (IsHold tables.flat.now) tables.flat.now.holds }
+    requires small { AreSmall tables.unrolled.now.places }
+    requires tried { (cut : Cut) × (blif : BlifValue) × (facts : List FactsValue) × IsTriedSoundly cut blif facts tables marks.now }
+    ensures { IfOk result (λ free. (cut : Cut) (blif : BlifValue) (facts : List FactsValue) → IsTriedBy cut blif facts tables.entry marks.now → (circuit : CircuitValue) × IsCircuitWith cut blif facts circuit × ((free ≡ true) ↔ AreAcyclic circuit tables.phases.now)) }
 {
-    let circuit = circuit_with(alloc, phases, flat, unrolled, places, cells, marks)?;
-    let free = are_acyclic(alloc, &circuit, phases)?;
+    let circuit = circuit_by(alloc, tables, marks)?;
+    let free = are_acyclic(alloc, &circuit, tables.phases)?;
     Ok(free)
 }

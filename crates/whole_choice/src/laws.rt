@@ -1,6 +1,6 @@
 //! Laws of instances that are chosen one after the other, each the contract of a function that does nothing.
 
-ghost use Rattle.whole_choice.specs.Right.{AcyclicIsChosen, ClosedIsLeftOut, InsideIsLeftOut, RefusedIsLeftOut};
+ghost use Rattle.whole_choice.specs.Right.{AcyclicIsChosen, ClosedIsLeftOut, InsideIsLeftOut, OpenIsChosen, RefusedIsLeftOut};
 ghost use Rattle.whole_choice.specs.Taken.{TakenGrow};
 ghost use Rattle.whole_choice.specs.Sound.{OpenAreAllowed};
 ghost use Rattle.whole_choice.specs.Chosen.{MarkedIsWithOne, FrontIsAll, OneMoreBringsItsOwn, OneMoreIsDecided, OutputsStandApart};
@@ -20,7 +20,7 @@ pub fn one_more_brings_its_own()
     ensures { OneMoreBringsItsOwn }
 {}
 
-/// Where the instances before one are decided by their marks, and it is rightly chosen or not, the instances up to it are decided.
+/// Where the instances before one are rightly chosen or not by their marks, and so is this one, all up to it are.
 pub fn one_more_is_decided()
     ensures { OneMoreIsDecided }
 {}
@@ -42,9 +42,10 @@ pub fn others_are_left_out()
     ensures closed { ClosedIsLeftOut }
 {}
 
-/// Any other is rightly chosen exactly where the circuit with it has no cycle.
+/// Any other is rightly chosen where cycles are not asked for, and else exactly where the circuit with it has no cycle.
 pub fn acyclic_is_chosen()
-    ensures { AcyclicIsChosen }
+    ensures opened { OpenIsChosen }
+    ensures acyclic { AcyclicIsChosen }
 {}
 
 /// With its mark an instance is whole besides the others.

@@ -7,8 +7,8 @@ ghost use Rattle.whole_choice.specs.Taken.{has_pin};
 
 use vrt_model::WholePin;
 
-/// Marks a net.
-fn mark(taken: &mut Vec<bool>, net: usize)
+/// Marks a number, as that of a net.
+pub(crate) fn mark(taken: &mut Vec<bool>, net: usize)
     requires { net < length taken.old.items }
     ensures len { length taken.new.items ≡ length taken.old.items }
     ensures is { (n : ℕ) → mark_at taken.new.items n ≡ (mark_at taken.old.items n || net == n) }

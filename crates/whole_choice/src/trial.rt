@@ -15,7 +15,7 @@ use substitute::{Marks, NetMarks, are_free, copy_items, inside_marks, met_nets};
 use vrt_model::{Circuit, NoMemory, WholePin};
 
 /// A copy of marks.
-fn copy_marks(alloc: Global, marks: &[bool]) -> Result<Vec<bool>, NoMemory>
+pub(crate) fn copy_marks(alloc: Global, marks: &[bool]) -> Result<Vec<bool>, NoMemory>
     ensures { IfOk result (λ copy. copy.items ≡ marks.now) }
 {
     match marks.to_vec(alloc) {

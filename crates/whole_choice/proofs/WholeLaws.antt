@@ -1,0 +1,127 @@
+-- All instances tried, and the circuit of those that are chosen.
+use Rattle.std.proofs.Common.{◌≡◌, ℕ, zero, suc, ◌<◌, ◌||◌, Bool, true, false, List, [], ◌∷◌, length, Option, Some, None, arith, ap, refl, subst, sym, ◌∙◌}
+use Rattle.std.specs.List.{list_any}
+use Rattle.std.proofs.lemmas.Bool.{false≢true}
+use mathlib.Core.Path.{fun_ext}
+use Rattle.checked_chain.proofs.EndLaws.{chain_begins_flat}
+use Rattle.net_places.specs.Links.{IsUnrolled}
+use Rattle.net_places.specs.declared.places.Place.{Place}
+use Rattle.net_places.specs.Whole.{whole_of}
+use Rattle.substitute.proofs.ChosenLaws.{all_are_decided}
+use Rattle.substitute.specs.Insides.{IsCutAt}
+use Rattle.substitute.specs.Shown.{AreMarks, device_places}
+use Rattle.substitute.specs.declared.marks.Marks.{Marks}
+use Rattle.substitute.specs.declared.whole_cell.WholeCell.{WholeCell}
+use Rattle.substitution_laws.proofs.ChainLaws.{some_place}
+use Rattle.substitution_laws.proofs.ChosenLaws.{told_soft}
+use Rattle.vrt_model.specs.Checked.{IsChecked, IsChoice, IsCircuitWith}
+use Rattle.vrt_model.specs.Cut.{Cut, is_whole}
+use Rattle.vrt_model.specs.Lists.{mark_at}
+use Rattle.vrt_model.specs.Unrolled.{Top}
+use Rattle.vrt_model.specs.Unsupported.{top_before}
+use Rattle.vrt_model.specs.declared.blif.Blif.{Blif}
+use Rattle.vrt_model.specs.declared.circuit.Circuit.{Circuit}
+use Rattle.vrt_model.specs.declared.design.Design.{Design}
+use Rattle.vrt_model.specs.declared.pairing.PortRole.{PortRole}
+use Rattle.vrt_model.specs.declared.rules.Rules.{Rules}
+use Rattle.vrt_model.specs.declared.whole.CellFacts.{CellFacts}
+use Rattle.whole_cells.proofs.EnteredLaws.{entered_are_whole_cells}
+use Rattle.whole_cells.specs.Entries.{IsEntry}
+use Rattle.whole_choice.proofs.UnderwayLaws.{count}
+use Rattle.whole_choice.specs.Chosen.{cut_of}
+use Rattle.whole_choice.specs.Cycles.{IsTriedBy}
+use Rattle.whole_choice.specs.Underway.{AreChosen, AreChosenBelow, AreTables}
+use Rattle.whole_choice.specs.Whole.{AreEntriesOf, IsWholeGround}
+use Rattle.whole_choice.specs.declared.choice.Chosen.{Chosen}
+use Rattle.whole_choice.specs.declared.tables.Tables.{Tables}
+
+-- ---- the end
+
+module _ (asked : Bool) (t : Top) (blif : Blif) (facts : List CellFacts) (tables : Tables) (are : AreTables t blif facts tables) (chosen : Chosen)
+    (all : AreChosenBelow asked t blif facts tables (length tables.unrolled.now.places) chosen) where
+  abbrev cut : Cut
+  cut = cut_of t chosen.whole.items
+
+  -- the last place is that of an instance, or the cell has none
+  last : (i : ℕ) × (length tables.unrolled.now.places ≡ suc i)
+  last = by_count (length tables.unrolled.now.places) refl
+    where
+      by_count : (n : ℕ) → length tables.unrolled.now.places ≡ n → (i : ℕ) × (n ≡ suc i)
+      by_count zero e = absurd (let some = some_place t in let as_many = count t blif facts tables are in let no : ⊥ = omega (arith, some, as_many, e) in no)
+      by_count (suc i) e = (i, refl)
+
+  pub at_end : AreChosen asked t blif facts tables last.0 chosen
+  at_end = all last.0 last.1
+
+  cut_at : IsCutAt cut tables.unrolled.now chosen.whole.items
+  cut_at = record { netlist = are.ground.netlist.design; unrolled_is = are.entered.unrolled_is; marks = by_number }
+    where
+      by_number : (n : ℕ) → mark_at chosen.whole.items n ≡ is_whole cut.choice n
+      by_number zero = at_end.outermost
+      by_number (suc j) = refl
+
+  pub tried_by : (marks : Marks) → marks.whole.items ≡ chosen.whole.items → ((x : Cut) → IsCutAt x tables.unrolled.now chosen.whole.items → AreMarks x marks) → IsTriedBy cut blif facts tables marks
+  tried_by marks same marks_are =
+      let cells = entered_are_whole_cells cut blif facts tables.unrolled.now tables.cells.now are.entered at_end.entered in
+      record {
+        flat_is = are.flat_is;
+        cut_at = subst (IsCutAt cut tables.unrolled.now) (sym same) cut_at;
+        marks = marks_are cut cut_at;
+        places = are.owners_are;
+        cells = record { phases_are = are.phases_are; cells_are = cells.cells_are };
+      }
+
+-- where cycles were asked for, the choice is that of the definition
+module _ (t : Top) (blif : Blif) (facts : List CellFacts) (tables : Tables) (are : AreTables t blif facts tables) (chosen : Chosen)
+    (all : AreChosenBelow true t blif facts tables (length tables.unrolled.now.places) chosen) where
+  is_choice : IsChoice (cut_of t chosen.whole.items) blif facts
+  is_choice =
+      let end = at_end true t blif facts tables are chosen all in
+      let i = last true t blif facts tables are chosen all in
+      let as_many = count t blif facts tables are in
+      let last_is = i.1 in
+      all_are_decided (cut_of t chosen.whole.items) blif facts (λ j lt. end.decided j (omega (arith, lt, as_many, last_is)))
+
+  pub checked_some : (circuit : Circuit) → IsCircuitWith (cut_of t chosen.whole.items) blif facts circuit → (cut : Cut) × (cut.top ≡ t) × IsChecked cut blif facts circuit
+  checked_some circuit made = (cut_of t chosen.whole.items, refl, record { chosen = is_choice; circuit = made })
+
+  unmarked : (marks : List Bool) → list_any (λ (mark : Bool). mark) marks ≡ false → (n : ℕ) → mark_at marks n ≡ false
+  unmarked [] none n = refl
+  unmarked (true ∷ marks) none n = absurd (false≢true (sym none))
+  unmarked (false ∷ marks) none zero = refl
+  unmarked (false ∷ marks) none (suc n) = unmarked marks none n
+
+  abbrev nowhere : Cut
+  nowhere = record { top = t; choice = λ i. false }
+
+  -- without chosen instances it is the flat circuit
+  pub checked_none : list_any (λ (mark : Bool). mark) chosen.whole.items ≡ false → (cut : Cut) × (cut.top ≡ t) × IsChecked cut blif facts tables.flat.now
+  checked_none none =
+      let same : nowhere ≡ cut_of t chosen.whole.items =
+      ap (λ (f : ℕ → Bool). let one : Cut = record { top = t; choice = f } in one) (fun_ext (λ i. sym (unmarked chosen.whole.items none (suc i)))) in
+      checked_some tables.flat.now (subst (λ (c : Cut). IsCircuitWith c blif facts tables.flat.now) same ((chain_begins_flat nowhere blif facts tables.flat.now).1 are.flat_is))
+
+-- ---- the tables
+
+pub tables_of : (design : Design) (blif : Blif) (rules : Rules) (cell : ℕ) (roles : List PortRole) (facts : List CellFacts) (tables : Tables) → IsWholeGround design blif rules cell roles facts tables.flat.now
+    → IsUnrolled (whole_of design rules cell roles) tables.unrolled.now → tables.phases.now ≡ rules.phases → tables.owners.now ≡ device_places (whole_of design rules cell roles)
+    → AreEntriesOf design blif rules facts tables.unrolled.now.places tables.cells.now → AreTables (whole_of design rules cell roles) blif facts tables
+tables_of design blif rules cell roles facts tables is unrolled phases owners entries = record {
+  ground = is.ground;
+  flat_is = is.flat_is;
+  phases_are = sym phases;
+  owners_are = owners;
+  each = entries.each;
+  entered = record {
+    cards = is.ground.netlist.ordered.cards;
+    ties = is.ground.netlist.ties;
+    unrolled_is = unrolled;
+    soft = told_soft facts is.ground.soft;
+    entries = λ place entry among on. entry_of entry place (entries.are place entry among on);
+  };
+}
+  where
+    -- what an entry says does not depend on the checked cell
+    entry_of : (entry : Option WholeCell) (place : Place) → IsEntry (top_before design rules place.cell) blif facts place.cell entry → IsEntry (whole_of design rules cell roles) blif facts place.cell entry
+    entry_of None place is = is
+    entry_of (Some own) place is = record { cell = record { number = is.cell.number; paired = is.cell.paired; has = is.cell.has }; allowed = is.allowed; ports = is.ports }
