@@ -1,5 +1,5 @@
 -- Instances that are tried one after the other.
-use Rattle.std.proofs.Common.{◌≡◌, ℕ, zero, suc, ◌+◌, ◌<◌, ◌||◌, ◌&&◌, ◌++◌, Bool, true, false, All, List, [], length, map, replicate, Option, Some, None, arith, ap, refl, subst, sym, ◌∙◌}
+use Rattle.std.proofs.Common.{◌≡◌, ℕ, zero, suc, ◌+◌, ◌<◌, ◌||◌, ◌&&◌, ◌++◌, Bool, true, false, All, Global, Vec, List, [], length, map, replicate, Option, Some, None, arith, ap, refl, subst, sym, ◌∙◌}
 use Rattle.std.specs.Prelude.{◌==◌, flat_map}
 use Rattle.std.specs.List.{enumerate_from}
 use Rattle.std.proofs.lemmas.Bool.{eq-eqb, eqb-true, false≢true}
@@ -11,6 +11,7 @@ use Rattle.checked_chain.proofs.ChoiceLaws.{numbered, numbered_at}
 use Rattle.known_nets.specs.Incidence.{AreHeldMarks}
 use Rattle.net_places.specs.Links.{Bare, bare, shown}
 use Rattle.net_places.specs.declared.places.Place.{Place}
+use Rattle.phase_ports.specs.declared.port_list.Port.{Port}
 use Rattle.replaced_instances.proofs.StepPorts.{enumerated_at}
 use Rattle.substitute.proofs.WholeLaws.{at_ports}
 use Rattle.substitute.specs.Insides.{IsCutAt}
@@ -31,19 +32,20 @@ use Rattle.vrt_model.specs.Unrolled.{Place as FlatPlace, Top, all_places}
 use Rattle.vrt_model.specs.Unsupported.{comparison_of}
 use Rattle.vrt_model.specs.WholeInstances.{OutputAt, all_outputs, driven_pins, outputs_of_place, pins_of}
 use Rattle.vrt_model.specs.declared.blif.Blif.{Blif}
+use Rattle.vrt_model.specs.declared.ids.Net.{Net}
 use Rattle.vrt_model.specs.declared.whole.CellFacts.{CellFacts}
 use Rattle.vrt_model.specs.declared.whole.WholePin.{WholePin}
 use Rattle.whole_cells.proofs.EnteredLaws.{entered_are_apart, entered_are_whole_cells}
 use Rattle.whole_cells.specs.Entered.{AreEntered}
 use Rattle.whole_cells.specs.Entries.{IsEntry, IsWholeEntry}
 use Rattle.whole_choice.proofs.ChosenLaws.{marked_is_with_one, one_more_brings_its_own, one_more_is_decided}
-use Rattle.whole_choice.proofs.RightLaws.{allowed_of, open_of, refused_is_left_out, with_model}
+use Rattle.whole_choice.proofs.RightLaws.{allowed_of, inside_is_left_out, open_of, refused_is_left_out, with_model}
 use Rattle.whole_choice.proofs.TakenLaws.{taken_grow}
 use Rattle.whole_choice.specs.Candidates.{IsCandidate}
 use Rattle.whole_choice.specs.Chosen.{IsRightly, MarksOneMore, MayBeChosen, cut_of}
 use Rattle.whole_choice.specs.Right.{AreItsOutputsOpen, IsNext}
 use Rattle.whole_choice.specs.Taken.{has_pin}
-use Rattle.whole_choice.specs.Underway.{AreChosen, AreChosenBy, AreTables, HasEntry}
+use Rattle.whole_choice.specs.Underway.{AreChosen, AreChosenBy, AreTables, HasEntry, IsNextTrial, IsOutside}
 use Rattle.whole_choice.specs.declared.choice.Chosen.{Chosen}
 use Rattle.whole_choice.specs.declared.tables.Tables.{Tables}
 
@@ -92,6 +94,10 @@ module _ (t : Top) (blif : Blif) (facts : List CellFacts) (tables : Tables) (are
 
 -- ---- one place on
 
+pub suc_of : (n : ℕ) → 0 < n → (i : ℕ) × (n ≡ suc i)
+suc_of zero lt = absurd (let no : ⊥ = omega (arith, lt) in no)
+suc_of (suc i) lt = (i, refl)
+
 or_none : (b : Bool) → (b || false) ≡ b
 or_none true = refl
 or_none false = refl
@@ -117,6 +123,54 @@ module _ (asked : Bool) (t : Top) (blif : Blif) (facts : List CellFacts) (tables
         room = is.room;
       }
 
+  -- the same marks
+  pub same_chosen : (old new : Chosen) → new.whole ≡ old.whole → new.nets.held ≡ old.nets.held → new.nets.taken ≡ old.nets.taken → AreChosen asked t blif facts tables i old → AreChosen asked t blif facts tables i new
+  same_chosen old new whole held taken is =
+      subst (λ (v : Vec Bool Global). AreChosenBy asked t blif facts tables i v.items new.nets.held.items new.nets.taken.items) (sym whole)
+      (subst (λ (v : Vec Bool Global). AreChosenBy asked t blif facts tables i old.whole.items v.items new.nets.taken.items) (sym held)
+      (subst (λ (v : Vec Bool Global). AreChosenBy asked t blif facts tables i old.whole.items old.nets.held.items v.items) (sym taken) is))
+
+  -- the marks are those of a cut
+  pub cut_at_chosen : (chosen : Chosen) → AreChosen asked t blif facts tables i chosen → IsCutAt (cut_of t chosen.whole.items) tables.unrolled.now chosen.whole.items
+  cut_at_chosen chosen is = record { netlist = is.tables_are.ground.netlist.design; unrolled_is = is.tables_are.entered.unrolled_is; marks = by_number }
+    where
+      by_number : (n : ℕ) → mark_at chosen.whole.items n ≡ is_whole (cut_of t chosen.whole.items).choice n
+      by_number zero = is.outermost
+      by_number (suc j) = refl
+
+  -- an instance inside a chosen one
+  pub left_inside : (chosen : Chosen) → AreChosen asked t blif facts tables i chosen → suc i < length tables.unrolled.now.places
+      → ((p : FlatPlace) → At (all_places t) (suc i) p → is_inside_whole (cut_of t chosen.whole.items) p ≡ true) → AreChosen asked t blif facts tables (suc i) chosen
+  left_inside chosen is lt inside =
+      let p = place_there t blif facts tables is.tables_are (suc i) lt in
+      left_out chosen is (inside_is_left_out asked (cut_of t chosen.whole.items) blif facts i p.0 p.1 (inside p.0.at (numbered_at t (suc i) p.0 p.1).1))
+
+  -- the place that the code finds, and what the table has of its cell
+  pub has_entry_there : (chosen : Chosen) (own : WholeCell) (place : Place) → AreChosen asked t blif facts tables i chosen → At tables.unrolled.now.places (suc i) place
+      → ((entry : Option WholeCell) → At tables.cells.now place.cell entry → Some own ≡ entry) → HasEntry asked t blif facts tables i chosen own
+  has_entry_there chosen own place is here found =
+      let entry = entry_there t blif facts tables is.tables_are (suc i) place here in
+      record { chosen_are = is; place = place; here = here; entry = subst (At tables.cells.now place.cell) (sym (found entry.0 entry.1)) entry.1 }
+
+  pub left_without_entry : (chosen : Chosen) (place : Place) → AreChosen asked t blif facts tables i chosen → At tables.unrolled.now.places (suc i) place
+      → ((entry : Option WholeCell) → At tables.cells.now place.cell entry → None ≡ entry) → AreChosen asked t blif facts tables (suc i) chosen
+  left_without_entry chosen place is here found =
+      let entry = entry_there t blif facts tables is.tables_are (suc i) place here in
+      left_out chosen is (without_entry t blif facts tables is.tables_are asked chosen.whole.items i place here (subst (At tables.cells.now place.cell) (sym (found entry.0 entry.1)) entry.1))
+
+  -- its output pins as the code makes them
+  pub next_trial : (chosen : Chosen) (own : WholeCell) (out : IsOutside asked t blif facts tables i chosen own) (place : Place) (ports : List Port) (nets : List Net) (made pins : List WholePin)
+      → At tables.unrolled.now.places (suc i) place → ports ≡ own.ports.items → nets ≡ place.ports → pins ≡ made
+      → ((fs : List CellFacts) (k : Comparison) (at : FlatPlace) → IsAtPorts k at ports nets → AreDrivesOf fs at.cell [] → made ≡ driven_pins fs k at)
+      → IsNextTrial asked t blif facts tables i chosen own pins
+  next_trial chosen own out place ports nets made pins here ports_is nets_is pins_is gives =
+      let same = ap (λ (x : Place). x.ports) (one_at tables.unrolled.now.places (suc i) out.has.place place out.has.here here) ∙ sym nets_is in
+      record {
+        is = out;
+        pins_are = λ k at stand drives.
+            pins_is ∙ gives facts k at (subst (λ (ps : List Port). IsAtPorts k at ps nets) (sym ports_is) (subst (λ (ns : List Net). IsAtPorts k at own.ports.items ns) same stand)) drives;
+      }
+
 -- ---- an instance of a cell with an entry
 
 module _ (asked : Bool) (t : Top) (blif : Blif) (facts : List CellFacts) (tables : Tables) (i : ℕ) (chosen : Chosen) (own : WholeCell) (has : HasEntry asked t blif facts tables i chosen own) where
@@ -135,7 +189,7 @@ module _ (asked : Bool) (t : Top) (blif : Blif) (facts : List CellFacts) (tables
   abbrev p : NumberedPlace
   p = numbered_here.0
 
-  entry : IsWholeEntry t blif facts p.at.cell own
+  pub entry : IsWholeEntry t blif facts p.at.cell own
   entry = is_entry t blif facts tables are (suc i) has.place p (Some own) has.here numbered_here.1 has.entry
 
   abbrev pub model : ℕ
@@ -203,7 +257,8 @@ module _ (asked : Bool) (t : Top) (blif : Blif) (facts : List CellFacts) (tables
     one_more n = more n ∙ ap (λ (b : Bool). mark_at whole n || b) (turned n i)
 
     outermost : mark_at marks 0 ≡ false
-    outermost = more 0 ∙ or_none (mark_at whole 0) ∙ has.chosen_are.outermost
+    outermost =
+        let off : (suc i == 0) ≡ false = grind (arith, nat_tests) in more 0 ∙ ap (λ (b : Bool). mark_at whole 0 || b) off ∙ or_none (mark_at whole 0) ∙ has.chosen_are.outermost
 
     cut_at : IsCutAt one tables.unrolled.now marks
     cut_at = record { netlist = are.ground.netlist.design; unrolled_is = are.entered.unrolled_is; marks = by_number }
@@ -267,6 +322,40 @@ module _ (asked : Bool) (t : Top) (blif : Blif) (facts : List CellFacts) (tables
               (taken_grow (all_outputs old blif facts) p.number pins chosen.nets.taken.items taken has.chosen_are.taken taken_more);
           room = room ∙ has.chosen_are.room;
         }
+
+-- ---- as the code tries it
+
+module _ (asked : Bool) (t : Top) (blif : Blif) (facts : List CellFacts) (tables : Tables) (i : ℕ) (chosen : Chosen) (own : WholeCell) (pins : List WholePin)
+    (trial : IsNextTrial asked t blif facts tables i chosen own pins) (at : ℕ) (at_is : at ≡ suc i) where
+  abbrev has_entry : HasEntry asked t blif facts tables i chosen own
+  has_entry = trial.is.has
+
+  abbrev pub place_of_trial : NumberedPlace
+  place_of_trial = (numbered_here asked t blif facts tables i chosen own has_entry).0
+
+  abbrev pub model_of_trial : ℕ
+  model_of_trial = model asked t blif facts tables i chosen own has_entry
+
+  pins_same : pins ≡ driven_pins facts (comparison_of t.design blif t.rules place_of_trial.at.cell model_of_trial) place_of_trial.at
+  pins_same = pins_are asked t blif facts tables i chosen own has_entry pins trial.pins_are
+
+  module _ (marks : List Bool) (more : (n : ℕ) → mark_at marks n ≡ (mark_at chosen.whole.items n || (at == n))) where
+    more_here : (n : ℕ) → mark_at marks n ≡ (mark_at chosen.whole.items n || (suc i == n))
+    more_here n = more n ∙ ap (λ (a : ℕ). mark_at chosen.whole.items n || (a == n)) at_is
+
+    pub trial_candidate : (own_marks : Marks) → own_marks.whole.items ≡ marks → ((cut : Cut) → IsCutAt cut tables.unrolled.now marks → AreMarks cut own_marks)
+        → IsCandidate asked (cut_of t chosen.whole.items) blif facts i place_of_trial model_of_trial tables own_marks chosen.nets pins
+    trial_candidate own_marks same marks_are =
+        candidate asked t blif facts tables i chosen own has_entry marks more_here pins own_marks same marks_are trial.is.outside pins_same
+
+    pub trial_chosen : (held taken : List Bool) → length marks ≡ length chosen.whole.items → IsRightly asked (cut_of t chosen.whole.items) blif facts i true
+        → held ≡ chosen.nets.held.items → length taken ≡ length chosen.nets.taken.items → ((n : ℕ) → mark_at taken n ≡ (mark_at chosen.nets.taken.items n || has_pin n pins))
+        → AreChosenBy asked t blif facts tables (suc i) marks held taken
+    trial_chosen held taken each right held_same room taken_more =
+        chosen_one asked t blif facts tables i chosen own has_entry marks more_here pins held taken each right pins_same held_same room taken_more
+
+  pub trial_within : IsRightly asked (cut_of t chosen.whole.items) blif facts i true → All (λ (q : WholePin). q.net.0 < length chosen.nets.taken.items) pins
+  trial_within right = pins_within asked t blif facts tables i chosen own has_entry pins pins_same right
 
 -- ---- the first
 

@@ -1,13 +1,17 @@
 -- All instances tried, and the circuit of those that are chosen.
-use Rattle.std.proofs.Common.{◌≡◌, ℕ, zero, suc, ◌<◌, ◌||◌, Bool, true, false, List, [], ◌∷◌, length, Option, Some, None, arith, ap, refl, subst, sym, ◌∙◌}
+use Rattle.std.proofs.Common.{◌≡◌, ℕ, zero, suc, ◌<◌, ◌≤◌, ◌||◌, Bool, true, false, List, [], ◌∷◌, length, Option, Some, None, arith, ap, refl, subst, sym, ◌∙◌}
 use Rattle.std.specs.List.{list_any}
 use Rattle.std.proofs.lemmas.Bool.{false≢true}
 use mathlib.Core.Path.{fun_ext}
 use Rattle.checked_chain.proofs.EndLaws.{chain_begins_flat}
+use Rattle.flat_sizes.proofs.PlaceLaws.{nets_counted}
+use Rattle.known_nets.proofs.WiredLaws.{flat_wired}
+use Rattle.known_nets.specs.Wired.{IsWired}
 use Rattle.net_places.specs.Links.{IsUnrolled}
 use Rattle.net_places.specs.declared.places.Place.{Place}
 use Rattle.net_places.specs.Whole.{whole_of}
 use Rattle.substitute.proofs.ChosenLaws.{all_are_decided}
+use Rattle.substitute.proofs.FlatLaws.{flat_parts}
 use Rattle.substitute.specs.Insides.{IsCutAt}
 use Rattle.substitute.specs.Shown.{AreMarks, device_places}
 use Rattle.substitute.specs.declared.marks.Marks.{Marks}
@@ -15,19 +19,21 @@ use Rattle.substitute.specs.declared.whole_cell.WholeCell.{WholeCell}
 use Rattle.substitution_laws.proofs.ChainLaws.{some_place}
 use Rattle.substitution_laws.proofs.ChosenLaws.{told_soft}
 use Rattle.vrt_model.specs.Checked.{IsChecked, IsChoice, IsCircuitWith}
-use Rattle.vrt_model.specs.Cut.{Cut, is_whole}
+use Rattle.vrt_model.specs.Cut.{Cut}
+use Rattle.vrt_model.specs.FlatCircuit.{flat_circuit_of, flat_nets}
 use Rattle.vrt_model.specs.Lists.{mark_at}
 use Rattle.vrt_model.specs.Unrolled.{Top}
 use Rattle.vrt_model.specs.Unsupported.{top_before}
 use Rattle.vrt_model.specs.declared.blif.Blif.{Blif}
 use Rattle.vrt_model.specs.declared.circuit.Circuit.{Circuit}
+use Rattle.vrt_model.specs.declared.circuit.FlatNet.{FlatNet}
 use Rattle.vrt_model.specs.declared.design.Design.{Design}
 use Rattle.vrt_model.specs.declared.pairing.PortRole.{PortRole}
 use Rattle.vrt_model.specs.declared.rules.Rules.{Rules}
 use Rattle.vrt_model.specs.declared.whole.CellFacts.{CellFacts}
 use Rattle.whole_cells.proofs.EnteredLaws.{entered_are_whole_cells}
 use Rattle.whole_cells.specs.Entries.{IsEntry}
-use Rattle.whole_choice.proofs.UnderwayLaws.{count}
+use Rattle.whole_choice.proofs.UnderwayLaws.{count, cut_at_chosen}
 use Rattle.whole_choice.specs.Chosen.{cut_of}
 use Rattle.whole_choice.specs.Cycles.{IsTriedBy}
 use Rattle.whole_choice.specs.Underway.{AreChosen, AreChosenBelow, AreTables}
@@ -43,7 +49,7 @@ module _ (asked : Bool) (t : Top) (blif : Blif) (facts : List CellFacts) (tables
   cut = cut_of t chosen.whole.items
 
   -- the last place is that of an instance, or the cell has none
-  last : (i : ℕ) × (length tables.unrolled.now.places ≡ suc i)
+  pub last : (i : ℕ) × (length tables.unrolled.now.places ≡ suc i)
   last = by_count (length tables.unrolled.now.places) refl
     where
       by_count : (n : ℕ) → length tables.unrolled.now.places ≡ n → (i : ℕ) × (n ≡ suc i)
@@ -54,11 +60,7 @@ module _ (asked : Bool) (t : Top) (blif : Blif) (facts : List CellFacts) (tables
   at_end = all last.0 last.1
 
   cut_at : IsCutAt cut tables.unrolled.now chosen.whole.items
-  cut_at = record { netlist = are.ground.netlist.design; unrolled_is = are.entered.unrolled_is; marks = by_number }
-    where
-      by_number : (n : ℕ) → mark_at chosen.whole.items n ≡ is_whole cut.choice n
-      by_number zero = at_end.outermost
-      by_number (suc j) = refl
+  cut_at = cut_at_chosen asked t blif facts tables last.0 chosen at_end
 
   pub tried_by : (marks : Marks) → marks.whole.items ≡ chosen.whole.items → ((x : Cut) → IsCutAt x tables.unrolled.now chosen.whole.items → AreMarks x marks) → IsTriedBy cut blif facts tables marks
   tried_by marks same marks_are =
@@ -100,6 +102,26 @@ module _ (t : Top) (blif : Blif) (facts : List CellFacts) (tables : Tables) (are
       let same : nowhere ≡ cut_of t chosen.whole.items =
       ap (λ (f : ℕ → Bool). let one : Cut = record { top = t; choice = f } in one) (fun_ext (λ i. sym (unmarked chosen.whole.items none (suc i)))) in
       checked_some tables.flat.now (subst (λ (c : Cut). IsCircuitWith c blif facts tables.flat.now) same ((chain_begins_flat nowhere blif facts tables.flat.now).1 are.flat_is))
+
+-- ---- the flat circuit
+
+module _ (design : Design) (blif : Blif) (rules : Rules) (cell : ℕ) (roles : List PortRole) (facts : List CellFacts) (flat : Circuit) (is : IsWholeGround design blif rules cell roles facts flat) where
+  -- how many nets there are does not depend on roles
+  pub nets_are_few : length (flat_nets (top_before design rules cell)) ≤ 20000
+  nets_are_few =
+      let few : length flat.nets ≤ 20000 = is.ground.formed.net_limit in
+      let nets = ap (λ (ns : List FlatNet). length ns) (flat_parts (whole_of design rules cell roles) flat is.flat_is).nets in
+      let one = nets_counted (top_before design rules cell) in
+      let other = nets_counted (whole_of design rules cell roles) in
+      let same : length (flat_nets (top_before design rules cell)) ≡ length (flat_nets (whole_of design rules cell roles)) = one ∙ sym other in
+      omega (arith, few, nets, same)
+
+  none_whole : flat.wholes ≡ []
+  unfolding flat_circuit_of
+  none_whole = ap (λ (x : Circuit). x.wholes) is.flat_is
+
+  pub flat_is_wired : IsWired flat
+  flat_is_wired = flat_wired flat (record { wholes = none_whole; devices = is.ground.formed.devices; holds = is.ground.formed.holds })
 
 -- ---- the tables
 

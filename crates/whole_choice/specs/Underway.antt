@@ -32,16 +32,16 @@ pub record AreTables (t : Top) (blif : Blif) (facts : List CellFacts) (tables : 
 
 -- the instances before a number are rightly chosen or not, and none is chosen from there on; the marks are at their places, and at the
 -- nets with holds and with their outputs
-pub record AreChosenBy (asked : Bool) (t : Top) (blif : Blif) (facts : List CellFacts) (tables : Tables) (i : ℕ) (whole held taken : List Bool) : Type 0 where
+pub record AreChosenBy (asked : Bool) (t : Top) (blif : Blif) (facts : List CellFacts) (tables : Tables) (i : ℕ) (whole holds outputs : List Bool) : Type 0 where
   pub tables_are : AreTables t blif facts tables
   pub each : length whole ≡ length tables.unrolled.now.places
   pub outermost : mark_at whole 0 ≡ false
   pub none : NoneFrom (cut_of t whole) i
   pub decided : AreRightly asked (cut_of t whole) blif facts (suc i)
   pub entered : AreEntered (cut_of t whole) tables.unrolled.now tables.cells.now
-  pub held : AreHeldMarks tables.flat.now held
-  pub taken : AreTaken (all_outputs (cut_of t whole) blif facts) taken
-  pub room : length taken ≡ length tables.flat.now.nets
+  pub held : AreHeldMarks tables.flat.now holds
+  pub taken : AreTaken (all_outputs (cut_of t whole) blif facts) outputs
+  pub room : length outputs ≡ length tables.flat.now.nets
 
 abbrev pub AreChosen : Bool → Top → Blif → List CellFacts → Tables → ℕ → Chosen → Type 0
 AreChosen asked t blif facts tables i chosen = AreChosenBy asked t blif facts tables i chosen.whole.items chosen.nets.held.items chosen.nets.taken.items

@@ -42,7 +42,7 @@ pub fn is_acyclic_with(alloc: Global, tables: Tables<'_>, marks: &Marks) -> Resu
     requires holds { All (IsHold tables.flat.now) tables.flat.now.holds }
     requires small { AreSmall tables.unrolled.now.places }
     requires tried { (cut : Cut) × (blif : BlifValue) × (facts : List FactsValue) × IsTriedSoundly cut blif facts tables marks.now }
-    ensures { IfOk result (λ free. (cut : Cut) (blif : BlifValue) (facts : List FactsValue) → IsTriedBy cut blif facts tables.entry marks.now → (circuit : CircuitValue) × IsCircuitWith cut blif facts circuit × ((free ≡ true) ↔ AreAcyclic circuit tables.phases.now)) }
+    ensures { IfOk result (λ free. (cut : Cut) (blif : BlifValue) (facts : List FactsValue) → IsTriedBy cut blif facts tables.entry marks.now → (circuit : CircuitValue) × IsCircuitWith cut blif facts circuit × ((free ≡ true) ↔ AreAcyclic circuit tables.entry.phases.now)) }
 {
     let circuit = circuit_by(alloc, tables, marks)?;
     let free = are_acyclic(alloc, &circuit, tables.phases)?;
