@@ -157,10 +157,10 @@ module _ (cut : Cut) (blif : Blif) (facts : List CellFacts) (flat : Circuit) (is
 phase_is : (rules : Rules) (j : ℕ) (phase : Phase) → At rules.phases j phase → phase_at rules j ≡ phase
 phase_is rules j phase e = ap (λ (o : Option Phase). unwrap_or o (record { line = 0; name = []; bits = [] })) e
 
-by_place : (rules : Rules) (c : Circuit) → ((j : ℕ) → j < length rules.phases → IsAcyclic (HasArc c (phase_at rules j))) → AreAcyclic c rules.phases
+pub by_place : (rules : Rules) (c : Circuit) → ((j : ℕ) → j < length rules.phases → IsAcyclic (HasArc c (phase_at rules j))) → AreAcyclic c rules.phases
 by_place rules c free j phase e = subst (λ (x : Phase). IsAcyclic (HasArc c x)) (phase_is rules j phase e) (free j (slice_get_within rules.phases j phase e))
 
-at_place : (rules : Rules) (c : Circuit) → AreAcyclic c rules.phases → (j : ℕ) → j < length rules.phases → IsAcyclic (HasArc c (phase_at rules j))
+pub at_place : (rules : Rules) (c : Circuit) → AreAcyclic c rules.phases → (j : ℕ) → j < length rules.phases → IsAcyclic (HasArc c (phase_at rules j))
 at_place rules c free j lt =
     let phase = at_there rules.phases j lt in subst (λ (x : Phase). IsAcyclic (HasArc c x)) (sym (phase_is rules j phase.0 phase.1)) (free j phase.0 phase.1)
 
