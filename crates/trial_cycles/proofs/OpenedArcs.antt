@@ -4,11 +4,11 @@ use Rattle.std.proofs.lemmas.Bool.{cases_Bool}
 use Rattle.cell_inside.proofs.Copies.{touched}
 use Rattle.cell_inside.specs.LeftWhole.{IsLeftDevice}
 use Rattle.cell_inside.specs.Placed.{IsImage}
-use Rattle.trial_cycles.proofs.OpenedNets.{IsOpenedIn, end_plain, gate_below, hidden_unknown, joins_same, known_above, known_below, own_device, own_joins, plain_up, stays}
+use Rattle.trial_cycles.proofs.OpenedNets.{IsOpenedIn, end_plain, gate_below, joins_same, known_above, known_below, known_stays, own_device, own_joins, plain_up, stays}
 use Rattle.vrt_model.proofs.Filtered.{device_among}
 use Rattle.vrt_model.proofs.Laws.{turned}
 use Rattle.vrt_model.proofs.Ranked.{together_plain}
-use Rattle.vrt_model.specs.Known.{HasGateArc, IsChannel, IsKnown, IsPlain, IsTogether, IsUnknown, itself, onward}
+use Rattle.vrt_model.specs.Known.{HasGateArc, IsChannel, IsFixed, IsKnown, IsPlain, IsTogether, IsUnknown, itself, onward}
 use Rattle.vrt_model.specs.Lists.{Among}
 use Rattle.vrt_model.specs.Path.{Joins}
 use Rattle.vrt_model.specs.Reading.{conducts_at, devices_of}
@@ -18,7 +18,7 @@ use Rattle.vrt_model.specs.declared.design.Kind.{Kind}
 use Rattle.vrt_model.specs.declared.rules.Phase.{Phase}
 
 module _ (cell low high : Circuit) (phase : Phase) (at place fresh : ℕ → ℕ) (remaining compared : ℕ → Bool)
-    (o : IsOpenedIn cell low high phase at place fresh remaining compared) where
+    (o : IsOpenedIn cell low high phase at place fresh remaining compared) (clocks : (n : ℕ) (v : Bool) → IsFixed cell phase n v → IsKnown low phase (at n) v) where
   -- ---- parts outside
 
   channel_up : (e f : Device) → IsLeftDevice (λ n. n) remaining compared e f → IsChannel low phase true e → Among (devices_of true high) f → IsChannel high phase true f
@@ -48,7 +48,7 @@ module _ (cell low high : Circuit) (phase : Phase) (at place fresh : ℕ → ℕ
     on,
     λ v known.
         subst (λ (k : Kind). conducts_at k v ≡ true) image.kind
-        (channel.1 v (subst (λ (x : ℕ). IsKnown low phase x v) (sym image.gate) (known_above cell low high phase at place fresh remaining compared o known))),
+        (channel.1 v (subst (λ (x : ℕ). IsKnown low phase x v) (sym image.gate) (known_above cell low high phase at place fresh remaining compared o clocks known))),
   )
 
   -- that of a net of the cell is one of the cell
@@ -68,11 +68,7 @@ module _ (cell low high : Circuit) (phase : Phase) (at place fresh : ℕ → ℕ
 
   -- what is not known with the cell opened is not known with it whole
   unknown_up : (n : ℕ) → remaining n ≡ true → IsUnknown low phase n → IsUnknown high phase n
-  unknown_up n there unknown v known =
-      elim (cases_Bool (compared n)) [
-        | inl c ↦ unknown v (known_below cell low high phase at place fresh remaining compared o known c)
-        | inr gone ↦ hidden_unknown cell low high phase at place fresh remaining compared o n v there gone known
-      ]
+  unknown_up n there unknown v known = unknown v (known_stays cell low high phase at place fresh remaining compared o n v there known)
 
   abbrev pub IsArcInside : ℕ → ℕ → Type 0
   IsArcInside a b = (g : ℕ) × (n : ℕ) × (a ≡ at g) × (b ≡ at n) × IsPlain cell n × HasGateArc cell phase g n
@@ -103,7 +99,7 @@ module _ (cell low high : Circuit) (phase : Phase) (at place fresh : ℕ → ℕ
           d.0,
           (x.0, far.0, x.3, channel_inside d.0 e d.2 channel d.1, far.2),
           refl,
-          λ v known. unknown v (subst (λ (y : ℕ). IsKnown low phase y v) (sym from) (known_above cell low high phase at place fresh remaining compared o known)),
+          λ v known. unknown v (subst (λ (y : ℕ). IsKnown low phase y v) (sym from) (known_above cell low high phase at place fresh remaining compared o clocks known)),
         ),
       )
 

@@ -44,7 +44,7 @@ abbrev pub no_drive : ℕ → ℕ
 no_drive n = 0
 
 -- The cell stands in the one circuit and is whole in the other, over the same nets. What is hidden is a plain net of the cell; where it remains, the
--- whole instance drives it; and supplies and clock ports of the cell are at nets with their bits.
+-- whole instance drives it.
 pub record IsOpenedIn (cell low high : Circuit) (phase : Phase) (at place fresh : ℕ → ℕ) (remaining compared : ℕ → Bool) : Type 0 where
   pub ranges : HasRanges cell
   pub wired : IsWired low
@@ -54,7 +54,6 @@ pub record IsOpenedIn (cell low high : Circuit) (phase : Phase) (at place fresh 
   pub nets : high.nets ≡ low.nets
   pub hidden : (n : ℕ) → compared n ≡ false → (m : ℕ) × (n ≡ at m) × IsPlain cell m
   pub driven : (m : ℕ) → IsPlain cell m → remaining (at m) ≡ true → IsDriven high (at m)
-  pub clocks : (n : ℕ) (v : Bool) → IsFixed cell phase n v → IsFixed low phase (at n) v
 
 -- a supply has its bit
 pub supply_fixed : (c : Circuit) (phase : Phase) (n : ℕ) (value : Bool) → IsSupply c n value → IsFixed c phase n value
@@ -237,11 +236,11 @@ module _ (cell low high : Circuit) (phase : Phase) (at place fresh : ℕ → ℕ
         (set_responds cell low at no_net no_drive phase (λ j. false) (record { reading = bits; driven = λ j. false }) o.ranges o.wired.ranges o.placed
         (supply_bit low phase bits bits reads) inside reading held driven shut own (λ m i e. false≢true e) gate_bit n (Shows v) ins shows)
 
-  -- what is known in the cell is known with it in the circuit
-  pub known_above : {n : ℕ} {v : Bool} → IsKnown cell phase n v → IsKnown low phase (at n) v
-  known_above {n} {v} (fixed f) = fixed (o.clocks n v f)
-  known_above {n} {v} (settled inside reading held driven shut ins own gates shows) =
-      known_set inside reading shut own (λ m l d i a j. known_above (gates m l d i a j)) held driven n v ins shows
+  -- what is known in the cell is known with it in the circuit, where its supplies and clock ports are
+  pub known_above : ((n : ℕ) (v : Bool) → IsFixed cell phase n v → IsKnown low phase (at n) v) → {n : ℕ} {v : Bool} → IsKnown cell phase n v → IsKnown low phase (at n) v
+  known_above clocks {n} {v} (fixed f) = clocks n v f
+  known_above clocks {n} {v} (settled inside reading held driven shut ins own gates shows) =
+      known_set inside reading shut own (λ m l d i a j. known_above clocks (gates m l d i a j)) held driven n v ins shows
 
   -- ---- what is known with the cell whole
 
@@ -364,3 +363,11 @@ module _ (cell low high : Circuit) (phase : Phase) (at place fresh : ℕ → ℕ
       known_kept set reading shut own
       (λ m l e f i a j left. gate_below e f (reading f.gate.0) left (gates m l f i a j) (λ there. known_below (gates m l f i a j) there))
       held driven n v ins c shows
+
+  -- so is one that remains
+  pub known_stays : (n : ℕ) (v : Bool) → remaining n ≡ true → IsKnown high phase n v → IsKnown low phase n v
+  known_stays n v there known =
+      elim (cases_Bool (compared n)) [
+        | inl c ↦ known_below known c
+        | inr gone ↦ absurd (hidden_unknown n v there gone known)
+      ]

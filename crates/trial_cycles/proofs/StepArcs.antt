@@ -22,7 +22,7 @@ use Rattle.replaced_instances.proofs.StepPorts.{none, output_of_port, pins_shift
 use Rattle.replaced_instances.specs.Steps.{IsStepAtGates, compared_at, fresh_place, is_inside_at, is_outside_at}
 use Rattle.trial_cycles.proofs.BackLaws.{opened_is_acyclic}
 use Rattle.trial_cycles.proofs.OpenedArcs.{gate_arc, together_inside, together_up}
-use Rattle.trial_cycles.proofs.OpenedNets.{IsOpenedIn, driven_by_pin, no_drive, no_net, supply_fixed}
+use Rattle.trial_cycles.proofs.OpenedNets.{IsOpenedIn, driven_by_pin, known_stays, no_drive, no_net, supply_fixed}
 use Rattle.vrt_model.proofs.Filtered.{among_kept, device_among, filter_among}
 use Rattle.vrt_model.proofs.Lists.{at_back, at_there, map_among, one_at}
 use Rattle.vrt_model.proofs.Members.{all_among, among_left, among_map, among_right, flat_map_among}
@@ -33,7 +33,7 @@ use Rattle.vrt_model.specs.Comparison.{CellPort, Comparison, cell_at, input_sign
 use Rattle.vrt_model.specs.Cut.{Cut, NumberedPlace, whole_places}
 use Rattle.vrt_model.specs.Facts.{output_ports}
 use Rattle.vrt_model.specs.FlatCircuit.{flat_circuit_of, kind_by_role}
-use Rattle.vrt_model.specs.Known.{HasArc, HasFixedBit, HasGateArc, IsDriven, IsFixed, IsPlain, IsRanking, IsTogether, IsUnknown, IsWalk, fixed, itself, onward}
+use Rattle.vrt_model.specs.Known.{HasArc, HasFixedBit, HasGateArc, IsDriven, IsFixed, IsKnown, IsPlain, IsRanking, IsTogether, IsUnknown, IsWalk, fixed, itself, onward}
 use Rattle.vrt_model.specs.Lists.{Among, At}
 use Rattle.vrt_model.specs.Networks.{HasRanges}
 use Rattle.vrt_model.specs.PairedPorts.{Missing, Model, Paired, Skipped, paired_model}
@@ -135,7 +135,7 @@ module _ (cut : Cut) (blif : Blif) (facts : List CellFacts) (i : ℕ) (p : Numbe
     (c whole_circuit : Circuit) (circuit : IsCircuitWith (before cut i) blif facts c) (after : IsCircuitWith (before cut (suc i)) blif facts whole_circuit)
     (wired : IsWired c) (whole_ranges : HasRanges whole_circuit) (phase : ℕ) (lt : phase < length cut.top.rules.phases)
     (clocks : (pin : Pin) (clock : ClockRef) → Among (pins_of (compared_at cut.top blif p m) p.at) pin → pin.port.role ≡ Clock clock
-    → IsFixed (flat_circuit_of cut.top) (phase_at cut.top.rules phase) pin.net.0 (clock_bit (phase_at cut.top.rules phase) clock))
+    → IsKnown whole_circuit (phase_at cut.top.rules phase) pin.net.0 (clock_bit (phase_at cut.top.rules phase) clock))
     (steps : (o : NumberedPlace) → Among (whole_places (before cut i)) o → (j : ℕ) × (l : ℕ) × IsStepAtGates cut blif facts j o l) where
   abbrev t : Top
   t = cut.top
@@ -163,27 +163,6 @@ module _ (cut : Cut) (blif : Blif) (facts : List CellFacts) (i : ℕ) (p : Numbe
 
   -- ---- the two circuits
 
-  -- supplies and clock ports are at nets with their bits
-  fixed_above : (n : ℕ) (v : Bool) → IsFixed q.circuit now n v → IsFixed c now (at n) v
-  unfolding flat_circuit_of clock_in
-  fixed_above n v (net, here, bit) = by_kind net.kind refl bit
-    where
-      clock_there : (clock : ClockRef) → net.kind ≡ ClockNet clock → IsFixed c now (at n) (clock_bit now clock)
-      clock_there clock e =
-          let port =
-          port_of_net cut blif facts i p m step depth front back split n net here
-          (λ plain. none-some clock (sym (ap clock_in plain) ∙ ap clock_in e)) (λ value supply. none-some clock (sym (ap clock_in supply) ∙ ap clock_in e)) in
-          let role = clock_role port.0.role clock (port.3 ∙ e) in
-          let is = clocks (pin_at at port.0) clock (pin_there port.0 port.1) role in
-          (is.0, subst (λ (x : ℕ). At c.nets x is.0) (ap at port.2) (subst (λ (ns : List FlatNet). At ns (at port.0.net) is.0) (sym circuit.nets) is.1), is.2)
-
-      by_kind : (kind : NetKind) → net.kind ≡ kind → HasFixedBit now kind v → IsFixed c now (at n) v
-      by_kind (SupplyNet value) e b =
-          subst (λ (x : Bool). IsFixed c now (at n) x) (sym b) (supply_fixed c now (at n) value (placed.supplies n value (net, here, e)))
-      by_kind (ClockNet clock) e b = subst (λ (x : Bool). IsFixed c now (at n) x) (sym b) (clock_there clock e)
-      by_kind InputNet e b = absurd b
-      by_kind Plain e b = absurd b
-
   -- where a plain net of the cell remains, an output of the instance drives it
   driven_there : (n : ℕ) → IsPlain q.circuit n → remaining (at n) ≡ true → IsDriven whole_circuit (at n)
   driven_there n plain stays =
@@ -207,8 +186,47 @@ module _ (cut : Cut) (blif : Blif) (facts : List CellFacts) (i : ℕ) (p : Numbe
     nets = after.nets ∙ sym circuit.nets;
     hidden = λ n e. (let j = inside_is q.circuit at n (not-false (is_inside_at q.circuit at n) e) in (j.0, sym j.2, j.1));
     driven = driven_there;
-    clocks = fixed_above;
   }
+
+  -- ---- ports of whole instances
+
+  abbrev later : Cut
+  later = before cut (suc i)
+
+  itself_whole : Among (whole_places later) p
+  itself_whole =
+      subst (λ (ps : List NumberedPlace). Among ps p) (sym (one_more_place cut i p step.place step.chosen)) (among_right (whole_places (before cut i)) (p ∷ []) p (0, refl))
+
+  -- their nets remain
+  port_remains : (o : NumberedPlace) (n : ℕ) → Among (whole_places later) o → Among o.at.ports n → remaining n ≡ true
+  port_remains o n on port = outside_is t depth p.at n (whole_outside cut blif facts i p m step depth front back split o n on port)
+
+  -- so what is known of them after the step was known before it
+  known_down : (o : NumberedPlace) (n : ℕ) (v : Bool) → Among (whole_places later) o → Among o.at.ports n → IsKnown whole_circuit now n v → IsKnown c now n v
+  known_down o n v on port known =
+      known_stays q.circuit c whole_circuit now at (λ j. j) (fresh_place (before cut i) blif facts q) remaining compared opened n v (port_remains o n on port) known
+
+  -- supplies and clock ports are at nets that are known, with their bits
+  fixed_above : (n : ℕ) (v : Bool) → IsFixed q.circuit now n v → IsKnown c now (at n) v
+  unfolding clock_in
+  fixed_above n v (net, here, bit) = by_kind net.kind refl bit
+    where
+      clock_there : (clock : ClockRef) → net.kind ≡ ClockNet clock → IsKnown c now (at n) (clock_bit now clock)
+      clock_there clock e =
+          let port =
+          port_of_net cut blif facts i p m step depth front back split n net here
+          (λ plain. none-some clock (sym (ap clock_in plain) ∙ ap clock_in e)) (λ value supply. none-some clock (sym (ap clock_in supply) ∙ ap clock_in e)) in
+          let role = clock_role port.0.role clock (port.3 ∙ e) in
+          let pin = pin_there port.0 port.1 in
+          subst (λ (x : ℕ). IsKnown c now (at x) (clock_bit now clock)) port.2
+          (known_down p (at port.0.net) (clock_bit now clock) itself_whole (pin_among (ports_of q) p.at.ports (pin_at at port.0) pin) (clocks (pin_at at port.0) clock pin role))
+
+      by_kind : (kind : NetKind) → net.kind ≡ kind → HasFixedBit now kind v → IsKnown c now (at n) v
+      by_kind (SupplyNet value) e b =
+          subst (λ (x : Bool). IsKnown c now (at n) x) (sym b) (fixed (supply_fixed c now (at n) value (placed.supplies n value (net, here, e))))
+      by_kind (ClockNet clock) e b = subst (λ (x : Bool). IsKnown c now (at n) x) (sym b) (clock_there clock e)
+      by_kind InputNet e b = absurd b
+      by_kind Plain e b = absurd b
 
   -- ---- inside
 
@@ -302,14 +320,9 @@ module _ (cut : Cut) (blif : Blif) (facts : List CellFacts) (i : ℕ) (p : Numbe
 
   -- ---- links
 
-  abbrev later : Cut
-  later = before cut (suc i)
-
   link_over : (g n : ℕ) (from to : CellPort) → Among (ports_of q) from → Among (ports_of q) to → from.net ≡ g → to.net ≡ n → IsPlain q.circuit n → Links q phase from to
       → HasArcWith later blif facts phase (at g) (at n)
   link_over g n from to on there e f plain link =
-      let last : Among (whole_places later) p =
-      subst (λ (ps : List NumberedPlace). Among ps p) (sym (one_more_place cut i p step.place step.chosen)) (among_right (whole_places (before cut i)) (p ∷ []) p (0, refl)) in
       let here : IsPlain whole_circuit (at n) =
       (let up = placed.plain n plain in (up.0, subst (λ (ns : List FlatNet). At ns (at n) up.0) (circuit.nets ∙ sym after.nets) up.1, up.2)) in
       inr (
@@ -317,7 +330,7 @@ module _ (cut : Cut) (blif : Blif) (facts : List CellFacts) (i : ℕ) (p : Numbe
         m,
         pin_at at from,
         pin_at at to,
-        last,
+        itself_whole,
         step.paired,
         (pin_there from on, pin_there to there, link),
         ap at e,
@@ -382,14 +395,14 @@ module _ (cut : Cut) (blif : Blif) (facts : List CellFacts) (i : ℕ) (p : Numbe
         | inl yes_it ↦ yes_it
         | inr gone ↦
             let n = opened.hidden b gone in
-            let x = together_inside q.circuit c whole_circuit now at (λ j. j) (fresh_place (before cut i) blif facts q) remaining compared opened inside n.0 n.2 n.1 in
+            let x = together_inside q.circuit c whole_circuit now at (λ j. j) (fresh_place (before cut i) blif facts q) remaining compared opened fixed_above inside n.0 n.2 n.1 in
             absurd (no_output o l out signal.0 x.0 on paired linked_by.1 signal.1 x.2 x.1)
       ] in
-      let up = together_up q.circuit c whole_circuit now at (λ j. j) (fresh_place (before cut i) blif facts q) remaining compared opened inside kept in
+      let up = together_up q.circuit c whole_circuit now at (λ j. j) (fresh_place (before cut i) blif facts q) remaining compared opened fixed_above inside kept in
       let more : Among (whole_places later) o =
       subst (λ (ps : List NumberedPlace). Among ps o) (sym (one_more_place cut i p step.place step.chosen)) (among_left (whole_places (before cut i)) (p ∷ []) o on) in
       let port = pin_among (ports_of (compared_at t blif o l)) o.at.ports pin linked_by.0 in (
-        subst (λ (x : ℕ). remaining x ≡ true) net (outside_is t depth p.at pin.net.0 (whole_outside cut blif facts i p m step depth front back split o pin.net.0 more port)),
+        subst (λ (x : ℕ). remaining x ≡ true) net (port_remains o pin.net.0 more port),
         opened.whole.compared_remaining b kept,
         inr (o, l, pin, out, more, paired, linked_by, net, together_out later blif facts whole_circuit after now b out.net.0 up.0),
       )
@@ -407,7 +420,7 @@ module _ (cut : Cut) (blif : Blif) (facts : List CellFacts) (i : ℕ) (p : Numbe
       ⊎ ((g : ℕ) × (n : ℕ) × (a ≡ at g) × (b ≡ at n) × Inside n × HasArc q.circuit now g n)
   arcs a b (inr link) = inl (outer_link a b link)
   arcs a b (inl gate) =
-      elim (gate_arc q.circuit c whole_circuit now at (λ j. j) (fresh_place (before cut i) blif facts q) remaining compared opened a b (gate_in (before cut i) blif facts c circuit now a b gate)) [
+      elim (gate_arc q.circuit c whole_circuit now at (λ j. j) (fresh_place (before cut i) blif facts q) remaining compared opened fixed_above a b (gate_in (before cut i) blif facts c circuit now a b gate)) [
         | inl outer ↦ inl (outer.0, outer.1, inl (gate_out later blif facts whole_circuit after now a b outer.2))
         | inr inner ↦ inr (inner.0, inner.1, inner.2, inner.3, inner.4, inl inner.5)
       ]
@@ -419,7 +432,14 @@ module _ (cut : Cut) (blif : Blif) (facts : List CellFacts) (i : ℕ) (p : Numbe
       plain_end (inl gate) = let arc = gate_in (before cut i) blif facts c circuit now a b gate in together_first c now bare b arc.1.0 arc.1.2
       plain_end (inr link) = together_first c now bare b link.3.net.0 (together_in (before cut i) blif facts c circuit now b link.3.net.0 link.8)
 
-  pub step_keeps : IsAcyclic (HasArcWith (before cut (suc i)) blif facts phase) → IsAcyclic (HasArcWith (before cut i) blif facts phase)
-  step_keeps free =
-      opened_is_acyclic (HasArcWith (before cut i) blif facts phase) (HasArcWith (before cut (suc i)) blif facts phase) (HasArc q.circuit now) Inside at rank remaining (length c.nets)
-      (record { bounded = bounded; arcs = arcs; rises = rises; own = own_net; linked = linked }) free
+  -- what is known of the ports of whole instances goes down, and so does that there is no cycle
+  pub step_goes :
+      ((o : NumberedPlace) (n : ℕ) (v : Bool) → Among (whole_places (before cut (suc i))) o → Among o.at.ports n → IsKnown whole_circuit (phase_at cut.top.rules phase) n v
+      → IsKnown c (phase_at cut.top.rules phase) n v)
+      × (IsAcyclic (HasArcWith (before cut (suc i)) blif facts phase) → IsAcyclic (HasArcWith (before cut i) blif facts phase))
+  step_goes = (
+    known_down,
+    λ free.
+        opened_is_acyclic (HasArcWith (before cut i) blif facts phase) (HasArcWith (before cut (suc i)) blif facts phase) (HasArc q.circuit now) Inside at rank remaining (length c.nets)
+        (record { bounded = bounded; arcs = arcs; rises = rises; own = own_net; linked = linked }) free,
+  )

@@ -1,18 +1,22 @@
 -- Instances that are tried together: where the circuit in which all are whole has no cycle, none of those with fewer of them whole has one.
-use Rattle.std.proofs.Common.{◌≡◌, ℕ, zero, suc, ◌+◌, ◌<◌, ◌≤◌, ◌&&◌, Bool, true, false, List, [], length, Option, arith, ap, subst, sym, refl, ◌∙◌, inl, inr}
+use Rattle.std.proofs.Common.{◌≡◌, ℕ, zero, suc, ◌+◌, ◌<◌, ◌≤◌, ◌&&◌, Bool, true, false, List, [], ◌∷◌, length, Option, arith, ap, subst, sym, refl, ◌∙◌, inl, inr}
 use Rattle.std.specs.Prelude.{nat_lt, slice_get, unwrap_or}
 use Rattle.std.specs.List.{enumerate_from}
 use Rattle.std.proofs.lemmas.Bool.{and_parts, cases_Bool, cases_lt, false≢true, lt-ltb, ltb-true}
 use Rattle.std.proofs.lemmas.List.{length-map}
 use Rattle.std.proofs.lemmas.List.FromFn.{length-enumerate_from}
 use mathlib.Core.Path.{fun_ext}
-use Rattle.checked_chain.proofs.ChoiceLaws.{numbered, numbered_at}
+use Rattle.checked_chain.proofs.ChoiceLaws.{numbered}
+use Rattle.checked_chain.proofs.GateArcs.{known_back, known_there, without_is}
 use Rattle.checked_chain.proofs.EndLaws.{chain_begins_flat, chain_ends_checked}
 use Rattle.checked_chain.proofs.StepLaws.{none_more_is_same, one_more_is_next}
-use Rattle.checked_chain.proofs.ThereLaws.{chain_is_there}
+use Rattle.checked_chain.proofs.ThereLaws.{chain_is_there, whole_before}
 use Rattle.checked_chain.specs.Arcs.{AreOutputsApart, AreWholeOutputsApart}
 use Rattle.formed_cells.proofs.FormedLaws.{supported_cells_are_formed}
+use Rattle.known_nets.specs.Wired.{IsWired}
+use Rattle.placed_cells.proofs.CutLaws.{pin_among}
 use Rattle.placed_cells.proofs.SplitLaws.{places_in_stand_together}
+use Rattle.replaced_instances.proofs.StepOutputs.{one_more_place}
 use Rattle.replaced_instances.proofs.StepPorts.{place_there}
 use Rattle.replaced_instances.specs.Steps.{IsAllowedInstance, IsStepAtGates}
 use Rattle.substitute.proofs.ArcLaws.{acyclic_is}
@@ -20,23 +24,28 @@ use Rattle.substitution_laws.proofs.ChosenLaws.{tried_steps_are_at_gates}
 use Rattle.substitution_laws.proofs.WholeCells.{whole_chosen}
 use Rattle.substitution_laws.proofs.WholeRanges.{tried_circuits_are_wired}
 use Rattle.substitution_laws.specs.Chosen.{IsSoftTrial}
-use Rattle.trial_cycles.proofs.StepArcs.{step_keeps}
-use Rattle.trial_cycles.specs.TrialCycles.{AllowedAreChosen, CarriedClocksAreFixed, FlatTrialsAreAcyclic, IsTrialAtClocks, IsTrialWithoutCycles, StepKeepsAcyclic, TrialsAreAcyclic, TriedMayBeWhole}
-use Rattle.vrt_model.proofs.Filtered.{among_kept}
+use Rattle.trial_cycles.proofs.StepArcs.{step_goes}
+use Rattle.trial_cycles.specs.TrialCycles.{AllowedAreChosen, CarriedClocksAreKnown, FlatTrialsAreAcyclic, IsTrialAtClocks, IsTrialWithoutCycles, StepKeepsAcyclic, TrialsAreAcyclic, TriedMayBeWhole}
+use Rattle.vrt_model.proofs.Filtered.{among_kept, filter_among}
 use Rattle.vrt_model.proofs.Lists.{at_there}
-use Rattle.vrt_model.specs.Checked.{HasArcWith, MayBeWhole, before}
-use Rattle.vrt_model.specs.Comparison.{phase_at}
+use Rattle.vrt_model.proofs.Members.{among_left, among_right}
+use Rattle.vrt_model.specs.Checked.{HasArcWith, IsCircuitWith, MayBeWhole, before, circuit_with}
+use Rattle.vrt_model.specs.Comparison.{phase_at, ports_of}
 use Rattle.vrt_model.specs.Cut.{Cut, NumberedPlace, is_inside_whole, is_whole, numbered_places, whole_places}
 use Rattle.vrt_model.specs.FlatCircuit.{flat_circuit_of}
-use Rattle.vrt_model.specs.Known.{HasArc, HasFixedBit}
+use Rattle.vrt_model.specs.Known.{HasArc, HasFixedBit, IsKnown, fixed}
 use Rattle.vrt_model.specs.Lists.{Among, At}
-use Rattle.vrt_model.specs.PairedPorts.{Missing, Model, Paired, Skipped}
+use Rattle.vrt_model.specs.PairedPorts.{Missing, Model, Paired, Skipped, paired_model}
 use Rattle.vrt_model.specs.Reading.{clock_bit}
 use Rattle.vrt_model.specs.Unrolled.{Top, all_places}
 use Rattle.vrt_model.specs.Unsupported.{IsAcyclic, comparison_of}
+use Rattle.vrt_model.specs.WholeInstances.{Pin, pins_of}
 use Rattle.vrt_model.specs.declared.blif.Blif.{Blif}
 use Rattle.vrt_model.specs.declared.circuit.Circuit.{Circuit}
+use Rattle.vrt_model.specs.declared.circuit.FlatNet.{FlatNet}
 use Rattle.vrt_model.specs.declared.circuit.NetKind.{NetKind}
+use Rattle.vrt_model.specs.declared.pairing.PortRole.TheVariants.{Clock}
+use Rattle.vrt_model.specs.declared.rules.ClockRef.{ClockRef}
 use Rattle.vrt_model.specs.declared.rules.Phase.{Phase}
 use Rattle.vrt_model.specs.declared.whole.CellFacts.{CellFacts}
 
@@ -96,30 +105,81 @@ module _ (cut : Cut) (blif : Blif) (facts : List CellFacts) (c : Circuit) (phase
       let step = tried_steps_are_at_gates cut blif facts is.0 o h.trial is.1.place is.1.chosen in
       (is.0, step.0, step.1)
 
+  -- the clock ports of whole instances are known in a circuit with a choice
+  abbrev HasKnown : Cut → Type 0
+  HasKnown x =
+      (p : NumberedPlace) (m : ℕ) (pin : Pin) (clock : ClockRef)
+      → Among (whole_places x) p → paired_model cut.top.design blif cut.top.rules p.at.cell ≡ Model m
+      → Among (pins_of (comparison_of cut.top.design blif cut.top.rules p.at.cell m) p.at) pin → pin.port.role ≡ Clock clock
+      → IsKnown (circuit_with x blif facts) (phase_at cut.top.rules phase) pin.net.0 (clock_bit (phase_at cut.top.rules phase) clock)
+
+  known_in : (x : Cut) (d : Circuit) → IsCircuitWith x blif facts d → (n : ℕ) (v : Bool) → IsKnown (circuit_with x blif facts) now n v → IsKnown d now n v
+  known_in x d is n v known = known_back d now (subst (λ (e : Circuit). IsKnown e now n v) (sym (without_is x blif facts d is)) known)
+
+  known_out : (x : Cut) (d : Circuit) → IsCircuitWith x blif facts d → (n : ℕ) (v : Bool) → IsKnown d now n v → IsKnown (circuit_with x blif facts) now n v
+  known_out x d is n v known = subst (λ (e : Circuit). IsKnown e now n v) (without_is x blif facts d is) (known_there d now known)
+
   -- ---- one step
 
-  chosen_free : (i : ℕ) → suc i < length (all_places t) → cut.choice i ≡ true → IsFree (before cut (suc i)) → IsFree (before cut i)
-  chosen_free i low chosen free =
+  abbrev first : ℕ → Circuit
+  first i = (chain_is_there cut blif facts c i h.circuit).0
+
+  first_is : (i : ℕ) → IsCircuitWith (before cut i) blif facts (first i)
+  first_is i = (chain_is_there cut blif facts c i h.circuit).1
+
+  first_wired : (i : ℕ) → IsWired (first i)
+  first_wired i = tried_circuits_are_wired (before cut i) blif facts (first i) (trial_before cut blif facts i h.trial) h.formed (first_is i)
+
+  chosen_goes : (i : ℕ) → suc i < length (all_places t) → cut.choice i ≡ true → HasKnown (before cut (suc i)) → HasKnown (before cut i) × (IsFree (before cut (suc i)) → IsFree (before cut i))
+  chosen_goes i low chosen known =
       let p = at_there (numbered_places t) (suc i) (subst (λ (n : ℕ). suc i < n) (sym (as_many t)) low) in
       let step = tried_steps_are_at_gates cut blif facts i p.0 h.trial p.1 chosen in
       let formed = supported_cells_are_formed t.design blif t.rules p.0.at.cell step.0 h.trial.read step.2 in
       let split = places_in_stand_together t (suc i) p.0.at (place_there cut blif facts i p.0 step.0 step.1) in
-      let first = chain_is_there cut blif facts c i h.circuit in
-      let next = chain_is_there cut blif facts c (suc i) h.circuit in
-      let whole : Among (whole_places cut) p.0 =
-      among_kept (λ (o : NumberedPlace). is_whole cut.choice o.number) (numbered_places t) p.0 (suc i, p.1)
-      (subst (λ (n : ℕ). is_whole cut.choice n ≡ true) (sym (numbered_at t (suc i) p.0 p.1).0) chosen) in
-      step_keeps cut blif facts i p.0 step.0 step.1 step.2 formed split.0 split.1 split.2 split.3 first.0 next.0 first.1 next.1
-      (tried_circuits_are_wired (before cut i) blif facts first.0 (trial_before cut blif facts i h.trial) h.formed first.1)
-      (tried_circuits_are_wired (before cut (suc i)) blif facts next.0 (trial_before cut blif facts (suc i) h.trial) h.formed next.1).ranges
-      phase h.there (λ pin clock on role. h.clocks p.0 step.0 pin clock whole step.1.paired on role) (steps i) free
+      let one_more = one_more_place cut i p.0 p.1 chosen in
+      let last : Among (whole_places (before cut (suc i))) p.0 =
+      subst (λ (ps : List NumberedPlace). Among ps p.0) (sym one_more) (among_right (whole_places (before cut i)) (p.0 ∷ []) p.0 (0, refl)) in
+      let goes =
+      step_goes cut blif facts i p.0 step.0 step.1 step.2 formed split.0 split.1 split.2 split.3 (first i) (first (suc i)) (first_is i) (first_is (suc i)) (first_wired i)
+      (first_wired (suc i)).ranges phase h.there
+      (λ pin clock on role. known_in (before cut (suc i)) (first (suc i)) (first_is (suc i)) pin.net.0 (clock_bit now clock) (known p.0 step.0 pin clock last step.1.paired on role))
+      (steps i) in (
+        λ o m pin clock on paired listed role.
+            (let later = subst (λ (ps : List NumberedPlace). Among ps o) (sym one_more) (among_left (whole_places (before cut i)) (p.0 ∷ []) o on) in
+            known_out (before cut i) (first i) (first_is i) pin.net.0 (clock_bit now clock)
+            (goes.0 o pin.net.0 (clock_bit now clock) later (pin_among (ports_of (comparison_of t.design blif t.rules o.at.cell m)) o.at.ports pin listed)
+            (known_in (before cut (suc i)) (first (suc i)) (first_is (suc i)) pin.net.0 (clock_bit now clock) (known o m pin clock later paired listed role)))),
+        goes.1,
+      )
+
+  step_at : (i : ℕ) → suc i < length (all_places t) → HasKnown (before cut (suc i)) → HasKnown (before cut i) × (IsFree (before cut (suc i)) → IsFree (before cut i))
+  step_at i low known =
+      elim (cases_Bool (cut.choice i)) [
+        | inl chosen ↦ chosen_goes i low chosen known
+        | inr not_chosen ↦
+            let same = none_more_is_same cut i not_chosen in
+            (subst HasKnown same known, λ free. subst IsFree same free)
+      ]
+
+  -- ---- known clock ports
+
+  last_known : (i : ℕ) → length (all_places t) ≤ suc i → HasKnown (before cut i)
+  last_known i le p m pin clock on paired listed role =
+      let kept = filter_among (λ (o : NumberedPlace). is_whole (before cut i).choice o.number) (numbered_places t) p on in
+      let there : Among (whole_places cut) p =
+      among_kept (λ (o : NumberedPlace). is_whole cut.choice o.number) (numbered_places t) p kept.0 (whole_before cut i p.number kept.1) in
+      known_out (before cut i) c ((chain_ends_checked cut blif facts c i le).1 h.circuit) pin.net.0 (clock_bit now clock) (h.clocks p m pin clock there paired listed role)
+
+  all_known : (k i : ℕ) → length (all_places t) ≤ suc i + k → HasKnown (before cut i)
+  all_known zero i le = last_known i (omega (arith, le))
+  all_known (suc k) i le =
+      elim (cases_lt (suc i) (length (all_places t))) [
+        | inl low ↦ (step_at i low (all_known k (suc i) (omega (arith, le)))).0
+        | inr high ↦ last_known i high
+      ]
 
   pub step_free : (i : ℕ) → suc i < length (all_places t) → IsFree (before cut (suc i)) → IsFree (before cut i)
-  step_free i low free =
-      elim (cases_Bool (cut.choice i)) [
-        | inl chosen ↦ chosen_free i low chosen free
-        | inr not_chosen ↦ subst IsFree (none_more_is_same cut i not_chosen) free
-      ]
+  step_free i low free = (step_at i low (all_known (length (all_places t)) (suc i) (omega arith))).1 free
 
   -- ---- all steps
 
@@ -155,12 +215,11 @@ flat_trials_are_acyclic cut blif facts c phase h free = flat_free cut blif facts
 
 -- ---- clock ports
 
-pub carried_clocks_are_fixed : CarriedClocksAreFixed
-unfolding flat_circuit_of
-carried_clocks_are_fixed cut blif phase carried p m pin clock on paired listed role =
+pub carried_clocks_are_known : CarriedClocksAreKnown
+carried_clocks_are_known cut blif facts c phase circuit carried p m pin clock on paired listed role =
     let now = phase_at cut.top.rules phase in
     let net = carried p m pin clock on paired listed role in
-    (net.0, net.1, subst (λ (k : NetKind). HasFixedBit now k (clock_bit now clock)) (sym net.2) refl)
+    fixed (net.0, subst (λ (ns : List FlatNet). At ns pin.net.0 net.0) (sym circuit.nets) net.1, subst (λ (k : NetKind). HasFixedBit now k (clock_bit now clock)) (sym net.2) refl)
 
 -- ---- choices
 

@@ -8,7 +8,7 @@ use Rattle.vrt_model.specs.Circuits.{IsCircuit}
 use Rattle.vrt_model.specs.Comparison.{phase_at}
 use Rattle.vrt_model.specs.Cut.{Cut, NumberedPlace, is_inside_whole, numbered_places, whole_places}
 use Rattle.vrt_model.specs.FlatCircuit.{flat_circuit_of, flat_nets}
-use Rattle.vrt_model.specs.Known.{HasArc, IsFixed}
+use Rattle.vrt_model.specs.Known.{HasArc, IsKnown}
 use Rattle.vrt_model.specs.Lists.{Among, At}
 use Rattle.vrt_model.specs.PairedPorts.{Model, paired_model}
 use Rattle.vrt_model.specs.Reading.{clock_bit}
@@ -25,16 +25,16 @@ use Rattle.vrt_model.specs.declared.whole.CellFacts.{CellFacts}
 
 -- ---- clock ports
 
--- A clock port has its bit in a cell alone, and so it is known there; around an instance it need not be. In a phase each clock port of an instance
--- that is left whole is at a clock port or a supply of the circuit that has the clock's bit.
-abbrev pub AreClocksFixed : Cut → Blif → ℕ → Type 0
-AreClocksFixed cut blif phase =
+-- A clock port has its bit in a cell alone, and so it is known there; around an instance it need not be. In a phase the net of each clock port of
+-- an instance that is left whole is known in the circuit, with the clock's bit.
+abbrev pub AreClocksKnown : Cut → Blif → Circuit → ℕ → Type 0
+AreClocksKnown cut blif c phase =
     (p : NumberedPlace) (m : ℕ) (pin : Pin) (clock : ClockRef)
     → Among (whole_places cut) p → paired_model cut.top.design blif cut.top.rules p.at.cell ≡ Model m
     → Among (pins_of (comparison_of cut.top.design blif cut.top.rules p.at.cell m) p.at) pin → pin.port.role ≡ Clock clock
-    → IsFixed (flat_circuit_of cut.top) (phase_at cut.top.rules phase) pin.net.0 (clock_bit (phase_at cut.top.rules phase) clock)
+    → IsKnown c (phase_at cut.top.rules phase) pin.net.0 (clock_bit (phase_at cut.top.rules phase) clock)
 
--- each is at a clock port that carries the same clock
+-- each is at a net that carries the same clock
 abbrev pub AreClocksCarried : Cut → Blif → Type 0
 AreClocksCarried cut blif =
     (p : NumberedPlace) (m : ℕ) (pin : Pin) (clock : ClockRef)
@@ -42,20 +42,22 @@ AreClocksCarried cut blif =
     → Among (pins_of (comparison_of cut.top.design blif cut.top.rules p.at.cell m) p.at) pin → pin.port.role ≡ Clock clock
     → (net : FlatNet) × At (flat_nets cut.top) pin.net.0 net × (net.kind ≡ ClockNet clock)
 
--- The law: so it has the clock's bit in each phase.
-abbrev pub CarriedClocksAreFixed : Type 0
-CarriedClocksAreFixed = (cut : Cut) (blif : Blif) (phase : ℕ) → AreClocksCarried cut blif → AreClocksFixed cut blif phase
+-- The law: so it is known in each phase.
+abbrev pub CarriedClocksAreKnown : Type 0
+CarriedClocksAreKnown =
+    (cut : Cut) (blif : Blif) (facts : List CellFacts) (c : Circuit) (phase : ℕ)
+    → IsCircuitWith cut blif facts c → AreClocksCarried cut blif → AreClocksKnown cut blif c phase
 
 -- ---- cycles
 
--- instances that are allowed one besides the other in a well-formed flat circuit, with the circuit in which all of them are whole; in the phase their
--- clock ports are at nets with these bits
+-- instances that are allowed one besides the other in a well-formed flat circuit, with the circuit in which all of them are whole; their clock ports
+-- are known there in the phase
 pub record IsTrialAtClocks (cut : Cut) (blif : Blif) (facts : List CellFacts) (c : Circuit) (phase : ℕ) : Type 0 where
   pub trial : IsSoftTrial cut blif facts
   pub formed : IsCircuit (flat_circuit_of cut.top)
   pub circuit : IsCircuitWith cut blif facts c
   pub there : phase < length cut.top.rules.phases
-  pub clocks : AreClocksFixed cut blif phase
+  pub clocks : AreClocksKnown cut blif c phase
 
 -- The law: where the arcs have no cycle with the instances up to one whole, they have none with those before it whole.
 abbrev pub StepKeepsAcyclic : Type 0
@@ -85,7 +87,7 @@ pub record IsTrialWithoutCycles (cut : Cut) (blif : Blif) (facts : List CellFact
   pub trial : IsSoftTrial cut blif facts
   pub formed : IsCircuit (flat_circuit_of cut.top)
   pub circuit : IsCircuitWith cut blif facts c
-  pub clocks : (phase : ℕ) → phase < length cut.top.rules.phases → AreClocksFixed cut blif phase
+  pub clocks : (phase : ℕ) → phase < length cut.top.rules.phases → AreClocksKnown cut blif c phase
   pub acyclic : AreAcyclic c cut.top.rules.phases
 
 -- The law: then each of the instances may be left whole besides those before it.

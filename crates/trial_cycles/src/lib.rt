@@ -5,6 +5,6 @@
 mod trials;
 
 pub use trials::{
-    allowed_are_chosen, carried_clocks_are_fixed, flat_trials_are_acyclic, step_keeps_acyclic,
+    allowed_are_chosen, carried_clocks_are_known, flat_trials_are_acyclic, step_keeps_acyclic,
     trials_are_acyclic, tried_may_be_whole,
 };

@@ -1,10 +1,10 @@
 //! Circuits in which some of the instances are whole, those before a place.
 
-ghost use Rattle.trial_cycles.specs.TrialCycles.{AllowedAreChosen, CarriedClocksAreFixed, FlatTrialsAreAcyclic, StepKeepsAcyclic, TrialsAreAcyclic, TriedMayBeWhole};
+ghost use Rattle.trial_cycles.specs.TrialCycles.{AllowedAreChosen, CarriedClocksAreKnown, FlatTrialsAreAcyclic, StepKeepsAcyclic, TrialsAreAcyclic, TriedMayBeWhole};
 
-/// A clock port at one that carries the same clock has its bit in each phase.
-pub fn carried_clocks_are_fixed()
-    ensures { CarriedClocksAreFixed }
+/// A clock port at a net that carries the same clock is known in each phase.
+pub fn carried_clocks_are_known()
+    ensures { CarriedClocksAreKnown }
 {}
 
 /// Where the arcs have no cycle with the instances up to one whole, they have none with those before it whole.

@@ -1,5 +1,0 @@
-use Rattle.trial_cycles.proofs.TrialLaws.{carried_clocks_are_fixed}
-use Rattle.trial_cycles.proofs.trials.carried_clocks_are_fixed.Goals as goal
-
-pub returns : goal.returns
-returns c = carried_clocks_are_fixed
