@@ -1,0 +1,5 @@
+pub mod BackLaws
+pub mod OpenedArcs
+pub mod OpenedNets
+pub mod StepArcs
+pub mod TrialLaws

@@ -1,0 +1,10 @@
+//! Instances of a cell that are tried together: whether the arcs of its circuit have a cycle is asked once, with all of them whole. Laws
+//! alone, each the contract of a function that does nothing.
+#![tactic(auto)]
+
+mod trials;
+
+pub use trials::{
+    allowed_are_chosen, carried_clocks_are_known, flat_trials_are_acyclic, step_keeps_acyclic,
+    trials_are_acyclic, tried_may_be_whole,
+};
