@@ -5,3 +5,4 @@ pub mod Right
 pub mod Sound
 pub mod Taken
 pub mod Trial
+pub mod Whole

@@ -6,6 +6,7 @@ mod cycles;
 mod laws;
 mod taken;
 mod trial;
+mod whole;
 
 pub use candidate::passes;
 pub use cycles::is_acyclic_with;
@@ -15,3 +16,4 @@ pub use laws::{
 };
 pub use taken::take_outputs;
 pub use trial::{are_outputs_open, marks_with};
+pub use whole::whole_with;
