@@ -7,9 +7,10 @@ use Rattle.std.proofs.lemmas.Nat.{mul-le}
 use Rattle.blif_eval.specs.declared.plan.ModelPlan.{ModelPlan}
 use Rattle.cell_compare.proofs.Causes.{comparison_is}
 use Rattle.cell_compare.proofs.CheckedReady.{ready_over}
+use Rattle.cell_compare.proofs.GroundLaws.{ground_of}
 use Rattle.cell_compare.proofs.Passing.{may_pass}
 use Rattle.cell_compare.proofs.VerdictLaws.{supported}
-use Rattle.cell_compare.specs.Checked.{IsCheckable, has_many, is_passed, is_settled, over}
+use Rattle.cell_compare.specs.Checked.{IsCheckable, has_many, is_fault, is_passed, is_settled, over}
 use Rattle.cell_compare.specs.Compared.{AreInputs, IsFlattened, comparison}
 use Rattle.cell_compare.specs.Works.{AreVars, IsChecked, IsPlanned}
 use Rattle.cell_compare.specs.declared.flattened.Flattened.{Flattened}
@@ -42,6 +43,7 @@ use Rattle.vrt_model.specs.declared.rules.Rules.{Rules}
 use Rattle.vrt_model.specs.declared.verdict.Verdict.{Verdict}
 use Rattle.vrt_model.specs.declared.verdict.Verdict.TheVariants.{Equal, Skipped, Fault, Vacuous, Budget, Unsupported}
 use Rattle.vrt_model.specs.declared.whole.CellFacts.{CellFacts}
+use Rattle.whole_choice.specs.Whole.{IsWholeGround}
 use Rattle.whole_steps.proofs.OrderLaws.{whole_table}
 use Rattle.whole_steps.specs.Tables.{AreDrivers, AreOrders, IsBefore, IsWholeTable}
 use Rattle.whole_steps.specs.declared.table.OutputPlace.{OutputPlace}
@@ -59,10 +61,16 @@ checkable design blif rules cell m f inputs is facts plain =
     let same = comparison_is design blif rules cell m f is in
     record {
       flat = is.circuit_is;
+      ground = ground_of design blif rules cell m f inputs is facts plain;
       soft = λ c planned checked.
           subst (λ (x : Comparison). (y : IsCheckedOf x blif facts c) → IsCheckedSoftly x y.0 blif facts c) (sym same)
           (λ y. checked_cells_are_soft design blif rules cell m facts y.0 c given (supported design blif rules cell m f inputs is planned) plain y.1 y.2) checked;
     }
+
+-- so its checked circuit may be asked for
+pub whole_ground : (k : Comparison) (blif : Blif) (facts : List CellFacts) → IsCheckable k blif facts → IsPlanned k
+    → IsWholeGround k.design blif k.rules k.cell k.pairing.ports facts k.circuit
+whole_ground k blif facts able planned = record { ground = able.ground planned; flat_is = able.flat }
 
 -- ---- what is found
 
@@ -86,6 +94,16 @@ pub flat_found : (k : Comparison) (blif : Blif) (facts : List CellFacts) (budget
 flat_found k blif facts budget verdict able planned is found =
     flat_verdicts_hold k is.0 blif facts budget verdict (able.soft k.circuit planned is)
     (found_flat k blif budget verdict (no_whole (top_of k) k.circuit able.flat) found)
+
+-- where it is no fault, it is the verdict whichever circuit is the checked one
+pub flat_tells : (k : Comparison) (blif : Blif) (facts : List CellFacts) (budget : ℕ) (verdict : Verdict) → IsCheckable k blif facts
+    → is_fault verdict ≡ false → IsChecked k budget verdict → HasCheckedVerdict k blif facts budget verdict
+flat_tells k blif facts budget Equal able none found = found
+flat_tells k blif facts budget (Fault fault) able none found = absurd (true≢false none)
+flat_tells k blif facts budget (Vacuous phase) able none found = found
+flat_tells k blif facts budget (Budget nodes phase) able none found = found_flat k blif budget (Budget nodes phase) (no_whole (top_of k) k.circuit able.flat) found
+flat_tells k blif facts budget Skipped able none found = absurd found
+flat_tells k blif facts budget (Unsupported why) able none found = absurd found
 
 -- more than four variables, and a budget that the nets and devices pass
 passed : (k : Comparison) (blif : Blif) (budget phase : ℕ) → 4 < length (sources_of k phase) → is_passed budget k.circuit ≡ true → MayPassBudget k blif budget phase

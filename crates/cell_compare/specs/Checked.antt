@@ -1,5 +1,5 @@
 -- What is told of a comparison whose checked circuit is looked through.
-use Rattle.std.specs.Prelude.{◌≡◌, ℕ, ◌+◌, ◌*◌, ◌⊎◌, ◌&&◌, Bool, true, false, List, length, nat_lt, Option, Some, None, option_map, slice_get, unwrap_or}
+use Rattle.std.specs.Prelude.{◌≡◌, ℕ, ◌+◌, ◌*◌, ◌⊎◌, ◌&&◌, Bool, true, false, List, length, nat_lt, Option, option_map, slice_get, unwrap_or}
 use Rattle.cell_compare.specs.Works.{IsPlanned, IsToldWhy}
 use Rattle.checked_cells.specs.Given.{IsCheckedOf}
 use Rattle.substitution_laws.specs.Agreement.{IsCheckedSoftly}
@@ -14,19 +14,21 @@ use Rattle.vrt_model.specs.declared.verdict.Verdict.{Verdict}
 use Rattle.vrt_model.specs.declared.verdict.Verdict.TheVariants.{Equal, Skipped, Fault, Vacuous, Budget, Unsupported}
 use Rattle.vrt_model.specs.declared.verdict.Why.{Why}
 use Rattle.vrt_model.specs.declared.whole.CellFacts.{CellFacts}
+use Rattle.whole_choice.specs.Candidates.{IsGround}
+use Rattle.whole_choice.specs.Whole.{WholeGives}
 
 -- ---- the checked circuit
 
--- the circuit of the comparison is the flat one of its cell; and a checked circuit of it, once nothing stands in the way of its phases,
--- is made of instances each output of which meets gates alone
+-- the circuit of the comparison is the flat one of its cell; once nothing stands in the way of its phases, instances may be tried in
+-- it, and a checked circuit of it is made of instances each output of which meets gates alone
 pub record IsCheckable (k : Comparison) (blif : Blif) (facts : List CellFacts) : Type 0 where
   pub flat : k.circuit ≡ flat_circuit_of (top_of k)
+  pub ground : IsPlanned k → IsGround (top_of k) blif facts k.circuit
   pub soft : (c : Circuit) → IsPlanned k → (is : IsCheckedOf k blif facts c) → IsCheckedSoftly k is.0 blif facts c
 
 -- the checked circuit, none where it is the flat one
 abbrev pub CheckedGives : Comparison → Blif → List CellFacts → Option Circuit → Type 0
-CheckedGives k blif facts None = IsCheckedOf k blif facts k.circuit
-CheckedGives k blif facts (Some c) = IsCheckedOf k blif facts c
+CheckedGives k blif facts whole = WholeGives (top_of k) blif facts k.circuit whole
 
 -- the comparison with another circuit that has the same groups of holds
 abbrev pub over : Comparison → Circuit → Comparison
@@ -50,6 +52,15 @@ is_settled budget c vars (Fault fault) = true
 is_settled budget c vars (Vacuous phase) = true
 is_settled budget c vars Skipped = true
 is_settled budget c vars (Unsupported why) = true
+
+-- a verdict tells a fault
+abbrev pub is_fault : Verdict → Bool
+is_fault (Fault fault) = true
+is_fault Equal = false
+is_fault (Vacuous phase) = false
+is_fault (Budget nodes phase) = false
+is_fault Skipped = false
+is_fault (Unsupported why) = false
 
 -- ---- what is told
 

@@ -2,13 +2,13 @@
 
 ghost use Rattle.std.specs.Prelude.{◌≡◌, ◌&&◌, ◌≤◌, [], true, length, IfOk};
 ghost use Rattle.std.specs.List.{list_any};
-ghost use Rattle.cell_compare.specs.Checked.{CheckedGives, IsCheckable, IsTold, has_many, is_passed, is_settled, over};
+ghost use Rattle.cell_compare.specs.Checked.{CheckedGives, IsCheckable, IsTold, has_many, is_fault, is_passed, is_settled, over};
 ghost use Rattle.cell_compare.specs.Works.{AreVars, ArePlans, IsChecked, IsPlanned};
 ghost use Rattle.checked_cells.specs.Given.{IsCheckedOf, is_candidate};
 ghost use Rattle.phase_terms.specs.Ready.{IsReady, comparison_in};
 ghost use Rattle.prepared_tables.specs.Prepared.{ArePrepared};
 ghost use Rattle.rule_index.specs.Tables.{AreRuleTables};
-ghost use Rattle.vrt_model.specs.Checked.{has_fact};
+ghost use Rattle.vrt_model.specs.Checked.{has_fact, with_circuit};
 ghost use Rattle.vrt_model.specs.CheckedVerdicts.{HasCheckedVerdict};
 ghost use Rattle.vrt_model.specs.Circuits.{IsCircuit};
 ghost use Rattle.vrt_model.specs.Networks.{HasRanges};
@@ -24,6 +24,7 @@ use phase_terms::{Comparison, PhasePlan};
 use prepared_tables::Prepared;
 use std::alloc::Global;
 use vrt_model::{Blif, CellFacts, Circuit, NoMemory, Seq, Vars, Verdict};
+use whole_choice::whole_with;
 use whole_steps::{WholeTable, model_orders, output_drivers};
 
 /// Whether a cell is known as equal and stateless.
@@ -50,7 +51,8 @@ fn has_candidate(circuit: &Circuit, facts: &[CellFacts]) -> bool
     false
 }
 
-/// The checked circuit of a comparison; none where it is the flat one.
+/// The checked circuit of a comparison in whose way nothing stands; none where it is the flat one. That is so where no instance is
+/// of a cell that is known as equal and stateless, and no more is made then.
 fn checked_circuit(
     alloc: Global,
     prepared: &Prepared,
@@ -60,15 +62,23 @@ fn checked_circuit(
 ) -> Result<Option<Circuit>, NoMemory>
     requires prepared { ArePrepared compared.design.now blif.now compared.rules.now prepared.now }
     requires checkable { IsCheckable (comparison_in compared) blif.now facts.now }
+    requires planned { IsPlanned (comparison_in compared) }
     ensures { IfOk result (CheckedGives (comparison_in compared.entry) blif.now facts.now) }
 {
-    let _alloc = alloc;
-    let _prepared = prepared;
-    let _blif = blif;
-    if has_candidate(compared.circuit, facts) {
-        return Err(NoMemory);
+    if !has_candidate(compared.circuit, facts) {
+        return Ok(None);
     }
-    Ok(None)
+    let whole = whole_with(
+        alloc,
+        prepared,
+        compared.design,
+        blif,
+        compared.rules,
+        compared.cell,
+        compared.circuit,
+        facts,
+    )?;
+    Ok(whole)
 }
 
 /// Whether a phase with more than four variables may pass the budget by the nets and devices of the circuit alone.
@@ -107,21 +117,18 @@ fn is_settled(budget: u32, flat: &Circuit, vars: &[Vars], verdict: &Verdict) -> 
     }
 }
 
-/// A verdict that may be told; where it may not, the diagrams do not fit.
-fn settled(
-    budget: u32,
-    flat: &Circuit,
-    vars: &[Vars],
-    verdict: Verdict,
-) -> Result<Verdict, NoMemory>
-    requires { IsCircuit flat.now }
-    ensures same { IfOk result (λ settled. settled ≡ verdict) }
-    ensures settled { IfOk result (λ settled. is_settled budget flat.now vars.now settled ≡ true) }
+/// Whether a verdict tells a fault.
+fn is_fault(verdict: &Verdict) -> bool
+    ensures { result ≡ is_fault verdict.now }
 {
-    if !is_settled(budget, flat, vars, &verdict) {
-        return Err(NoMemory);
+    match verdict {
+        Verdict::Fault(_) => true,
+        Verdict::Equal => false,
+        Verdict::Skipped => false,
+        Verdict::Vacuous { .. } => false,
+        Verdict::Budget { .. } => false,
+        Verdict::Unsupported(_) => false,
     }
-    Ok(verdict)
 }
 
 /// The orders of the models of whole instances. No model leads around, where each is that of a supported cell.
@@ -182,9 +189,9 @@ fn check_over(
     }
 }
 
-/// The verdict on a comparison by its checked circuit, in which some instance is whole. Its arcs have no cycle, as those of the flat
-/// circuit.
-fn check_whole(
+/// What is found phase by phase in the checked circuit of a comparison, in which some instance is whole. Its arcs have no cycle, as
+/// those of the flat circuit.
+fn found_with(
     alloc: Global,
     budget: u32,
     blif: &Blif,
@@ -200,7 +207,7 @@ fn check_whole(
     requires planned { IsPlanned (comparison_in compared) }
     requires vars { AreVars (comparison_in compared) (length compared.rules.now.phases) vars.now }
     requires checked { IsCheckedOf (comparison_in compared) blif.now facts.now circuit.now }
-    ensures { IfOk result (HasCheckedVerdict (comparison_in compared.entry) blif.now facts.now budget) }
+    ensures { IfOk result (IsChecked (with_circuit (comparison_in compared.entry) circuit.now) budget) }
 {
     let _blif = blif;
     let _facts = facts;
@@ -211,8 +218,66 @@ fn check_whole(
         plans: orders.as_slice(),
     };
     let found = check_over(alloc, budget, over(compared, circuit, wholes), vars)?;
-    let verdict = settled(budget, compared.circuit, vars, found)?;
+    Ok(found)
+}
+
+/// The verdict on a comparison by its flat circuit, where what is found in the checked one may not be told: equal, vacuous, or a
+/// budget that is used up. Which fault is the first of the checked circuit is not known then, so the diagrams of a comparison that
+/// has one do not fit.
+fn check_unrolled(
+    alloc: Global,
+    budget: u32,
+    blif: &Blif,
+    compared: Comparison<'_>,
+    facts: &[CellFacts],
+    vars: &[Vars],
+    plans: &[PhasePlan],
+) -> Result<Verdict, NoMemory>
+    requires budget { (65536 ≤ budget) × (budget ≤ 64000000) }
+    requires ready { IsReady (comparison_in compared) }
+    requires wholes { IsWholeTable compared.circuit.now compared.wholes.drivers.now compared.wholes.plans.now }
+    requires checkable { IsCheckable (comparison_in compared) blif.now facts.now }
+    requires vars { AreVars (comparison_in compared) (length compared.rules.now.phases) vars.now }
+    requires plans { ArePlans (comparison_in compared) (length compared.rules.now.phases) plans.now }
+    ensures { IfOk result (HasCheckedVerdict (comparison_in compared.entry) blif.now facts.now budget) }
+{
+    let _blif = blif;
+    let _facts = facts;
+    let verdict = check_phases(alloc, budget, compared, vars, plans)?;
+    if is_fault(&verdict) {
+        return Err(NoMemory);
+    }
     Ok(verdict)
+}
+
+/// The verdict on a comparison by its checked circuit, in which some instance is whole; where what is found in it may not be told, by
+/// the flat one.
+fn check_whole(
+    alloc: Global,
+    budget: u32,
+    blif: &Blif,
+    compared: Comparison<'_>,
+    facts: &[CellFacts],
+    vars: &[Vars],
+    plans: &[PhasePlan],
+    circuit: &Circuit,
+) -> Result<Verdict, NoMemory>
+    requires budget { (65536 ≤ budget) × (budget ≤ 64000000) }
+    requires ready { IsReady (comparison_in compared) }
+    requires wholes { IsWholeTable compared.circuit.now compared.wholes.drivers.now compared.wholes.plans.now }
+    requires tables { AreRuleTables compared.rules.now compared.index.now }
+    requires checkable { IsCheckable (comparison_in compared) blif.now facts.now }
+    requires planned { IsPlanned (comparison_in compared) }
+    requires vars { AreVars (comparison_in compared) (length compared.rules.now.phases) vars.now }
+    requires plans { ArePlans (comparison_in compared) (length compared.rules.now.phases) plans.now }
+    requires checked { IsCheckedOf (comparison_in compared) blif.now facts.now circuit.now }
+    ensures { IfOk result (HasCheckedVerdict (comparison_in compared.entry) blif.now facts.now budget) }
+{
+    let found = found_with(alloc, budget, blif, compared, facts, vars, circuit)?;
+    if !is_settled(budget, compared.circuit, vars, &found) {
+        return check_unrolled(alloc, budget, blif, compared, facts, vars, plans);
+    }
+    Ok(found)
 }
 
 /// The verdict on a comparison by its flat circuit, in which no instance is whole.
@@ -265,7 +330,7 @@ fn check_circuit(
 {
     match checked {
         None => check_flat(alloc, budget, blif, compared, facts, vars, plans),
-        Some(circuit) => check_whole(alloc, budget, blif, compared, facts, vars, circuit),
+        Some(circuit) => check_whole(alloc, budget, blif, compared, facts, vars, plans, circuit),
     }
 }
 
