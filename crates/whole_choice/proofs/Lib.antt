@@ -5,3 +5,4 @@ pub mod TakenLaws
 pub mod CandidateLaws
 pub mod UnderwayLaws
 pub mod WholeLaws
+pub mod TogetherLaws

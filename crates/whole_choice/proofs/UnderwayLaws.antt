@@ -63,6 +63,9 @@ module _ (t : Top) (blif : Blif) (facts : List CellFacts) (tables : Tables) (are
       at_there (numbered_places t) n
       (subst (λ (k : ℕ). n < k) (count ∙ sym (length-map (enumerate_from 0 (all_places t)) numbered ∙ length-enumerate_from 0 (all_places t))) lt)
 
+  pub place_at_number : (n : ℕ) (p : NumberedPlace) → At (numbered_places t) n p → (place : Place) × At places n place
+  place_at_number n p there = at_there places n (subst (λ (k : ℕ). n < k) (sym count) (slice_get_within (all_places t) n p.at (numbered_at t n p there).1))
+
   shows : (n : ℕ) (place : Place) (p : NumberedPlace) → At places n place → At (numbered_places t) n p → shown place ≡ bare p.at
   shows n place p here there =
       one_at (map bare (all_places t)) n (shown place) (bare p.at)

@@ -87,21 +87,19 @@ module _ (t : Top) (blif : Blif) (facts : List CellFacts) (tables : Tables) (are
   pub checked_some : (circuit : Circuit) → IsCircuitWith (cut_of t chosen.whole.items) blif facts circuit → (cut : Cut) × (cut.top ≡ t) × IsChecked cut blif facts circuit
   checked_some circuit made = (cut_of t chosen.whole.items, refl, record { chosen = is_choice; circuit = made })
 
-  unmarked : (marks : List Bool) → list_any (λ (mark : Bool). mark) marks ≡ false → (n : ℕ) → mark_at marks n ≡ false
-  unmarked [] none n = refl
-  unmarked (true ∷ marks) none n = absurd (false≢true (sym none))
-  unmarked (false ∷ marks) none zero = refl
-  unmarked (false ∷ marks) none (suc n) = unmarked marks none n
+-- without chosen instances it is the flat circuit
+pub unmarked : (marks : List Bool) → list_any (λ (mark : Bool). mark) marks ≡ false → (n : ℕ) → mark_at marks n ≡ false
+unmarked [] none n = refl
+unmarked (true ∷ marks) none n = absurd (false≢true (sym none))
+unmarked (false ∷ marks) none zero = refl
+unmarked (false ∷ marks) none (suc n) = unmarked marks none n
 
-  abbrev nowhere : Cut
-  nowhere = record { top = t; choice = λ i. false }
-
-  -- without chosen instances it is the flat circuit
-  pub checked_none : list_any (λ (mark : Bool). mark) chosen.whole.items ≡ false → (cut : Cut) × (cut.top ≡ t) × IsChecked cut blif facts tables.flat.now
-  checked_none none =
-      let same : nowhere ≡ cut_of t chosen.whole.items =
-      ap (λ (f : ℕ → Bool). let one : Cut = record { top = t; choice = f } in one) (fun_ext (λ i. sym (unmarked chosen.whole.items none (suc i)))) in
-      checked_some tables.flat.now (subst (λ (c : Cut). IsCircuitWith c blif facts tables.flat.now) same ((chain_begins_flat nowhere blif facts tables.flat.now).1 are.flat_is))
+pub flat_with_none : (t : Top) (blif : Blif) (facts : List CellFacts) (tables : Tables) → AreTables t blif facts tables → (marks : List Bool) → list_any (λ (mark : Bool). mark) marks ≡ false
+    → IsCircuitWith (cut_of t marks) blif facts tables.flat.now
+flat_with_none t blif facts tables are marks none =
+    let nowhere : Cut = record { top = t; choice = λ i. false } in
+    let same : nowhere ≡ cut_of t marks = ap (λ (f : ℕ → Bool). let one : Cut = record { top = t; choice = f } in one) (fun_ext (λ i. sym (unmarked marks none (suc i)))) in
+    subst (λ (c : Cut). IsCircuitWith c blif facts tables.flat.now) same ((chain_begins_flat nowhere blif facts tables.flat.now).1 are.flat_is)
 
 -- ---- the flat circuit
 

@@ -1,5 +1,6 @@
 pub mod Candidates
 pub mod Chosen
+pub mod Clocked
 pub mod Cycles
 pub mod Right
 pub mod Sound

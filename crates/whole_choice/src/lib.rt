@@ -3,6 +3,7 @@
 
 mod candidate;
 mod choice;
+mod clocked;
 mod cycles;
 mod laws;
 mod tables;

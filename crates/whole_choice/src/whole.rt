@@ -1,6 +1,6 @@
 //! The checked circuit of a cell, by what is known of the cells below it.
 
-ghost use Rattle.std.specs.Prelude.{◌≡◌, ◌<◌, Bool, List, All, length, IfOk};
+ghost use Rattle.std.specs.Prelude.{◌≡◌, ◌<◌, Bool, false, List, All, length, IfOk};
 ghost use Rattle.std.specs.List.{list_any};
 ghost use Rattle.known_nets.specs.Wired.{IsWired};
 ghost use Rattle.net_places.specs.Instances.{AreSmall};
@@ -16,17 +16,19 @@ ghost use Rattle.vrt_model.specs.declared.whole.CellFacts.{CellFacts as FactsVal
 ghost use Rattle.whole_cells.specs.Own.{AreFiles};
 ghost use Rattle.whole_cells.specs.Table.{AreEntries, AreUsed};
 ghost use Rattle.whole_choice.specs.Chosen.{cut_of};
+ghost use Rattle.whole_choice.specs.Clocked.{is_clocked};
 ghost use Rattle.whole_choice.specs.Underway.{AreChosenBelow, AreTables};
 ghost use Rattle.whole_choice.specs.Whole.{AreEntriesOf, IsWholeGround, WholeGives};
 
 use crate::choice::{Chosen, choose_all};
+use crate::clocked::has_clocked_cell;
 use crate::cycles::circuit_by;
 use crate::tables::Tables;
 use crate::trial::marks_with;
 use net_places::{Unrolled, unroll};
 use prepared_tables::Prepared;
 use std::alloc::Global;
-use substitute::{WholeCell, device_places};
+use substitute::{WholeCell, are_acyclic, device_places};
 use vrt_model::{Blif, CellFacts, Circuit, Design, NoMemory, Rules};
 use whole_cells::{used_cells, whole_cells};
 
@@ -54,8 +56,9 @@ fn circuit_of(alloc: Global, tables: Tables<'_>, chosen: &Chosen) -> Result<Circ
     circuit_by(alloc, tables, &marks)
 }
 
-/// The checked circuit, none where no instance is chosen.
-fn checked_by(alloc: Global, tables: Tables<'_>) -> Result<Option<Circuit>, NoMemory>
+/// The checked circuit where cycles are asked for at each instance, none where no instance is chosen. It takes time in proportion to the flat circuit
+/// for each instance.
+fn one_by_one(alloc: Global, tables: Tables<'_>) -> Result<Option<Circuit>, NoMemory>
     requires holds { All (IsHold tables.flat.now) tables.flat.now.holds }
     requires wired { IsWired tables.flat.now }
     requires small { AreSmall tables.unrolled.now.places }
@@ -68,6 +71,44 @@ fn checked_by(alloc: Global, tables: Tables<'_>) -> Result<Option<Circuit>, NoMe
     }
     let circuit = circuit_of(alloc, tables, &chosen)?;
     Ok(Some(circuit))
+}
+
+/// The checked circuit of instances that are chosen without a look at cycles, if then no arc leads around: so no arc leads around
+/// with fewer of them whole either. None where no instance is chosen.
+fn all_at_once(alloc: Global, tables: Tables<'_>) -> Result<Option<Circuit>, NoMemory>
+    requires holds { All (IsHold tables.flat.now) tables.flat.now.holds }
+    requires wired { IsWired tables.flat.now }
+    requires small { AreSmall tables.unrolled.now.places }
+    requires tables { (t : Top) × (blif : BlifValue) × (facts : List FactsValue) × AreTables t blif facts tables }
+    requires clocks { list_any is_clocked tables.cells.now ≡ false }
+    ensures { IfOk result (λ whole. (t : Top) (blif : BlifValue) (facts : List FactsValue) → AreTables t blif facts tables.entry → WholeGives t blif facts tables.entry.flat.now whole) }
+{
+    let tried = choose_all(alloc, false, tables)?;
+    if !has_mark(tried.whole.as_slice()) {
+        return Ok(None);
+    }
+    let circuit = circuit_of(alloc, tables, &tried)?;
+    let free = are_acyclic(alloc, &circuit, tables.phases)?;
+    if !free {
+        return one_by_one(alloc, tables);
+    }
+    Ok(Some(circuit))
+}
+
+/// The checked circuit, none where no instance is chosen. A port that carries a clock has its bit in a cell alone, and so may
+/// be known there and not around an instance: with such ports cycles are asked for at each instance.
+fn checked_by(alloc: Global, tables: Tables<'_>) -> Result<Option<Circuit>, NoMemory>
+    requires holds { All (IsHold tables.flat.now) tables.flat.now.holds }
+    requires wired { IsWired tables.flat.now }
+    requires small { AreSmall tables.unrolled.now.places }
+    requires tables { (t : Top) × (blif : BlifValue) × (facts : List FactsValue) × AreTables t blif facts tables }
+    ensures { IfOk result (λ whole. (t : Top) (blif : BlifValue) (facts : List FactsValue) → AreTables t blif facts tables.entry → WholeGives t blif facts tables.entry.flat.now whole) }
+{
+    if has_clocked_cell(tables.cells) {
+        one_by_one(alloc, tables)
+    } else {
+        all_at_once(alloc, tables)
+    }
 }
 
 /// What the instances of each cell of some places have in common, if they may be left whole.
