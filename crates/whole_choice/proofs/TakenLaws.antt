@@ -3,7 +3,6 @@ use Rattle.std.proofs.Common.{◌≡◌, ℕ, ◌+◌, ◌||◌, ◌++◌, Bool,
 use Rattle.std.specs.Prelude.{◌==◌}
 use Rattle.std.specs.List.{enumerate_from, list_any}
 use Rattle.substitute.specs.Outputs.{output_at, own_outputs}
-use Rattle.vrt_model.specs.Lists.{mark_at}
 use Rattle.vrt_model.specs.WholeInstances.{OutputAt}
 use Rattle.vrt_model.specs.declared.whole.WholePin.{WholePin}
 use Rattle.whole_choice.specs.Taken.{TakenGrow, has_pin}

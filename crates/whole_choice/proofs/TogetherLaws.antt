@@ -1,15 +1,13 @@
 -- Instances that are tried without a look at cycles.
-use Rattle.std.proofs.Common.{◌≡◌, ℕ, zero, suc, ◌<◌, ◌||◌, Bool, true, false, List, [], ◌∷◌, length, map, Option, Some, arith, ap, refl, subst, sym, ◌∙◌}
+use Rattle.std.proofs.Common.{◌≡◌, ℕ, zero, suc, Bool, true, false, List, [], ◌∷◌, length, map, Option, Some, arith, ap, refl, subst, sym, ◌∙◌}
 use Rattle.std.specs.Prelude.{option_map}
 use Rattle.std.specs.List.{list_any}
 use Rattle.std.proofs.lemmas.Bool.{false≢true}
 use Rattle.std.proofs.lemmas.Option.{none-some, slice_get_within}
 use Rattle.checked_chain.proofs.ChoiceLaws.{numbered_at}
-use Rattle.net_places.specs.declared.places.Place.{Place}
 use Rattle.phase_ports.specs.Ports.{unnamed}
 use Rattle.phase_ports.specs.declared.port_list.Port.{Port}
 use Rattle.substitute.specs.Acyclic.{AreAcyclic}
-use Rattle.substitute.specs.declared.whole_cell.WholeCell.{WholeCell}
 use Rattle.substitution_laws.specs.Chosen.{IsSoftTrial}
 use Rattle.trial_cycles.proofs.TrialLaws.{allowed_are_chosen, carried_clocks_are_known}
 use Rattle.trial_cycles.specs.TrialCycles.{AreClocksCarried, IsChoiceOfAllowed}

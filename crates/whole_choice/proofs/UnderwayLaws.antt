@@ -1,5 +1,5 @@
 -- Instances that are tried one after the other.
-use Rattle.std.proofs.Common.{◌≡◌, ℕ, zero, suc, ◌+◌, ◌<◌, ◌||◌, ◌&&◌, ◌++◌, Bool, true, false, All, Global, Vec, List, [], length, map, replicate, Option, Some, None, arith, ap, refl, subst, sym, ◌∙◌}
+use Rattle.std.proofs.Common.{◌≡◌, ℕ, zero, suc, ◌+◌, ◌<◌, ◌||◌, ◌++◌, Bool, true, false, All, Global, Vec, List, [], length, map, replicate, Option, Some, None, arith, ap, refl, subst, sym, ◌∙◌}
 use Rattle.std.specs.Prelude.{◌==◌, flat_map}
 use Rattle.std.specs.List.{enumerate_from}
 use Rattle.std.proofs.lemmas.Bool.{eq-eqb, eqb-true, false≢true}

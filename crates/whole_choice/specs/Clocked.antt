@@ -1,5 +1,5 @@
 -- Cells whose ports carry clocks.
-use Rattle.std.specs.Prelude.{Bool, true, false, List, Option, Some, None}
+use Rattle.std.specs.Prelude.{Bool, true, false, Option, Some, None}
 use Rattle.std.specs.List.{list_any}
 use Rattle.phase_ports.specs.declared.port_list.Port.{Port}
 use Rattle.substitute.specs.declared.whole_cell.WholeCell.{WholeCell}

@@ -1,4 +1,4 @@
-use Rattle.std.proofs.Common.{ℕ, arith, subst, sym}
+use Rattle.std.proofs.Common.{ℕ, arith, subst}
 use Rattle.std.proofs.lemmas.Result.{on_ok_weaker}
 use Rattle.vrt_model.specs.Lists.{At}
 use Rattle.whole_choice.proofs.UnderwayLaws.{has_entry_there, left_without_entry, suc_of}

@@ -2,7 +2,7 @@ use Rattle.std.proofs.Common.{ℕ, List, Bool, ◌<◌, length, subst, sym, ◌�
 use Rattle.std.proofs.lemmas.Result.{on_ok_weaker}
 use Rattle.substitute.specs.Insides.{IsCutAt}
 use Rattle.vrt_model.specs.Lists.{At}
-use Rattle.vrt_model.specs.Unrolled.{Place, all_places}
+use Rattle.vrt_model.specs.Unrolled.{all_places}
 use Rattle.whole_choice.proofs.UnderwayLaws.{cut_at_chosen, left_inside}
 use Rattle.whole_choice.specs.Chosen.{cut_of}
 use Rattle.whole_choice.proofs.choice.try_whole.Goals as goal
