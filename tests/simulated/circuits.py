@@ -84,7 +84,7 @@ class Maker:
         """Adds now and then an `assume`, a `hold`, an `enter` or an `observe` line, or the supplies among the ports."""
         if self.chance(0.1):
             drawing.assumes.append((self.some_phase(), self.some_expression(drawing.inputs)))
-        nets = drawing.outputs + drawing.cell.own_nets()
+        nets = drawing.outputs + drawing.cell.inner_nets()
         if drawing.cell.instances and nets and self.chance(0.2):
             drawing.holds[self.random.choice(nets)] = self.random.choice([1, 2, 3])
         if drawing.holds and self.chance(0.07):
