@@ -91,7 +91,7 @@ def turn_assume(random, drawing):
         phase, expression = drawing.assumes.pop()
         if random.random() < 0.4:
             drawing.assumes.append((phase, Expression("!", (expression,))))
-    else:
+    elif drawing.inputs:
         left, right = (Expression("port", (random.choice(drawing.inputs),)) for _ in range(2))
         right = Expression("!", (right,)) if random.random() < 0.5 else right
         drawing.assumes.append((None, Expression(random.choice("&^||"), (left, right))))
