@@ -201,27 +201,35 @@ class Maker:
         carried = {port for cell in chosen for port in self.design.rules.clocks_of(cell)}
         clocks = [clock for clock in CARRIED if clock in carried]
         drawing = empty(name, inputs, [], clocks)
-        wires, instances = list(inputs), []
+        wires = list(inputs)
         has_devices = self.chance(0.7 if self.is_plain else 0.2)
         for _ in range(self.random.choice([0, 1, 1, 2]) if has_devices else 0):
             add_driver(self.random, drawing, wires)
         for number, cell in enumerate(chosen):
             is_unread = cell in self.design.rules.skipped and self.chance(0.7)
-            instances.append(self.instance(f"x{number}", cell, list(wires) if is_unread else wires, clocks))
+            instance = self.instance(f"x{number}", cell, list(wires) if is_unread else wires, clocks)
+            drawing.cell.instances.append(instance)
         for _ in range(self.random.choice([1, 2, 3, 4]) if has_devices else 0):
             add_load(self.random, drawing, wires)
-        outputs = wires[len(inputs) :]
-        if has_devices and self.chance(0.5):
-            self.random.shuffle(outputs)
-        driven = [net for instance in instances for net, formal in self.ties(instance) if formal in self.design.models[instance.cell].outputs]
-        drawing.outputs = outputs[-self.random.choice([1, 1, 2]) :] if self.chance(0.8) else outputs[:1]
-        if driven and self.is_plain and self.chance(0.5):
-            drawing.outputs = add_race(self.random, drawing, wires, driven)
+        drawing.outputs = self.chosen_outputs(drawing, wires, has_devices)
         drawing.cell.ports += drawing.outputs
-        drawing.cell.instances = instances
         if self.can_tie_models(drawing):
             drawing.model = self.tied_model(drawing)
         return drawing
+
+    def chosen_outputs(self, drawing, wires, has_devices):
+        """The outputs of a cell of instances: some of its wires, mostly the last ones; now and then two that race."""
+        outputs = wires[len(drawing.inputs) :]
+        if has_devices and self.chance(0.5):
+            self.random.shuffle(outputs)
+        driven = [net for instance in drawing.cell.instances for net in self.driven(instance)]
+        if driven and self.is_plain and self.chance(0.5):
+            return add_race(self.random, drawing, wires, driven)
+        return outputs[-self.random.choice([1, 1, 2]) :] if self.chance(0.8) else outputs[:1]
+
+    def driven(self, instance):
+        """The nets at the outputs of an instance."""
+        return [net for net, formal in self.ties(instance) if formal in self.design.models[instance.cell].outputs]
 
     def instance(self, name, cell, wires, clocks):
         """An instance whose inputs are wires that are there, the later ones more often; its outputs are wires more."""
@@ -232,15 +240,18 @@ class Maker:
             elif formal in self.design.models[cell].outputs:
                 nets.append(self.bus(cell, formal) or f"{name}{formal}")
             else:
-                nets.append(self.input_wire(name, wires, clocks))
+                nets.append(self.input_wire(name, formal in self.design.cells[cell].mentioned_nets(), wires, clocks))
         formals = self.design.models[cell].outputs
         outputs = [net for net, formal in zip(nets, self.design.cells[cell].ports) if formal in formals]
         wires[:] = dict.fromkeys(wires + outputs)
         return Instance(name, nets, cell)
 
-    def input_wire(self, name, wires, clocks):
-        """A wire for an input of an instance; now and then one of the next instance, so that models or gates may lead around."""
-        if self.is_plain and self.chance(0.04):
+    def input_wire(self, name, is_needed, wires, clocks):
+        """A wire for an input of an instance; now and then one of the next instance, so that gates may lead around.
+
+        That is more often where no card inside names the input, so that only models lead around.
+        """
+        if self.is_plain and self.chance(0.04 if is_needed else 0.5):
             return f"{name[0]}{int(name[1:]) + 1}y"
         return self.random.choice(wires[-4:] + clocks[:1])
 
@@ -249,7 +260,7 @@ class Maker:
         return "bus" if self.chance(0.5 if (cell, formal) in self.design.rules.holds else 0.08) else None
 
     def can_tie_models(self, drawing):
-        """Whether the models of the instances can be tied as the instances are, and stand for them: each takes what comes before it."""
+        """Whether the models of the instances can be tied as the instances are: each takes what comes before it."""
         driven = list(drawing.inputs) + list(drawing.clocks)
         if drawing.cell.devices:
             return False
@@ -259,7 +270,7 @@ class Maker:
                 return False
             if any(formal in model.inputs and net not in driven for net, formal in self.ties(instance)):
                 return False
-            driven += [net for net, formal in self.ties(instance) if formal in model.outputs]
+            driven += self.driven(instance)
         return len(driven) == len(set(driven)) and self.chance(0.9)
 
     def ties(self, instance):

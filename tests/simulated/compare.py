@@ -47,12 +47,11 @@ def kind_of(line):
     return " ".join(words[2:4]) if words[2] == "unsupported" else words[2]
 
 
-def keep_files(folder, name):
+def keep_files(design, name):
     """Keeps the files of a design at which the lines differ, and returns their place."""
     kept = Path(tempfile.gettempdir()) / name
     kept.mkdir(exist_ok=True)
-    for file in FILES:
-        (kept / file).write_bytes((folder / file).read_bytes())
+    write_files(design, kept)
     return kept
 
 
@@ -68,14 +67,15 @@ class Comparing:
 
     def design(self, design, name, folder):
         """Compares what is printed for a design with what is simulated."""
-        write_files(design, folder)
         report = Report(design, LEAVES_WHOLE)
-        wanted = with_status(report.lines)
-        lines = printed(self.program, folder) if self.program else wanted
+        lines = wanted = with_status(report.lines)
+        if self.program:
+            write_files(design, folder)
+            lines = printed(self.program, folder)
         self.verdicts.update(kind_of(line) for line in report.lines)
         self.wholes.update(designs=report.with_wholes > 0, cells=report.with_wholes, moved=report.moved)
         if lines != wanted or report.wrong:
-            print(f"design {name}, files in {keep_files(folder, f'simulated-{name}')}")
+            print(f"design {name}, files in {keep_files(design, f'simulated-{name}')}")
         if lines != wanted:
             self.wrong += 1
             for line, other in zip_longest(lines, wanted, fillvalue=""):
@@ -98,7 +98,7 @@ class Comparing:
 
 
 def compare(count, seed, program):
-    """Compares the designs of a seed. The exit status is 2 where the definitions disagree, and 1 where the program prints other lines."""
+    """Compares the designs of a seed; the exit status: 2 where the definitions disagree, 1 where other lines are printed."""
     comparing = Comparing(program)
     with tempfile.TemporaryDirectory() as place:
         for number in range(count):

@@ -1,4 +1,4 @@
-"""Cells that may be left whole above, and devices around instances: at their inputs, and with gates or channels at their outputs."""
+"""Cells that may be left whole above, and devices around instances: at their inputs, and with gates or channels at outputs."""
 
 from cells import CARRIED, empty, pass_gate, ratioed_gate, static_gate
 from designs import Cover, Model
@@ -26,7 +26,7 @@ def chain(random, name, phases):
 
 
 def two_outputs(random, name, phases):
-    """A gate, and behind it an inverter as another output; or two inverters side by side, perhaps joined where both show the same."""
+    """A gate, and behind it an inverter as another output; or two inverters side by side, joined where both show the same."""
     if random.random() < 0.6:
         drawing = empty(name, ["a", "b"], ["y", "z"])
         drawing.network(("parallel", "a", "b"), "p", "vdd", "y")
@@ -115,7 +115,7 @@ def add_load(random, drawing, wires):
 
 
 def add_race(random, drawing, wires, outputs):
-    """Two nets that may float, one behind an output of an instance and one behind a row of inverters, of which the deeper comes later."""
+    """Two nets that may float or fight, one behind an output of an instance and one behind a row of inverters."""
     source = random.choice(drawing.inputs)
     for _ in range(random.choice([1, 2, 2, 3])):
         wires.append(f"w{len(wires)}")
@@ -126,4 +126,7 @@ def add_race(random, drawing, wires, outputs):
         raced.append(f"w{len(wires)}")
         wires.append(raced[-1])
         drawing.device(*random.choice([("n", raced[-1], gate, "gnd"), ("p", raced[-1], gate, "vdd")]))
+        if random.random() < 0.3:
+            other = random.choice(drawing.inputs + ["vdd"])
+            drawing.device("n", raced[-1], other, "gnd")
     return raced

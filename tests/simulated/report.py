@@ -58,14 +58,15 @@ class Report:
             except Cycle as cycle:
                 return f"cell {comparison.cell} unsupported cycle {comparison.circuit.names[cycle.net]} phase {phase.name}"
         wholes = left_whole(comparison, self.known) if self.leaves_whole else []
-        told = next((line for line in (check.line() for check in checks) if line), None)
         if wholes:
-            told = self.line_with_wholes(comparison, checks, wholes, told)
+            told = self.line_with_wholes(comparison, checks, wholes)
+        else:
+            told = next((line for line in (check.line() for check in checks) if line), None)
         if told is None and not comparison.circuit.holds and not comparison.model.latches:
             self.known[comparison.cell] = Inside(comparison)
         return told or f"cell {comparison.cell} equal"
 
-    def line_with_wholes(self, comparison, flat_checks, wholes, flat_line):
+    def line_with_wholes(self, comparison, flat_checks, wholes):
         """The line of a cell with instances left whole, or None where it is equal."""
         self.with_wholes += 1
         checked = with_wholes(comparison, wholes)
@@ -79,6 +80,6 @@ class Report:
                 agreement.wrong.append("an output without a bit")
             self.wrong += [f"cell {comparison.cell} phase {check.phase.name}: {text}" for text in agreement.wrong[:3]]
             if line:
-                self.moved += line != flat_line
+                self.moved += line != flat_check.line()
                 return line
         return None

@@ -97,6 +97,10 @@ class Part:
     counted: set  # those of them that count for ranks
     rank: int = 0
 
+    def __post_init__(self):
+        """The nets of the part, and those at which the channels of its devices end: only roots there matter to it."""
+        self.touched = set(self.nets).union(*(device.ends for device in self.devices))
+
 
 class Cycle(Exception):
     """The gates of a circuit lead around; the least net on any such cycle."""
@@ -109,7 +113,7 @@ class Cycle(Exception):
 class PhaseCircuit:
     """A circuit in a phase: its known nets, its parts and their ranks. The bits of clock ports are those of the phase.
 
-    Instances that are left whole say at which nets their outputs are, to which of their ports these are linked, and what they show.
+    Instances that are left whole say at which nets their outputs are, to which ports these are linked, and what they show.
     """
 
     def __init__(self, circuit, inputs, clock_bits, wholes=()):
@@ -119,6 +123,7 @@ class PhaseCircuit:
         self.fixed = {0: 0, 1: 1, **clock_bits}
         self.plain = [net for net in range(len(circuit.names)) if net not in self.fixed and net not in inputs]
         self.inputs = inputs
+        self.given = list(self.fixed) + inputs
         self.bare = [device for device in circuit.devices if not device.is_keeper]
         self.known = dict(self.fixed)
         while self.learn():
@@ -206,17 +211,16 @@ class PhaseCircuit:
         return found
 
     def roots(self, nets, bits, held):
-        """Where paths begin: the given nets with their bits, the holds with what they hold, the whole outputs with their models' bits."""
-        given = [(net, SOURCE_LEVEL, bits[net]) for net in list(self.fixed) + self.inputs if net in nets]
+        """Where paths begin: given nets with their bits, holds with what they hold, and outputs of whole instances."""
+        given = [(net, SOURCE_LEVEL, bits[net]) for net in self.given if net in nets]
         given += [(net, self.circuit.holds[net].size, bit) for net, bit in held.items() if net in nets]
         for whole in self.wholes:
             given += [(net, SOURCE_LEVEL, whole.bit(net, bits)) for net in whole.driven() if net in nets]
         return given
 
     def part_responses(self, part, bits, held):
-        """What the nets of a part show, where each gate of its devices has a bit; only roots at these devices or nets matter."""
-        at_part = set(part.nets).union(*(device.ends for device in part.devices))
-        return responses(part.nets, self.roots(at_part, bits, held), conducting(part.devices, bits))
+        """What the nets of a part show, where each gate of its devices has a bit."""
+        return responses(part.nets, self.roots(part.touched, bits, held), conducting(part.devices, bits))
 
     def kept_responses(self, bits, held):
         """What all plain nets show with the keepers."""

@@ -66,10 +66,13 @@ class Standing:
         kept = self.kept(net)
         if fault.kind == "fightkept":
             return kept == {FIGHT}
-        return net in self.check.observed and len(kept) == 1 and fault.values == f"circuit {min(kept)} wanted {self.bits.get(net)}"
+        wanted = self.bits.get(net)
+        if wanted is None:
+            return False
+        return net in self.check.observed and kept == {1 - wanted} and fault.values == f"circuit {1 - wanted} wanted {wanted}"
 
     def is_broken(self, instance):
-        """Whether an `assume` of an instance is false, where each port that it names has a bit, or a clock port has the wrong bit."""
+        """Whether an `assume` of an instance is false, each port in it having a bit, or a clock port has the wrong bit."""
         expressions, clocks = self.check.constraints(instance)
         ports = {port: self.bits[net] for port, net in instance.ports.items() if net in self.bits}
         told = [expression for expression in expressions if expression.ports() <= set(ports)]
@@ -87,7 +90,7 @@ class Agreement:
         self.wrong = []
 
     def watch(self, setting, fault):
-        """Notes where only one of the two has a fault, where the flat one has not this fault, and where their solutions differ."""
+        """Notes where only one of the two has a fault, where the flat one has another than this, and where the bits differ."""
         first = next(self.flat.faults(setting), None)
         if (fault is None) != (first is None):
             self.wrong.append(f"whole: {fault}, flat: {first}")

@@ -27,14 +27,14 @@ class Link:
 
 
 class Inside:
-    """A cell that was found equal and keeps nothing, as it is seen from above: what its flat circuit and its model say of its ports."""
+    """A cell that was found equal and keeps nothing, as it is seen from above: what is said of its ports."""
 
     def __init__(self, comparison):
         self.comparison = comparison
-        self.names = {}  # the links of a phase, by its name
+        self.links_of = {}  # the links in a phase, by its name
 
     def is_allowed(self):
-        """Whether it names no global net, observes all its outputs in all phases, and no channel in it meets an input or a clock port."""
+        """Whether it names no global net, its outputs are always observed, and no channel in it meets an input or a clock port."""
         k = self.comparison
         phases = k.rules.phases
         if any(k.design.names_global(k.cell, net) for net in k.design.globals):
@@ -52,9 +52,9 @@ class Inside:
 
     def links(self, phase):
         """Triples of a port, an output to which it is linked in a phase, and whether a constraint names the port."""
-        if phase.name not in self.names:
-            self.names[phase.name] = list(self.found_links(phase))
-        return self.names[phase.name]
+        if phase.name not in self.links_of:
+            self.links_of[phase.name] = list(self.found_links(phase))
+        return self.links_of[phase.name]
 
     def found_links(self, phase):
         """Finds them. A port that a constraint names is linked to each output."""
@@ -125,7 +125,7 @@ class WholeInPhase:
         return [Link(self.ports[port], self.ports[output], named) for port, output, named in self.inside.links(self.phase)]
 
     def bit(self, net, bits):
-        """The bit that the model gives the output at a net; an input without a bit may have either, and is to make no difference."""
+        """The bit that the model gives the output at a net; an input without a bit is to make no difference."""
         k = self.inside.comparison
         clocks = k.rules.clocks_of(k.cell)
         nets = {name: self.ports[name] for name in k.model.inputs if name not in clocks}
@@ -158,7 +158,7 @@ def with_wholes(comparison, wholes):
 
 
 def are_outputs_free(comparison, whole):
-    """Whether the outputs of a whole instance are plain nets without a charge, where neither channels nor other whole outputs are."""
+    """Whether the outputs of a whole instance are plain nets without a charge, with neither channels nor other whole outputs."""
     ends = {end for device in comparison.circuit.devices for end in device.ends}
     others = [net for other in comparison.wholes for net in other.outputs()]
     given = set(SUPPLIES.values()) | set(comparison.clock_nets) | set(comparison.inputs) | set(comparison.circuit.holds)
