@@ -41,7 +41,7 @@ class Maker:
     def __init__(self, random):
         self.random = random
         self.is_plain = self.chance(0.5)  # the inner cells are such as may be left whole, and most of them nothing is turned in
-        self.design = Design(rules=self.clocked_rules(), globals=[GLOBAL_NET] if self.chance(0.2) else [])
+        self.design = Design(rules=self.clocked_rules(), globals=[GLOBAL_NET] if self.chance(0.25) else [])
 
     def chance(self, share):
         """True in this share of the cases."""
@@ -72,7 +72,7 @@ class Maker:
 
     def add(self, drawing):
         """Finishes a cell and adds it, unless it is too large; whether it was added."""
-        if self.design.globals and drawing.cell.inner_nets() and self.chance(0.3):
+        if self.design.globals and drawing.cell.inner_nets() and self.chance(0.4):
             rename(drawing, self.random.choice(drawing.cell.inner_nets()), GLOBAL_NET)
         self.add_rules(drawing)
         if not self.entered(drawing):
@@ -198,6 +198,7 @@ class Maker:
         """
         inputs = ["a", "b", "c"][: self.random.choice([2, 2, 3])]
         chosen = self.random.choices(list(self.design.cells), k=self.random.choice([1, 2, 2, 3]))
+        chosen += chosen[: self.chance(0.25)]
         carried = {port for cell in chosen for port in self.design.rules.clocks_of(cell)}
         clocks = [clock for clock in CARRIED if clock in carried]
         drawing = empty(name, inputs, [], clocks)

@@ -5,14 +5,31 @@ from designs import Cover, Model
 
 
 def clocked_gate(random, name, phases):
-    """A gate of which one input is a clock port; its model has the clock too, so that it is the same in all phases."""
+    """A gate of which one input is a clock port. Its model has the clock too, or it is compared where the clock is 1 alone."""
     if len(phases) == 1:
         return static_gate(random, name, phases)
     clock = random.choice([port for port in CARRIED if CARRIED[port].name in phases[0].bits])
     drawing = empty(name, ["a"], ["y"], [clock])
     drawing.network(("parallel", "a", clock), "p", "vdd", "y")
     drawing.network(("series", "a", clock), "n", "y", "gnd")
-    drawing.model = Model(name, ["a", clock], ["y"], [Cover(["a", clock], "y", ["11"], 0)])
+    high = [phase.name for phase in phases if phase.bits[CARRIED[clock].name] ^ CARRIED[clock].inverted]
+    if high and random.random() < 0.5:
+        drawing.model = Model(name, ["a"], ["y"], [Cover(["a"], "y", ["1"], 0)])
+        drawing.observed["y"] = high
+    else:
+        drawing.model = Model(name, ["a", clock], ["y"], [Cover(["a", clock], "y", ["11"], 0)])
+    return drawing
+
+
+def pulled_input(random, name, phases):
+    """An inverter or two, with a device that pulls at the input from inside, or one that joins it to another input."""
+    drawing = empty(name, ["a", "b"][: random.choice([1, 2])], ["y"])
+    output = random.choice(["y", "u"])
+    drawing.inverter("a", output)
+    if output == "u":
+        drawing.inverter("u", "y")
+    other = random.choice(["vdd", "gnd", drawing.inputs[-1]])
+    drawing.device(*random.choice([("p", "a", "gnd", other), ("n", "a", "vdd", other)]), random.choice([4, 6]))
     return drawing
 
 
@@ -67,7 +84,7 @@ def constant(random, name, phases):
 
 
 PLAIN = [static_gate] * 3 + [chain] * 5 + [ratioed_gate, pass_gate, clocked_gate, two_outputs, two_outputs, unneeded_input]
-PLAIN += [unneeded_input, constant]
+PLAIN += [unneeded_input, constant, pulled_input, clocked_gate]
 
 
 def rename(drawing, old, new):
