@@ -64,7 +64,7 @@ class Maker:
             kinds = CLOCKED if self.design.rules.clocks else UNCLOCKED
             kinds = PLAIN if self.is_plain and self.chance(0.85) else kinds
             self.add(self.random.choice(kinds)(self.random, name, self.design.rules.phases))
-        for number in range(self.random.randrange(1, 4)):
+        for number in range(self.random.randrange(2 if self.is_plain else 1, 4)):
             for _ in range(10):
                 if self.add(self.composite(f"h{number}")):
                     break
@@ -80,7 +80,7 @@ class Maker:
         if drawing.model is None:
             drawing.model = self.simulated_model(drawing)
         self.withdraw(drawing.cell.name)
-        is_kept = self.is_plain and not drawing.cell.instances and self.chance(0.7)
+        is_kept = self.is_plain and self.chance(0.4 if drawing.cell.instances else 0.7)
         for _ in range(0 if is_kept else self.random.choice([0, 0, 0, 1, 1, 2])):
             self.random.choice(TURNS)(self.random, drawing)
         if not self.entered(drawing):
@@ -197,13 +197,14 @@ class Maker:
         devices at the inputs and the outputs of the instances.
         """
         inputs = ["a", "b", "c"][: self.random.choice([2, 2, 3])]
-        chosen = self.random.choices(list(self.design.cells), k=self.random.choice([1, 2, 2, 3]))
+        weights = [3 if self.is_plain and cell.instances else 1 for cell in self.design.cells.values()]
+        chosen = self.random.choices(list(self.design.cells), weights, k=self.random.choice([1, 2, 2, 3]))
         chosen += chosen[: self.chance(0.25)]
         carried = {port for cell in chosen for port in self.design.rules.clocks_of(cell)}
         clocks = [clock for clock in CARRIED if clock in carried]
         drawing = empty(name, inputs, [], clocks)
         wires = list(inputs)
-        has_devices = self.chance(0.7 if self.is_plain else 0.2)
+        has_devices = self.chance(0.5 if self.is_plain else 0.2)
         for _ in range(self.random.choice([0, 1, 1, 2]) if has_devices else 0):
             add_driver(self.random, drawing, wires)
         for number, cell in enumerate(chosen):
@@ -224,7 +225,7 @@ class Maker:
         if has_devices and self.chance(0.5):
             self.random.shuffle(outputs)
         driven = [net for instance in drawing.cell.instances for net in self.driven(instance)]
-        if driven and self.is_plain and self.chance(0.5):
+        if driven and self.is_plain and self.chance(0.4):
             return add_race(self.random, drawing, wires, driven)
         return outputs[-self.random.choice([1, 1, 2]) :] if self.chance(0.8) else outputs[:1]
 
