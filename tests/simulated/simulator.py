@@ -133,20 +133,20 @@ class PhaseCircuit:
         self.rank_parts()
 
     def learn(self):
-        """Learns what the nets of shut regions show; whether a net was learned.
+        """Learns what the nets of a shut region show; whether a net was learned. With it regions may become larger.
 
         The region of a net is the plain nets that devices known to conduct join to it. It is shut where all gates at it are
         known, it has no hold and no output of a whole instance, and no such device joins it to an input: then what it shows hangs
         on nothing else.
         """
         channels = [device for device in self.bare if device.gate in self.known and device.conducts(self.known[device.gate])]
-        learned = False
         for region in joined(self.plain, [device.ends for device in channels]):
             if any(net not in self.known for net in region) and self.is_shut(set(region)):
                 shown = self.shown_in(region)
-                learned = learned or any(net not in self.known for net in shown)
-                self.known.update(shown)
-        return learned
+                if any(net not in self.known for net in shown):
+                    self.known.update(shown)
+                    return True
+        return False
 
     def devices_at(self, nets):
         """The devices of the bare circuit whose channels meet one of the nets."""
