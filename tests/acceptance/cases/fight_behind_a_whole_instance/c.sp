@@ -1,4 +1,4 @@
-* the output of x1 is the gate of two devices that fight; with x1 whole that has rank 2, as the fight at z, and y is the lesser net
+* with x1 whole y has rank 2, as z, and is the lesser net; with x1 opened the fight at z comes first
 .subckt inv a y
 m1 y a vdd vdd p
 m2 y a gnd gnd n

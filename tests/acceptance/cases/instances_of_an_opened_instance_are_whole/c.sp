@@ -1,4 +1,4 @@
-* buf has an output that the rules do not observe in each phase, so x1 is opened; the buffers inside it are whole
+* row is compared in one phase alone, so x1 is opened; the buffers in it are left whole, so that y comes before z
 .subckt inv a y
 m1 y a vdd vdd p
 m2 y a gnd gnd n
