@@ -146,7 +146,7 @@ def domino_stage(random, name, phases):
             drawing.enters[(phase.name, "d")] = 1
     drawing.observed["y"] = [phase.name for phase in phases if phase.bits["phi"]]
     if random.random() < 0.2:
-        inner = next((net for net in drawing.cell.own_nets() if net != "d"), "d")
+        inner = next((net for net in drawing.cell.inner_nets() if net != "d"), "d")
         drawing.holds.setdefault(inner, random.choice([1, 2]))
     return drawing
 

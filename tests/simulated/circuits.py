@@ -10,9 +10,13 @@ from random import Random
 from cells import CARRIED, CLOCKED, UNCLOCKED, empty, port
 from designs import SUPPLIES, Cover, Design, Expression, Instance, Model, Phase, Reference, Rules, SubModel
 from flat import flat_model
+from mixed import PLAIN, add_driver, add_load, add_race, rename
 from simulator import Cycle
 from turns import TURNS, tidy
 from verdicts import Comparison, PhaseCheck
+
+# The name of the global net of a design that has one.
+GLOBAL_NET = "glob"
 
 # A cell with more is drawn anew, so that all its valuations can be tried.
 MOST_VARIABLES = 7
@@ -36,7 +40,8 @@ class Maker:
 
     def __init__(self, random):
         self.random = random
-        self.design = Design(rules=self.clocked_rules())
+        self.is_plain = self.chance(0.5)  # the inner cells are such as may be left whole, and most of them nothing is turned in
+        self.design = Design(rules=self.clocked_rules(), globals=[GLOBAL_NET] if self.chance(0.25) else [])
 
     def chance(self, share):
         """True in this share of the cases."""
@@ -57,8 +62,9 @@ class Maker:
         names = [f"g{number}" for number in range(self.random.randrange(2, 5))]
         for name in names:
             kinds = CLOCKED if self.design.rules.clocks else UNCLOCKED
+            kinds = PLAIN if self.is_plain and self.chance(0.85) else kinds
             self.add(self.random.choice(kinds)(self.random, name, self.design.rules.phases))
-        for number in range(self.random.randrange(1, 4)):
+        for number in range(self.random.randrange(2 if self.is_plain else 1, 4)):
             for _ in range(10):
                 if self.add(self.composite(f"h{number}")):
                     break
@@ -66,13 +72,16 @@ class Maker:
 
     def add(self, drawing):
         """Finishes a cell and adds it, unless it is too large; whether it was added."""
+        if self.design.globals and drawing.cell.inner_nets() and self.chance(0.4):
+            rename(drawing, self.random.choice(drawing.cell.inner_nets()), GLOBAL_NET)
         self.add_rules(drawing)
         if not self.entered(drawing):
             return False
         if drawing.model is None:
             drawing.model = self.simulated_model(drawing)
         self.withdraw(drawing.cell.name)
-        for _ in range(self.random.choice([0, 0, 0, 1, 1, 2])):
+        is_kept = self.is_plain and self.chance(0.4 if drawing.cell.instances else 0.7)
+        for _ in range(0 if is_kept else self.random.choice([0, 0, 0, 1, 1, 2])):
             self.random.choice(TURNS)(self.random, drawing)
         if not self.entered(drawing):
             return False
@@ -82,9 +91,9 @@ class Maker:
 
     def add_rules(self, drawing):
         """Adds now and then an `assume`, a `hold`, an `enter` or an `observe` line, or the supplies among the ports."""
-        if self.chance(0.1):
+        if drawing.inputs and self.chance(0.1):
             drawing.assumes.append((self.some_phase(), self.some_expression(drawing.inputs)))
-        nets = drawing.outputs + drawing.cell.own_nets()
+        nets = drawing.outputs + drawing.cell.inner_nets()
         if drawing.cell.instances and nets and self.chance(0.2):
             drawing.holds[self.random.choice(nets)] = self.random.choice([1, 2, 3])
         if drawing.holds and self.chance(0.07):
@@ -184,23 +193,45 @@ class Maker:
     def composite(self, name):
         """A cell of instances of cells that are there. Each takes inputs, clocks, or outputs of those before it.
 
-        The outputs of an instance without a model may be read by none: what it holds is then seen by no output.
+        The outputs of an instance without a model may be read by none: what it holds is then seen by no output. There may be
+        devices at the inputs and the outputs of the instances.
         """
         inputs = ["a", "b", "c"][: self.random.choice([2, 2, 3])]
-        chosen = self.random.choices(list(self.design.cells), k=self.random.choice([1, 2, 2, 3]))
+        weights = [3 if self.is_plain and cell.instances else 1 for cell in self.design.cells.values()]
+        chosen = self.random.choices(list(self.design.cells), weights, k=self.random.choice([1, 2, 2, 3]))
+        chosen += chosen[: self.chance(0.25)]
         carried = {port for cell in chosen for port in self.design.rules.clocks_of(cell)}
         clocks = [clock for clock in CARRIED if clock in carried]
-        wires, instances = list(inputs), []
+        drawing = empty(name, inputs, [], clocks)
+        wires = list(inputs)
+        has_devices = self.chance(0.5 if self.is_plain else 0.2)
+        for _ in range(self.random.choice([0, 1, 1, 2]) if has_devices else 0):
+            add_driver(self.random, drawing, wires)
         for number, cell in enumerate(chosen):
             is_unread = cell in self.design.rules.skipped and self.chance(0.7)
-            instances.append(self.instance(f"x{number}", cell, list(wires) if is_unread else wires, clocks))
-        outputs = wires[len(inputs) :]
-        outputs = outputs[-self.random.choice([1, 1, 2]) :] if self.chance(0.8) else outputs[:1]
-        drawing = empty(name, inputs, outputs, clocks)
-        drawing.cell.instances = instances
+            instance = self.instance(f"x{number}", cell, list(wires) if is_unread else wires, clocks)
+            drawing.cell.instances.append(instance)
+        for _ in range(self.random.choice([1, 2, 3, 4]) if has_devices else 0):
+            add_load(self.random, drawing, wires)
+        drawing.outputs = self.chosen_outputs(drawing, wires, has_devices)
+        drawing.cell.ports += drawing.outputs
         if self.can_tie_models(drawing):
             drawing.model = self.tied_model(drawing)
         return drawing
+
+    def chosen_outputs(self, drawing, wires, has_devices):
+        """The outputs of a cell of instances: some of its wires, mostly the last ones; now and then two that race."""
+        outputs = wires[len(drawing.inputs) :]
+        if has_devices and self.chance(0.5):
+            self.random.shuffle(outputs)
+        driven = [net for instance in drawing.cell.instances for net in self.driven(instance)]
+        if driven and self.is_plain and self.chance(0.4):
+            return add_race(self.random, drawing, wires, driven)
+        return outputs[-self.random.choice([1, 1, 2]) :] if self.chance(0.8) else outputs[:1]
+
+    def driven(self, instance):
+        """The nets at the outputs of an instance."""
+        return [net for net, formal in self.ties(instance) if formal in self.design.models[instance.cell].outputs]
 
     def instance(self, name, cell, wires, clocks):
         """An instance whose inputs are wires that are there, the later ones more often; its outputs are wires more."""
@@ -211,23 +242,37 @@ class Maker:
             elif formal in self.design.models[cell].outputs:
                 nets.append(self.bus(cell, formal) or f"{name}{formal}")
             else:
-                nets.append(self.random.choice(wires[-4:] + clocks[:1]))
+                nets.append(self.input_wire(name, formal in self.design.cells[cell].mentioned_nets(), wires, clocks))
         formals = self.design.models[cell].outputs
         outputs = [net for net, formal in zip(nets, self.design.cells[cell].ports) if formal in formals]
         wires[:] = dict.fromkeys(wires + outputs)
         return Instance(name, nets, cell)
+
+    def input_wire(self, name, is_needed, wires, clocks):
+        """A wire for an input of an instance; now and then one of the next instance, so that gates may lead around.
+
+        That is more often where no card inside names the input, so that only models lead around.
+        """
+        if self.is_plain and self.chance(0.04 if is_needed else 0.5):
+            return f"{name[0]}{int(name[1:]) + 1}y"
+        return self.random.choice(wires[-4:] + clocks[:1])
 
     def bus(self, cell, formal):
         """A net at which several outputs may drive, those that keep their charge more often; None for a net of its own."""
         return "bus" if self.chance(0.5 if (cell, formal) in self.design.rules.holds else 0.08) else None
 
     def can_tie_models(self, drawing):
-        """Whether the models of the instances can be tied as the instances are, and stand for them."""
-        driven = []
+        """Whether the models of the instances can be tied as the instances are: each takes what comes before it."""
+        driven = list(drawing.inputs) + list(drawing.clocks)
+        if drawing.cell.devices:
+            return False
         for instance in drawing.cell.instances:
+            model = self.design.models[instance.cell]
             if instance.cell in self.design.rules.skipped:
                 return False
-            driven += [net for net, formal in self.ties(instance) if formal in self.design.models[instance.cell].outputs]
+            if any(formal in model.inputs and net not in driven for net, formal in self.ties(instance)):
+                return False
+            driven += self.driven(instance)
         return len(driven) == len(set(driven)) and self.chance(0.9)
 
     def ties(self, instance):

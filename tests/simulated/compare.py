@@ -1,8 +1,9 @@
 """Compares what the program prints for random designs with what the simulator says, line by line.
 
-usage: compare.py COUNT SEED PROGRAM
+usage: compare.py COUNT SEED [PROGRAM]     (without a program the definitions alone are compared with each other)
 """
 
+import os
 import subprocess
 import sys
 import tempfile
@@ -12,9 +13,12 @@ from pathlib import Path
 
 from circuits import random_design
 from designs import models_text, netlist_text, rules_text
-from verdicts import report
+from report import Report
 
 FILES = ("c.sp", "m.blif", "r.txt")
+
+# For trials of the simulator alone: with this set to `flat` no instance is left whole.
+LEAVES_WHOLE = os.environ.get("SIMULATED") != "flat"
 
 
 def write_files(design, folder):
@@ -29,9 +33,8 @@ def printed(program, folder):
     return run.stdout.splitlines() + [f"status {run.returncode}"]
 
 
-def simulated(design):
-    """The lines that it is to print, and the status: 1 where a cell has a fault, else 4 where one was not decided."""
-    lines = report(design)
+def with_status(lines):
+    """Lines, and behind them the status: 1 where a cell has a fault, else 4 where one was not decided."""
     kinds = {line.split()[2] for line in lines}
     if kinds - {"equal", "skipped", "unsupported", "vacuous"}:
         return lines + ["status 1"]
@@ -44,37 +47,67 @@ def kind_of(line):
     return " ".join(words[2:4]) if words[2] == "unsupported" else words[2]
 
 
-def keep_files(folder, name):
+def keep_files(design, name):
     """Keeps the files of a design at which the lines differ, and returns their place."""
     kept = Path(tempfile.gettempdir()) / name
     kept.mkdir(exist_ok=True)
-    for file in FILES:
-        (kept / file).write_bytes((folder / file).read_bytes())
+    write_files(design, kept)
     return kept
 
 
-def compare(count, seed, program):
-    """Compares the designs of a seed; the exit status."""
-    verdicts, wrong = Counter(), 0
-    with tempfile.TemporaryDirectory() as place:
-        folder = Path(place)
-        for number in range(count):
-            design = random_design(seed, number)
+class Comparing:
+    """Compares designs, and counts what was found."""
+
+    def __init__(self, program):
+        self.program = program
+        self.verdicts = Counter()
+        self.wholes = Counter()
+        self.wrong = 0  # designs for which the program prints other lines
+        self.disagreeing = 0  # designs of which flat circuits and circuits with whole instances say different things
+
+    def design(self, design, name, folder):
+        """Compares what is printed for a design with what is simulated."""
+        report = Report(design, LEAVES_WHOLE)
+        lines = wanted = with_status(report.lines)
+        if self.program:
             write_files(design, folder)
-            lines, wanted = printed(program, folder), simulated(design)
-            verdicts.update(kind_of(line) for line in wanted[:-1])
-            if lines != wanted:
-                wrong += 1
-                print(f"design {number} of seed {seed}, files in {keep_files(folder, f'simulated-{seed}-{number}')}")
-                for line, other in zip_longest(lines, wanted, fillvalue=""):
-                    if line != other:
-                        print(f"    printed:   {line}\n    simulated: {other}")
-    for verdict, times in sorted(verdicts.items()):
-        print(f"{times:8} {verdict}")
-    told = f"{wrong} of them not as simulated" if wrong else "all as simulated"
-    print(f"simulated: {count} designs, {verdicts.total()} cells, {told}")
-    return 1 if wrong or not verdicts else 0
+            lines = printed(self.program, folder)
+        self.verdicts.update(kind_of(line) for line in report.lines)
+        self.wholes.update(designs=report.with_wholes > 0, cells=report.with_wholes, moved=report.moved)
+        if lines != wanted or report.wrong:
+            print(f"design {name}, files in {keep_files(design, f'simulated-{name}')}")
+        if lines != wanted:
+            self.wrong += 1
+            for line, other in zip_longest(lines, wanted, fillvalue=""):
+                if line != other:
+                    print(f"    printed:   {line}\n    simulated: {other}")
+        if report.wrong:
+            self.disagreeing += 1
+            print("\n".join(f"    THE DEFINITIONS DISAGREE: {text}" for text in report.wrong))
+
+    def print_counts(self, count):
+        """Prints the counts; the last line says how many designs were compared."""
+        for verdict, times in sorted(self.verdicts.items()):
+            print(f"{times:8} {verdict}")
+        counts = [self.wholes[name] for name in ("designs", "cells", "moved")]
+        print("whole instances: {} designs, {} cells, in {} of them another first fault than in the flat circuit".format(*counts))
+        if self.disagreeing:
+            print(f"simulated: THE DEFINITIONS DISAGREE on flat circuits and whole instances in {self.disagreeing} designs")
+        told = f"{self.wrong} of them not as simulated" if self.wrong else "all as simulated"
+        print(f"simulated: {count} designs, {self.verdicts.total()} cells, {told}")
+
+
+def compare(count, seed, program):
+    """Compares the designs of a seed; the exit status: 2 where the definitions disagree, 1 where other lines are printed."""
+    comparing = Comparing(program)
+    with tempfile.TemporaryDirectory() as place:
+        for number in range(count):
+            comparing.design(random_design(seed, number), f"{seed}-{number}", Path(place))
+    comparing.print_counts(count)
+    if comparing.disagreeing:
+        return 2
+    return 1 if comparing.wrong or not comparing.verdicts else 0
 
 
 if __name__ == "__main__":
-    sys.exit(compare(int(sys.argv[1]), int(sys.argv[2]), sys.argv[3]))
+    sys.exit(compare(int(sys.argv[1]), int(sys.argv[2]), sys.argv[3] if len(sys.argv) > 3 else None))

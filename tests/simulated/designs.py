@@ -53,8 +53,8 @@ class Cell:
         names += [net for instance in self.instances for net in instance.nets]
         return list(dict.fromkeys(names))
 
-    def own_nets(self):
-        """The nets that are neither supplies nor ports, in the order in which the cards name them."""
+    def inner_nets(self):
+        """The nets that are neither supplies nor ports, in the order in which the cards name them; global ones among them."""
         return [net for net in self.mentioned_nets() if net not in SUPPLIES and net not in self.ports]
 
 
@@ -167,6 +167,10 @@ class Rules:
     observed: dict = field(default_factory=dict)  # (cell, port): names of phases
     assumes: list = field(default_factory=list)  # (cell, name of a phase or None for all, Expression)
 
+    def turns(self):
+        """Each phase with the one after it; the first follows the last."""
+        return list(zip(self.phases, self.phases[1:] + self.phases[:1]))
+
     def assumed(self, cell, phase):
         """The expressions that a cell assumes in a phase."""
         return [text for name, named, text in self.assumes if name == cell and named in (None, phase.name)]
@@ -187,10 +191,17 @@ class Design:
     cells: dict = field(default_factory=dict)
     models: dict = field(default_factory=dict)
     rules: Rules = field(default_factory=Rules)
+    globals: list = field(default_factory=list)  # nets that are one in all cells in which they are no ports
 
     def depth(self, cell):
         """How deep a cell is: 1 without instances."""
         return 1 + max((self.depth(instance.cell) for instance in self.cells[cell].instances), default=0)
+
+    def names_global(self, cell, net):
+        """Whether a card of a cell, or of a cell in it, names a global net."""
+        if net in self.globals and net in self.cells[cell].inner_nets():
+            return True
+        return any(self.names_global(instance.cell, net) for instance in self.cells[cell].instances)
 
     def order(self):
         """The cells as their lines are printed: by depth, and of one depth in the order of the netlist."""
@@ -199,7 +210,7 @@ class Design:
 
 def netlist_text(design):
     """The SPICE file of a design."""
-    lines = ["* a random design"]
+    lines = ["* a random design"] + [f".global {net}" for net in design.globals]
     for cell in design.cells.values():
         lines.append(" ".join([".subckt", cell.name] + cell.ports))
         for device in cell.devices:

@@ -14,6 +14,7 @@ class FlatDevice:
     kind: str
     level: int
     is_keeper: bool
+    within: tuple  # the numbers of the instances around it, the outermost first
 
     def conducts(self, bit):
         """An n-device conducts where its gate is 1, a p-device where it is 0."""
@@ -33,11 +34,12 @@ class FlatHold:
 
 @dataclass
 class FlatInstance:
-    """An instance at any depth: its path, its cell, and the flat net of each port."""
+    """An instance at any depth: its path, its cell, the flat net of each port, and the numbers of the instances around it."""
 
     path: str
     cell: str
     ports: dict
+    within: tuple
 
 
 @dataclass
@@ -52,7 +54,7 @@ class FlatCircuit:
 
 
 class Unroller:
-    """Numbers the nets: the supplies 0 and 1, the ports in their order, then place by place the nets of its own.
+    """Numbers the nets: the supplies 0 and 1, the ports in their order, the global nets, then place by place the nets of its own.
 
     A place is the cell itself or one of its instances; each comes before those inside it, and all of these before the
     next card.
@@ -64,34 +66,37 @@ class Unroller:
         self.circuit = FlatCircuit(names=["gnd", "vdd"], ports={})
         for port in design.cells[cell].ports:
             self.circuit.ports[port] = SUPPLIES[port] if port in SUPPLIES else self.new_net(port)
-        self.visit(design.cells[cell], [], self.circuit.ports)
+        self.globals = {net: self.new_net(net) for net in design.globals if design.names_global(cell, net)}
+        self.visit(design.cells[cell], [], self.circuit.ports, ())
 
     def new_net(self, name):
         """Numbers one net more."""
         self.circuit.names.append(name)
         return len(self.circuit.names) - 1
 
-    def visit(self, cell, path, ports):
+    def visit(self, cell, path, ports, within):
         """Unrolls a cell at a place; the path has the instance and the cell around it for each step inward."""
-        nets = {**ports, **SUPPLIES}
+        nets = {**self.globals, **ports, **SUPPLIES}
         prefix = "".join(f"{instance}/" for instance, _ in path)
-        for name in cell.own_nets():
-            nets[name] = self.new_net(prefix + name)
+        for name in cell.inner_nets():
+            if name not in self.globals:
+                nets[name] = self.new_net(prefix + name)
         if path:
-            self.circuit.instances.append(FlatInstance(prefix[:-1], cell.name, ports))
-        self.add_devices(cell, nets)
+            self.circuit.instances.append(FlatInstance(prefix[:-1], cell.name, ports, within))
+            within += (len(self.circuit.instances) - 1,)
+        self.add_devices(cell, nets, within)
         self.add_holds(cell, path, nets)
         for instance in cell.instances:
             inner = self.design.cells[instance.cell]
             ties = dict(zip(inner.ports, (nets[name] for name in instance.nets)))
-            self.visit(inner, path + [(instance.name, cell.name)], ties)
+            self.visit(inner, path + [(instance.name, cell.name)], ties, within)
 
-    def add_devices(self, cell, nets):
+    def add_devices(self, cell, nets, within):
         """The devices of a place."""
         for device in cell.devices:
             is_keeper = (cell.name, device.name) in self.design.rules.keepers
             ends = (nets[device.drain], nets[device.source])
-            self.circuit.devices.append(FlatDevice(nets[device.gate], ends, device.kind, device.level, is_keeper))
+            self.circuit.devices.append(FlatDevice(nets[device.gate], ends, device.kind, device.level, is_keeper, within))
 
     def add_holds(self, cell, path, nets):
         """The holds of a place. Of two lines for one flat net that of the outer place counts, and else the earlier one."""

@@ -2,7 +2,7 @@
 Transactions on Computers C-33, 1984), as docs/MODEL.md tells it. It speaks of one valuation at a time, and searches: it
 has no diagrams, and shares no code with the program that it is compared with.
 
-Left out: instances that are left whole, `.global` nets, `.model` cards, `defaultclock`, `port` lines and `pair` lines with a
+Left out: `.model` cards, `defaultclock`, `port` lines and `pair` lines with a
 model, latches without a control, latches or covers that lead around in a model, budgets, and the other modes of the program.
 Of the causes of `unsupported` there are `supplytie`, `unmatched` and `cycle`; what else may be wrong in the files is not judged.
 """
@@ -93,8 +93,13 @@ class Part:
 
     nets: list
     devices: list
-    sources: set  # the plain nets, not known, that are gates of its devices
+    sources: set  # the nets from which arcs lead to it: gates that are not known, and ports of whole instances
+    counted: set  # those of them that count for ranks
     rank: int = 0
+
+    def __post_init__(self):
+        """The nets of the part, and those at which the channels of its devices end: only roots there matter to it."""
+        self.touched = set(self.nets).union(*(device.ends for device in self.devices))
 
 
 class Cycle(Exception):
@@ -106,13 +111,19 @@ class Cycle(Exception):
 
 
 class PhaseCircuit:
-    """A circuit in a phase: its known nets, its parts and their ranks. The bits of clock ports are those of the phase."""
+    """A circuit in a phase: its known nets, its parts and their ranks. The bits of clock ports are those of the phase.
 
-    def __init__(self, circuit, inputs, clock_bits):
+    Instances that are left whole say at which nets their outputs are, to which ports these are linked, and what they show.
+    """
+
+    def __init__(self, circuit, inputs, clock_bits, wholes=()):
         self.circuit = circuit
+        self.wholes = wholes
+        self.driven = {net for whole in wholes for net in whole.driven()}
         self.fixed = {0: 0, 1: 1, **clock_bits}
         self.plain = [net for net in range(len(circuit.names)) if net not in self.fixed and net not in inputs]
         self.inputs = inputs
+        self.given = list(self.fixed) + inputs
         self.bare = [device for device in circuit.devices if not device.is_keeper]
         self.known = dict(self.fixed)
         while self.learn():
@@ -122,28 +133,31 @@ class PhaseCircuit:
         self.rank_parts()
 
     def learn(self):
-        """Learns what the nets of shut regions show; whether a net was learned.
+        """Learns what the nets of a shut region show; whether a net was learned. With it regions may become larger.
 
         The region of a net is the plain nets that devices known to conduct join to it. It is shut where all gates at it are
-        known, it has no hold, and no such device joins it to an input: then what it shows hangs on nothing else.
+        known, it has no hold and no output of a whole instance, and no such device joins it to an input: then what it shows hangs
+        on nothing else.
         """
         channels = [device for device in self.bare if device.gate in self.known and device.conducts(self.known[device.gate])]
-        learned = False
         for region in joined(self.plain, [device.ends for device in channels]):
             if any(net not in self.known for net in region) and self.is_shut(set(region)):
                 shown = self.shown_in(region)
-                learned = learned or any(net not in self.known for net in shown)
-                self.known.update(shown)
-        return learned
+                if any(net not in self.known for net in shown):
+                    self.known.update(shown)
+                    return True
+        return False
 
     def devices_at(self, nets):
         """The devices of the bare circuit whose channels meet one of the nets."""
         return [device for device in self.bare if not nets.isdisjoint(device.ends)]
 
     def is_shut(self, region):
-        """Whether all gates at a region are known, and neither a hold nor an input is in it or joined to it."""
+        """Whether all gates at a region are known, it has no hold and no whole output, and no input is joined to it."""
         at_region = self.devices_at(region)
-        if any(device.gate not in self.known for device in at_region) or not region.isdisjoint(self.circuit.holds):
+        if any(device.gate not in self.known for device in at_region):
+            return False
+        if not region.isdisjoint(self.circuit.holds) or not region.isdisjoint(self.driven):
             return False
         return all(end not in self.inputs for left, right, _ in conducting(at_region, self.known) for end in (left, right))
 
@@ -158,11 +172,14 @@ class PhaseCircuit:
         channels = [
             device for device in self.bare if device.gate not in self.known or device.conducts(self.known[device.gate])
         ]
-        hanging = set(self.plain) - set(self.known)
+        links = [link for whole in self.wholes for link in whole.links()]
         parts = []
         for nets in joined(self.plain, [device.ends for device in channels]):
             devices = [device for device in channels if not set(nets).isdisjoint(device.ends)]
-            parts.append(Part(nets, devices, {device.gate for device in devices} & hanging))
+            gates = {device.gate for device in devices} - set(self.known)
+            leading = [link for link in links if link.output in nets]
+            counted = {link.source for link in leading if link.is_named or link.source not in self.known}
+            parts.append(Part(nets, devices, gates | {link.source for link in leading}, gates | counted))
         return parts
 
     def rank(self, net):
@@ -170,14 +187,14 @@ class PhaseCircuit:
         return self.part_of[net].rank if net in self.part_of else 0
 
     def rank_parts(self):
-        """Gives each part a rank of one more than those of its sources. Where that ends, the gates lead around."""
+        """Gives each part a rank of one more than those of the sources that count. Where that ends, the arcs lead around."""
         waiting = self.parts
         while waiting:
-            ready = [part for part in waiting if all(self.rank(net) for net in part.sources)]
+            ready = [part for part in waiting if all(self.part_of[net].rank for net in part.sources if net in self.part_of)]
             if not ready:
                 raise Cycle(self.least_on_cycle())
             for part in ready:
-                part.rank = 1 + max((self.rank(net) for net in part.sources), default=0)
+                part.rank = 1 + max((self.rank(net) for net in part.counted), default=0)
             waiting = [part for part in waiting if not part.rank]
 
     def least_on_cycle(self):
@@ -190,20 +207,22 @@ class PhaseCircuit:
         found = set()
         while further:
             found |= further
-            further = {part for part in self.parts if any(self.part_of[source] in found for source in part.sources)} - found
+            further = {part for part in self.parts if any(self.part_of.get(source) in found for source in part.sources)} - found
         return found
 
-    def roots(self, bits, held):
-        """Where paths begin: the given nets with their bits, and the holds with what they hold."""
-        given = [(net, SOURCE_LEVEL, bits[net]) for net in list(self.fixed) + self.inputs]
-        return given + [(net, self.circuit.holds[net].size, bit) for net, bit in held.items()]
+    def roots(self, nets, bits, held):
+        """Where paths begin: given nets with their bits, holds with what they hold, and outputs of whole instances."""
+        given = [(net, SOURCE_LEVEL, bits[net]) for net in self.given if net in nets]
+        given += [(net, self.circuit.holds[net].size, bit) for net, bit in held.items() if net in nets]
+        for whole in self.wholes:
+            given += [(net, SOURCE_LEVEL, whole.bit(net, bits)) for net in whole.driven() if net in nets]
+        return given
 
     def part_responses(self, part, bits, held):
-        """What the nets of a part show, where each gate of its devices has a bit; only roots at these devices or nets matter."""
-        at_part = set(part.nets).union(*(device.ends for device in part.devices))
-        roots = [root for root in self.roots(bits, held) if root[0] in at_part]
-        return responses(part.nets, roots, conducting(part.devices, bits))
+        """What the nets of a part show, where each gate of its devices has a bit."""
+        return responses(part.nets, self.roots(part.touched, bits, held), conducting(part.devices, bits))
 
     def kept_responses(self, bits, held):
         """What all plain nets show with the keepers."""
-        return responses(self.plain, self.roots(bits, held), conducting(self.circuit.devices, bits))
+        all_nets = range(len(self.circuit.names))
+        return responses(self.plain, self.roots(all_nets, bits, held), conducting(self.circuit.devices, bits))

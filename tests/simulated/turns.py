@@ -6,7 +6,7 @@ from designs import SUPPLIES, Device, Expression, Reference
 def turn_device(random, drawing):
     """Another gate, end, kind or level of a device, or no such device."""
     devices = drawing.cell.devices
-    nets = drawing.cell.ports + drawing.cell.own_nets() + list(SUPPLIES)
+    nets = drawing.cell.ports + drawing.cell.inner_nets() + list(SUPPLIES)
     if not devices:
         return
     device = random.choice(devices)
@@ -23,7 +23,7 @@ def turn_device(random, drawing):
 
 def turn_extra(random, drawing):
     """One device more."""
-    nets = drawing.cell.ports + drawing.cell.own_nets() + list(SUPPLIES)
+    nets = drawing.cell.ports + drawing.cell.inner_nets() + list(SUPPLIES)
     ends = [random.choice(nets) for _ in range(3)]
     name = f"mx{len(drawing.cell.devices)}"
     drawing.cell.devices.append(Device(name, *ends, random.choice(["n", "p"]), random.choice([4, 5, 6, 6, 7])))
@@ -33,13 +33,13 @@ def turn_instance(random, drawing):
     """Another net at a port of an instance."""
     if drawing.cell.instances:
         instance = random.choice(drawing.cell.instances)
-        nets = drawing.cell.ports + drawing.cell.own_nets()
+        nets = drawing.cell.ports + drawing.cell.inner_nets()
         instance.nets[random.randrange(len(instance.nets))] = random.choice(nets)
 
 
 def turn_hold(random, drawing):
     """A net more or less that keeps its charge, or another size."""
-    nets = drawing.outputs + drawing.cell.own_nets()
+    nets = drawing.outputs + drawing.cell.inner_nets()
     if not nets:
         return
     net = random.choice(nets)
@@ -55,7 +55,7 @@ def turn_keeper(random, drawing):
     if keepers and random.random() < 0.6:
         random.choice(keepers).level = random.choice([5, 6, 7])
         if random.random() < 0.5:
-            random.choice(keepers).gate = random.choice(drawing.outputs + drawing.cell.own_nets() + list(SUPPLIES))
+            random.choice(keepers).gate = random.choice(drawing.outputs + drawing.cell.inner_nets() + list(SUPPLIES))
     elif keepers and random.random() < 0.6:
         drawing.keepers.remove(random.choice(keepers).name)
     elif drawing.cell.devices:
@@ -91,7 +91,7 @@ def turn_assume(random, drawing):
         phase, expression = drawing.assumes.pop()
         if random.random() < 0.4:
             drawing.assumes.append((phase, Expression("!", (expression,))))
-    else:
+    elif drawing.inputs:
         left, right = (Expression("port", (random.choice(drawing.inputs),)) for _ in range(2))
         right = Expression("!", (right,)) if random.random() < 0.5 else right
         drawing.assumes.append((None, Expression(random.choice("&^||"), (left, right))))

@@ -65,6 +65,7 @@ class Comparison:
         self.outputs = {port: net for port, net in ports.items() if port in self.model.outputs}
         self.inputs = [net for port, net in ports.items() if port not in self.outputs and port not in clocks]
         self.groups = self.make_groups()
+        self.wholes = []  # the instances that are left whole
 
     def make_groups(self):
         """The groups, by their least nets."""
@@ -83,7 +84,7 @@ class Comparison:
     def in_phase(self, phase):
         """The circuit in a phase; raises Cycle where its gates lead around."""
         bits = {net: phase.bits[clock.name] ^ clock.inverted for net, clock in self.clock_nets.items()}
-        return PhaseCircuit(self.circuit, self.inputs, bits)
+        return PhaseCircuit(self.circuit, self.inputs, bits, [whole.in_phase(phase) for whole in self.wholes])
 
     def is_observed_port(self, port, phase):
         """An output port is compared in the phases of its `observe` line, and in all without one."""
@@ -91,13 +92,14 @@ class Comparison:
         return phases is None or phase.name in phases
 
     def observed(self, phase):
-        """The gates of devices, the holds, the observed outputs, and the ports of instances whose cells have a constraint."""
+        """The gates of devices, the holds, the observed outputs, the ports of instances whose cells have a constraint, and the
+        inputs of whole instances that are observed inside."""
         nets = {device.gate for device in self.circuit.devices} | set(self.circuit.holds)
         nets |= {net for port, net in self.outputs.items() if self.is_observed_port(port, phase)}
         for instance in self.circuit.instances:
             if self.rules.is_constrained(instance.cell):
                 nets |= set(instance.ports.values())
-        return nets
+        return nets.union(*(whole.observed() for whole in self.wholes))
 
 
 class PhaseCheck:
@@ -112,6 +114,7 @@ class PhaseCheck:
         self.observed = comparison.observed(phase)
         self.free = [group for group in comparison.groups if group.element is None and group.entered(phase) is None]
         self.steps = self.make_steps()
+        self.bits = {}  # of the nets, at the setting that was looked at last
 
     def make_steps(self):
         """What is looked at in turn, with its place: rank by rank the parts by least net, then the constraints of instances."""
@@ -160,7 +163,7 @@ class PhaseCheck:
         Only the first of them is to be asked for. Where none came before, each gate that is looked at has a bit in the solution:
         so all readings that agree with it conduct alike, and what one of them shows stands under every one.
         """
-        bits = {**self.in_phase.known, **setting.inputs}
+        self.bits = bits = {**self.in_phase.known, **setting.inputs}
         yield from self.solved_faults(setting, bits)
         yield from self.kept_faults(setting, bits)
         yield from self.model_faults(setting, bits)
@@ -250,13 +253,18 @@ class PhaseCheck:
             name = self.circuit.names[hold.net]
             yield Fault((stage, hold.net), kind, name, f"circuit {bits[hold.net]} wanted {wanted}")
 
-    def line(self):
-        """The line of the first fault, there with the least valuation, or of a phase that is vacuous; None where it is equal."""
+    def line(self, watch=None):
+        """The line of the first fault, there with the least valuation, or of a phase that is vacuous; None where it is equal.
+
+        Who watches is told the first fault of each setting, or None.
+        """
         is_vacuous, first, at = True, None, ()
         for valuation, setting in self.settings():
             if self.meets(setting):
                 is_vacuous = False
                 fault = next(self.faults(setting), None)
+                if watch:
+                    watch(setting, fault)
                 if fault and (first is None or fault.place < first.place):
                     first, at = fault, valuation
         cell = self.comparison.cell
@@ -266,42 +274,3 @@ class PhaseCheck:
             return None
         pairs = [f"{name}={bit}" for name, bit in zip(self.variable_names(), at)]
         return first.line(cell, self.phase.name, " ".join(pairs) or "-")
-
-
-def supply_tie(design, cell, prefix=""):
-    """The path of the first instance that ties a port named as a supply to another net than that supply, or None."""
-    for instance in design.cells[cell].instances:
-        path = prefix + instance.name
-        ports = design.cells[instance.cell].ports
-        if any(port in SUPPLIES and port != net for port, net in zip(ports, instance.nets)):
-            return path
-        inner = supply_tie(design, instance.cell, path + "/")
-        if inner:
-            return inner
-    return None
-
-
-def verdict_line(design, cell):
-    """The line of a cell: the first cause for which it cannot be checked, else the first phase that is not equal."""
-    if cell in design.rules.skipped:
-        return f"cell {cell} skipped"
-    tied = supply_tie(design, cell)
-    if tied:
-        return f"cell {cell} unsupported supplytie {tied}"
-    comparison = Comparison(design, cell)
-    unmatched = comparison.unmatched()
-    if unmatched:
-        return f"cell {cell} unsupported unmatched {unmatched}"
-    phases = design.rules.phases
-    checks = []
-    for number, phase in enumerate(phases):
-        try:
-            checks.append(PhaseCheck(comparison, phase, phases[(number + 1) % len(phases)]))
-        except Cycle as cycle:
-            return f"cell {cell} unsupported cycle {comparison.circuit.names[cycle.net]} phase {phase.name}"
-    return next((line for line in (check.line() for check in checks) if line), f"cell {cell} equal")
-
-
-def report(design):
-    """The lines of all cells, in the order in which they are printed."""
-    return [verdict_line(design, cell) for cell in design.order()]

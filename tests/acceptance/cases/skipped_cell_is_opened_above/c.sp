@@ -1,0 +1,16 @@
+* buf has no model, so x1 is opened, and z comes before y
+.subckt inv a y
+m1 y a vdd vdd p
+m2 y a gnd gnd n
+.ends
+.subckt buf a y
+x1 a m inv
+x2 m y inv
+.ends
+.subckt ord a b y z
+x1 a p buf
+m1 y p vdd vdd p
+m2 k b vdd vdd p
+m3 k b gnd gnd n
+m4 z k vdd vdd p
+.ends

@@ -1,0 +1,85 @@
+"""What is printed for a design: the line of each cell, with what was found of the cells before it."""
+
+from designs import SUPPLIES
+from simulator import Cycle
+from standing import Agreement
+from verdicts import Comparison, PhaseCheck
+from whole import Inside, Undetermined, left_whole, with_wholes
+
+
+def supply_tie(design, cell, prefix=""):
+    """The path of the first instance that ties a port named as a supply to another net than that supply, or None."""
+    for instance in design.cells[cell].instances:
+        path = prefix + instance.name
+        ports = design.cells[instance.cell].ports
+        if any(port in SUPPLIES and port != net for port, net in zip(ports, instance.nets)):
+            return path
+        inner = supply_tie(design, instance.cell, path + "/")
+        if inner:
+            return inner
+    return None
+
+
+class Report:
+    """The cells of a design, compared one by one, the inner ones first.
+
+    A cell that was found equal and keeps nothing may be left whole in the cells above. What is equal is asked of the flat circuit
+    too, and each fault that is found with instances left whole is to stand there.
+    """
+
+    def __init__(self, design, leaves_whole=True):
+        self.design = design
+        self.leaves_whole = leaves_whole
+        self.known = {}  # cells that were found equal and keep nothing
+        self.with_wholes = 0  # cells with an instance that is left whole
+        self.moved = 0  # cells whose first fault is another one in the flat circuit
+        self.wrong = []  # where the circuit with whole instances and the flat circuit disagree
+        self.lines = [self.line(cell) for cell in design.order()]
+
+    def line(self, cell):
+        """The line of a cell: the first cause for which it cannot be checked, else the first phase that is not equal."""
+        if cell in self.design.rules.skipped:
+            return f"cell {cell} skipped"
+        tied = supply_tie(self.design, cell)
+        if tied:
+            return f"cell {cell} unsupported supplytie {tied}"
+        comparison = Comparison(self.design, cell)
+        unmatched = comparison.unmatched()
+        if unmatched:
+            return f"cell {cell} unsupported unmatched {unmatched}"
+        return self.compared(comparison)
+
+    def compared(self, comparison):
+        """The line of a cell for which all is there."""
+        checks = []
+        for phase, after in comparison.rules.turns():
+            try:
+                checks.append(PhaseCheck(comparison, phase, after))
+            except Cycle as cycle:
+                return f"cell {comparison.cell} unsupported cycle {comparison.circuit.names[cycle.net]} phase {phase.name}"
+        wholes = left_whole(comparison, self.known) if self.leaves_whole else []
+        if wholes:
+            told = self.line_with_wholes(comparison, checks, wholes)
+        else:
+            told = next((line for line in (check.line() for check in checks) if line), None)
+        if told is None and not comparison.circuit.holds and not comparison.model.latches:
+            self.known[comparison.cell] = Inside(comparison)
+        return told or f"cell {comparison.cell} equal"
+
+    def line_with_wholes(self, comparison, flat_checks, wholes):
+        """The line of a cell with instances left whole, or None where it is equal."""
+        self.with_wholes += 1
+        checked = with_wholes(comparison, wholes)
+        for flat_check in flat_checks:
+            check = PhaseCheck(checked, flat_check.phase, flat_check.next_phase)
+            agreement = Agreement(flat_check, check)
+            try:
+                line = check.line(agreement.watch)
+            except Undetermined:
+                line = None
+                agreement.wrong.append("an output without a bit")
+            self.wrong += [f"cell {comparison.cell} phase {check.phase.name}: {text}" for text in agreement.wrong[:3]]
+            if line:
+                self.moved += line != flat_check.line()
+                return line
+        return None
