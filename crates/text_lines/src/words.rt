@@ -1,8 +1,10 @@
 //! The words of a line, one by one from its bytes.
 
-ghost use Rattle.std.specs.Prelude.{◌≡◌, ◌<◌, ◌+◌, ◌∷◌, [], length, map, IfOk, IfSome, IfNone};
+ghost use Rattle.std.specs.Prelude.{◌≡◌, ◌<◌, ◌+◌, ◌∷◌, [], length, map, take, true, IfOk, IfSome, IfNone};
 ghost use Rattle.text_lines.specs.Bytes.{kept, lowered, words_of};
+ghost use Rattle.text_lines.specs.Fronts.{up_to_words};
 
+use crate::bytes::is_blank_byte;
 use crate::cuts::cut_part;
 use std::alloc::Global;
 use std::marker::Model;
@@ -46,6 +48,35 @@ pub fn count_words(line: &[u8]) -> usize
         rest = behind;
     }
     count
+}
+
+/// A line up to its first words, so many of them.
+pub fn first_words(count: usize, line: &[u8]) -> &[u8]
+    ensures { words_of result.now ≡ take count (words_of line.now) }
+{
+    front(count, line)
+}
+
+/// A line up to where a word more than so many begins.
+fn front(count: usize, line: &[u8]) -> &[u8]
+    ensures { result.now ≡ up_to_words count true line.now }
+{
+    let mut left = count;
+    let mut is_between = true;
+    let mut at = 0;
+    'bytes: while at < line.len() {
+        if is_blank_byte(line[at]) {
+            is_between = true;
+        } else if is_between {
+            if left == 0 {
+                return &line[..at];
+            }
+            left -= 1;
+            is_between = false;
+        }
+        at += 1;
+    }
+    line
 }
 
 /// Bytes in lower case.
