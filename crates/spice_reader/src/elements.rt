@@ -87,11 +87,12 @@ fn tied(card: &Card) -> &[u8]
 fn instance(alloc: Global, card: &Card) -> Result<InstanceCard, NoMemory>
     ensures { IfOk result (λ i. i ≡ instance_of card.now) }
 {
+    let tied = tied(card);
     Ok(InstanceCard {
         line: card.line,
         name: Text::from_bytes(alloc, first(card))?,
-        nets: line_words(alloc, nets_alone(front(tied(card))))?,
-        cell: Text::from_bytes(alloc, end(tied(card)))?,
+        nets: line_words(alloc, nets_alone(front(tied)))?,
+        cell: Text::from_bytes(alloc, end(tied))?,
     })
 }
 

@@ -111,7 +111,7 @@ pub fn tail(line: &[u8]) -> &[u8]
 }
 
 /// How many words stand before the first that is a parameter.
-fn plain_count(line: &[u8]) -> usize
+pub fn plain_count(line: &[u8]) -> usize
     ensures { result ≡ length (plain_words (words_of line.now)) }
 {
     let mut count = 0usize;
