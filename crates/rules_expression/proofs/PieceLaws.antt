@@ -1,5 +1,5 @@
 -- The bytes of the first token of a line, and what is behind them.
-use Rattle.std.proofs.Common.{◌≡◌, ◌<◌, ◌≤◌, ◌+◌, ◌-◌, ◌++◌, ◌∷◌, ◌||◌, [], ℕ, suc, List, Bool, true, false, cond, Option, Some, None, is_some, flat_map, length, length-drop, take, drop, refl, ap, ap₂, sym, ◌∙◌, arith, append-nil, append_assoc}
+use Rattle.std.proofs.Common.{◌≡◌, ◌<◌, ◌≤◌, ◌++◌, ◌∷◌, ◌||◌, [], ℕ, suc, List, Bool, true, false, cond, Option, Some, None, is_some, flat_map, length, length-drop, take, drop, refl, ap, ap₂, sym, ◌∙◌, arith, append-nil, append_assoc}
 use Rattle.std.specs.Char.{to_ascii_lowercase}
 use Rattle.std.specs.List.{onto_first, slice_split}
 use Rattle.std.proofs.lemmas.Bool.{or_parts}
@@ -11,7 +11,6 @@ use Rattle.rules_expression.specs.Pieces.{ends_name, line_tokens, token_by, toke
 use Rattle.rules_expression.specs.Spelled.{after_name, named}
 use Rattle.rules_expression.specs.Tokens.{onto_by, onto_name, sign_of, tokens_in, tokens_of}
 use Rattle.rules_expression.specs.declared.tokens.Token.{Token}
-use Rattle.rules_expression.specs.declared.tokens.Token.TheVariants.{Name}
 use Rattle.rules_expression.proofs.TokenLaws.{after_sign, at_end, signs}
 
 -- the tokens of what stands between blanks

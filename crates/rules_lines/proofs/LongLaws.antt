@@ -1,6 +1,5 @@
 -- What a line says is what it says as one with a list of words, or as one without.
-use Rattle.std.proofs.Common.{◌≡◌, ◌∷◌, ◌<◌, ◌||◌, [], ℕ, List, Bool, true, false, cond, length, codes, bytes_eq, Option, None, refl, ap, sym, ◌∙◌, subst, arith}
-use Rattle.std.proofs.lemmas.Bool.{or_parts}
+use Rattle.std.proofs.Common.{◌≡◌, ◌∷◌, ◌<◌, ◌||◌, [], ℕ, List, Bool, true, false, cond, length, codes, bytes_eq, Option, None, refl, sym, subst, arith}
 use Rattle.std.proofs.lemmas.Slice.Eq.{bytes_eq-Decides}
 use Rattle.rules_lines.specs.Lines.{assume_entry, clock_entry, clockport_entry, defaultclock_entry, device_entry, enter_entry, entry_by, hold_entry, keeper_entry, match_entry, observe_entry, pair_entry, phase_entry, port_entry, strength_entry, supply_entry}
 use Rattle.rules_lines.specs.Long.{is_long, long_entry, short_entry}

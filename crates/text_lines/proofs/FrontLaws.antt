@@ -1,10 +1,9 @@
 -- The words of a line up to some of its words.
-use Rattle.std.proofs.Common.{◌≡◌, ◌∷◌, [], ℕ, zero, suc, List, Bool, true, false, cond, flat_map, take, refl, ap, ap₂, sym, ◌∙◌}
+use Rattle.std.proofs.Common.{◌≡◌, ◌∷◌, [], ℕ, zero, suc, List, Bool, true, false, cond, flat_map, take, refl, ap, sym, ◌∙◌}
 use Rattle.std.specs.List.{onto_first, slice_split}
 use Rattle.std.proofs.lemmas.List.Splits.{slice_split-cons_no, slice_split-cons_yes}
 use Rattle.text_lines.specs.Bytes.{is_blank, kept, words_of}
 use Rattle.text_lines.specs.Fronts.{up_to_words}
-use Rattle.text_lines.proofs.Splits.{first_part}
 
 -- within a word: the same first part, and so many words behind it
 record IsFront (n : ℕ) (front line : List ℕ) : Type 0 where
