@@ -5,3 +5,4 @@ pub mod ReadLaws
 pub mod FormLaws
 pub mod Operators
 pub mod Examples
+pub mod PieceLaws

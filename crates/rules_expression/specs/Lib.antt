@@ -1,5 +1,6 @@
 pub mod Tokens
 pub mod Spelled
+pub mod Pieces
 pub mod Grammar
 pub mod Readings
 pub mod Kept

@@ -3,10 +3,11 @@
 ghost use Rattle.std.specs.Prelude.{◌≡◌, ◌∷◌, Some, None, IfOk, OnOk};
 ghost use Rattle.rules_expression.specs.Grammar.{Reads, seen};
 ghost use Rattle.rules_expression.specs.Grammar.Formula.{negation, conjunction, parity, disjunction};
+ghost use Rattle.rules_expression.specs.Pieces.{line_tokens, token_of};
 ghost use Rattle.rules_expression.specs.Readings.{behind_and, behind_or, behind_xor, closed, ended, first_taken, formula_of, joined, negated, next_taken, nothing, read_on, start, taken, up_to_or, up_to_xor, with_bang, with_operand};
 ghost use Rattle.rules_expression.specs.Kept.{Leaves, seen_all, seen_if, seen_level, seen_opt, seen_progress};
 
-use crate::tokens::Token;
+use crate::tokens::{Token, Tokens, first_piece, piece_token};
 use std::alloc::Global;
 use std::mem::replace;
 use vrt_model::{Expr, NoMemory, Text};
@@ -354,30 +355,39 @@ fn begin(alloc: Global) -> Progress
     }
 }
 
-/// The expression that tokens spell behind those taken before, if they spell one.
+/// Takes the token of a piece. False where it cannot stand there.
+fn take_piece(alloc: Global, progress: &mut Progress, piece: &[u8]) -> Result<bool, NoMemory>
+    ensures { IfOk result (λ stands. seen_if stands progress.new ≡ taken (seen_progress progress.old) (token_of piece.now)) }
+{
+    let token = piece_token(alloc, piece)?;
+    let stands = take(alloc, progress, &token)?;
+    Ok(stands)
+}
+
+/// The expression that the tokens of a line spell behind those taken before, if they spell one.
 fn read_behind(
     alloc: Global,
     progress: &mut Progress,
-    tokens: &[Token],
+    line: &[u8],
 ) -> Result<Option<Expr>, NoMemory>
-    ensures { IfOk result (λ e. seen_opt e ≡ read_on (Some (seen_progress progress.old)) tokens.now) }
+    ensures { IfOk result (λ e. seen_opt e ≡ read_on (Some (seen_progress progress.old)) (line_tokens line.now)) }
 {
-    let mut at = 0;
-    'tokens: while at < tokens.len() {
-        if !take(alloc, progress, &tokens[at])? {
+    let mut rest = line;
+    'tokens: while let Some((piece, left)) = first_piece(rest) {
+        if !take_piece(alloc, progress, piece)? {
             return Ok(None);
         }
-        at += 1;
+        rest = left;
     }
     end(alloc, progress)
 }
 
 /// The expression that tokens spell, none exactly where they spell none. `!` binds closest, then `&`, then `^`, then
 /// `|`; each of the last three groups from the left. It takes time and memory in proportion to the tokens.
-pub fn read_expression(alloc: Global, tokens: &[Token]) -> Result<Option<Expr>, NoMemory>
+pub fn read_expression(alloc: Global, tokens: &Tokens) -> Result<Option<Expr>, NoMemory>
     ensures formula { IfOk result (λ e. seen_opt e ≡ formula_of tokens.now) }
     ensures grammar { IfOk result (Reads tokens.now) }
 {
     let mut progress = begin(alloc);
-    read_behind(alloc, &mut progress, tokens)
+    read_behind(alloc, &mut progress, tokens.as_bytes())
 }

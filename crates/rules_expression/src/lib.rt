@@ -9,4 +9,4 @@ mod tokens;
 pub use expression::read_expression;
 pub use form::{count_operators, is_form, is_too_deep};
 pub use laws::one_expression;
-pub use tokens::{Token, tokens_of_words};
+pub use tokens::{Token, Tokens};

@@ -1,36 +1,15 @@
-//! Lines on nets, devices, cells and models.
+//! Lines on nets, devices, cells and models, of a few words.
 
 ghost use Rattle.std.specs.Prelude.{◌≡◌, Some, IfOk};
 ghost use Rattle.text_lines.specs.Bytes.{lowered};
 ghost use Rattle.rules_lines.specs.declared.entry.Entry.TheVariants.{HoldLine, InstanceMatchLine, MatchLine};
 ghost use Rattle.rules_lines.specs.Words.{cut_first, signed};
-ghost use Rattle.rules_lines.specs.Lines.{device_by, device_entry, hold_entry, keeper_entry, match_by, match_entry, pair_entry, paired_model, port_entry, strength_entry, supply_entry};
+ghost use Rattle.rules_lines.specs.Lines.{device_by, device_entry, hold_entry, match_by, match_entry, pair_entry, paired_model, port_entry, strength_entry};
 
 use crate::entry::Entry;
-use crate::words::{bit, cut, digit, kind, lower, lower_all, lower_two, sign_off};
+use crate::words::{cut, digit, kind, lower, lower_two, sign_off};
 use std::alloc::Global;
 use vrt_model::{Kind, NoMemory, Text};
-
-/// `supply 0 NET..`, `supply 1 NET..`
-pub fn supply(alloc: Global, words: &[Text]) -> Result<Option<Entry>, NoMemory>
-    ensures { IfOk result (λ entry. entry ≡ supply_entry words.now) }
-{
-    match words {
-        [] => Ok(None),
-        [value, nets @ ..] => {
-            if nets.is_empty() {
-                return Ok(None);
-            }
-            match bit(value.as_bytes()) {
-                Some(value) => Ok(Some(Entry::SupplyLine {
-                    value,
-                    nets: lower_all(alloc, nets)?,
-                })),
-                None => Ok(None),
-            }
-        }
-    }
-}
 
 fn device_of(
     alloc: Global,
@@ -143,23 +122,6 @@ pub fn hold(alloc: Global, words: &[Text]) -> Result<Option<Entry>, NoMemory>
         [cell, net] => hold_of(alloc, cell, net, Some(1)),
         [cell, net, size] => hold_of(alloc, cell, net, digit(1, 3, size.as_bytes())),
         _ => Ok(None),
-    }
-}
-
-/// `keeper CELL DEV..`
-pub fn keeper(alloc: Global, words: &[Text]) -> Result<Option<Entry>, NoMemory>
-    ensures { IfOk result (λ entry. entry ≡ keeper_entry words.now) }
-{
-    match words {
-        [] => Ok(None),
-        [cell, devices @ ..] => {
-            if devices.is_empty() {
-                return Ok(None);
-            }
-            let devices = lower_all(alloc, devices)?;
-            let cell = lower(alloc, cell.as_bytes())?;
-            Ok(Some(Entry::KeeperLine { cell, devices }))
-        }
     }
 }
 

@@ -1,6 +1,7 @@
 //! What a line says.
 
-use rules_expression::Token;
+use rules_expression::Tokens;
+use text_lines::WordList;
 use vrt_model::{Kind, Seq, Text};
 
 /// A name with or without `!`.
@@ -46,7 +47,7 @@ pub enum Entry {
     /// `supply VALUE NET..`
     SupplyLine {
         value: bool,
-        nets: Seq<Text>,
+        nets: WordList,
     },
     /// `device MODEL KIND [LEVEL]`
     DeviceLine {
@@ -62,7 +63,7 @@ pub enum Entry {
     },
     /// `clock NAME..`
     ClockLine {
-        names: Seq<Text>,
+        names: WordList,
     },
     /// `phase NAME CLOCK=BIT..`
     PhaseLine {
@@ -99,7 +100,7 @@ pub enum Entry {
     /// `keeper CELL DEVICE..`
     KeeperLine {
         cell: Text,
-        devices: Seq<Text>,
+        devices: WordList,
     },
     /// `match CELL NET [!]LATCH`
     MatchLine {
@@ -125,12 +126,12 @@ pub enum Entry {
     ObserveLine {
         cell: Text,
         port: Text,
-        phases: Seq<Text>,
+        phases: WordList,
     },
     /// `assume CELL PHASE EXPRESSION`
     AssumeLine {
         cell: Text,
         phase: Option<Text>,
-        tokens: Seq<Token>,
+        tokens: Tokens,
     },
 }

@@ -4,7 +4,8 @@
 mod circuit_lines;
 mod clocked_lines;
 mod entry;
+mod long_lines;
 mod words;
 
-pub use clocked_lines::read_entry;
 pub use entry::{ClockBit, Entry, Signed};
+pub use long_lines::read_entry;

@@ -1,13 +1,13 @@
 //! Words of a line: names, digits, bits and signs.
 
-ghost use Rattle.std.specs.Prelude.{◌≡◌, ◌+◌, ◌<◌, ◌==◌, map, Some, IfOk};
+ghost use Rattle.std.specs.Prelude.{◌≡◌, ◌+◌, ◌<◌, ◌==◌, Some, IfOk};
 ghost use Rattle.text_lines.specs.Bytes.{lowered};
 ghost use Rattle.rules_lines.specs.Words.{bit_of, cut_first, digit_in, kind_of, signed};
 
 use crate::entry::Signed;
 use std::alloc::Global;
 use text_lines::first_place;
-use vrt_model::{Kind, NoMemory, Seq, Text};
+use vrt_model::{Kind, NoMemory, Text};
 
 /// A name, lowered.
 pub fn lower(alloc: Global, word: &[u8]) -> Result<Text, NoMemory>
@@ -20,20 +20,6 @@ pub fn lower(alloc: Global, word: &[u8]) -> Result<Text, NoMemory>
         }
     }
     Ok(text)
-}
-
-/// Names, lowered.
-pub fn lower_all(alloc: Global, words: &[Text]) -> Result<Seq<Text>, NoMemory>
-    ensures { IfOk result (λ texts. texts ≡ map lowered words.now) }
-{
-    let mut texts = Seq::new(alloc);
-    for word in words {
-        let text = lower(alloc, word.as_bytes())?;
-        if texts.push(text).is_err() {
-            return Err(NoMemory);
-        }
-    }
-    Ok(texts)
 }
 
 /// Two names, lowered.

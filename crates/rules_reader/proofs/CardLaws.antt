@@ -1,9 +1,8 @@
 -- The cards of the lines that are left.
-use Rattle.std.proofs.Common.{◌≡◌, ◌+◌, ◌++◌, ◌∷◌, [], ℕ, List, Option, Some, None, true, false, cond, flat_map, refl, ap, sym, ◌∙◌}
+use Rattle.std.proofs.Common.{◌≡◌, ◌+◌, ◌++◌, ◌∷◌, [], ℕ, List, true, false, cond, flat_map, refl, ap, ◌∙◌}
 use Rattle.std.specs.List.{enumerate_from}
 use Rattle.text_lines.specs.Lines.{text_lines}
 use Rattle.rules_reader.specs.Entries.{card_of, cards_left, cards_of, cards_on, is_passed_over}
-use Rattle.rules_reader.specs.declared.cards.Card.{Card}
 
 -- a line before the others
 line_on : (n : ℕ) (bytes line behind : List ℕ) → text_lines bytes ≡ line ∷ text_lines behind → cards_left n bytes ≡ cards_on (n, line) ++ cards_left (n + 1) behind

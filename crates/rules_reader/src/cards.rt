@@ -6,7 +6,7 @@ ghost use Rattle.rules_reader.specs.Entries.{card_of, cards_left, is_passed_over
 
 use rules_lines::{Entry, read_entry};
 use std::alloc::Global;
-use text_lines::{begins_with, first_line, is_blank_line, is_text_line, line_words};
+use text_lines::{begins_with, first_line, is_blank_line, is_text_line};
 use vrt_model::NoMemory;
 
 /// A line: its number, from 1, whether all its bytes are text, and what it says, none where it does not fit.
@@ -41,8 +41,7 @@ fn is_passed(line: &[u8]) -> bool
 fn read_card(alloc: Global, line: u32, bytes: &[u8]) -> Result<Card, NoMemory>
     ensures { IfOk result (λ card. card ≡ card_of (line, bytes.now)) }
 {
-    let texts = line_words(alloc, bytes)?;
-    let entry = read_entry(alloc, texts.as_slice())?;
+    let entry = read_entry(alloc, bytes)?;
     Ok(Card {
         line,
         is_all_text: is_text_line(bytes),

@@ -6,10 +6,25 @@ ghost use Rattle.rules_reader.specs.Tables.{keeper_rule, supply_rule};
 use crate::texts::{append, copy, copy_two};
 use rules_lines::Signed;
 use std::alloc::Global;
+use text_lines::{WordList, first_word};
 use vrt_model::{
     DeviceRule, HoldRule, InstanceMatchRule, KeeperRule, Kind, MatchRule, NoMemory, PairRule,
     PortRule, Seq, StrengthRule, SupplyRule, Text,
 };
+
+/// The rule of a net.
+fn add_supply(
+    alloc: Global,
+    rules: &mut Seq<SupplyRule>,
+    line: u32,
+    value: bool,
+    net: &[u8],
+) -> Result<(), NoMemory>
+    ensures { OnOk result (rules.new ≡ rules.old ++ supply_rule line value net.now ∷ []) }
+{
+    let net = Text::from_bytes(alloc, net)?;
+    append(rules, SupplyRule { line, value, net })
+}
 
 /// One rule for each net.
 pub fn add_supplies(
@@ -17,13 +32,14 @@ pub fn add_supplies(
     rules: &mut Seq<SupplyRule>,
     line: u32,
     value: bool,
-    nets: &[Text],
+    nets: &WordList,
 ) -> Result<(), NoMemory>
     ensures { OnOk result (rules.new ≡ rules.old ++ map (supply_rule line value) nets.now) }
 {
-    for net in nets {
-        let net = copy(alloc, net)?;
-        append(rules, SupplyRule { line, value, net })?;
+    let mut rest = nets.as_line();
+    'nets: while let Some((net, behind)) = first_word(rest) {
+        add_supply(alloc, rules, line, value, net)?;
+        rest = behind;
     }
     Ok(())
 }
@@ -140,19 +156,35 @@ pub fn add_hold(
     append(rules, rule)
 }
 
+/// The rule of a device.
+fn add_keeper(
+    alloc: Global,
+    rules: &mut Seq<KeeperRule>,
+    line: u32,
+    cell: &Text,
+    device: &[u8],
+) -> Result<(), NoMemory>
+    ensures { OnOk result (rules.new ≡ rules.old ++ keeper_rule line cell.now device.now ∷ []) }
+{
+    let device = Text::from_bytes(alloc, device)?;
+    let cell = copy(alloc, cell)?;
+    append(rules, KeeperRule { line, cell, device })
+}
+
 /// One rule for each device.
 pub fn add_keepers(
     alloc: Global,
     rules: &mut Seq<KeeperRule>,
     line: u32,
     cell: &Text,
-    devices: &[Text],
+    devices: &WordList,
 ) -> Result<(), NoMemory>
     ensures { OnOk result (rules.new ≡ rules.old ++ map (keeper_rule line cell.now) devices.now) }
 {
-    for device in devices {
-        let (cell, device) = copy_two(alloc, cell, device)?;
-        append(rules, KeeperRule { line, cell, device })?;
+    let mut rest = devices.as_line();
+    'devices: while let Some((device, behind)) = first_word(rest) {
+        add_keeper(alloc, rules, line, cell, device)?;
+        rest = behind;
     }
     Ok(())
 }

@@ -8,9 +8,10 @@ ghost use Rattle.rules_reader.specs.Tables.{assumed, bit_for, clock_ref, number_
 
 use crate::texts::{append, copy, copy_two};
 use names::Names;
-use rules_expression::{Token, read_expression};
+use rules_expression::{Tokens, read_expression};
 use rules_lines::{ClockBit, Signed};
 use std::alloc::Global;
+use text_lines::{WordList, first_word};
 use vrt_model::{
     AssumeRule, ClockRef, ClockportRule, DefaultclockRule, EnterRule, Expr, NoMemory, ObserveRule,
     Phase, Seq, Text,
@@ -18,10 +19,10 @@ use vrt_model::{
 
 /// The number of a name, and 0 where it is not there. The limits of clocks and phases keep it far below 32 bits; a greater
 /// one would be answered as want of memory.
-fn number(names: &Names, name: &Text) -> Result<u32, NoMemory>
+fn number(names: &Names, name: &[u8]) -> Result<u32, NoMemory>
     ensures { IfOk result (λ n. n ≡ number_in names.now name.now) }
 {
-    match u32::try_from(names.place(name.as_bytes()).unwrap_or(0)) {
+    match u32::try_from(names.place(name).unwrap_or(0)) {
         Ok(n) => Ok(n),
         Err(_) => Err(NoMemory),
     }
@@ -82,7 +83,7 @@ pub fn add_clockport(
     ensures { OnOk result (rules.new ≡ rules.old ++ record { line = line; cell = cell.now; port = port.now; clock = clock_ref clocks.now clock.now } ∷ []) }
 {
     let clock = ClockRef {
-        clock: number(clocks, &clock.name)?,
+        clock: number(clocks, clock.name.as_bytes())?,
         inverted: clock.is_inverted,
     };
     let (cell, port) = copy_two(alloc, cell, port)?;
@@ -104,7 +105,7 @@ pub fn add_defaultclock(
 ) -> Result<(), NoMemory>
     ensures { OnOk result (rules.new ≡ rules.old ++ record { line = line; clock = number_in clocks.now clock.now } ∷ []) }
 {
-    let clock = number(clocks, clock)?;
+    let clock = number(clocks, clock.as_bytes())?;
     append(rules, DefaultclockRule { line, clock })
 }
 
@@ -121,7 +122,7 @@ pub fn add_enter(
 ) -> Result<(), NoMemory>
     ensures { OnOk result (rules.new ≡ rules.old ++ record { line = line; cell = cell.now; phase = number_in phases.now phase.now; net = net.now; value = unwrap_or bit false } ∷ []) }
 {
-    let phase = number(phases, phase)?;
+    let phase = number(phases, phase.as_bytes())?;
     let (cell, net) = copy_two(alloc, cell, net)?;
     let rule = EnterRule {
         line,
@@ -133,14 +134,23 @@ pub fn add_enter(
     append(rules, rule)
 }
 
+/// Adds the number of a name.
+fn add_number(names: &Names, found: &mut Seq<u32>, name: &[u8]) -> Result<(), NoMemory>
+    ensures { OnOk result (found.new ≡ found.old ++ number_in names.now name.now ∷ []) }
+{
+    let one = number(names, name)?;
+    append(found, one)
+}
+
 /// The numbers of phases.
-fn numbers(alloc: Global, phases: &Names, names: &[Text]) -> Result<Seq<u32>, NoMemory>
+fn numbers(alloc: Global, phases: &Names, names: &WordList) -> Result<Seq<u32>, NoMemory>
     ensures { IfOk result (λ found. found ≡ map (number_in phases.now) names.now) }
 {
     let mut found = Seq::new(alloc);
-    for name in names {
-        let one = number(phases, name)?;
-        append(&mut found, one)?;
+    let mut rest = names.as_line();
+    'names: while let Some((name, behind)) = first_word(rest) {
+        add_number(phases, &mut found, name)?;
+        rest = behind;
     }
     Ok(found)
 }
@@ -153,7 +163,7 @@ pub fn add_observe(
     phases: &Names,
     cell: &Text,
     port: &Text,
-    names: &[Text],
+    names: &WordList,
 ) -> Result<(), NoMemory>
     ensures { OnOk result (rules.new ≡ rules.old ++ record { line = line; cell = cell.now; port = port.now; phases = map (number_in phases.now) names.now } ∷ []) }
 {
@@ -174,7 +184,7 @@ fn phase_number(phases: &Names, phase: &Option<Text>) -> Result<Option<u32>, NoM
 {
     match phase {
         Some(phase) => {
-            let n = number(phases, phase)?;
+            let n = number(phases, phase.as_bytes())?;
             Ok(Some(n))
         }
         None => Ok(None),
@@ -182,7 +192,7 @@ fn phase_number(phases: &Names, phase: &Option<Text>) -> Result<Option<u32>, NoM
 }
 
 /// The expression of tokens, a port without a name where they spell none.
-fn expression(alloc: Global, tokens: &[Token]) -> Result<Expr, NoMemory>
+fn expression(alloc: Global, tokens: &Tokens) -> Result<Expr, NoMemory>
     ensures { IfOk result (λ e. seen e ≡ unwrap_or (formula_of tokens.now) (a_port [])) }
 {
     match read_expression(alloc, tokens)? {
@@ -199,7 +209,7 @@ pub fn add_assume(
     phases: &Names,
     cell: &Text,
     phase: &Option<Text>,
-    tokens: &[Token],
+    tokens: &Tokens,
 ) -> Result<(), NoMemory>
     ensures { OnOk result (map assumed rules.new ≡ map assumed rules.old ++ record { line = line; cell = cell.now; phase = option_map (number_in phases.now) phase.now; formula = unwrap_or (formula_of tokens.now) (a_port []) } ∷ []) }
 {

@@ -1,6 +1,6 @@
 //! The conditions of the faults of a line.
 
-ghost use Rattle.std.specs.Prelude.{◌≡◌, [], ◌∷◌, ◌||◌, IfOk};
+ghost use Rattle.std.specs.Prelude.{◌≡◌, [], ◌∷◌, ◌||◌, length, IfOk};
 ghost use Rattle.std.specs.List.{list_any};
 ghost use Rattle.vrt_model.specs.Lists.{has_name};
 ghost use Rattle.rules_reader.specs.Keys.{clocks_on};
@@ -12,6 +12,7 @@ use names::Names;
 use rules_expression::{count_operators, is_form, is_too_deep};
 use rules_lines::{ClockBit, Entry};
 use std::alloc::Global;
+use text_lines::{WordList, count_words, first_word};
 use vrt_model::{NoMemory, Text};
 
 fn is_of_clock(clock: &[u8], b: &ClockBit) -> bool
@@ -112,7 +113,7 @@ pub fn is_expression_bad(entry: &Entry) -> bool
     ensures { result ≡ has_bad_expression entry.now }
 {
     match entry {
-        Entry::AssumeLine { tokens, .. } => !is_form(tokens.as_slice()),
+        Entry::AssumeLine { tokens, .. } => !is_form(tokens),
         _ => false,
     }
 }
@@ -141,17 +142,17 @@ fn missing_phase(alloc: Global, phases: &Names, name: &Text) -> Result<Option<Te
 fn first_missing_phase(
     alloc: Global,
     phases: &Names,
-    names: &[Text],
+    names: &WordList,
 ) -> Result<Option<Text>, NoMemory>
     ensures { IfOk result (λ found. found ≡ first_missing (known_from phases.now) names.now) }
 {
-    let mut at = 0;
-    'names: while at < names.len() {
-        if !has_phase(phases, names[at].as_bytes()) {
-            let name = copy(alloc, &names[at])?;
+    let mut rest = names.as_line();
+    'names: while let Some((name, behind)) = first_word(rest) {
+        if !has_phase(phases, name) {
+            let name = Text::from_bytes(alloc, name)?;
             return Ok(Some(name));
         }
-        at += 1;
+        rest = behind;
     }
     Ok(None)
 }
@@ -162,9 +163,7 @@ pub fn unknown_phase(alloc: Global, phases: &Names, entry: &Entry) -> Result<Opt
 {
     match entry {
         Entry::EnterLine { phase, .. } => missing_phase(alloc, phases, phase),
-        Entry::ObserveLine { phases: named, .. } => {
-            first_missing_phase(alloc, phases, named.as_slice())
-        }
+        Entry::ObserveLine { phases: named, .. } => { first_missing_phase(alloc, phases, named) }
         Entry::AssumeLine {
             phase: Some(phase),
             ..
@@ -214,14 +213,24 @@ pub fn unknown_clock(alloc: Global, clocks: &Names, entry: &Entry) -> Result<Opt
     }
 }
 
+/// How many words there are.
+fn word_count(words: &WordList) -> usize
+    ensures { result ≡ length words.now }
+{
+    count_words(words.as_line())
+}
+
 fn is_past_own_limit(clocks: &Names, phases: &Names, entry: &Entry) -> bool
     ensures { result ≡ passes_own_limit clocks.now phases.now entry.now }
 {
     match entry {
-        Entry::ClockLine { names } => names.len() > 16 || clocks.len() > 16 - names.len(),
+        Entry::ClockLine { names } => {
+            let count = word_count(names);
+            count > 16 || clocks.len() > 16 - count
+        }
         Entry::PhaseLine { .. } => phases.len() >= 16,
         Entry::AssumeLine { tokens, .. } => {
-            is_too_deep(tokens.as_slice()) || count_operators(tokens.as_slice()) > 1000
+            is_too_deep(tokens) || count_operators(tokens) > 1000
         }
         _ => false,
     }

@@ -26,7 +26,7 @@ fn add_on_devices(
 {
     match entry {
         Entry::SupplyLine { value, nets } => {
-            add_supplies(alloc, &mut rules.supplies, line, *value, nets.as_slice())
+            add_supplies(alloc, &mut rules.supplies, line, *value, nets)
         }
         Entry::DeviceLine { model, kind, level } => {
             add_device(alloc, &mut rules.devices, line, model, *kind, *level)
@@ -37,7 +37,7 @@ fn add_on_devices(
             level,
         } => add_strength(alloc, &mut rules.strengths, line, cell, device, *level),
         Entry::KeeperLine { cell, devices } => {
-            add_keepers(alloc, &mut rules.keepers, line, cell, devices.as_slice())
+            add_keepers(alloc, &mut rules.keepers, line, cell, devices)
         }
         _ => Ok(()),
     }
@@ -144,7 +144,7 @@ fn add_on_phases(
             phases: named,
         } => {
             let observes = &mut rules.observes;
-            add_observe(alloc, observes, line, phases, cell, port, named.as_slice())
+            add_observe(alloc, observes, line, phases, cell, port, named)
         }
         Entry::AssumeLine {
             cell,
@@ -152,7 +152,7 @@ fn add_on_phases(
             tokens,
         } => {
             let assumes = &mut rules.assumes;
-            add_assume(alloc, assumes, line, phases, cell, phase, tokens.as_slice())
+            add_assume(alloc, assumes, line, phases, cell, phase, tokens)
         }
         _ => Ok(()),
     }

@@ -19,14 +19,27 @@ use crate::known::Known;
 use names::Names;
 use rules_lines::Entry;
 use std::alloc::Global;
+use text_lines::{WordList, first_word};
 use vrt_model::NoMemory;
+
+/// Adds names, each that is not there.
+fn add_names(known: &mut Names, names: &WordList) -> Result<(), NoMemory>
+    ensures { OnOk result (known.new ≡ with_names known.old names.now) }
+{
+    let mut rest = names.as_line();
+    'names: while let Some((name, behind)) = first_word(rest) {
+        known.number(name)?;
+        rest = behind;
+    }
+    Ok(())
+}
 
 /// Adds the clocks of a line.
 fn learn_clocks(clocks: &mut Names, entry: &Entry) -> Result<(), NoMemory>
     ensures { OnOk result (clocks.new ≡ with_names clocks.old (clocks_in entry.now)) }
 {
     match entry {
-        Entry::ClockLine { names } => clocks.add_all(names.as_slice()),
+        Entry::ClockLine { names } => add_names(clocks, names),
         _ => Ok(()),
     }
 }
@@ -44,13 +57,23 @@ fn learn_phase(phases: &mut Names, entry: &Entry) -> Result<(), NoMemory>
     }
 }
 
+/// Whether there is a word.
+fn has_words(words: &WordList) -> bool
+    ensures { result ≡ not (is_empty words.now) }
+{
+    match first_word(words.as_line()) {
+        Some(_) => true,
+        None => false,
+    }
+}
+
 /// Whether a line names a phase.
 fn names_phase(entry: &Entry) -> bool
     ensures { result ≡ not (is_empty (phases_named entry.now)) }
 {
     match entry {
         Entry::EnterLine { .. } => true,
-        Entry::ObserveLine { phases, .. } => !phases.is_empty(),
+        Entry::ObserveLine { phases, .. } => has_words(phases),
         Entry::AssumeLine { phase, .. } => phase.is_some(),
         _ => false,
     }

@@ -8,6 +8,7 @@ use crate::texts::copy;
 use names::Names;
 use rules_lines::{ClockBit, Entry};
 use std::alloc::Global;
+use text_lines::{WordList, first_word};
 use vrt_model::{NoMemory, Text};
 
 /// Words with one more and a blank.
@@ -35,14 +36,14 @@ fn claim(
     alloc: Global,
     keys: &mut Names,
     front: &Text,
-    last: &Text,
+    last: &[u8],
 ) -> Result<Option<Text>, NoMemory>
     ensures { IfOk result (ClaimsOne (key front.now last.now) keys.old keys.new) }
 {
     let mut text = copy(alloc, front)?;
-    text.extend(last.as_bytes())?;
+    text.extend(last)?;
     if keys.contains(text.as_bytes()) {
-        let name = copy(alloc, last)?;
+        let name = Text::from_bytes(alloc, last)?;
         return Ok(Some(name));
     }
     keys.number(text.as_bytes())?;
@@ -54,16 +55,16 @@ fn claim_all(
     alloc: Global,
     keys: &mut Names,
     front: &Text,
-    lasts: &[Text],
+    lasts: &WordList,
 ) -> Result<Option<Text>, NoMemory>
     ensures { IfOk result (Claims (map (key front.now) lasts.now) keys.old keys.new) }
 {
-    let mut at = 0;
-    'lasts: while at < lasts.len() {
-        if let Some(name) = claim(alloc, keys, front, &lasts[at])? {
+    let mut rest = lasts.as_line();
+    'lasts: while let Some((last, behind)) = first_word(rest) {
+        if let Some(name) = claim(alloc, keys, front, last)? {
             return Ok(Some(name));
         }
-        at += 1;
+        rest = behind;
     }
     Ok(None)
 }
@@ -79,7 +80,7 @@ fn claim_clocks(
 {
     let mut at = 0;
     'bits: while at < bits.len() {
-        if let Some(name) = claim(alloc, keys, front, &bits[at].clock)? {
+        if let Some(name) = claim(alloc, keys, front, bits[at].clock.as_bytes())? {
             return Ok(Some(name));
         }
         at += 1;
@@ -97,7 +98,7 @@ fn claim_word(
     ensures { IfOk result (Claims (key table.now last.now ∷ []) keys.old keys.new) }
 {
     let front = Text::from_bytes(alloc, table)?;
-    claim(alloc, keys, &front, last)
+    claim(alloc, keys, &front, last.as_bytes())
 }
 
 /// The key of a table, a cell and a word.
@@ -111,7 +112,7 @@ fn claim_in(
     ensures { IfOk result (Claims (key (table.now ++ spaced cell.now) last.now ∷ []) keys.old keys.new) }
 {
     let front = front_of(alloc, table, cell)?;
-    claim(alloc, keys, &front, last)
+    claim(alloc, keys, &front, last.as_bytes())
 }
 
 /// The key of a table, a cell and two words.
@@ -127,7 +128,7 @@ fn claim_within(
 {
     let front = front_of(alloc, table, cell)?;
     let front = with_word(front, word)?;
-    claim(alloc, keys, &front, last)
+    claim(alloc, keys, &front, last.as_bytes())
 }
 
 /// The keys of a table and each of some words.
@@ -135,7 +136,7 @@ fn claim_words(
     alloc: Global,
     keys: &mut Names,
     table: &[u8],
-    lasts: &[Text],
+    lasts: &WordList,
 ) -> Result<Option<Text>, NoMemory>
     ensures { IfOk result (Claims (map (key table.now) lasts.now) keys.old keys.new) }
 {
@@ -148,7 +149,7 @@ fn claim_devices(
     alloc: Global,
     keys: &mut Names,
     cell: &Text,
-    devices: &[Text],
+    devices: &WordList,
 ) -> Result<Option<Text>, NoMemory>
     ensures { IfOk result (Claims (map (key (codes "keeper " ++ spaced cell.now)) devices.now) keys.old keys.new) }
 {
@@ -166,7 +167,7 @@ fn claim_phase(
     ensures { IfOk result (Claims (key (codes "phase ") name.now ∷ map (key (codes "phase " ++ spaced name.now)) (clocks_on bits.now)) keys.old keys.new) }
 {
     let table = Text::from_bytes(alloc, b"phase ".as_slice())?;
-    if let Some(name) = claim(alloc, keys, &table, name)? {
+    if let Some(name) = claim(alloc, keys, &table, name.as_bytes())? {
         return Ok(Some(name));
     }
     let front = front_of(alloc, b"phase ".as_slice(), name)?;
@@ -210,14 +211,10 @@ pub fn claim_keys(alloc: Global, keys: &mut Names, entry: &Entry) -> Result<Opti
     ensures { IfOk result (Claims (keys_of entry.now) keys.old keys.new) }
 {
     match entry {
-        Entry::SupplyLine { nets, .. } => {
-            claim_words(alloc, keys, b"supply ".as_slice(), nets.as_slice())
-        }
+        Entry::SupplyLine { nets, .. } => { claim_words(alloc, keys, b"supply ".as_slice(), nets) }
         Entry::DeviceLine { model, .. } => { claim_word(alloc, keys, b"device ".as_slice(), model) }
         Entry::StrengthLine { cell, device, .. } => claim_strength(alloc, keys, cell, device),
-        Entry::ClockLine { names } => {
-            claim_words(alloc, keys, b"clock ".as_slice(), names.as_slice())
-        }
+        Entry::ClockLine { names } => { claim_words(alloc, keys, b"clock ".as_slice(), names) }
         Entry::PhaseLine { name, bits } => claim_phase(alloc, keys, name, bits.as_slice()),
         Entry::ClockportLine { cell, port, .. } => claim_clockport(alloc, keys, cell, port),
         Entry::DefaultclockLine { .. } => claim_defaultclock(alloc, keys),
@@ -228,9 +225,7 @@ pub fn claim_keys(alloc: Global, keys: &mut Names, entry: &Entry) -> Result<Opti
         Entry::HoldLine { cell, net, .. } => {
             claim_in(alloc, keys, b"hold ".as_slice(), cell, net)
         }
-        Entry::KeeperLine { cell, devices } => {
-            claim_devices(alloc, keys, cell, devices.as_slice())
-        }
+        Entry::KeeperLine { cell, devices } => { claim_devices(alloc, keys, cell, devices) }
         Entry::MatchLine { cell, net, .. } => {
             claim_in(alloc, keys, b"match ".as_slice(), cell, net)
         }

@@ -3,10 +3,11 @@
 ghost use Rattle.std.specs.Prelude.{ℕ, List, Some, None, ◌≡◌, ◌<◌, ◌+◌, ◌++◌, ◌∷◌, [], length, map, IfOk, IfSome, IfNone, OnOk};
 ghost use Rattle.spice_reader.specs.Cards.{joined_at_equals, trimmed, card_words, card_from};
 
+use crate::card_words::CardWords;
 use crate::line::{add_lowered, without_end};
 use std::alloc::Global;
-use text_lines::{first_place, is_text_line, line_words, without_blanks};
-use vrt_model::{NoMemory, Seq, Text};
+use text_lines::{first_place, is_text_line, without_blanks};
+use vrt_model::{NoMemory, Text};
 
 /// A card: the number of its first line, whether it continues nothing, whether its bytes are text, and its words.
 pub struct Card {
@@ -17,7 +18,7 @@ pub struct Card {
     /// Whether each byte outside comments is a tab or from the space to the tilde.
     pub is_all_text: bool,
     /// Its words in lower case, without comments and without blanks around `=`.
-    pub words: Seq<Text>,
+    pub words: CardWords,
 }
 
 /// By hand, so that letting go of one is a call.
@@ -76,14 +77,14 @@ fn add_joined(out: &mut Text, text: &[u8]) -> Result<(), NoMemory>
 
 /// The words of the bytes of a card.
 #[tactic(auto, unfolding(crate::specs::Cards::card_words))]
-fn words_of_card(alloc: Global, bytes: &[u8]) -> Result<Seq<Text>, NoMemory>
+fn words_of_card(alloc: Global, bytes: &[u8]) -> Result<CardWords, NoMemory>
     ensures { IfOk result (λ words. words ≡ card_words bytes.now) }
 {
     let mut lower = Text::new(alloc);
     add_lowered(&mut lower, bytes)?;
     let mut joined = Text::new(alloc);
     add_joined(&mut joined, lower.as_bytes())?;
-    line_words(alloc, joined.as_bytes())
+    CardWords::of_line(alloc, joined)
 }
 
 /// The card of a line, from the bytes of all its lines.

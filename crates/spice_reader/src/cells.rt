@@ -5,9 +5,10 @@ ghost use Rattle.text_lines.specs.Groups.{groups, up_to};
 ghost use Rattle.spice_reader.specs.Netlist.{begins_cell, ends_cell, cell_of};
 
 use crate::card::Card;
-use crate::elements::{copies, devices, instances};
+use crate::elements::{devices, instances};
 use crate::words::{name_of, opens, ports_of, shuts};
 use std::alloc::Global;
+use text_lines::line_words;
 use vrt_model::{Cell, NoMemory, Seq, Text};
 
 /// The cards before `.ends`.
@@ -31,7 +32,7 @@ fn cell(alloc: Global, first: &Card, body: &[Card]) -> Result<Cell, NoMemory>
     Ok(Cell {
         line: first.line,
         name: Text::from_bytes(alloc, name_of(first))?,
-        ports: copies(alloc, ports_of(first))?,
+        ports: line_words(alloc, ports_of(first))?,
         devices: devices(alloc, body)?,
         instances: instances(alloc, body)?,
     })

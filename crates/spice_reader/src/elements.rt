@@ -1,12 +1,14 @@
 //! The transistors and instances of a cell.
 
 ghost use Rattle.std.specs.Prelude.{◌≡◌, ◌++◌, ◌∷◌, [], map, filter, OnOk, IfOk};
+ghost use Rattle.text_lines.specs.Bytes.{words_of};
 ghost use Rattle.text_lines.specs.Words.{but_last, last_word};
 ghost use Rattle.spice_reader.specs.Netlist.{is_device, is_instance, device_of, instance_of, without_slash, tied_words};
 
 use crate::card::Card;
-use crate::words::{first, has_letter, plain, tail, word};
+use crate::words::{first, has_letter, nth_word, plain, tail, word};
 use std::alloc::Global;
+use text_lines::{count_words, first_words, line_words};
 use vrt_model::{DeviceCard, InstanceCard, NoMemory, Seq, Text};
 
 /// The transistor of a card.
@@ -49,43 +51,23 @@ pub fn devices(alloc: Global, body: &[Card]) -> Result<Seq<DeviceCard>, NoMemory
     Ok(found)
 }
 
-/// Copies of words.
-pub fn copies(alloc: Global, words: &[Text]) -> Result<Seq<Text>, NoMemory>
-    ensures { IfOk result (λ texts. texts ≡ words.now) }
-{
-    let mut texts = Seq::new(alloc);
-    for word in words {
-        let text = Text::from_bytes(alloc, word.as_bytes())?;
-        if texts.push(text).is_err() {
-            return Err(NoMemory);
-        }
-    }
-    Ok(texts)
-}
-
 /// The words but the last.
-fn front(words: &[Text]) -> &[Text]
-    ensures { result.now ≡ but_last words.now }
+fn front(line: &[u8]) -> &[u8]
+    ensures { words_of result.now ≡ but_last (words_of line.now) }
 {
-    match words.split_last() {
-        Some((_, before)) => before,
-        None => words,
-    }
+    first_words(count_words(line).saturating_sub(1), line)
 }
 
 /// The last word, empty where there is none.
-fn end(words: &[Text]) -> &[u8]
-    ensures { result.now ≡ last_word words.now }
+fn end(line: &[u8]) -> &[u8]
+    ensures { result.now ≡ last_word (words_of line.now) }
 {
-    match words.split_last() {
-        Some((last, _)) => last.as_bytes(),
-        None => &[],
-    }
+    nth_word(line, count_words(line).saturating_sub(1))
 }
 
 /// Nets without a lone slash behind them.
-fn nets_alone(nets: &[Text]) -> &[Text]
-    ensures { result.now ≡ without_slash nets.now }
+fn nets_alone(nets: &[u8]) -> &[u8]
+    ensures { words_of result.now ≡ without_slash (words_of nets.now) }
 {
     if end(nets) == b"/".as_slice() {
         front(nets)
@@ -95,21 +77,22 @@ fn nets_alone(nets: &[Text]) -> &[Text]
 }
 
 /// The words of an instance card behind its name.
-fn tied(card: &Card) -> &[Text]
-    ensures { result.now ≡ tied_words card.now }
+fn tied(card: &Card) -> &[u8]
+    ensures { words_of result.now ≡ tied_words card.now }
 {
-    tail(plain(card.words.as_slice()))
+    tail(plain(card.words.as_line()))
 }
 
 /// The instance of a card.
 fn instance(alloc: Global, card: &Card) -> Result<InstanceCard, NoMemory>
     ensures { IfOk result (λ i. i ≡ instance_of card.now) }
 {
+    let tied = tied(card);
     Ok(InstanceCard {
         line: card.line,
         name: Text::from_bytes(alloc, first(card))?,
-        nets: copies(alloc, nets_alone(front(tied(card))))?,
-        cell: Text::from_bytes(alloc, end(tied(card)))?,
+        nets: line_words(alloc, nets_alone(front(tied)))?,
+        cell: Text::from_bytes(alloc, end(tied))?,
     })
 }
 

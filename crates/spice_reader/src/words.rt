@@ -1,31 +1,44 @@
 //! What the words of a card say.
 
 ghost use Rattle.std.specs.Prelude.{◌≡◌, ◌∷◌, [], length, drop, IfOk, codes, nat_lt, ◌==◌};
-ghost use Rattle.text_lines.specs.Bytes.{starts};
+ghost use Rattle.text_lines.specs.Bytes.{starts, words_of};
 ghost use Rattle.text_lines.specs.Words.{behind, word_at};
 ghost use Rattle.vrt_model.specs.Lists.{is_empty};
 ghost use Rattle.spice_reader.specs.Cards.{first_word, has_first};
 ghost use Rattle.spice_reader.specs.Netlist.{begins_cell, ends_cell, is_model, is_element, is_parameter, plain_words, head_words, cell_name, cell_ports};
 
 use crate::card::Card;
-use text_lines::has_byte;
-use vrt_model::{Seq, Text};
+use crate::card_words::CardWords;
+use text_lines::{first_word, first_words, has_byte};
 
-/// The word at a place, empty where there is none.
-pub fn word<'a>(words: &'a Seq<Text>, at: usize) -> &'a [u8]
-    ensures { result.now ≡ word_at words.entry.now at }
+/// The word of a line at a place, empty where there is none.
+pub fn nth_word(line: &[u8], at: usize) -> &[u8]
+    ensures { result.now ≡ word_at (words_of line.now) at }
 {
-    match words.get(at) {
-        Some(found) => found.as_bytes(),
-        None => &[],
+    let mut left = at;
+    let mut rest = line;
+    'words: while let Some((found, behind)) = first_word(rest) {
+        if left == 0 {
+            return found;
+        }
+        left -= 1;
+        rest = behind;
     }
+    &[]
+}
+
+/// The word of a card at a place, empty where there is none.
+pub fn word(words: &CardWords, at: usize) -> &[u8]
+    ensures { result.now ≡ word_at words.now at }
+{
+    nth_word(words.as_line(), at)
 }
 
 /// The first word, empty where there is none.
 pub fn first(card: &Card) -> &[u8]
     ensures { result.now ≡ first_word card.now }
 {
-    word(&card.words, 0)
+    card.words.first()
 }
 
 /// Whether the first word is this.
@@ -88,73 +101,81 @@ fn is_parameter_word(text: &[u8]) -> bool
 }
 
 /// The words behind the first.
-pub fn tail(words: &[Text]) -> &[Text]
-    ensures { result.now ≡ behind words.now }
+pub fn tail(line: &[u8]) -> &[u8]
+    ensures { words_of result.now ≡ behind (words_of line.now) }
 {
-    match words.split_first() {
+    match first_word(line) {
         Some((_, rest)) => rest,
-        None => words,
+        None => line,
     }
+}
+
+/// How many words stand before the first that is a parameter.
+pub fn plain_count(line: &[u8]) -> usize
+    ensures { result ≡ length (plain_words (words_of line.now)) }
+{
+    let mut count = 0usize;
+    let mut rest = line;
+    'words: while let Some((word, behind)) = first_word(rest) {
+        if is_parameter_word(word) {
+            return count;
+        }
+        count += 1;
+        rest = behind;
+    }
+    count
 }
 
 /// The words before the first that is a parameter.
-pub fn plain(words: &[Text]) -> &[Text]
-    ensures { result.now ≡ plain_words words.now }
+pub fn plain(line: &[u8]) -> &[u8]
+    ensures { words_of result.now ≡ plain_words (words_of line.now) }
 {
-    let mut at = 0;
-    'words: while at < words.len() {
-        if is_parameter_word(words[at].as_bytes()) {
-            return &words[..at];
-        }
-        at += 1;
-    }
-    words
+    first_words(plain_count(line), line)
 }
 
 /// The name and the ports of a `.subckt` card.
-pub fn head(card: &Card) -> &[Text]
-    ensures { result.now ≡ head_words card.now }
+pub fn head(card: &Card) -> &[u8]
+    ensures { words_of result.now ≡ head_words card.now }
 {
-    plain(tail(card.words.as_slice()))
-}
-
-/// The first of some words, empty where there is none.
-fn first_of_words(words: &[Text]) -> &[u8]
-    ensures { result.now ≡ word_at words.now 0 }
-{
-    match words.first() {
-        Some(found) => found.as_bytes(),
-        None => &[],
-    }
+    plain(tail(card.words.as_line()))
 }
 
 /// The name of the cell that a `.subckt` card begins.
 pub fn name_of(card: &Card) -> &[u8]
     ensures { result.now ≡ cell_name card.now }
 {
-    first_of_words(head(card))
+    nth_word(head(card), 0)
 }
 
 /// The ports of the cell that a `.subckt` card begins.
-pub fn ports_of(card: &Card) -> &[Text]
-    ensures { result.now ≡ cell_ports card.now }
+pub fn ports_of(card: &Card) -> &[u8]
+    ensures { words_of result.now ≡ cell_ports card.now }
 {
     tail(head(card))
 }
 
 /// Whether there is no word.
-pub fn has_no_words(words: &[Text]) -> bool
-    ensures { result ≡ is_empty words.now }
+pub fn has_no_words(line: &[u8]) -> bool
+    ensures { result ≡ is_empty (words_of line.now) }
 {
-    match words.first() {
+    match first_word(line) {
         Some(_) => false,
         None => true,
     }
 }
 
-/// Whether there are fewer words than this.
-pub fn has_fewer(words: &[Text], count: usize) -> bool
-    ensures { result ≡ nat_lt (length words.now) count }
+/// Whether there are fewer words than this. No more than so many are gone over.
+pub fn has_fewer(line: &[u8], count: usize) -> bool
+    ensures { result ≡ nat_lt (length (words_of line.now)) count }
 {
-    words.len() < count
+    let mut left = count;
+    let mut rest = line;
+    'words: while left > 0 {
+        let Some((_, behind)) = first_word(rest) else {
+            return true;
+        };
+        left -= 1;
+        rest = behind;
+    }
+    false
 }

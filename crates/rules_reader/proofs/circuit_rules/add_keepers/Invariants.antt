@@ -1,7 +1,11 @@
-use Rattle.std.proofs.Common.{◌≡◌, ◌++◌, map, take}
+use Rattle.std.proofs.Common.{◌≡◌, ◌++◌, length, map}
 use Rattle.rules_reader.specs.Tables.{keeper_rule}
+use Rattle.text_lines.specs.Bytes.{words_of}
 use Rattle.rules_reader.proofs.circuit_rules.add_keepers.Given as goal
 
--- the devices so far
-abbrev pub invariant-loop-device : goal.invariant-loop-device
-invariant-loop-device l = l.rules ≡ l.fn.rules ++ map (keeper_rule l.line l.cell) (take l.device-index l.devices)
+-- the devices so far, and the rest
+abbrev pub invariant-devices : goal.invariant-devices
+invariant-devices l = l.rules ++ map (keeper_rule l.line l.cell) (words_of l.rest) ≡ l.fn.rules ++ map (keeper_rule l.line l.cell) l.devices
+
+abbrev pub decreases-devices : goal.decreases-devices
+decreases-devices l = length l.rest

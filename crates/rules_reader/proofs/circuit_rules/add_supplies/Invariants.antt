@@ -1,7 +1,11 @@
-use Rattle.std.proofs.Common.{◌≡◌, ◌++◌, map, take}
+use Rattle.std.proofs.Common.{◌≡◌, ◌++◌, length, map}
 use Rattle.rules_reader.specs.Tables.{supply_rule}
+use Rattle.text_lines.specs.Bytes.{words_of}
 use Rattle.rules_reader.proofs.circuit_rules.add_supplies.Given as goal
 
--- the nets so far
-abbrev pub invariant-loop-net : goal.invariant-loop-net
-invariant-loop-net l = l.rules ≡ l.fn.rules ++ map (supply_rule l.line l.value) (take l.net-index l.nets)
+-- the nets so far, and the rest
+abbrev pub invariant-nets : goal.invariant-nets
+invariant-nets l = l.rules ++ map (supply_rule l.line l.value) (words_of l.rest) ≡ l.fn.rules ++ map (supply_rule l.line l.value) l.nets
+
+abbrev pub decreases-nets : goal.decreases-nets
+decreases-nets l = length l.rest

@@ -1,7 +1,8 @@
-use Rattle.std.proofs.Common.{sym, ap, ◌∙◌}
-use Rattle.text_lines.specs.Words.{last_word}
-use Rattle.text_lines.proofs.WordLaws.{last_word_end}
+use Rattle.std.proofs.Common.{◌∙◌, ◌-◌, ap}
+use Rattle.text_lines.specs.Bytes.{words_of}
+use Rattle.text_lines.specs.Words.{word_at}
+use Rattle.spice_reader.proofs.WordCounts.{last_place}
 use Rattle.spice_reader.proofs.elements.end.Goals as goal
 
-pub returns-in-Some : goal.returns-in-Some
-returns-in-Some c = c.as_bytes.ensures ∙ sym (ap last_word c.in-Some.ensures.cases.0 ∙ last_word_end c.in-Some.field-0-1.now c.in-Some.last.now)
+pub returns : goal.returns
+returns c = c.nth_word.ensures ∙ ap (λ n. word_at (words_of c.args.line.now) n) (c.saturating_sub.ensures ∙ ap (λ n. n - 1) c.count_words.ensures) ∙ last_place (words_of c.args.line.now)

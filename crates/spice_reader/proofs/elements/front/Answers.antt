@@ -1,7 +1,7 @@
-use Rattle.std.proofs.Common.{sym, ap, ◌∙◌}
-use Rattle.text_lines.specs.Words.{but_last}
-use Rattle.text_lines.proofs.WordLaws.{but_last_end}
+use Rattle.std.proofs.Common.{◌∙◌, ◌-◌, ap, take}
+use Rattle.text_lines.specs.Bytes.{words_of}
+use Rattle.spice_reader.proofs.WordCounts.{all_but_last}
 use Rattle.spice_reader.proofs.elements.front.Goals as goal
 
-pub returns-in-Some : goal.returns-in-Some
-returns-in-Some c = sym (ap but_last c.in-Some.ensures.cases.0 ∙ but_last_end c.in-Some.before.now _)
+pub returns : goal.returns
+returns c = c.first_words.ensures ∙ ap (λ n. take n (words_of c.args.line.now)) (c.saturating_sub.ensures ∙ ap (λ n. n - 1) c.count_words.ensures) ∙ all_but_last (words_of c.args.line.now)
