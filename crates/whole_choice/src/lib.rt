@@ -11,14 +11,8 @@ mod taken;
 mod trial;
 mod whole;
 
-pub use candidate::passes;
-pub use choice::{Chosen, choose_all};
-pub use cycles::is_acyclic_with;
 pub use laws::{
     acyclic_is_chosen, front_is_all, marked_is_with_one, one_more_brings_its_own,
     one_more_is_decided, open_are_allowed, others_are_left_out, outputs_stand_apart, taken_grow,
 };
-pub use tables::Tables;
-pub use taken::take_outputs;
-pub use trial::{are_outputs_open, marks_with};
 pub use whole::whole_with;
