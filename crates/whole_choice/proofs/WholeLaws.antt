@@ -1,10 +1,13 @@
 -- All instances tried, and the circuit of those that are chosen.
-use Rattle.std.proofs.Common.{◌≡◌, ℕ, zero, suc, ◌≤◌, Bool, true, false, List, [], ◌∷◌, length, Option, Some, None, arith, ap, refl, subst, sym, ◌∙◌}
+use Rattle.std.proofs.Common.{◌≡◌, ◌<◌, ℕ, zero, suc, ◌≤◌, Bool, true, false, List, [], ◌∷◌, length, Option, Some, None, arith, ap, refl, subst, sym, ◌∙◌}
 use Rattle.std.specs.List.{list_any}
 use Rattle.std.proofs.lemmas.Bool.{false≢true}
 use mathlib.Core.Path.{fun_ext}
 use Rattle.checked_chain.proofs.EndLaws.{chain_begins_flat}
+use Rattle.checked_cells.proofs.PlacesAlone.{ties_same}
+use Rattle.checked_cells.specs.Given.{ArePlainFacts}
 use Rattle.flat_sizes.proofs.PlaceLaws.{nets_counted}
+use Rattle.flatten.specs.Circuits.{IsFlatCircuit}
 use Rattle.known_nets.proofs.WiredLaws.{flat_wired}
 use Rattle.known_nets.specs.Wired.{IsWired}
 use Rattle.net_places.specs.Links.{IsUnrolled}
@@ -12,6 +15,8 @@ use Rattle.net_places.specs.declared.places.Place.{Place}
 use Rattle.net_places.specs.Whole.{whole_of}
 use Rattle.substitute.proofs.ChosenLaws.{all_are_decided}
 use Rattle.substitute.proofs.FlatLaws.{flat_parts}
+use Rattle.substitute.proofs.StepLaws.{by_place}
+use Rattle.substitute.specs.Acyclic.{AreAcyclic}
 use Rattle.substitute.specs.Insides.{IsCutAt}
 use Rattle.substitute.specs.Shown.{AreMarks, device_places}
 use Rattle.substitute.specs.declared.marks.Marks.{Marks}
@@ -19,25 +24,29 @@ use Rattle.substitute.specs.declared.whole_cell.WholeCell.{WholeCell}
 use Rattle.substitution_laws.proofs.ChainLaws.{some_place}
 use Rattle.substitution_laws.proofs.ChosenLaws.{told_soft}
 use Rattle.vrt_model.specs.Checked.{IsChecked, IsChoice, IsCircuitWith}
+use Rattle.vrt_model.specs.Comparison.{phase_at}
 use Rattle.vrt_model.specs.Cut.{Cut}
 use Rattle.vrt_model.specs.FlatCircuit.{flat_circuit_of, flat_nets}
+use Rattle.vrt_model.specs.Known.{HasArc}
 use Rattle.vrt_model.specs.Lists.{mark_at}
 use Rattle.vrt_model.specs.Unrolled.{Top}
-use Rattle.vrt_model.specs.Unsupported.{top_before}
+use Rattle.vrt_model.specs.Unsupported.{IsAcyclic, top_before}
 use Rattle.vrt_model.specs.declared.blif.Blif.{Blif}
 use Rattle.vrt_model.specs.declared.circuit.Circuit.{Circuit}
 use Rattle.vrt_model.specs.declared.circuit.FlatNet.{FlatNet}
 use Rattle.vrt_model.specs.declared.design.Design.{Design}
+use Rattle.vrt_model.specs.declared.pairing.Pairing.{Pairing}
 use Rattle.vrt_model.specs.declared.pairing.PortRole.{PortRole}
 use Rattle.vrt_model.specs.declared.rules.Rules.{Rules}
 use Rattle.vrt_model.specs.declared.whole.CellFacts.{CellFacts}
 use Rattle.whole_cells.proofs.EnteredLaws.{entered_are_whole_cells}
 use Rattle.whole_cells.specs.Entries.{IsEntry}
+use Rattle.whole_cells.specs.Own.{AreFiles}
 use Rattle.whole_choice.proofs.UnderwayLaws.{count, cut_at_chosen}
 use Rattle.whole_choice.specs.Chosen.{cut_of}
 use Rattle.whole_choice.specs.Cycles.{IsTriedBy}
 use Rattle.whole_choice.specs.Underway.{AreChosen, AreChosenBelow, AreTables}
-use Rattle.whole_choice.specs.Whole.{AreEntriesOf, IsWholeGround}
+use Rattle.whole_choice.specs.Whole.{AreEntriesOf, IsCellGround, IsWholeGround}
 use Rattle.whole_choice.specs.declared.choice.Chosen.{Chosen}
 use Rattle.whole_choice.specs.declared.tables.Tables.{Tables}
 
@@ -120,6 +129,52 @@ module _ (design : Design) (blif : Blif) (rules : Rules) (cell : ℕ) (roles : L
 
   pub flat_is_wired : IsWired flat
   flat_is_wired = flat_wired flat (record { wholes = none_whole; devices = is.ground.formed.devices; holds = is.ground.formed.holds })
+
+-- ---- where the flat circuit has cycles
+
+module _ (t : Top) (blif : Blif) (facts : List CellFacts) (flat : Circuit) (is : IsCellGround t blif facts flat) where
+  abbrev alone : Cut
+  alone = record { top = t; choice = λ i. false }
+
+  no_wholes : flat.wholes ≡ []
+  unfolding flat_circuit_of
+  no_wholes = ap (λ (x : Circuit). x.wholes) is.flat_is
+
+  pub cell_is_wired : IsWired flat
+  cell_is_wired = flat_wired flat (record { wholes = no_wholes; devices = is.formed.devices; holds = is.formed.holds })
+
+  -- no instance may be left whole then
+  pub checked_cyclic : ¬ AreAcyclic flat t.rules.phases → (cut : Cut) × (cut.top ≡ t) × IsChecked cut blif facts flat
+  checked_cyclic around = (
+    alone,
+    refl,
+    record {
+      chosen = λ i p there. (
+        λ chosen. absurd (false≢true chosen),
+        λ may. absurd (around (by_place t.rules flat (λ j lt. subst (λ (c : Circuit). IsAcyclic (HasArc c (phase_at t.rules j))) (sym is.flat_is) (may.1.1.flat_acyclic j lt)))),
+      );
+      circuit = (chain_begins_flat alone blif facts flat).1 is.flat_is;
+    },
+  )
+
+-- the ground of a cell, by its flat circuit
+pub cell_ground : (design : Design) (blif : Blif) (rules : Rules) (cell : ℕ) (pairing : Pairing) (facts : List CellFacts) (flat : Circuit) → AreFiles design blif rules → cell < length design.cells
+    → ArePlainFacts design blif rules facts → IsFlatCircuit design rules cell pairing flat → IsCellGround (whole_of design rules cell pairing.ports) blif facts flat
+cell_ground design blif rules cell pairing facts flat files there plain is = record {
+  netlist = record { design = files.netlist; ordered = files.ordered; there = there; ties = ties_same (top_before design rules cell) pairing.ports ∙ is.structured.ties };
+  read = record { names = files.names; models = files.models; valid = files.valid };
+  told = plain.told;
+  soft = plain.soft;
+  formed = is.formed;
+  flat_is = is.is;
+}
+
+pub ground_without : (design : Design) (blif : Blif) (rules : Rules) (cell : ℕ) (roles : List PortRole) (facts : List CellFacts) (flat : Circuit)
+    → IsCellGround (whole_of design rules cell roles) blif facts flat → AreAcyclic flat rules.phases → IsWholeGround design blif rules cell roles facts flat
+ground_without design blif rules cell roles facts flat is free = record {
+  ground = record { netlist = is.netlist; read = is.read; told = is.told; soft = is.soft; formed = is.formed; acyclic = free };
+  flat_is = is.flat_is;
+}
 
 -- ---- the tables
 

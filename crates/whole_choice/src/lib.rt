@@ -2,6 +2,7 @@
 #![tactic(auto)]
 
 mod candidate;
+mod checked;
 mod choice;
 mod clocked;
 mod cycles;
@@ -9,10 +10,11 @@ mod laws;
 mod tables;
 mod taken;
 mod trial;
-mod whole;
+mod with_tables;
 
+pub use checked::whole;
 pub use laws::{
     acyclic_is_chosen, front_is_all, marked_is_with_one, one_more_brings_its_own,
     one_more_is_decided, open_are_allowed, others_are_left_out, outputs_stand_apart, taken_grow,
 };
-pub use whole::whole_with;
+pub use with_tables::whole_with;

@@ -4,7 +4,7 @@ use Rattle.net_places.proofs.CallerLaws.{are_small}
 use Rattle.net_places.specs.Whole.{whole_of}
 use Rattle.whole_choice.proofs.WholeLaws.{flat_is_wired, nets_are_few, tables_of}
 use Rattle.whole_choice.specs.Whole.{AreEntriesOf}
-use Rattle.whole_choice.proofs.whole.whole_with.Goals as goal
+use Rattle.whole_choice.proofs.with_tables.whole_with.Goals as goal
 
 pub unroll-requires-clause-small : goal.unroll-requires-clause-small
 unroll-requires-clause-small c =

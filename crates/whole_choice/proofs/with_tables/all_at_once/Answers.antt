@@ -4,7 +4,7 @@ use Rattle.substitution_laws.proofs.WholeRanges.{tried_circuits_are_wired}
 use Rattle.vrt_model.specs.Circuits.{IsCircuit}
 use Rattle.whole_choice.proofs.TogetherLaws.{checked_tried, soft_trial, tried_none}
 use Rattle.whole_choice.specs.Chosen.{cut_of}
-use Rattle.whole_choice.proofs.whole.all_at_once.Goals as goal
+use Rattle.whole_choice.proofs.with_tables.all_at_once.Goals as goal
 
 pub returns-then-not-has_mark : goal.returns-then-not-has_mark
 returns-then-not-has_mark c t blif facts are =

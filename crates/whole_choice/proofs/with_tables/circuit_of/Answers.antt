@@ -3,7 +3,7 @@ use Rattle.std.proofs.lemmas.Result.{IfOk-weaker}
 use Rattle.substitute.specs.Insides.{IsCutAt}
 use Rattle.whole_choice.proofs.WholeLaws.{tried_by}
 use Rattle.whole_choice.specs.Chosen.{cut_of}
-use Rattle.whole_choice.proofs.whole.circuit_of.Goals as goal
+use Rattle.whole_choice.proofs.with_tables.circuit_of.Goals as goal
 
 pub returns : goal.returns
 returns c =

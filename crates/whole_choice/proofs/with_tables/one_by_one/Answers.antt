@@ -1,7 +1,7 @@
 use Rattle.std.proofs.Common.{Bool, List, true, ap, sym, ◌∙◌}
 use Rattle.std.specs.List.{list_any}
 use Rattle.whole_choice.proofs.WholeLaws.{checked_some, flat_with_none}
-use Rattle.whole_choice.proofs.whole.one_by_one.Goals as goal
+use Rattle.whole_choice.proofs.with_tables.one_by_one.Goals as goal
 
 pub returns-then-not-has_mark : goal.returns-then-not-has_mark
 returns-then-not-has_mark c t blif facts are =

@@ -1,6 +1,6 @@
 use Rattle.std.proofs.Common.{◌≡◌, Bool, length}
 use Rattle.std.specs.List.{list_any}
-use Rattle.whole_choice.proofs.whole.has_mark.Given as goal
+use Rattle.whole_choice.proofs.with_tables.has_mark.Given as goal
 
 -- what is left has a mark where all has one
 abbrev pub invariant-marks : goal.invariant-marks
