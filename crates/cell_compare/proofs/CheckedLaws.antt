@@ -43,7 +43,7 @@ use Rattle.vrt_model.specs.declared.rules.Rules.{Rules}
 use Rattle.vrt_model.specs.declared.verdict.Verdict.{Verdict}
 use Rattle.vrt_model.specs.declared.verdict.Verdict.TheVariants.{Equal, Skipped, Fault, Vacuous, Budget, Unsupported}
 use Rattle.vrt_model.specs.declared.whole.CellFacts.{CellFacts}
-use Rattle.whole_choice.specs.Whole.{IsWholeGround}
+use Rattle.substitute.specs.Whole.{IsWholeGround}
 use Rattle.whole_steps.proofs.OrderLaws.{whole_table}
 use Rattle.whole_steps.specs.Tables.{AreDrivers, AreOrders, IsBefore, IsWholeTable}
 use Rattle.whole_steps.specs.declared.table.OutputPlace.{OutputPlace}

@@ -17,7 +17,7 @@ use Rattle.vrt_model.specs.declared.design.Design.{Design}
 use Rattle.vrt_model.specs.declared.rules.Phase.{Phase}
 use Rattle.vrt_model.specs.declared.rules.Rules.{Rules}
 use Rattle.vrt_model.specs.declared.whole.CellFacts.{CellFacts}
-use Rattle.whole_choice.specs.Candidates.{IsGround}
+use Rattle.substitute.specs.Candidates.{IsGround}
 
 -- the arcs of the circuit have no cycle in any phase
 in_phase : (k : Comparison) → AcyclicBefore k (length k.rules.phases) → (i : ℕ) (phase : Phase) → At k.rules.phases i phase → IsAcyclic (HasArc k.circuit phase)

@@ -14,8 +14,8 @@ use Rattle.vrt_model.specs.declared.verdict.Verdict.{Verdict}
 use Rattle.vrt_model.specs.declared.verdict.Verdict.TheVariants.{Equal, Skipped, Fault, Vacuous, Budget, Unsupported}
 use Rattle.vrt_model.specs.declared.verdict.Why.{Why}
 use Rattle.vrt_model.specs.declared.whole.CellFacts.{CellFacts}
-use Rattle.whole_choice.specs.Candidates.{IsGround}
-use Rattle.whole_choice.specs.Whole.{WholeGives}
+use Rattle.substitute.specs.Candidates.{IsGround}
+use Rattle.substitute.specs.Whole.{WholeGives}
 
 -- ---- the checked circuit
 

@@ -23,8 +23,8 @@ use blif_eval::{ModelPlan, PlanFault};
 use phase_terms::{Comparison, PhasePlan};
 use prepared_tables::Prepared;
 use std::alloc::Global;
+use substitute::whole_with;
 use vrt_model::{Blif, CellFacts, Circuit, NoMemory, Seq, Vars, Verdict};
-use whole_choice::whole_with;
 use whole_steps::{WholeTable, model_orders, output_drivers};
 
 /// Whether a cell is known as equal and stateless.

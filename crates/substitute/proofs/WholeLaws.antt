@@ -1,128 +1,202 @@
--- An instance as a whole one, by what the instances of its cell have in common.
-use Rattle.std.proofs.Common.{◌≡◌, ℕ, suc, ◌+◌, List, [], ◌∷◌, map, Option, Some, None, ap, ap₂, refl, subst, sym, ◌∙◌}
-use Rattle.std.specs.Prelude.{cond, Bool, true, false}
-use Rattle.std.specs.List.{enumerate_from}
-use Rattle.net_places.specs.Links.{Bare}
+-- All instances tried, and the circuit of those that are chosen.
+use Rattle.std.proofs.Common.{◌≡◌, ◌<◌, ℕ, zero, suc, ◌≤◌, Bool, true, false, List, [], ◌∷◌, length, Option, Some, None, arith, ap, refl, subst, sym, ◌∙◌}
+use Rattle.std.specs.List.{list_any}
+use Rattle.std.proofs.lemmas.Bool.{false≢true}
+use mathlib.Core.Path.{fun_ext}
+use Rattle.checked_chain.proofs.EndLaws.{chain_begins_flat}
+use Rattle.checked_cells.proofs.PlacesAlone.{ties_same}
+use Rattle.checked_cells.specs.Given.{ArePlainFacts}
+use Rattle.flat_sizes.proofs.PlaceLaws.{nets_counted}
+use Rattle.flatten.specs.Circuits.{IsFlatCircuit}
+use Rattle.known_nets.proofs.WiredLaws.{flat_wired}
+use Rattle.known_nets.specs.Wired.{IsWired}
+use Rattle.net_places.specs.Links.{IsUnrolled}
 use Rattle.net_places.specs.declared.places.Place.{Place}
-use Rattle.substitute.specs.Pins.{AreDrivesOf, IsAtPorts}
-use Rattle.substitute.specs.WholeCells.{IsPlacedWhole, IsWholeCell}
-use Rattle.substitute.specs.declared.whole_cell.WholeCell.{WholeCell}
-use Rattle.vrt_model.specs.CheckedParts.{checked_devices}
-use Rattle.vrt_model.specs.Comparison.{Comparison, output_signal}
-use Rattle.vrt_model.specs.Cut.{Cut, NumberedPlace}
-use Rattle.vrt_model.specs.FlatCircuit.{net_id}
-use Rattle.vrt_model.specs.PairedPorts.{Model, Paired, paired_model}
-use Rattle.vrt_model.specs.Unrolled.{path_text}
-use Rattle.vrt_model.specs.Unsupported.{comparison_of}
-use Rattle.vrt_model.specs.WholeInstances.{HasLinks, IsWholeAt, OutputAt, Pin, all_outputs, drive_in, driven_pins, driven_pins_from, input_pins, meets_gates_only, pins_of, settled_drive, whole_at}
+use Rattle.net_places.specs.Whole.{whole_of}
+use Rattle.whole_circuits.proofs.ChosenLaws.{all_are_decided}
+use Rattle.whole_circuits.proofs.FlatLaws.{flat_parts}
+use Rattle.whole_circuits.proofs.StepLaws.{by_place}
+use Rattle.whole_circuits.specs.Acyclic.{AreAcyclic}
+use Rattle.whole_circuits.specs.Insides.{IsCutAt}
+use Rattle.whole_circuits.specs.Shown.{AreMarks, device_places}
+use Rattle.whole_circuits.specs.declared.marks.Marks.{Marks}
+use Rattle.whole_circuits.specs.declared.whole_cell.WholeCell.{WholeCell}
+use Rattle.substitution_laws.proofs.ChainLaws.{some_place}
+use Rattle.substitution_laws.proofs.ChosenLaws.{told_soft}
+use Rattle.vrt_model.specs.Checked.{IsChecked, IsChoice, IsCircuitWith}
+use Rattle.vrt_model.specs.Comparison.{phase_at}
+use Rattle.vrt_model.specs.Cut.{Cut}
+use Rattle.vrt_model.specs.FlatCircuit.{flat_circuit_of, flat_nets}
+use Rattle.vrt_model.specs.Known.{HasArc}
+use Rattle.vrt_model.specs.Lists.{mark_at}
+use Rattle.vrt_model.specs.Unrolled.{Top}
+use Rattle.vrt_model.specs.Unsupported.{IsAcyclic, top_before}
 use Rattle.vrt_model.specs.declared.blif.Blif.{Blif}
-use Rattle.vrt_model.specs.declared.circuit.Device.{Device}
-use Rattle.vrt_model.specs.declared.flat_model.FlatModel.{FlatModel}
-use Rattle.vrt_model.specs.declared.ids.Net.{Net}
-use Rattle.vrt_model.specs.declared.pairing.ClockedSignal.{ClockedSignal}
+use Rattle.vrt_model.specs.declared.circuit.Circuit.{Circuit}
+use Rattle.vrt_model.specs.declared.circuit.FlatNet.{FlatNet}
+use Rattle.vrt_model.specs.declared.design.Design.{Design}
+use Rattle.vrt_model.specs.declared.pairing.Pairing.{Pairing}
+use Rattle.vrt_model.specs.declared.pairing.PortRole.{PortRole}
+use Rattle.vrt_model.specs.declared.rules.Rules.{Rules}
 use Rattle.vrt_model.specs.declared.whole.CellFacts.{CellFacts}
-use Rattle.vrt_model.specs.declared.whole.Drive.{Drive}
-use Rattle.vrt_model.specs.declared.whole.Drive.TheVariants.{Soft}
-use Rattle.vrt_model.specs.declared.whole.Whole.{Whole}
-use Rattle.vrt_model.specs.declared.whole.WholePin.{WholePin}
+use Rattle.whole_cells.proofs.EnteredLaws.{entered_are_whole_cells}
+use Rattle.whole_cells.specs.Entries.{IsEntry}
+use Rattle.whole_cells.specs.Own.{AreFiles}
+use Rattle.substitute.proofs.UnderwayLaws.{count, cut_at_chosen}
+use Rattle.substitute.specs.Chosen.{cut_of}
+use Rattle.substitute.specs.Cycles.{IsTriedBy}
+use Rattle.substitute.specs.Underway.{AreChosen, AreChosenBelow, AreTables}
+use Rattle.substitute.specs.Whole.{AreEntriesOf, IsCellGround, IsWholeGround}
+use Rattle.substitute.specs.declared.choice.Chosen.{Chosen}
+use Rattle.substitute.specs.declared.tables.Tables.{Tables}
 
--- ---- soft outputs
+-- ---- the end
 
-same_nets : (nets : List Net) → nets ≡ map net_id (map (λ (n : Net). n.0) nets)
-same_nets [] = refl
-same_nets (n ∷ nets) = ap (λ (ns : List Net). n ∷ ns) (same_nets nets)
+module _ (asked : Bool) (t : Top) (blif : Blif) (facts : List CellFacts) (tables : Tables) (are : AreTables t blif facts tables) (chosen : Chosen)
+    (all : AreChosenBelow asked t blif facts tables (length tables.unrolled.now.places) chosen) where
+  abbrev cut : Cut
+  cut = cut_of t chosen.whole.items
 
--- the pin of an output port, and those with it where there is one
-abbrev pin_with : List CellFacts → ℕ → ℕ → Pin → ℕ → WholePin
-pin_with facts cell j p s = record { net = p.net; signal = s; drive = drive_in facts cell j; observed = false }
-
-abbrev pins_with : List CellFacts → ℕ → ℕ → Pin → List Pin → Option ℕ → List WholePin
-pins_with facts cell j p pins None = driven_pins_from facts cell j pins
-pins_with facts cell j p pins (Some s) = pin_with facts cell j p s ∷ driven_pins_from facts cell (suc j) pins
-
-module _ (devices : List Device) (outputs : List OutputAt) (instance : ℕ) where
-  abbrev output_at : ℕ × WholePin → OutputAt
-  output_at q = record { instance = instance; output = q.0; pin = q.1 }
-
-  -- a soft pin stays soft whatever it meets
-  settled : (o : OutputAt) → o.pin.drive ≡ Soft → settled_drive devices outputs o ≡ o.pin
-  settled o soft = by_test (meets_gates_only devices outputs o)
+  -- the last place is that of an instance, or the cell has none
+  pub last : (i : ℕ) × (length tables.unrolled.now.places ≡ suc i)
+  last = by_count (length tables.unrolled.now.places) refl
     where
-      by_drive : (d : Drive) → d ≡ Soft → o.pin.drive ≡ Soft → (let pin = o.pin in let one : WholePin = record pin { drive = d } in one) ≡ o.pin
-      by_drive d e f = ap (λ (x : Drive). let pin = o.pin in let one : WholePin = record pin { drive = x } in one) (e ∙ sym f)
+      by_count : (n : ℕ) → length tables.unrolled.now.places ≡ n → (i : ℕ) × (n ≡ suc i)
+      by_count zero e = absurd (let some = some_place t in let as_many = count t blif facts tables are in let no : ⊥ = omega (arith, some, as_many, e) in no)
+      by_count (suc i) e = (i, refl)
 
-      by_test : (b : Bool) → (let pin = o.pin in let one : WholePin = record pin { drive = cond b Soft pin.drive } in one) ≡ o.pin
-      by_test true = by_drive Soft refl soft
-      by_test false = refl
+  pub at_end : AreChosen asked t blif facts tables last.0 chosen
+  at_end = all last.0 last.1
 
-  settled_from : (facts : List CellFacts) (cell : ℕ) → AreDrivesOf facts cell [] → (j n : ℕ) (pins : List Pin)
-      → map (settled_drive devices outputs) (map output_at (enumerate_from n (driven_pins_from facts cell j pins))) ≡ driven_pins_from facts cell j pins
-  settled_from facts cell soft j n [] = refl
-  settled_from facts cell soft j n (p ∷ pins) =
-      by_signal (settled_from facts cell soft j n pins) (settled_from facts cell soft (suc j) (n + 1) pins) (output_signal p.port.role)
-    where
-      by_signal : map (settled_drive devices outputs) (map output_at (enumerate_from n (driven_pins_from facts cell j pins))) ≡ driven_pins_from facts cell j pins
-          → map (settled_drive devices outputs) (map output_at (enumerate_from (n + 1) (driven_pins_from facts cell (suc j) pins))) ≡ driven_pins_from facts cell (suc j) pins
-          → (o : Option ℕ) → map (settled_drive devices outputs) (map output_at (enumerate_from n (pins_with facts cell j p pins o))) ≡ pins_with facts cell j p pins o
-      by_signal here later None = here
-      by_signal here later (Some s) = ap₂ (λ (x : WholePin) (xs : List WholePin). x ∷ xs) (settled (output_at (n, pin_with facts cell j p s)) (soft j)) later
+  cut_at : IsCutAt cut tables.unrolled.now chosen.whole.items
+  cut_at = cut_at_chosen asked t blif facts tables last.0 chosen at_end
 
--- ---- the instance
+  pub tried_by : (marks : Marks) → marks.whole.items ≡ chosen.whole.items → ((x : Cut) → IsCutAt x tables.unrolled.now chosen.whole.items → AreMarks x marks) → IsTriedBy cut blif facts tables marks
+  tried_by marks same marks_are =
+      let cells = entered_are_whole_cells cut blif facts tables.unrolled.now tables.cells.now are.entered at_end.entered in
+      record {
+        flat_is = are.flat_is;
+        cut_at = subst (IsCutAt cut tables.unrolled.now) (sym same) cut_at;
+        marks = marks_are cut cut_at;
+        places = are.owners_are;
+        cells = record { phases_are = are.phases_are; cells_are = cells.cells_are };
+      }
 
-module _ (cut : Cut) (blif : Blif) (facts : List CellFacts) (p : NumberedPlace) (own : WholeCell) (is : IsWholeCell cut.top blif p.at.cell own) (place : Place)
-    (placed : IsPlacedWhole cut.top blif facts p place) where
-  abbrev k : Comparison
-  k = comparison_of cut.top.design blif cut.top.rules p.at.cell is.number
+-- where cycles were asked for, the choice is that of the definition
+module _ (t : Top) (blif : Blif) (facts : List CellFacts) (tables : Tables) (are : AreTables t blif facts tables) (chosen : Chosen)
+    (all : AreChosenBelow true t blif facts tables (length tables.unrolled.now.places) chosen) where
+  is_choice : IsChoice (cut_of t chosen.whole.items) blif facts
+  is_choice =
+      let end = at_end true t blif facts tables are chosen all in
+      let i = last true t blif facts tables are chosen all in
+      let as_many = count t blif facts tables are in
+      let last_is = i.1 in
+      all_are_decided (cut_of t chosen.whole.items) blif facts (λ j lt. end.decided j (omega (arith, lt, as_many, last_is)))
 
-  pub at_ports : IsAtPorts k p.at own.ports.items place.ports
-  at_ports = record {
-    ports_are = is.has.ports;
-    nets_are = same_nets place.ports ∙ ap (λ (b : Bare). map net_id b.ports) placed.shows;
-    each = placed.tied is.number is.paired;
-  }
+  pub checked_some : (circuit : Circuit) → IsCircuitWith (cut_of t chosen.whole.items) blif facts circuit → (cut : Cut) × (cut.top ≡ t) × IsChecked cut blif facts circuit
+  checked_some circuit made = (cut_of t chosen.whole.items, refl, record { chosen = is_choice; circuit = made })
 
-  abbrev made : FlatModel → List ClockedSignal → List WholePin → List WholePin → Whole
-  made model clocked inputs outputs = record { path = path_text p.at.path; cell = p.at.cell; model = model; clocked = clocked; inputs = inputs; outputs = outputs; links = [] }
+-- without chosen instances it is the flat circuit
+pub unmarked : (marks : List Bool) → list_any (λ (mark : Bool). mark) marks ≡ false → (n : ℕ) → mark_at marks n ≡ false
+unmarked [] none n = refl
+unmarked (true ∷ marks) none n = absurd (false≢true (sym none))
+unmarked (false ∷ marks) none zero = refl
+unmarked (false ∷ marks) none (suc n) = unmarked marks none n
 
-  abbrev devices : List Device
-  devices = checked_devices cut
+pub flat_with_none : (t : Top) (blif : Blif) (facts : List CellFacts) (tables : Tables) → AreTables t blif facts tables → (marks : List Bool) → list_any (λ (mark : Bool). mark) marks ≡ false
+    → IsCircuitWith (cut_of t marks) blif facts tables.flat.now
+flat_with_none t blif facts tables are marks none =
+    let nowhere : Cut = record { top = t; choice = λ i. false } in
+    let same : nowhere ≡ cut_of t marks = ap (λ (f : ℕ → Bool). let one : Cut = record { top = t; choice = f } in one) (fun_ext (λ i. sym (unmarked marks none (suc i)))) in
+    subst (λ (c : Cut). IsCircuitWith c blif facts tables.flat.now) same ((chain_begins_flat nowhere blif facts tables.flat.now).1 are.flat_is)
 
-  abbrev outputs : List OutputAt
-  outputs = all_outputs cut blif facts
+-- ---- the flat circuit
 
-  abbrev outputs_by : Paired → List OutputAt
-  outputs_by paired =
-      elim paired [ Model m ↦ map (output_at devices outputs p.number) (enumerate_from 0 (driven_pins facts (comparison_of cut.top.design blif cut.top.rules p.at.cell m) p.at)) | _ ↦ [] ]
+module _ (design : Design) (blif : Blif) (rules : Rules) (cell : ℕ) (roles : List PortRole) (facts : List CellFacts) (flat : Circuit) (is : IsWholeGround design blif rules cell roles facts flat) where
+  -- how many nets there are does not depend on roles
+  pub nets_are_few : length (flat_nets (top_before design rules cell)) ≤ 20000
+  nets_are_few =
+      let few : length flat.nets ≤ 20000 = is.ground.formed.net_limit in
+      let nets = ap (λ (ns : List FlatNet). length ns) (flat_parts (whole_of design rules cell roles) flat is.flat_is).nets in
+      let one = nets_counted (top_before design rules cell) in
+      let other = nets_counted (whole_of design rules cell roles) in
+      let same : length (flat_nets (top_before design rules cell)) ≡ length (flat_nets (whole_of design rules cell roles)) = one ∙ sym other in
+      omega (arith, few, nets, same)
 
-  abbrev whole_by : Paired → Option Whole
-  whole_by paired =
-      elim paired [
-        | Model m ↦
-            let j = comparison_of cut.top.design blif cut.top.rules p.at.cell m in
-            Some (made j.model j.pairing.clocked (input_pins j p.at) (map (settled_drive devices outputs) (outputs_by (paired_model cut.top.design blif cut.top.rules p.at.cell))))
-        | _ ↦ None
-      ]
+  none_whole : flat.wholes ≡ []
+  unfolding flat_circuit_of
+  none_whole = ap (λ (x : Circuit). x.wholes) is.flat_is
 
-  whole_is : whole_at cut blif facts p ≡ Some (made k.model k.pairing.clocked (input_pins k p.at) (driven_pins facts k p.at))
-  whole_is =
-      ap whole_by is.paired
-      ∙ ap (λ (pins : List WholePin). Some (made k.model k.pairing.clocked (input_pins k p.at) pins))
-      (ap (λ (paired : Paired). map (settled_drive devices outputs) (outputs_by paired)) is.paired
-      ∙ settled_from devices outputs p.number facts p.at.cell placed.soft 0 0 (pins_of k p.at))
+  pub flat_is_wired : IsWired flat
+  flat_is_wired = flat_wired flat (record { wholes = none_whole; devices = is.ground.formed.devices; holds = is.ground.formed.holds })
 
-  pub whole_at_is : (w : Whole) → w.path ≡ place.path → w.cell ≡ place.cell → w.model ≡ own.model → w.clocked ≡ own.clocked → w.inputs ≡ input_pins k p.at
-      → w.outputs ≡ driven_pins facts k p.at → HasLinks k (pins_of k p.at) w.outputs w.links → IsWholeAt cut blif facts p w
-  whole_at_is w path cell model clocked inputs pins links = record {
-    whole = whole_is ∙ ap Some (sym (same w.path (path_text p.at.path) w.cell p.at.cell w.model k.model w.clocked k.pairing.clocked w.inputs (input_pins k p.at) w.outputs (driven_pins facts k p.at)
-        (path ∙ ap (λ (b : Bare). b.path) placed.shows) (cell ∙ ap (λ (b : Bare). b.cell) placed.shows) (model ∙ is.has.model) (clocked ∙ is.has.clocked) inputs pins));
-    links = λ m paired. subst (λ (n : ℕ). HasLinks (comparison_of cut.top.design blif cut.top.rules p.at.cell n) (pins_of (comparison_of cut.top.design blif cut.top.rules p.at.cell n) p.at) w.outputs w.links)
-        (one_model is.number m (sym is.paired ∙ paired)) links;
-  }
-    where
-      same : (a b : List ℕ) (c d : ℕ) (e f : FlatModel) (g h : List ClockedSignal) (i j x y : List WholePin) → a ≡ b → c ≡ d → e ≡ f → g ≡ h → i ≡ j → x ≡ y
-          → (let one : Whole = record { path = a; cell = c; model = e; clocked = g; inputs = i; outputs = x; links = [] } in one)
-          ≡ (let one : Whole = record { path = b; cell = d; model = f; clocked = h; inputs = j; outputs = y; links = [] } in one)
-      same a b c d e f g h i j x y p1 p2 p3 p4 p5 p6 = cc
+-- ---- where the flat circuit has cycles
 
-      one_model : (m n : ℕ) → Model m ≡ Model n → m ≡ n
-      one_model m n e = cc
+module _ (t : Top) (blif : Blif) (facts : List CellFacts) (flat : Circuit) (is : IsCellGround t blif facts flat) where
+  abbrev alone : Cut
+  alone = record { top = t; choice = λ i. false }
+
+  no_wholes : flat.wholes ≡ []
+  unfolding flat_circuit_of
+  no_wholes = ap (λ (x : Circuit). x.wholes) is.flat_is
+
+  pub cell_is_wired : IsWired flat
+  cell_is_wired = flat_wired flat (record { wholes = no_wholes; devices = is.formed.devices; holds = is.formed.holds })
+
+  -- no instance may be left whole then
+  pub checked_cyclic : ¬ AreAcyclic flat t.rules.phases → (cut : Cut) × (cut.top ≡ t) × IsChecked cut blif facts flat
+  checked_cyclic around = (
+    alone,
+    refl,
+    record {
+      chosen = λ i p there. (
+        λ chosen. absurd (false≢true chosen),
+        λ may. absurd (around (by_place t.rules flat (λ j lt. subst (λ (c : Circuit). IsAcyclic (HasArc c (phase_at t.rules j))) (sym is.flat_is) (may.1.1.flat_acyclic j lt)))),
+      );
+      circuit = (chain_begins_flat alone blif facts flat).1 is.flat_is;
+    },
+  )
+
+-- the ground of a cell, by its flat circuit
+pub cell_ground : (design : Design) (blif : Blif) (rules : Rules) (cell : ℕ) (pairing : Pairing) (facts : List CellFacts) (flat : Circuit) → AreFiles design blif rules → cell < length design.cells
+    → ArePlainFacts design blif rules facts → IsFlatCircuit design rules cell pairing flat → IsCellGround (whole_of design rules cell pairing.ports) blif facts flat
+cell_ground design blif rules cell pairing facts flat files there plain is = record {
+  netlist = record { design = files.netlist; ordered = files.ordered; there = there; ties = ties_same (top_before design rules cell) pairing.ports ∙ is.structured.ties };
+  read = record { names = files.names; models = files.models; valid = files.valid };
+  told = plain.told;
+  soft = plain.soft;
+  formed = is.formed;
+  flat_is = is.is;
+}
+
+pub ground_without : (design : Design) (blif : Blif) (rules : Rules) (cell : ℕ) (roles : List PortRole) (facts : List CellFacts) (flat : Circuit)
+    → IsCellGround (whole_of design rules cell roles) blif facts flat → AreAcyclic flat rules.phases → IsWholeGround design blif rules cell roles facts flat
+ground_without design blif rules cell roles facts flat is free = record {
+  ground = record { netlist = is.netlist; read = is.read; told = is.told; soft = is.soft; formed = is.formed; acyclic = free };
+  flat_is = is.flat_is;
+}
+
+-- ---- the tables
+
+pub tables_of : (design : Design) (blif : Blif) (rules : Rules) (cell : ℕ) (roles : List PortRole) (facts : List CellFacts) (tables : Tables) → IsWholeGround design blif rules cell roles facts tables.flat.now
+    → IsUnrolled (whole_of design rules cell roles) tables.unrolled.now → tables.phases.now ≡ rules.phases → tables.owners.now ≡ device_places (whole_of design rules cell roles)
+    → AreEntriesOf design blif rules facts tables.unrolled.now.places tables.cells.now → AreTables (whole_of design rules cell roles) blif facts tables
+tables_of design blif rules cell roles facts tables is unrolled phases owners entries = record {
+  ground = is.ground;
+  flat_is = is.flat_is;
+  phases_are = sym phases;
+  owners_are = owners;
+  each = entries.each;
+  entered = record {
+    cards = is.ground.netlist.ordered.cards;
+    ties = is.ground.netlist.ties;
+    unrolled_is = unrolled;
+    soft = told_soft facts is.ground.soft;
+    entries = λ place entry among on. entry_of entry place (entries.are place entry among on);
+  };
+}
+  where
+    -- what an entry says does not depend on the checked cell
+    entry_of : (entry : Option WholeCell) (place : Place) → IsEntry (top_before design rules place.cell) blif facts place.cell entry → IsEntry (whole_of design rules cell roles) blif facts place.cell entry
+    entry_of None place is = is
+    entry_of (Some own) place is = record { cell = record { number = is.cell.number; paired = is.cell.paired; has = is.cell.has }; allowed = is.allowed; ports = is.ports }

@@ -1,38 +1,20 @@
-//! Instances that are left whole, for which the models of their cells stand.
+//! Which instances of a cell are left whole: by marks at their places, one instance after the other.
 #![tactic(auto)]
 
-mod acyclic;
-mod assembly;
-mod cell_tests;
-mod copies;
-mod holds;
-mod inside;
-mod instance;
+mod candidate;
+mod checked;
+mod choice;
+mod clocked;
+mod cycles;
 mod laws;
-mod links;
-mod marks;
-mod met;
-mod outputs;
-mod owners;
-mod pins;
-mod shown;
-mod whole_cell;
-mod wholes;
+mod tables;
+mod taken;
+mod trial;
+mod with_tables;
 
-pub use acyclic::are_acyclic;
-pub use assembly::circuit_with;
-pub use cell_tests::{keeps_inputs_free, names_no_global};
-pub use copies::copy_items;
-pub use holds::moved_holds;
-pub use inside::inside_marks;
-pub use instance::whole_at;
-pub use laws::{one_by_one, tests_tell};
-pub use links::whole_links;
-pub use marks::Marks;
-pub use met::met_nets;
-pub use outputs::{NetMarks, are_free};
-pub use owners::device_places;
-pub use pins::{driven_pins, input_pins};
-pub use shown::{shown_devices, shown_instances};
-pub use whole_cell::WholeCell;
-pub use wholes::wholes_of;
+pub use checked::whole;
+pub use laws::{
+    acyclic_is_chosen, front_is_all, marked_is_with_one, one_more_brings_its_own,
+    one_more_is_decided, open_are_allowed, others_are_left_out, outputs_stand_apart, taken_grow,
+};
+pub use with_tables::whole_with;

@@ -19,7 +19,7 @@ use Rattle.placed_cells.proofs.SplitLaws.{places_in_stand_together}
 use Rattle.replaced_instances.proofs.StepOutputs.{one_more_place}
 use Rattle.replaced_instances.proofs.StepPorts.{place_there}
 use Rattle.replaced_instances.specs.Steps.{IsAllowedInstance, IsStepAtGates}
-use Rattle.substitute.proofs.ArcLaws.{acyclic_is}
+use Rattle.whole_circuits.proofs.ArcLaws.{acyclic_is}
 use Rattle.substitution_laws.proofs.ChosenLaws.{tried_steps_are_at_gates}
 use Rattle.substitution_laws.proofs.WholeCells.{whole_chosen}
 use Rattle.substitution_laws.proofs.WholeRanges.{tried_circuits_are_wired}

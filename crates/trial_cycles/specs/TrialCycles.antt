@@ -1,7 +1,7 @@
 -- Instances that are tried together: whether arcs have a cycle is asked once, of the circuit in which all of them are whole.
 use Rattle.std.specs.Prelude.{◌≡◌, ◌↔◌, ℕ, suc, ◌<◌, true, false, List, length}
 use Rattle.replaced_instances.specs.Steps.{IsAllowedInstance}
-use Rattle.substitute.specs.Acyclic.{AreAcyclic}
+use Rattle.whole_circuits.specs.Acyclic.{AreAcyclic}
 use Rattle.substitution_laws.specs.Chosen.{IsSoftTrial}
 use Rattle.vrt_model.specs.Checked.{HasArcWith, IsChoice, IsCircuitWith, MayBeWhole, before}
 use Rattle.vrt_model.specs.Circuits.{IsCircuit}

@@ -14,8 +14,8 @@ use Rattle.net_places.specs.declared.whole.Unrolled.{Unrolled}
 use Rattle.phase_ports.specs.Ports.{unnamed}
 use Rattle.phase_ports.specs.declared.port_list.Port.{Port}
 use Rattle.placed_cells.proofs.TieLaws.{instances_are_tied}
-use Rattle.substitute.specs.WholeCells.{IsPlacedWhole, IsWholeCell}
-use Rattle.substitute.specs.declared.whole_cell.WholeCell.{WholeCell}
+use Rattle.whole_circuits.specs.WholeCells.{IsPlacedWhole, IsWholeCell}
+use Rattle.whole_circuits.specs.declared.whole_cell.WholeCell.{WholeCell}
 use Rattle.vrt_model.proofs.Filtered.{filter_among}
 use Rattle.vrt_model.proofs.Lists.{at_there, map_at, one_at}
 use Rattle.vrt_model.specs.Checked.{has_fact, keeps_inputs_free, names_no_global, observes_outputs}

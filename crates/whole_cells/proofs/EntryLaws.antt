@@ -7,9 +7,9 @@ use Rattle.phase_ports.proofs.RangeLaws.{ports_below}
 use Rattle.phase_ports.specs.Comparisons.{AreMarksOf, ArePortsWithin, IsOfCell}
 use Rattle.phase_ports.specs.Ports.{next_by, ports_by, supply_bit, unnamed}
 use Rattle.phase_ports.specs.declared.port_list.Port.{Port}
-use Rattle.substitute.proofs.FlatLaws.{flat_parts}
-use Rattle.substitute.specs.WholeCells.{HasWholeCell}
-use Rattle.substitute.specs.declared.whole_cell.WholeCell.{WholeCell}
+use Rattle.whole_circuits.proofs.FlatLaws.{flat_parts}
+use Rattle.whole_circuits.specs.WholeCells.{HasWholeCell}
+use Rattle.whole_circuits.specs.declared.whole_cell.WholeCell.{WholeCell}
 use Rattle.vrt_model.specs.Checked.{has_fact, is_cell_allowed, keeps_inputs_free, names_no_global, observes_outputs}
 use Rattle.vrt_model.specs.Comparison.{Comparison, cell_at, port_nets, ports_from, ports_of}
 use Rattle.vrt_model.specs.FlatCircuit.{flat_circuit}

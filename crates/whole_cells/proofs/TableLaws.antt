@@ -1,7 +1,7 @@
 -- The entry of one cell more.
 use Rattle.std.proofs.Common.{◌≡◌, ℕ, ◌+◌, true, List, [], ◌∷◌, ◌++◌, Option, ap, refl, subst, sym, ◌∙◌, inl, inr, length-append}
 use Rattle.std.proofs.lemmas.Option.{none-some}
-use Rattle.substitute.specs.declared.whole_cell.WholeCell.{WholeCell}
+use Rattle.whole_circuits.specs.declared.whole_cell.WholeCell.{WholeCell}
 use Rattle.vrt_model.specs.Lists.{mark_at}
 use Rattle.vrt_model.specs.Unsupported.{top_before}
 use Rattle.vrt_model.specs.declared.blif.Blif.{Blif}

@@ -5,8 +5,8 @@ use Rattle.formed_cells.specs.Formed.{AreRead}
 use Rattle.net_places.specs.Links.{IsUnrolled}
 use Rattle.net_places.specs.declared.places.Place.{Place}
 use Rattle.net_places.specs.declared.whole.Unrolled.{Unrolled}
-use Rattle.substitute.specs.WholeCells.{AreWholeCells}
-use Rattle.substitute.specs.declared.whole_cell.WholeCell.{WholeCell}
+use Rattle.whole_circuits.specs.WholeCells.{AreWholeCells}
+use Rattle.whole_circuits.specs.declared.whole_cell.WholeCell.{WholeCell}
 use Rattle.vrt_model.specs.Cut.{Cut}
 use Rattle.vrt_model.specs.Facts.{IsTrueOf}
 use Rattle.vrt_model.specs.Hierarchy.{bad_card}

@@ -1,7 +1,7 @@
 -- Which cells may have instances that are left whole, and what their instances have in common.
 use Rattle.std.specs.Prelude.{◌≡◌, ℕ, true, List, length, Option, Some, None}
-use Rattle.substitute.specs.WholeCells.{IsWholeCell}
-use Rattle.substitute.specs.declared.whole_cell.WholeCell.{WholeCell}
+use Rattle.whole_circuits.specs.WholeCells.{IsWholeCell}
+use Rattle.whole_circuits.specs.declared.whole_cell.WholeCell.{WholeCell}
 use Rattle.vrt_model.specs.Checked.{is_cell_allowed}
 use Rattle.vrt_model.specs.Comparison.{Comparison, cell_at}
 use Rattle.vrt_model.specs.PairedPorts.{Model, paired_model}

@@ -7,7 +7,7 @@ ghost use Rattle.phase_ports.specs.Comparisons.{ArePortsWithin, IsOfCell};
 ghost use Rattle.phase_ports.specs.Ports.{unnamed};
 ghost use Rattle.prepared_tables.specs.Prepared.{ArePrepared};
 ghost use Rattle.rule_index.specs.Tables.{AreRuleTables};
-ghost use Rattle.substitute.specs.WholeCells.{HasWholeCell};
+ghost use Rattle.whole_circuits.specs.WholeCells.{HasWholeCell};
 ghost use Rattle.vrt_model.specs.Checked.{has_fact, keeps_inputs_free as keeps, names_no_global as names_none, observes_outputs as observes};
 ghost use Rattle.vrt_model.specs.Circuits.{IsCircuit, IsFlat};
 ghost use Rattle.vrt_model.specs.Comparison.{Comparison, cell_at, ports_of};
@@ -29,8 +29,8 @@ use phase_ports::{Port, observed_nets, ports_by};
 use prepared_tables::{Prepared, model_of_with};
 use rule_index::RuleIndex;
 use std::alloc::Global;
-use substitute::{WholeCell, copy_items, keeps_inputs_free, names_no_global};
 use vrt_model::{Blif, CellFacts, Circuit, Design, NoMemory, Rules};
+use whole_circuits::{WholeCell, copy_items, keeps_inputs_free, names_no_global};
 
 /// Whether a cell and the cells in it name no global net.
 fn names_none(

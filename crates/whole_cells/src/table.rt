@@ -14,8 +14,8 @@ use known_nets::{is_marked, no_marks};
 use net_places::Place;
 use prepared_tables::Prepared;
 use std::alloc::Global;
-use substitute::WholeCell;
 use vrt_model::{Blif, CellFacts, Design, NoMemory, Rules};
+use whole_circuits::WholeCell;
 
 /// Marks a cell, if it is one of those with marks.
 fn mark(used: &mut Vec<bool>, cell: usize)

@@ -1,6 +1,6 @@
 use Rattle.std.proofs.Common.{◌≡◌, ◌&&◌, List, Option, true, sym, ◌∙◌}
 use Rattle.std.proofs.lemmas.Result.{IfOk-weaker}
-use Rattle.substitute.specs.declared.whole_cell.WholeCell.{WholeCell}
+use Rattle.whole_circuits.specs.declared.whole_cell.WholeCell.{WholeCell}
 use Rattle.vrt_model.specs.Checked.{has_fact}
 use Rattle.vrt_model.specs.PairedPorts.{paired_model}
 use Rattle.vrt_model.specs.Unsupported.{top_before}

@@ -1,5 +1,5 @@
 use Rattle.std.proofs.Common.{◌≡◌, ◌+◌, ℕ, List, Option, length, arith, subst, sym}
-use Rattle.substitute.specs.declared.whole_cell.WholeCell.{WholeCell}
+use Rattle.whole_circuits.specs.declared.whole_cell.WholeCell.{WholeCell}
 use Rattle.whole_cells.proofs.TableLaws.{no_entries, one_entry}
 use Rattle.whole_cells.specs.Table.{AreEntries}
 use Rattle.whole_cells.proofs.table.whole_cells.Goals as goal

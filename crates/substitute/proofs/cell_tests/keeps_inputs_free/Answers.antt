@@ -1,6 +1,0 @@
-use Rattle.std.proofs.Common.{◌∙◌}
-use Rattle.substitute.proofs.CellLaws.{ports_are_free}
-use Rattle.substitute.proofs.cell_tests.keeps_inputs_free.Goals as goal
-
-pub returns : goal.returns
-returns c k circuit ports = c.are_ports_free.ensures ∙ ports_are_free k c.args.circuit.now c.as_slice.result.now c.args.ports.now circuit c.as_slice.ensures ports

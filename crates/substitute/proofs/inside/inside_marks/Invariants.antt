@@ -1,8 +1,0 @@
-use Rattle.std.proofs.Common.{◌≡◌, length}
-use Rattle.substitute.specs.Insides.{AreInsideMarks, IsCutAt}
-use Rattle.vrt_model.specs.Cut.{Cut}
-use Rattle.substitute.proofs.inside.inside_marks.Given as goal
-
--- the places so far have their marks
-abbrev pub invariant-loop-at : goal.invariant-loop-at
-invariant-loop-at l = (length l.inside.items ≡ l.at) × ((cut : Cut) → IsCutAt cut l.unrolled l.whole → AreInsideMarks cut l.inside.items)

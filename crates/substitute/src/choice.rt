@@ -1,0 +1,232 @@
+//! The instances of a cell that are left whole, tried one after the other.
+
+ghost use Rattle.std.specs.Prelude.{◌≡◌, ◌<◌, ◌+◌, ◌||◌, ◌==◌, ℕ, suc, List, Option, Bool, false, All, length, replicate, IfOk, OnOk};
+ghost use Rattle.std.specs.Option.{option_copied};
+ghost use Rattle.known_nets.specs.Incidence.{AreHeldMarks};
+ghost use Rattle.known_nets.specs.Wired.{IsWired};
+ghost use Rattle.net_places.specs.Instances.{AreSmall};
+ghost use Rattle.whole_circuits.specs.Insides.{IsCutAt};
+ghost use Rattle.whole_circuits.specs.declared.whole_cell.WholeCell.{WholeCell as CellValue};
+ghost use Rattle.vrt_model.specs.Circuits.{IsHold};
+ghost use Rattle.vrt_model.specs.Cut.{Cut, is_inside_whole};
+ghost use Rattle.vrt_model.specs.Lists.{At, mark_at};
+ghost use Rattle.vrt_model.specs.Unrolled.{Place as FlatPlace, Top, all_places};
+ghost use Rattle.vrt_model.specs.declared.blif.Blif.{Blif as BlifValue};
+ghost use Rattle.vrt_model.specs.declared.whole.CellFacts.{CellFacts as FactsValue};
+ghost use Rattle.vrt_model.specs.declared.whole.WholePin.{WholePin as PinValue};
+ghost use Rattle.substitute.specs.Chosen.{IsRightly, cut_of};
+ghost use Rattle.substitute.specs.Taken.{has_pin};
+ghost use Rattle.substitute.specs.Underway.{AreChosen, AreChosenBelow, AreTables, HasEntry, IsNextTrial, IsOutside};
+
+use crate::candidate::passes;
+use crate::tables::Tables;
+use crate::taken::{mark, take_outputs};
+use crate::trial::{copy_marks, marks_with};
+use known_nets::{held_nets, is_marked, no_marks};
+use net_places::{Place, Unrolled};
+use std::alloc::Global;
+use vrt_model::{NoMemory, WholePin};
+use whole_circuits::{NetMarks, WholeCell, driven_pins, inside_marks};
+
+/// The instances that are chosen so far.
+pub struct Chosen {
+    /// A mark for each place, set where a chosen instance stands.
+    pub whole: Vec<bool>,
+    /// Which nets have holds or outputs of chosen instances, and which channels met at the last trial.
+    pub nets: NetMarks,
+}
+
+/// By hand, so that letting go of them is a call.
+impl Drop for Chosen {
+    fn drop(self) {
+        let Chosen {
+            whole: _whole,
+            nets: _nets,
+        } = self;
+    }
+}
+
+/// No marks at the nets but those of holds.
+fn bare_nets(alloc: Global, tables: Tables<'_>) -> Result<NetMarks, NoMemory>
+    requires { IsWired tables.flat.now }
+    ensures held { IfOk result (λ nets. AreHeldMarks tables.entry.flat.now nets.held.items) }
+    ensures taken { IfOk result (λ nets. nets.taken.items ≡ replicate (length tables.entry.flat.now.nets) false) }
+{
+    let taken = no_marks(alloc, tables.flat.nets.len())?;
+    let held = held_nets(alloc, tables.flat)?;
+    let met = Vec::new(alloc);
+    Ok(NetMarks { held, met, taken })
+}
+
+/// No instance is chosen.
+fn none_chosen(alloc: Global, tables: Tables<'_>) -> Result<Chosen, NoMemory>
+    requires { IsWired tables.flat.now }
+    ensures { IfOk result (λ chosen. (asked : Bool) (t : Top) (blif : BlifValue) (facts : List FactsValue) → AreTables t blif facts tables.entry → AreChosen asked t blif facts tables.entry 0 chosen) }
+{
+    let whole = no_marks(alloc, tables.unrolled.places.len())?;
+    let nets = bare_nets(alloc, tables)?;
+    Ok(Chosen { whole, nets })
+}
+
+/// The place with a number.
+fn place_at(unrolled: &Unrolled, at: usize) -> &Place
+    requires { at < length unrolled.now.places }
+    ensures { At unrolled.entry.now.places at result.now }
+{
+    &unrolled.places.as_slice()[at]
+}
+
+/// What the instances of a cell have in common, if they may be left whole.
+fn entry_of(cells: &[Option<WholeCell>], cell: usize) -> Option<&WholeCell>
+    ensures { (entry : Option CellValue) → At cells.entry.now cell entry → option_copied result ≡ entry }
+{
+    match cells.get(cell) {
+        Some(Some(own)) => Some(own),
+        Some(None) => None,
+        None => None,
+    }
+}
+
+/// Whether a place is inside an instance that is chosen.
+fn is_inside(
+    alloc: Global,
+    unrolled: &Unrolled,
+    whole: &[bool],
+    at: usize,
+) -> Result<bool, NoMemory>
+    requires { at < length unrolled.now.places }
+    ensures { IfOk result (λ inside. (cut : Cut) (p : FlatPlace) → IsCutAt cut unrolled.now whole.now → At (all_places cut.top) at p → inside ≡ is_inside_whole cut p) }
+{
+    let marks = inside_marks(alloc, unrolled, whole)?;
+    Ok(is_marked(marks.as_slice(), at))
+}
+
+/// A copy of marks with one more.
+fn with_mark(alloc: Global, whole: &[bool], at: usize) -> Result<Vec<bool>, NoMemory>
+    requires { at < length whole.now }
+    ensures { IfOk result (λ marks. (n : ℕ) → mark_at marks.items n ≡ (mark_at whole.now n || at == n)) }
+{
+    let mut marks = copy_marks(alloc, whole)?;
+    mark(&mut marks, at);
+    Ok(marks)
+}
+
+/// Whether an instance that is tried, of these output pins, is rightly chosen besides those that are. What channels meet then is noted.
+fn is_right(
+    alloc: Global,
+    asked: bool,
+    tables: Tables<'_>,
+    at: usize,
+    chosen: &mut Chosen,
+    pins: &[WholePin],
+) -> Result<bool, NoMemory>
+    requires holds { All (IsHold tables.flat.now) tables.flat.now.holds }
+    requires small { AreSmall tables.unrolled.now.places }
+    requires trial { (t : Top) × (blif : BlifValue) × (facts : List FactsValue) × (i : ℕ) × (own : CellValue) × (at ≡ suc i) × IsNextTrial asked t blif facts tables i chosen.old own pins.now }
+    ensures whole { chosen.new.whole ≡ chosen.old.whole }
+    ensures held { chosen.new.nets.held ≡ chosen.old.nets.held }
+    ensures taken { chosen.new.nets.taken ≡ chosen.old.nets.taken }
+    ensures right { IfOk result (λ right. (t : Top) (blif : BlifValue) (facts : List FactsValue) (i : ℕ) (own : CellValue) → at ≡ suc i → IsNextTrial asked t blif facts tables.entry i chosen.old own pins.now → IsRightly asked (cut_of t chosen.old.whole.items) blif facts i right) }
+{
+    let with = with_mark(alloc, chosen.whole.as_slice(), at)?;
+    let marks = marks_with(alloc, tables.unrolled, with.as_slice())?;
+    passes(alloc, asked, tables, &marks, &mut chosen.nets, pins)
+}
+
+/// Chooses the instance at a place, of these output pins.
+fn choose(chosen: &mut Chosen, at: usize, pins: &[WholePin])
+    requires there { at < length chosen.old.whole.items }
+    requires nets { All (λ (p : PinValue). p.net.0 < length chosen.old.nets.taken.items) pins.now }
+    ensures each { length chosen.new.whole.items ≡ length chosen.old.whole.items }
+    ensures whole { (n : ℕ) → mark_at chosen.new.whole.items n ≡ (mark_at chosen.old.whole.items n || at == n) }
+    ensures held { chosen.new.nets.held ≡ chosen.old.nets.held }
+    ensures room { length chosen.new.nets.taken.items ≡ length chosen.old.nets.taken.items }
+    ensures taken { (n : ℕ) → mark_at chosen.new.nets.taken.items n ≡ (mark_at chosen.old.nets.taken.items n || has_pin n pins.now) }
+{
+    mark(&mut chosen.whole, at);
+    take_outputs(&mut chosen.nets.taken, pins);
+}
+
+/// Tries the instance at a place, of a cell whose instances may be left whole, that is outside the chosen ones.
+fn try_outside(
+    alloc: Global,
+    asked: bool,
+    tables: Tables<'_>,
+    at: usize,
+    own: &WholeCell,
+    chosen: &mut Chosen,
+) -> Result<(), NoMemory>
+    requires holds { All (IsHold tables.flat.now) tables.flat.now.holds }
+    requires small { AreSmall tables.unrolled.now.places }
+    requires there { at < length tables.unrolled.now.places }
+    requires outside { (t : Top) × (blif : BlifValue) × (facts : List FactsValue) × (i : ℕ) × (at ≡ suc i) × IsOutside asked t blif facts tables i chosen.old own.now }
+    ensures { OnOk result ((t : Top) (blif : BlifValue) (facts : List FactsValue) (i : ℕ) → at ≡ suc i → IsOutside asked t blif facts tables.entry i chosen.old own.now → AreChosen asked t blif facts tables.entry (suc i) chosen.new) }
+{
+    let nets = place_at(tables.unrolled, at).ports.as_slice();
+    let pins = driven_pins(alloc, own.ports.as_slice(), nets, &[])?;
+    let right = is_right(alloc, asked, tables, at, chosen, pins.as_slice())?;
+    if right {
+        choose(chosen, at, pins.as_slice());
+    }
+    Ok(())
+}
+
+/// Tries the instance at a place, of a cell whose instances may be left whole.
+fn try_whole(
+    alloc: Global,
+    asked: bool,
+    tables: Tables<'_>,
+    at: usize,
+    own: &WholeCell,
+    chosen: &mut Chosen,
+) -> Result<(), NoMemory>
+    requires holds { All (IsHold tables.flat.now) tables.flat.now.holds }
+    requires small { AreSmall tables.unrolled.now.places }
+    requires there { at < length tables.unrolled.now.places }
+    requires chosen { (t : Top) × (blif : BlifValue) × (facts : List FactsValue) × (i : ℕ) × (at ≡ suc i) × HasEntry asked t blif facts tables i chosen.old own.now }
+    ensures { OnOk result ((t : Top) (blif : BlifValue) (facts : List FactsValue) (i : ℕ) → at ≡ suc i → HasEntry asked t blif facts tables.entry i chosen.old own.now → AreChosen asked t blif facts tables.entry (suc i) chosen.new) }
+{
+    let inside = is_inside(alloc, tables.unrolled, chosen.whole.as_slice(), at)?;
+    if inside {
+        return Ok(());
+    }
+    try_outside(alloc, asked, tables, at, own, chosen)
+}
+
+/// Tries the instance at a place.
+fn try_instance(
+    alloc: Global,
+    asked: bool,
+    tables: Tables<'_>,
+    at: usize,
+    chosen: &mut Chosen,
+) -> Result<(), NoMemory>
+    requires holds { All (IsHold tables.flat.now) tables.flat.now.holds }
+    requires small { AreSmall tables.unrolled.now.places }
+    requires there { (0 < at) × (at < length tables.unrolled.now.places) }
+    requires chosen { (t : Top) × (blif : BlifValue) × (facts : List FactsValue) × AreChosenBelow asked t blif facts tables at chosen.old }
+    ensures { OnOk result ((t : Top) (blif : BlifValue) (facts : List FactsValue) → AreChosenBelow asked t blif facts tables.entry at chosen.old → AreChosenBelow asked t blif facts tables.entry (at + 1) chosen.new) }
+{
+    let cell = place_at(tables.unrolled, at).cell;
+    match entry_of(tables.cells, cell) {
+        Some(own) => try_whole(alloc, asked, tables, at, own, chosen),
+        None => Ok(()),
+    }
+}
+
+/// The instances that are chosen, tried in the order of their places: each that is outside those chosen before it, of a cell whose
+/// instances may be left whole, with outputs that meet gates alone, and, where cycles are asked for, by which no arc leads around.
+/// Each trial takes time in proportion to the flat circuit.
+pub fn choose_all(alloc: Global, asked: bool, tables: Tables<'_>) -> Result<Chosen, NoMemory>
+    requires holds { All (IsHold tables.flat.now) tables.flat.now.holds }
+    requires wired { IsWired tables.flat.now }
+    requires small { AreSmall tables.unrolled.now.places }
+    requires tables { (t : Top) × (blif : BlifValue) × (facts : List FactsValue) × AreTables t blif facts tables }
+    ensures { IfOk result (λ chosen. (t : Top) (blif : BlifValue) (facts : List FactsValue) → AreTables t blif facts tables.entry → AreChosenBelow asked t blif facts tables.entry (length tables.entry.unrolled.now.places) chosen) }
+{
+    let mut chosen = none_chosen(alloc, tables)?;
+    for at in 1..tables.unrolled.places.len() {
+        try_instance(alloc, asked, tables, at, &mut chosen)?;
+    }
+    Ok(chosen)
+}

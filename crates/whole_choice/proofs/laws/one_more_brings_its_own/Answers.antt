@@ -1,5 +1,0 @@
-use Rattle.whole_choice.proofs.ChosenLaws.{one_more_brings_its_own}
-use Rattle.whole_choice.proofs.laws.one_more_brings_its_own.Goals as goal
-
-pub returns : goal.returns
-returns c = one_more_brings_its_own

@@ -1,5 +1,0 @@
-use Rattle.whole_choice.proofs.ChosenLaws.{one_more_is_decided}
-use Rattle.whole_choice.proofs.laws.one_more_is_decided.Goals as goal
-
-pub returns : goal.returns
-returns c = one_more_is_decided

@@ -1,5 +1,0 @@
-use Rattle.whole_choice.proofs.ChosenLaws.{outputs_stand_apart}
-use Rattle.whole_choice.proofs.laws.outputs_stand_apart.Goals as goal
-
-pub returns : goal.returns
-returns c = outputs_stand_apart

@@ -1,0 +1,14 @@
+pub mod ArcLaws
+pub mod CellLaws
+pub mod ChosenLaws
+pub mod FlatLaws
+pub mod HoldLaws
+pub mod InsideLaws
+pub mod LinkLaws
+pub mod ListLaws
+pub mod OutputLaws
+pub mod PinLaws
+pub mod ShownLaws
+pub mod StepLaws
+pub mod WholeLaws
+pub mod ZipLaws

@@ -1,0 +1,11 @@
+pub mod Acyclic
+pub mod CellTests
+pub mod Chosen
+pub mod Insides
+pub mod Links
+pub mod MovedHolds
+pub mod Outputs
+pub mod Pins
+pub mod Shown
+pub mod Steps
+pub mod WholeCells

@@ -1,0 +1,53 @@
+//! An instance that is left whole.
+
+ghost use Rattle.std.specs.Prelude.{◌≡◌, ◌<◌, ◌^◌, IfOk, List};
+ghost use Rattle.whole_circuits.specs.WholeCells.{IsPlacedWhole, IsWholeCell};
+ghost use Rattle.vrt_model.specs.Cut.{Cut, NumberedPlace};
+ghost use Rattle.vrt_model.specs.WholeInstances.{IsWholeAt};
+ghost use Rattle.vrt_model.specs.declared.blif.Blif.{Blif as BlifValue};
+ghost use Rattle.vrt_model.specs.declared.whole.CellFacts.{CellFacts as FactsValue};
+
+use crate::copies::{copy_items, copy_model};
+use crate::links::whole_links;
+use crate::pins::{driven_pins, input_pins};
+use crate::whole_cell::WholeCell;
+use net_places::Place;
+use std::alloc::Global;
+use vrt_model::{NoMemory, Phase, Text, Whole};
+
+/// The instance at a place as a whole one, whose outputs meet gates alone: its pins are at the nets to which the place ties
+/// the ports of the cell, its outputs are soft, and its links are those of the cell.
+pub fn whole_at(
+    alloc: Global,
+    phases: &[Phase],
+    own: &WholeCell,
+    place: &Place,
+) -> Result<Whole, NoMemory>
+    requires { place.now.cell < 2 ^ 32 }
+    ensures { IfOk result (λ whole. (cut : Cut) (blif : BlifValue) (facts : List FactsValue) (p : NumberedPlace) → cut.top.rules.phases ≡ phases.now → IsWholeCell cut.top blif p.at.cell own.now → IsPlacedWhole cut.top blif facts p place.now → IsWholeAt cut blif facts p whole) }
+{
+    let nets = place.ports.as_slice();
+    let ports = own.ports.as_slice();
+    let inputs = input_pins(alloc, ports, nets, own.observed.as_slice())?;
+    let outputs = driven_pins(alloc, ports, nets, &[])?;
+    let links = whole_links(
+        alloc,
+        phases,
+        ports,
+        nets,
+        outputs.as_slice(),
+        own.links.as_slice(),
+    )?;
+    let path = Text::from_bytes(alloc, place.path.as_bytes())?;
+    let clocked = copy_items(alloc, own.clocked.as_slice())?;
+    let model = copy_model(alloc, &own.model)?;
+    Ok(Whole {
+        path,
+        cell: place.cell as u32,
+        model,
+        clocked,
+        inputs,
+        outputs,
+        links,
+    })
+}

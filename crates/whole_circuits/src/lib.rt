@@ -1,0 +1,38 @@
+//! Instances that are left whole, for which the models of their cells stand.
+#![tactic(auto)]
+
+mod acyclic;
+mod assembly;
+mod cell_tests;
+mod copies;
+mod holds;
+mod inside;
+mod instance;
+mod laws;
+mod links;
+mod marks;
+mod met;
+mod outputs;
+mod owners;
+mod pins;
+mod shown;
+mod whole_cell;
+mod wholes;
+
+pub use acyclic::are_acyclic;
+pub use assembly::circuit_with;
+pub use cell_tests::{keeps_inputs_free, names_no_global};
+pub use copies::copy_items;
+pub use holds::moved_holds;
+pub use inside::inside_marks;
+pub use instance::whole_at;
+pub use laws::{one_by_one, tests_tell};
+pub use links::whole_links;
+pub use marks::Marks;
+pub use met::met_nets;
+pub use outputs::{NetMarks, are_free};
+pub use owners::device_places;
+pub use pins::{driven_pins, input_pins};
+pub use shown::{shown_devices, shown_instances};
+pub use whole_cell::WholeCell;
+pub use wholes::wholes_of;
