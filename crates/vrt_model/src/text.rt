@@ -1,28 +1,164 @@
 //! A list of bytes.
 
-ghost use Rattle.std.specs.Prelude.{◌≡◌, ◌==◌, List, ℕ, [], ◌∷◌, ◌++◌, length, MatchResult, IfOk};
+ghost use Rattle.std.specs.Prelude.{◌≡◌, ◌==◌, List, ℕ, [], ◌∷◌, ◌++◌, ◌+◌, ◌≤◌, length, take, if◌then◌else◌, MatchResult, IfOk};
+ghost use Rattle.vrt_model.specs.Texts.{bytes_of};
 
 use crate::NoMemory;
 use std::alloc::Global;
+use std::fmt;
 use std::marker::Model;
 
-/// A name or a line, as the bytes of a file. Nothing says that they are UTF-8.
-#[derive(Debug)]
+/// A few bytes, kept in an array.
+#[derive(Clone, Copy)]
+struct Few {
+    /// How many bytes of the array count.
+    count: u8,
+    /// The bytes, and any behind them.
+    room: [u8; 14],
+}
+
+/// Bytes: a few, or as many as there are in a list of their own.
+#[derive(Drop)]
+enum Bytes {
+    /// A few bytes.
+    Short(Few),
+    /// As many as there are.
+    Long(Box<Vec<u8>>),
+}
+
+/// A name or a line, as the bytes of a file. Nothing says that they are UTF-8. Up to 14 take no memory of their own.
 pub struct Text {
-    bytes: Vec<u8>,
+    alloc: Global,
+    bytes: Bytes,
 }
 
 /// By hand, so that letting go of one is a call.
 impl Drop for Text {
     fn drop(self) {
-        let Text { bytes: _bytes } = self;
+        let Text {
+            alloc: _alloc,
+            bytes: _bytes,
+        } = self;
     }
 }
 
+const _: () = prove!(size_of::<Text>() == 16);
+
 impl Model for Text {
+    ghost use Rattle.std.specs.Prelude.{ℕ, List};
+    ghost use Rattle.vrt_model.specs.Texts.{bytes_of};
+
     ghost Value = { List ℕ };
 
-    ghost view = { λ t. t.bytes.items };
+    ghost view = { λ t. bytes_of t.bytes };
+}
+
+/// Two short lists of bytes behind each other, with zeros behind them.
+fn filled(first: &[u8], second: &[u8]) -> [u8; 14]
+    requires { length first.now + length second.now ≤ 14 }
+    ensures { take (length first.now + length second.now) result ≡ first.now ++ second.now }
+{
+    let mut room = [0; 14];
+    for at in 0..first.len() {
+        room[at] = first[at];
+    }
+    for place in 0..second.len() {
+        room[first.len() + place] = second[place];
+    }
+    room
+}
+
+/// Two lists of bytes behind each other, in a list of their own.
+fn long(alloc: Global, first: &[u8], second: &[u8]) -> Result<Bytes, NoMemory>
+    ensures { IfOk result (λ made. bytes_of made ≡ first.now ++ second.now) }
+{
+    let Ok(mut bytes) = Vec::from_slice(alloc, first) else {
+        return Err(NoMemory);
+    };
+    if bytes.extend_from_slice(second).is_err() {
+        return Err(NoMemory);
+    }
+    match Box::new(alloc, bytes) {
+        Ok(bytes) => Ok(Bytes::Long(bytes)),
+        Err(_) => Err(NoMemory),
+    }
+}
+
+/// Two lists of bytes behind each other.
+fn joined(alloc: Global, first: &[u8], second: &[u8]) -> Result<Bytes, NoMemory>
+    ensures { IfOk result (λ made. bytes_of made ≡ first.now ++ second.now) }
+{
+    if first.len() + second.len() <= 14 {
+        let count = (first.len() + second.len()) as u8;
+        return Ok(Bytes::Short(Few {
+            count,
+            room: filled(first, second),
+        }));
+    }
+    long(alloc, first, second)
+}
+
+impl Few {
+    fn as_slice(&self) -> &[u8]
+        ensures { result.now ≡ take self.now.count self.now.room }
+    {
+        let bytes = self.room.as_slice();
+        let count = self.count as usize;
+        if count < bytes.len() {
+            &bytes[..count]
+        } else {
+            bytes
+        }
+    }
+
+    /// Adds a byte where there is room for it.
+    fn push(&mut self, item: u8) -> bool
+        ensures { take self.new.count self.new.room ≡ (if result then take self.old.count self.old.room ++ item ∷ [] else take self.old.count self.old.room) }
+    {
+        if self.count >= 14 {
+            return false;
+        }
+        self.room[self.count as usize] = item;
+        self.count += 1;
+        true
+    }
+}
+
+impl Bytes {
+    fn as_slice(&self) -> &[u8]
+        ensures { result.now ≡ bytes_of self.now }
+    {
+        match self {
+            Bytes::Short(few) => few.as_slice(),
+            Bytes::Long(bytes) => bytes.as_slice(),
+        }
+    }
+
+    /// Adds a byte. False where a short list has no room.
+    fn push(&mut self, item: u8) -> Result<bool, NoMemory>
+        ensures { MatchResult result (λ fits. bytes_of self.new ≡ (if fits then bytes_of self.old ++ item ∷ [] else bytes_of self.old)) (λ _. bytes_of self.new ≡ bytes_of self.old) }
+    {
+        match self {
+            Bytes::Short(few) => Ok(few.push(item)),
+            Bytes::Long(bytes) => match bytes.push(item) {
+                Ok(()) => Ok(true),
+                Err(_) => Err(NoMemory),
+            },
+        }
+    }
+
+    /// Adds bytes to a long list. False for a short one, which is as it was.
+    fn extend(&mut self, more: &[u8]) -> Result<bool, NoMemory>
+        ensures { MatchResult result (λ fits. bytes_of self.new ≡ (if fits then bytes_of self.old ++ more.now else bytes_of self.old)) (λ _. bytes_of self.new ≡ bytes_of self.old) }
+    {
+        match self {
+            Bytes::Short(_) => Ok(false),
+            Bytes::Long(bytes) => match bytes.extend_from_slice(more) {
+                Ok(()) => Ok(true),
+                Err(_) => Err(NoMemory),
+            },
+        }
+    }
 }
 
 impl Text {
@@ -31,7 +167,11 @@ impl Text {
         ensures { result ≡ [] }
     {
         Text {
-            bytes: Vec::new(alloc),
+            alloc,
+            bytes: Bytes::Short(Few {
+                count: 0,
+                room: [0; 14],
+            }),
         }
     }
 
@@ -39,24 +179,31 @@ impl Text {
     pub fn from_bytes(alloc: Global, bytes: &[u8]) -> Result<Self, NoMemory>
         ensures { IfOk result (λ t. t ≡ bytes.now) }
     {
-        match Vec::from_slice(alloc, bytes) {
-            Ok(bytes) => Ok(Text { bytes }),
-            Err(_) => Err(NoMemory),
-        }
+        let bytes = joined(alloc, bytes, &[])?;
+        Ok(Text { alloc, bytes })
     }
 
     /// How many bytes there are.
     pub fn len(&self) -> usize
         ensures { result ≡ length self.now }
     {
-        self.bytes.len()
+        self.as_bytes().len()
     }
 
     /// Whether there is no byte.
     pub fn is_empty(&self) -> bool
         ensures { result ≡ (length self.now == 0) }
     {
-        self.bytes.is_empty()
+        self.as_bytes().is_empty()
+    }
+
+    /// Adds bytes that have no room in a short list. Where memory is wanting, the text is as it was.
+    fn grow(&mut self, more: &[u8]) -> Result<(), NoMemory>
+        ensures { MatchResult result (λ _. self.new ≡ self.old ++ more.now) (λ _. self.new ≡ self.old) }
+    {
+        let made = joined(self.alloc, self.bytes.as_slice(), more)?;
+        self.bytes = made;
+        Ok(())
     }
 
     /// Adds a byte at the end. Where memory is wanting, the byte comes back and the text is as it was.
@@ -64,8 +211,12 @@ impl Text {
         ensures { MatchResult result (λ _. self.new ≡ self.old ++ item ∷ []) (λ e. (self.new ≡ self.old) × (e.0 ≡ item)) }
     {
         match self.bytes.push(item) {
-            Ok(()) => Ok(()),
-            Err(refused) => Err((refused.value, NoMemory)),
+            Ok(true) => Ok(()),
+            Ok(false) => match self.grow(&[item]) {
+                Ok(()) => Ok(()),
+                Err(_) => Err((item, NoMemory)),
+            },
+            Err(_) => Err((item, NoMemory)),
         }
     }
 
@@ -73,8 +224,9 @@ impl Text {
     pub fn extend(&mut self, bytes: &[u8]) -> Result<(), NoMemory>
         ensures { MatchResult result (λ _. self.new ≡ self.old ++ bytes.now) (λ _. self.new ≡ self.old) }
     {
-        match self.bytes.extend_from_slice(bytes) {
-            Ok(()) => Ok(()),
+        match self.bytes.extend(bytes) {
+            Ok(true) => Ok(()),
+            Ok(false) => self.grow(bytes),
             Err(_) => Err(NoMemory),
         }
     }
@@ -84,5 +236,14 @@ impl Text {
         ensures { result.now ≡ self.now }
     {
         self.bytes.as_slice()
+    }
+}
+
+/// As a struct with a list of its bytes.
+impl fmt::Debug for Text {
+    fn fmt<W: fmt::Write>(&self, f: &mut fmt::Formatter<W>) -> fmt::Result {
+        f.debug_struct("Text")
+            .field("bytes", &self.as_bytes())
+            .finish()
     }
 }
