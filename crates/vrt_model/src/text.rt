@@ -99,6 +99,7 @@ fn joined(alloc: Global, first: &[u8], second: &[u8]) -> Result<Bytes, NoMemory>
 }
 
 impl Few {
+    #[inline]
     fn as_slice(&self) -> &[u8]
         ensures { result.now ≡ take self.now.count self.now.room }
     {
@@ -112,6 +113,7 @@ impl Few {
     }
 
     /// Adds a byte where there is room for it.
+    #[inline]
     fn push(&mut self, item: u8) -> bool
         ensures { take self.new.count self.new.room ≡ (if result then take self.old.count self.old.room ++ item ∷ [] else take self.old.count self.old.room) }
     {
@@ -125,6 +127,7 @@ impl Few {
 }
 
 impl Bytes {
+    #[inline]
     fn as_slice(&self) -> &[u8]
         ensures { result.now ≡ bytes_of self.now }
     {
@@ -135,6 +138,7 @@ impl Bytes {
     }
 
     /// Adds a byte. False where a short list has no room.
+    #[inline]
     fn push(&mut self, item: u8) -> Result<bool, NoMemory>
         ensures { MatchResult result (λ fits. bytes_of self.new ≡ (if fits then bytes_of self.old ++ item ∷ [] else bytes_of self.old)) (λ _. bytes_of self.new ≡ bytes_of self.old) }
     {
@@ -198,6 +202,8 @@ impl Text {
     }
 
     /// Adds bytes that have no room in a short list. Where memory is wanting, the text is as it was.
+    #[cold]
+    #[inline(never)]
     fn grow(&mut self, more: &[u8]) -> Result<(), NoMemory>
         ensures { MatchResult result (λ _. self.new ≡ self.old ++ more.now) (λ _. self.new ≡ self.old) }
     {
@@ -207,6 +213,7 @@ impl Text {
     }
 
     /// Adds a byte at the end. Where memory is wanting, the byte comes back and the text is as it was.
+    #[inline]
     pub fn push(&mut self, item: u8) -> Result<(), (u8, NoMemory)>
         ensures { MatchResult result (λ _. self.new ≡ self.old ++ item ∷ []) (λ e. (self.new ≡ self.old) × (e.0 ≡ item)) }
     {
@@ -232,6 +239,7 @@ impl Text {
     }
 
     /// The bytes, to go over.
+    #[inline]
     pub fn as_bytes(&self) -> &[u8]
         ensures { result.now ≡ self.now }
     {
