@@ -46,7 +46,7 @@ use Rattle.substitute.proofs.UnderwayLaws.{count, cut_at_chosen}
 use Rattle.substitute.specs.Chosen.{cut_of}
 use Rattle.substitute.specs.Cycles.{IsTriedBy}
 use Rattle.substitute.specs.Underway.{AreChosen, AreChosenBelow, AreTables}
-use Rattle.substitute.specs.Whole.{AreEntriesOf, IsCellGround, IsWholeGround}
+use Rattle.substitute.specs.Whole.{AreEntriesOf, IsCellGround, IsWholeGround, WholeGives}
 use Rattle.substitute.specs.declared.choice.Chosen.{Chosen}
 use Rattle.substitute.specs.declared.tables.Tables.{Tables}
 
@@ -200,3 +200,11 @@ tables_of design blif rules cell roles facts tables is unrolled phases owners en
     entry_of : (entry : Option WholeCell) (place : Place) → IsEntry (top_before design rules place.cell) blif facts place.cell entry → IsEntry (whole_of design rules cell roles) blif facts place.cell entry
     entry_of None place is = is
     entry_of (Some own) place is = record { cell = record { number = is.cell.number; paired = is.cell.paired; has = is.cell.has }; allowed = is.allowed; ports = is.ports }
+
+-- ---- a slice of facts
+
+-- what is found by the slice is found by the list that it shows
+pub found_of_cell : (t : Top) (blif : Blif) (shown facts : List CellFacts) (flat : Circuit) (found : Option Circuit) → shown ≡ facts → IsCellGround t blif facts flat
+    → (IsCellGround t blif shown flat → WholeGives t blif shown flat found) → WholeGives t blif facts flat found
+found_of_cell t blif shown facts flat found same ground gives =
+    subst (λ (fs : List CellFacts). WholeGives t blif fs flat found) same (gives (subst (λ (fs : List CellFacts). IsCellGround t blif fs flat) (sym same) ground))

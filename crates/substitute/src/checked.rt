@@ -4,7 +4,6 @@ ghost use Rattle.std.specs.Prelude.{◌<◌, List, length, IfOk};
 ghost use Rattle.checked_cells.specs.Given.{ArePlainFacts};
 ghost use Rattle.net_places.specs.Whole.{whole_of};
 ghost use Rattle.prepared_tables.specs.Prepared.{ArePrepared};
-ghost use Rattle.vrt_model.specs.Hierarchy.{AreHoldNets};
 ghost use Rattle.vrt_model.specs.declared.pairing.PortRole.{PortRole as RoleValue};
 ghost use Rattle.whole_cells.specs.Own.{AreFiles};
 ghost use Rattle.substitute.specs.Whole.{IsCellGround, WholeAnswers, WholeGives};
@@ -54,7 +53,6 @@ pub fn whole(
     facts: &Seq<CellFacts>,
 ) -> Result<Circuit, FlatFault>
     requires files { AreFiles design.now blif.now rules.now }
-    requires names { AreHoldNets design.now rules.now }
     requires there { cell < length design.now.cells }
     requires plain { ArePlainFacts design.now blif.now rules.now facts.now }
     ensures { WholeAnswers design.now blif.now rules.now cell pairing.now facts.now result }

@@ -8,6 +8,7 @@ mod memory;
 mod row;
 mod script;
 mod told;
+mod wholes;
 
 use row_script::Page;
 use script::Runs;

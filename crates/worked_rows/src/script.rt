@@ -8,9 +8,11 @@
 //! | `load N`, `put N BYTES`, `absent N` | in the next `try` the load of this number fails; the put of this number, after so many bytes; the file of this number is not there |
 //! | `try NAME` | a run in which calls fail as was said; then nothing fails again |
 //! | `tell WORDS` | what the words ask for |
+//! | `whole NAME` | the checked circuit of the second cell, by what is known of the first |
 
 use crate::row::{Failures, Row, SOUND, run_row, run_sure};
 use crate::told::tell;
+use crate::wholes;
 use row_script::{Page, Script, number, shown, word_and_rest};
 use std::alloc::Global;
 
@@ -85,6 +87,7 @@ impl Runs {
             "run" => run_sure(page, rest, self.row()),
             "try" => self.run_failing(page, rest),
             "tell" => tell(page, rest),
+            "whole" => wholes::tell(page, rest, self.row()),
             _ => page.word(line),
         }
     }

@@ -1,9 +1,13 @@
 use Rattle.std.proofs.Common.{List, sym, subst}
 use Rattle.vrt_model.specs.declared.whole.CellFacts.{CellFacts}
 use Rattle.net_places.specs.Whole.{whole_of}
-use Rattle.substitute.proofs.WholeLaws.{cell_ground}
+use Rattle.placed_cells.proofs.NamedLaws.{hold_nets_are_there}
+use Rattle.substitute.proofs.WholeLaws.{cell_ground, found_of_cell}
 use Rattle.substitute.specs.Whole.{IsCellGround, WholeGives}
 use Rattle.substitute.proofs.checked.whole.Goals as goal
+
+pub flat_with-requires-clause-names : goal.flat_with-requires-clause-names
+flat_with-requires-clause-names c = hold_nets_are_there c.args.design.now c.args.rules.now c.requires.files.ordered
 
 pub checked_of-requires-clause-ground : goal.checked_of-requires-clause-ground
 checked_of-requires-clause-ground c =
@@ -17,19 +21,15 @@ checked_of-requires-clause-ground c =
 pub returns-in-Some : goal.returns-in-Some
 returns-in-Some c =
     let design = c.args.design.now in
-    let roles = c.args.pairing.now.ports in
-    let t = whole_of design c.args.rules.now c.args.cell roles in
+    let t = whole_of design c.args.rules.now c.args.cell c.args.pairing.now.ports in
     let ground = cell_ground design c.args.blif.now c.args.rules.now c.args.cell c.args.pairing.now c.args.facts.now c.in_ok-flat.flat c.requires.files c.requires.there c.requires.plain c.in_ok-flat.ensures in
-    let gives = c.in_ok-found.ensures roles (subst (λ (fs : List CellFacts). IsCellGround t c.args.blif.now fs c.in_ok-flat.flat) (sym c.as_slice.ensures) ground) in
     subst (WholeGives t c.args.blif.now c.args.facts.now c.in_ok-flat.flat) c.in-Some.is
-    (subst (λ (fs : List CellFacts). WholeGives t c.args.blif.now fs c.in_ok-flat.flat c.in_ok-found.found) c.as_slice.ensures gives)
+    (found_of_cell t c.args.blif.now _ c.args.facts.now c.in_ok-flat.flat c.in_ok-found.found c.as_slice.ensures ground (c.in_ok-found.ensures c.args.pairing.now.ports))
 
 pub returns : goal.returns
 returns c =
     let design = c.args.design.now in
-    let roles = c.args.pairing.now.ports in
-    let t = whole_of design c.args.rules.now c.args.cell roles in
+    let t = whole_of design c.args.rules.now c.args.cell c.args.pairing.now.ports in
     let ground = cell_ground design c.args.blif.now c.args.rules.now c.args.cell c.args.pairing.now c.args.facts.now c.in_ok-flat.flat c.requires.files c.requires.there c.requires.plain c.in_ok-flat.ensures in
-    let gives = c.in_ok-found.ensures roles (subst (λ (fs : List CellFacts). IsCellGround t c.args.blif.now fs c.in_ok-flat.flat) (sym c.as_slice.ensures) ground) in
     subst (WholeGives t c.args.blif.now c.args.facts.now c.in_ok-flat.flat) c.in-None.is
-    (subst (λ (fs : List CellFacts). WholeGives t c.args.blif.now fs c.in_ok-flat.flat c.in_ok-found.found) c.as_slice.ensures gives)
+    (found_of_cell t c.args.blif.now _ c.args.facts.now c.in_ok-flat.flat c.in_ok-found.found c.as_slice.ensures ground (c.in_ok-found.ensures c.args.pairing.now.ports))
