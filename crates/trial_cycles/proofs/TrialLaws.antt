@@ -1,5 +1,5 @@
 -- Instances that are tried together: where the circuit in which all are whole has no cycle, none of those with fewer of them whole has one.
-use Rattle.std.proofs.Common.{◌≡◌, ℕ, zero, suc, ◌+◌, ◌<◌, ◌≤◌, ◌&&◌, Bool, true, false, List, [], ◌∷◌, length, Option, arith, ap, subst, sym, refl, ◌∙◌, inl, inr}
+use Rattle.std.proofs.Common.{◌≡◌, ℕ, zero, suc, ◌+◌, ◌<◌, ◌≤◌, ◌&&◌, Bool, true, false, not, List, [], ◌∷◌, length, Option, arith, ap, subst, sym, refl, ◌∙◌, inl, inr}
 use Rattle.std.specs.Prelude.{nat_lt, slice_get, unwrap_or}
 use Rattle.std.specs.List.{enumerate_from}
 use Rattle.std.proofs.lemmas.Bool.{and_parts, cases_Bool, cases_lt, false≢true, lt-ltb, ltb-true}
@@ -18,13 +18,15 @@ use Rattle.placed_cells.proofs.CutLaws.{pin_among}
 use Rattle.placed_cells.proofs.SplitLaws.{places_in_stand_together}
 use Rattle.replaced_instances.proofs.StepOutputs.{one_more_place}
 use Rattle.replaced_instances.proofs.StepPorts.{place_there}
-use Rattle.replaced_instances.specs.Steps.{IsAllowedInstance, IsStepAtGates}
+use Rattle.replaced_instances.specs.Steps.{IsAllowedInstance, IsStepAtGates, compared_at, is_inside_at}
+use Rattle.placed_cells.specs.Above.{net_above}
 use Rattle.whole_circuits.proofs.ArcLaws.{acyclic_is}
 use Rattle.substitution_laws.proofs.ChosenLaws.{tried_steps_are_at_gates}
 use Rattle.substitution_laws.proofs.WholeCells.{whole_chosen}
 use Rattle.substitution_laws.proofs.WholeRanges.{tried_circuits_are_wired}
 use Rattle.substitution_laws.specs.Chosen.{IsSoftTrial}
 use Rattle.trial_cycles.proofs.StepArcs.{step_goes}
+use Rattle.trial_cycles.proofs.StepOpened.{opened_at_gates}
 use Rattle.trial_cycles.specs.TrialCycles.{AllowedAreChosen, CarriedClocksAreKnown, FlatTrialsAreAcyclic, IsTrialAtClocks, IsTrialWithoutCycles, StepKeepsAcyclic, TrialsAreAcyclic, TriedMayBeWhole}
 use Rattle.vrt_model.proofs.Filtered.{among_kept, filter_among}
 use Rattle.vrt_model.proofs.Lists.{at_there}
@@ -140,8 +142,9 @@ module _ (cut : Cut) (blif : Blif) (facts : List CellFacts) (c : Circuit) (phase
       let last : Among (whole_places (before cut (suc i))) p.0 =
       subst (λ (ps : List NumberedPlace). Among ps p.0) (sym one_more) (among_right (whole_places (before cut i)) (p.0 ∷ []) p.0 (0, refl)) in
       let goes =
-      step_goes cut blif facts i p.0 step.0 step.1 step.2 formed split.0 split.1 split.2 split.3 (first i) (first (suc i)) (first_is i) (first_is (suc i)) (first_wired i)
-      (first_wired (suc i)).ranges phase h.there
+      step_goes cut blif facts i p.0 step.0 step.1 step.2 formed split.0 split.1 split.2 split.3 (first i) (first (suc i)) (first_is i) (first_is (suc i)) phase h.there
+      (λ n. not (is_inside_at (compared_at t blif p.0 step.0).circuit (λ j. net_above t p.0.at j) n)) (λ n. false) (λ n. 0)
+      (opened_at_gates cut blif facts i p.0 step.0 step.1 formed split.0 split.1 split.2 split.3 (first i) (first (suc i)) (first_is i) (first_is (suc i)) (first_wired i) (first_wired (suc i)) now)
       (λ pin clock on role. known_in (before cut (suc i)) (first (suc i)) (first_is (suc i)) pin.net.0 (clock_bit now clock) (known p.0 step.0 pin clock last step.1.paired on role))
       (steps i) in (
         λ o m pin clock on paired listed role.
