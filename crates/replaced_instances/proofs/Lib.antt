@@ -1,3 +1,4 @@
+pub mod Exposures
 pub mod OutputPorts
 pub mod PinOutputs
 pub mod StepHides

@@ -1,5 +1,6 @@
-//! Laws of one further instance of a circuit that is left whole, where its outputs then meet gates alone: it stood in the circuit
-//! before, and what is left is that circuit without its inside. Laws alone, each the contract of a function that does nothing.
+//! Laws of one further instance of a circuit that is left whole: it stood in the circuit before, and what is left is that circuit
+//! without its inside. Its outputs then meet gates alone, or are exposed to channels and to other outputs by the drives that are told of
+//! them. Laws alone, each the contract of a function that does nothing.
 #![tactic(auto)]
 
 mod steps;
