@@ -3,8 +3,13 @@
 //! them. Laws alone, each the contract of a function that does nothing.
 #![tactic(auto)]
 
+mod chosen;
 mod steps;
 
+pub use chosen::{
+    chosen_ports_are_placed, chosen_step_hides_its_nets, chosen_step_is_left_whole,
+    chosen_step_is_placed, exposed_drives_are_true,
+};
 pub use steps::{
     ports_are_placed, step_has_left_instances, step_hides_its_nets, step_is_left_whole,
     step_is_placed,
