@@ -325,7 +325,7 @@ module _ (t : Top) (roles : List PortRole) (number : ℕ) (p : Place) (depth : �
     unfolding flat_circuit_of
     same_supply n value s = (s.0, subst (λ (nets : List FlatNet). At nets n s.0) (sym shows.nets) s.1, s.2)
 
-    there : (d : Device) → Among (flat_devices own) d → (e : Device) × Among c.devices e × IsImage at d e
+    pub there : (d : Device) → Among (flat_devices own) d → (e : Device) × Among c.devices e × IsImage at d e
     there d m =
         let place = among_flat_map (devices_at own) (all_places own) d m in
         let card = among_map (flat_device own place.0) (cell_at t.design place.0.cell).devices d place.2 in

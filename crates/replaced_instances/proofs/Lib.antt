@@ -1,3 +1,6 @@
+pub mod ChosenSteps
+pub mod EqualCells
+pub mod Exposures
 pub mod OutputPorts
 pub mod PinOutputs
 pub mod StepHides

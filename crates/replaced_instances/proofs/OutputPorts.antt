@@ -172,6 +172,18 @@ module _ (rules : Rules) where
 
 -- ---- pins
 
+-- an output pin has the drive that is told of the output at its place
+pub driven_drive : (facts : List CellFacts) (cell first : ℕ) (pins : List Pin) (j : ℕ) (w : WholePin) → At (driven_pins_from facts cell first pins) j w → w.drive ≡ drive_in facts cell (first + j)
+driven_drive facts cell first [] j w e = absurd (none-some w e)
+driven_drive facts cell first (p ∷ pins) j w e = by_role (output_signal p.port.role) (λ k i f. driven_drive facts cell k pins i w f) j e
+  where
+    by_role : (o : Option ℕ) → ((k i : ℕ) → At (driven_pins_from facts cell k pins) i w → w.drive ≡ drive_in facts cell (k + i)) → (l : ℕ)
+        → At {X = WholePin} (elim o [ None ↦ driven_pins_from facts cell first pins | Some s ↦ record { net = p.net; signal = s; drive = drive_in facts cell first; observed = false } ∷ driven_pins_from facts cell (suc first) pins ]) l w
+        → w.drive ≡ drive_in facts cell (first + l)
+    by_role None rest l f = rest first l f
+    by_role (Some s) rest zero f = sym (ap (λ (q : WholePin). q.drive) (same_Some _ w f)) ∙ ap (drive_in facts cell) (let same : first ≡ first + 0 = omega arith in same)
+    by_role (Some s) rest (suc l) f = rest (suc first) l f ∙ ap (drive_in facts cell) (let same : suc first + l ≡ first + suc l = omega arith in same)
+
 module _ (at : ℕ → ℕ) where
   abbrev pub pin_at : CellPort → Pin
   pin_at port = record { port = port; net = net_id (at port.net) }

@@ -1,5 +1,5 @@
 -- Which nets an instance that comes to be whole hides, and that all others stay.
-use Rattle.std.proofs.Common.{◌≡◌, ◌+◌, ◌<◌, ◌&&◌, ◌||◌, ◌∷◌, [], ℕ, zero, suc, not, List, Bool, true, length, Option, Some, None, refl, ap, sym, ◌∙◌, subst, arith, inl, inr}
+use Rattle.std.proofs.Common.{◌≡◌, ◌+◌, ◌<◌, ◌&&◌, ◌||◌, ◌∷◌, [], ℕ, zero, suc, not, List, Bool, true, false, length, Option, Some, None, refl, ap, sym, ◌∙◌, subst, arith, inl, inr}
 use Rattle.std.specs.Prelude.{drop, filter, is_none, is_some, nat_le, nat_lt, option_map, ◌==◌}
 use Rattle.std.specs.List.{enumerate_from, list_all, list_any}
 use Rattle.std.proofs.lemmas.Bool.{and_from, cases_lt, eq-eqb, false≢true, leb-true, ltb-true, not-false, or_cases, or_left, or_right}
@@ -19,7 +19,7 @@ use Rattle.replaced_instances.proofs.StepLeft.{inside_is, number_there, outside_
 use Rattle.replaced_instances.proofs.StepOutputs.{none_behind, one_more_place}
 use Rattle.replaced_instances.proofs.StepPlaces.{behind_inside, last_whole, which}
 use Rattle.replaced_instances.proofs.StepPorts.{none, observes, plain_port, tied}
-use Rattle.replaced_instances.specs.Steps.{IsStepAtGates, compared_at, is_inside_at, is_outside_at}
+use Rattle.replaced_instances.specs.Steps.{IsStep, compared_at, is_inside_at, is_outside_at}
 use Rattle.replaced_instances.specs.Shown.{StepHidesItsNets}
 use Rattle.vrt_model.proofs.Filtered.{filter_among}
 use Rattle.vrt_model.proofs.Lists.{among_filter_map, at_there, map_among}
@@ -101,7 +101,7 @@ pub behind_first : {X : Type 0} (xs : List X) (j : ℕ) (x : X) → At (drop 1 x
 behind_first [] j x e = absurd (none-some x e)
 behind_first (y ∷ ys) j x e = e
 
-module _ (cut : Cut) (blif : Blif) (facts : List CellFacts) (i : ℕ) (p : NumberedPlace) (m : ℕ) (step : IsStepAtGates cut blif facts i p m)
+module _ {at_gates : Bool} (cut : Cut) (blif : Blif) (facts : List CellFacts) (i : ℕ) (p : NumberedPlace) (m : ℕ) (step : IsStep at_gates cut blif facts i p m)
     (depth : ℕ) (front back : List Place) (split : IsSplit cut.top (suc i) p.at depth front back) where
   abbrev t : Top
   t = cut.top
@@ -192,7 +192,7 @@ module _ (cut : Cut) (blif : Blif) (facts : List CellFacts) (i : ℕ) (p : Numbe
       not_both None a b = false≢true a
       not_both (Some x) a b = false≢true b
 
-  output_observed : (phase : ℕ) (port : CellPort) → phase < length q.rules.phases → Among (ports_of q) port → is_some (output_signal port.role) ≡ true → is_observed q phase port.net ≡ true
+  pub output_observed : (phase : ℕ) (port : CellPort) → phase < length q.rules.phases → Among (ports_of q) port → is_some (output_signal port.role) ≡ true → is_observed q phase port.net ≡ true
   unfolding is_observed
   output_observed phase port lt on out =
       let n = port.net in
@@ -233,10 +233,11 @@ module _ (cut : Cut) (blif : Blif) (facts : List CellFacts) (i : ℕ) (p : Numbe
       let out = filter_among (λ (x : CellPort). is_some (output_signal x.role)) (ports_of q) port.0 port.1 in
       subst (λ (n : ℕ). is_observed q phase n ≡ true) port.2 (output_observed phase port.0 lt out.0 out.1)
 
-  pub hides : (k : Comparison) (whole_circuit : Circuit) (phase : ℕ) → t ≡ top_of k → phase < length t.rules.phases → IsCircuitWith later blif facts whole_circuit
-      → HidesItsNets k q phase whole_circuit at (is_outside_at t depth p.at) (λ n. not (is_inside_at q.circuit at n))
-  hides k whole_circuit phase same lt after = record {
-    hidden = λ n e. let j = inside_is q.circuit at n (not-false (is_inside_at q.circuit at n) e) in (j.0, sym j.2, j.1);
+  pub hides : (k : Comparison) (whole_circuit : Circuit) (phase : ℕ) (compared : ℕ → Bool) → ((n : ℕ) → compared n ≡ false → (j : ℕ) × (n ≡ at j) × IsPlain q.circuit j)
+      → t ≡ top_of k → phase < length t.rules.phases → IsCircuitWith later blif facts whole_circuit
+      → HidesItsNets k q phase whole_circuit at (is_outside_at t depth p.at) compared
+  hides k whole_circuit phase compared hidden same lt after = record {
+    hidden = hidden;
     outputs = λ j plain stays. output_seen phase j lt plain stays;
     ports = λ port on.
         let net = port_net_among 0 (cell_at k.design k.cell).ports (port_nets k.rules (cell_at k.design k.cell).ports) k.pairing.ports port on in
@@ -253,4 +254,6 @@ module _ (cut : Cut) (blif : Blif) (facts : List CellFacts) (i : ℕ) (p : Numbe
 
 pub step_hides_its_nets : StepHidesItsNets
 step_hides_its_nets k cut blif facts i p m depth front back whole_circuit phase same lt step split after =
-    hides cut blif facts i p m step depth front back split k whole_circuit phase same lt after
+    let q = compared_at cut.top blif p m in
+    hides cut blif facts i p m step depth front back split k whole_circuit phase (λ n. not (is_inside_at q.circuit (net_above cut.top p.at) n))
+    (λ n e. let j = inside_is q.circuit (net_above cut.top p.at) n (not-false (is_inside_at q.circuit (net_above cut.top p.at) n) e) in (j.0, sym j.2, j.1)) same lt after

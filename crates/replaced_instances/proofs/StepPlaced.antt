@@ -1,7 +1,7 @@
--- The flat circuit of a cell stands in the circuit before a step, and meets gates alone there.
-use Rattle.std.proofs.Common.{◌≡◌, ◌⊎◌, ◌<◌, ◌||◌, ℕ, zero, suc, List, Bool, true, false, refl, ap, sym, ◌∙◌, subst, inl, inr}
+-- The flat circuit of a cell stands in the circuit before a step.
+use Rattle.std.proofs.Common.{◌≡◌, ◌⊎◌, ◌<◌, ◌≤◌, ◌&&◌, ◌||◌, ℕ, zero, suc, cond, List, [], Bool, true, false, refl, ap, ap₂, sym, ◌∙◌, subst, arith, inl, inr}
 use Rattle.std.specs.Prelude.{nat_lt, ◌==◌}
-use Rattle.std.proofs.lemmas.Bool.{and_parts, eq-eqb, eqb-true, false≢true, ltb-true, or_cases, or_left, or_right}
+use Rattle.std.proofs.lemmas.Bool.{and_left, and_parts, and_right, cases_Bool, eq-eqb, eqb-true, false_from_ne_true, false≢true, ltb-true, or_cases}
 use Rattle.cell_inside.specs.Inside.{Touches}
 use Rattle.cell_inside.specs.Placed.{IsImage, IsPlaced, IsSupply}
 use Rattle.cell_inside.specs.Shifted.{IsWithinDepth, top_alone}
@@ -14,30 +14,34 @@ use Rattle.placed_cells.proofs.SplitLaws.{places_in_stand_together}
 use Rattle.placed_cells.specs.Above.{net_above, place_alone}
 use Rattle.placed_cells.specs.Instances.{HasPlacedPorts, ShowsInside}
 use Rattle.placed_cells.specs.Splits.{IsSplit}
-use Rattle.replaced_instances.proofs.PinOutputs.{pin_output}
+use Rattle.replaced_instances.proofs.Exposures.{AreExposed, IsExposed, channel_at_net, channel_low, no_channel_at, no_other_at, none_exposed, not_alone, other_at, other_drive}
+use Rattle.replaced_instances.proofs.PinOutputs.{pin_output, settled}
 use Rattle.replaced_instances.proofs.StepPlaces.{earlier_or_inside}
-use Rattle.replaced_instances.proofs.StepPorts.{IsPortNet, free, keeps_free, may, met_kind, no_channel, no_holds, none, one_output, place_there, plain_output, port_or_supply, tied}
-use Rattle.replaced_instances.specs.Steps.{IsStepAtGates, PortsArePlaced, StepIsPlaced, compared_at}
-use Rattle.vrt_model.proofs.Filtered.{among_kept, filter_among}
+use Rattle.replaced_instances.proofs.StepPorts.{IsPortNet, free, keeps_free, may, met_kind, no_holds, none, output_plain, place_there, plain_output, port_or_supply, tied}
+use Rattle.replaced_instances.specs.Steps.{IsStep, IsStepAtGates, PortsArePlaced, StepIsPlaced, compared_at}
+use Rattle.vrt_model.proofs.Filtered.{filter_among}
 use Rattle.vrt_model.proofs.Lists.{map_among, one_at}
 use Rattle.vrt_model.proofs.Members.{among_flat_map, among_map, at_all}
 use Rattle.vrt_model.specs.Checked.{IsCircuitWith, before, circuit_with, may_meet_channels, with_one}
-use Rattle.vrt_model.specs.CheckedParts.{moved_end}
+use Rattle.vrt_model.specs.CheckedParts.{checked_devices, moved_end}
 use Rattle.vrt_model.specs.Comparison.{Comparison, CellPort, ports_of}
 use Rattle.vrt_model.specs.Cut.{Cut, NumberedPlace, is_whole, numbered_places, whole_places}
 use Rattle.vrt_model.specs.Facts.{output_ports}
 use Rattle.vrt_model.specs.FlatCircuit.{flat_circuit_of, kind_by_role, flat_holds, flat_nets}
 use Rattle.vrt_model.specs.Known.{IsHeld, IsPlain}
 use Rattle.vrt_model.specs.Lists.{Among, At, is_empty}
+use Rattle.vrt_model.specs.Path.{level_of_drive}
 use Rattle.vrt_model.specs.State.{OutputPin, output_pins}
 use Rattle.vrt_model.specs.Unrolled.{Place, Top}
-use Rattle.vrt_model.specs.WholeInstances.{OutputAt, all_outputs, channels_at, outputs_of_place}
+use Rattle.vrt_model.specs.WholeInstances.{OutputAt, all_outputs, channels_at, meets_gates_only, others_at, outputs_of_place}
 use Rattle.vrt_model.specs.declared.blif.Blif.{Blif}
 use Rattle.vrt_model.specs.declared.circuit.Circuit.{Circuit}
 use Rattle.vrt_model.specs.declared.circuit.Device.{Device}
 use Rattle.vrt_model.specs.declared.circuit.FlatNet.{FlatNet}
 use Rattle.vrt_model.specs.declared.circuit.Hold.{Hold}
 use Rattle.vrt_model.specs.declared.whole.CellFacts.{CellFacts}
+use Rattle.vrt_model.specs.declared.whole.Drive.{Drive}
+use Rattle.vrt_model.specs.declared.whole.Drive.TheVariants.{Soft}
 use Rattle.vrt_model.specs.declared.whole.WholePin.{WholePin}
 
 -- ---- what circuits with different choices share
@@ -57,7 +61,7 @@ module _ (cut other : Cut) (blif : Blif) (facts : List CellFacts) (c : Circuit) 
       let there = map_among (moved other) (flat_holds other.top) from.0 (subst (λ (t : Top). Among (flat_holds t) from.0) (sym same) from.1) in
       (moved other from.0, there, ap (λ (h : Hold). h.net.0) from.2 ∙ held.2)
 
-module _ (cut : Cut) (blif : Blif) (facts : List CellFacts) (i : ℕ) (p : NumberedPlace) (m : ℕ) (step : IsStepAtGates cut blif facts i p m)
+module _ {at_gates : Bool} (cut : Cut) (blif : Blif) (facts : List CellFacts) (i : ℕ) (p : NumberedPlace) (m : ℕ) (step : IsStep at_gates cut blif facts i p m)
     (depth : ℕ) (front back : List Place) (split : IsSplit cut.top (suc i) p.at depth front back)
     (c : Circuit) (circuit : IsCircuitWith (before cut i) blif facts c) where
   abbrev t : Top
@@ -78,23 +82,33 @@ module _ (cut : Cut) (blif : Blif) (facts : List CellFacts) (i : ℕ) (p : Numbe
   abbrev outs : List OutputAt
   outs = outputs_of_place cut.top blif facts p
 
-  output_there : (o : OutputAt) → Among outs o → Among (all_outputs (before cut (suc i)) blif facts) o
+  abbrev later : List OutputAt
+  later = all_outputs (before cut (suc i)) blif facts
+
+  abbrev remaining : List Device
+  remaining = checked_devices (before cut (suc i))
+
+  output_there : (o : OutputAt) → Among outs o → Among later o
   output_there o m = last_there cut blif facts i p step.place step.chosen o m
 
   -- ---- what whole instances drive
 
-  -- the net of an output pin is that of an output before
-  pub pin_before : (out : OutputPin) → Among (output_pins c) out → (o : OutputAt) × Among (all_outputs (before cut i) blif facts) o × (o.pin.net.0 ≡ out.pin.net.0)
+  -- an output pin is that of an output before
+  pub pin_before : (out : OutputPin) → Among (output_pins c) out
+      → (o : OutputAt) × Among (all_outputs (before cut i) blif facts) o × (o.pin.net.0 ≡ out.pin.net.0) × (settled (before cut i) blif facts o ≡ out.pin)
   pin_before out m =
       let o = pin_output (before cut i) blif facts c circuit m.0 out m.1 in
-      (o.0, (m.0, o.1), ap (λ (pin : WholePin). pin.net.0) o.2)
+      (o.0, (m.0, o.1), ap (λ (pin : WholePin). pin.net.0) o.2, o.2)
 
-  -- an output of another instance is at no output of this one
-  pub no_pin : (o one : OutputAt) → Among outs o → Among (all_outputs (before cut i) blif facts) one → one.pin.net.0 ≡ o.pin.net.0 → ⊥
-  no_pin o one on there same =
-      let both = one_output cut blif facts i p m step o one on (outputs_more cut blif facts i p step.place step.chosen one there) same in
-      let mine = eq-eqb o.instance one.instance (sym (eqb-true one.instance o.instance both.0)) in
-      false≢true (sym (other_instance cut blif facts i p step.place step.chosen o one on there) ∙ mine)
+  -- at the net of an output of this instance, one of another instance is another one
+  pub other_there : (o one : OutputAt) → Among outs o → Among (all_outputs (before cut i) blif facts) one → one.pin.net.0 ≡ o.pin.net.0 → Among (others_at later o) one
+  other_there o one on there same = other_at remaining later o one (outputs_more cut blif facts i p step.place step.chosen one there) same (apart (cases_Bool (one.instance == o.instance)))
+    where
+      apart : (one.instance == o.instance ≡ true) ⊎ (one.instance == o.instance ≡ false) → ((one.instance == o.instance) && (one.output == o.output)) ≡ false
+      apart (inr other) = and_left (one.instance == o.instance) (one.output == o.output) other
+      apart (inl mine) =
+          let instance = eq-eqb o.instance one.instance (sym (eqb-true one.instance o.instance mine)) in
+          absurd (false≢true (sym (other_instance cut blif facts i p step.place step.chosen o one on there) ∙ instance))
 
   -- it is at a plain net
   earlier_plain : (o : OutputAt) → Among (all_outputs (before cut i) blif facts) o → IsPlain c o.pin.net.0
@@ -131,13 +145,6 @@ module _ (cut : Cut) (blif : Blif) (facts : List CellFacts) (i : ℕ) (p : Numbe
             | inr supply ↦ inr (supply.0, (net, there, kind ∙ supply.1))
           ]
 
-      touched : (port : CellPort) → port.net ≡ n → ((d.left.0 == port.net) || (d.right.0 == port.net)) ≡ true
-      touched port same =
-          elim touch [
-            | inl left ↦ or_left (d.left.0 == port.net) (d.right.0 == port.net) (eq-eqb d.left.0 port.net (left ∙ sym same))
-            | inr right ↦ or_right (d.left.0 == port.net) (d.right.0 == port.net) (eq-eqb d.right.0 port.net (right ∙ sym same))
-          ]
-
       by_net : ((value : Bool) × IsSupply k.circuit n value) ⊎ IsPortNet cut blif facts i p m step n → IsPlain k.circuit n ⊎ ((value : Bool) × IsSupply k.circuit n value)
       by_net (inl s) = inr s
       by_net (inr q) =
@@ -146,68 +153,153 @@ module _ (cut : Cut) (blif : Blif) (facts : List CellFacts) (i : ℕ) (p : Numbe
             | inl may ↦ by_kind q.0 q.3 q.4 q.5 may
             | inr empty ↦
                 absurd (nothing_in (channels_at k.circuit.devices q.0.net) d empty
-                (among_kept (λ (x : Device). (x.left.0 == q.0.net) || (x.right.0 == q.0.net)) k.circuit.devices d on (touched q.0 q.2)))
+                (channel_at_net k.circuit.devices [] d q.0.net on (subst (λ (x : ℕ). Touches d x) (sym q.2) touch)))
           ]
 
-  -- a device at an output is one of the cell
-  device_at : (e : Device) (n : ℕ) → n < base → Among c.devices e → IsPlain k.circuit n → Touches e (at n) → (d : Device) × Among k.circuit.devices d × IsImage at d e
-  unfolding flat_circuit_of
-  device_at e n lt on plain touch =
-      let out = plain_output cut blif facts i p m step n lt plain in
-      elim (earlier_or_inside cut blif facts i p step.place step.chosen depth front back split step.netlist.design e (subst (λ (ds : List Device). Among ds e) circuit.devices on)) [
-        | inl later ↦ absurd (no_channel cut blif facts i p m step out.1 e (out.1.output, out.3) later (subst (λ (x : ℕ). Touches e x) (sym out.5) touch))
-        | inr inside ↦
-            let d = inside_image t k.pairing.ports (suc i) p.at depth front back split (tied cut blif facts i p m step) (none cut blif facts i p m step) within inside.0 inside.1 inside.2 inside.3 in
-            (d.0, d.1, subst (λ (x : Device). IsImage at d.0 x) inside.4 d.2)
-      ]
+  -- ---- what its outputs meet
 
-  one_net : (first second : ℕ) → first < base → second < base → IsPlain k.circuit first → IsPlain k.circuit second → at first ≡ at second → first ≡ second
-  one_net first second a b one other same =
-      let x = plain_output cut blif facts i p m step first a one in
-      let y = plain_output cut blif facts i p m step second b other in
-      let output = (one_output cut blif facts i p m step x.1 y.1 (x.1.output, x.3) (output_there y.1 (y.1.output, y.3)) (y.5 ∙ sym same ∙ sym x.5)).1 in
-      let port = one_at (output_ports k) x.1.output x.0 y.0 x.2 (subst (λ (j : ℕ). At (output_ports k) j y.0) output y.2) in
-      sym x.4 ∙ ap (λ (q : CellPort). q.net) port ∙ y.4
+  module _ (exposed : ℕ → Bool) (drive : ℕ → ℕ) (exposure : AreExposed cut blif facts i p m exposed drive) where
+    -- the output at a plain net below the own ones
+    abbrev pub OutputOn : ℕ → Type 0
+    OutputOn n = (port : CellPort) × (o : OutputAt) × At (output_ports k) o.output port × At outs o.output o × (port.net ≡ n) × (o.pin.net.0 ≡ at n)
 
-  pub ports : (drive : ℕ → ℕ) → HasPlacedPorts k.circuit c at base (λ n. false) drive
-  ports drive = record {
-    exposed_plain = λ n e. absurd (false≢true e);
-    channels = channel_at;
-    plain = λ n lt plain.
+    pub is_exposed : (n : ℕ) (out : OutputOn n) → exposed n ≡ true → IsExposed cut blif facts i (drive n) out.1
+    is_exposed n out e =
+        subst (λ (x : ℕ). IsExposed cut blif facts i (drive x) out.1) out.4
+        (exposure.outputs out.1 out.0 out.3 out.2 (subst (λ (x : ℕ). exposed x ≡ true) (sym out.4) e))
+
+    pub is_alone : (n : ℕ) (out : OutputOn n) → exposed n ≡ false → meets_gates_only remaining later out.1 ≡ true
+    is_alone n out e = exposure.others out.1 out.0 out.3 out.2 (subst (λ (x : ℕ). exposed x ≡ false) (sym out.4) e)
+
+    -- a device at an output is one of the cell, or the output is exposed, and the device is not above its drive
+    device_at : (e : Device) (n : ℕ) → n < base → Among c.devices e → IsPlain k.circuit n → Touches e (at n)
+        → ((d : Device) × Among k.circuit.devices d × IsImage at d e) ⊎ ((exposed n ≡ true) × (e.level ≤ drive n))
+    unfolding flat_circuit_of
+    device_at e n lt on plain touch =
         let out = plain_output cut blif facts i p m step n lt plain in
-        let known = (may cut blif facts i p m step).plain out.1 (out.1.output, out.3) in
-        subst (λ (x : ℕ). IsPlain c x) out.5 (plain_with (before cut i) (with_one (before cut i) i) blif facts c circuit refl out.1.pin.net.0 known.0);
-    others = λ e n lt on plain touch. inl (device_at e n lt on plain touch);
-    pins = λ out n lt on plain same.
-        let o = plain_output cut blif facts i p m step n lt plain in
-        let one = pin_before out on in
-        absurd (no_pin o.1 one.0 (o.1.output, o.3) one.1 (one.2 ∙ same ∙ sym o.5));
-    pins_plain = λ out on. let one = pin_before out on in subst (λ (x : ℕ). IsPlain c x) one.2 (earlier_plain one.0 one.1);
-    unheld = λ n lt plain held.
-        let out = plain_output cut blif facts i p m step n lt plain in
-        let known = (may cut blif facts i p m step).plain out.1 (out.1.output, out.3) in
-        known.1 (held_with (before cut i) (with_one (before cut i) i) blif facts c circuit refl out.1.pin.net.0 (subst (λ (x : ℕ). IsHeld c x) (sym out.5) held));
-    apart = λ first second a b one other same. inl (one_net first second a b one other same);
-  }
+        let there = subst (λ (x : ℕ). Touches e x) (sym out.5) touch in
+        elim (earlier_or_inside cut blif facts i p step.place step.chosen depth front back split step.netlist.design e (subst (λ (ds : List Device). Among ds e) circuit.devices on)) [
+          | inl stays ↦ elim (cases_Bool (exposed n)) [
+            | inl more ↦ inr (more, channel_low remaining later out.1 (drive n) (is_exposed n out more).fits e stays there)
+            | inr none_of ↦ absurd (no_channel_at remaining later out.1 e (is_alone n out none_of) stays there)
+          ]
+          | inr inside ↦
+              let d = inside_image t k.pairing.ports (suc i) p.at depth front back split (tied cut blif facts i p m step) (none cut blif facts i p m step) within inside.0 inside.1 inside.2 inside.3 in
+              inl (d.0, d.1, subst (λ (x : Device). IsImage at d.0 x) inside.4 d.2)
+        ]
+
+    -- an output of another instance that is at one has its drive, soft or not
+    pin_at_net : (out : OutputPin) (n : ℕ) → n < base → Among (output_pins c) out → IsPlain k.circuit n → out.pin.net.0 ≡ at n
+        → (exposed n ≡ true) × (level_of_drive 8 out.pin.drive ≤ drive n)
+    pin_at_net out n lt on plain same =
+        elim (cases_Bool (exposed n)) [
+          | inr none_of ↦ absurd (no_other_at remaining later o.1 one.0 (is_alone n o none_of) other)
+          | inl more ↦
+              let is = is_exposed n o more in
+              let gates = not_alone (checked_devices (before cut i)) earlier one.0 is.met.0
+              (subst (λ (x : ℕ). Among (channels_at (checked_devices (before cut i)) x) is.met.0) (sym net) is.met.1) in
+              let level : level_of_drive 8 out.pin.drive ≡ drive n =
+              ap (λ (x : WholePin). level_of_drive 8 x.drive) (sym one.3)
+              ∙ ap₂ (λ (b : Bool) (d : Drive). level_of_drive 8 (cond b Soft d)) gates (other_drive remaining later o.1 (drive n) is.fits one.0 other) in
+              (more, omega (arith, level))
+        ]
+      where
+        earlier : List OutputAt
+        earlier = all_outputs (before cut i) blif facts
+
+        o : OutputOn n
+        o = plain_output cut blif facts i p m step n lt plain
+
+        one : (one : OutputAt) × Among (all_outputs (before cut i) blif facts) one × (one.pin.net.0 ≡ out.pin.net.0) × (settled (before cut i) blif facts one ≡ out.pin)
+        one = pin_before out on
+
+        net : one.0.pin.net.0 ≡ o.1.pin.net.0
+        net = one.2 ∙ same ∙ sym o.5
+
+        other : Among (others_at later o.1) one.0
+        other = other_there o.1 one.0 (o.1.output, o.3) one.1 net
+
+    -- two that are one net are exposed, with one drive
+    one_net : (first second : ℕ) → first < base → second < base → IsPlain k.circuit first → IsPlain k.circuit second → at first ≡ at second
+        → (first ≡ second) ⊎ ((exposed first ≡ true) × (exposed second ≡ true) × (drive first ≡ drive second))
+    one_net first second a b one other same =
+        elim (cases_Bool (y.1.output == x.1.output)) [
+          | inl e ↦
+              let port = one_at (output_ports k) x.1.output x.0 y.0 x.2 (subst (λ (j : ℕ). At (output_ports k) j y.0) (eqb-true y.1.output x.1.output e) y.2) in
+              inl (sym x.4 ∙ ap (λ (q : CellPort). q.net) port ∙ y.4)
+          | inr e ↦
+              let apart = and_right (y.1.instance == x.1.instance) (y.1.output == x.1.output) e in
+              let there = other_at remaining later x.1 y.1 (output_there y.1 (y.1.output, y.3)) (y.5 ∙ sym same ∙ sym x.5) apart in
+              elim (cases_Bool (exposed first)) [
+                | inr none_of ↦ absurd (no_other_at remaining later x.1 y.1 (is_alone first x none_of) there)
+                | inl more ↦ elim (cases_Bool (exposed second)) [
+                  | inr none_of ↦
+                      let back = and_right (x.1.instance == y.1.instance) (x.1.output == y.1.output) (not_same x.1.output y.1.output (λ s. false≢true (sym e ∙ eq-eqb y.1.output x.1.output (sym s)))) in
+                      absurd (no_other_at remaining later y.1 x.1 (is_alone second y none_of)
+                      (other_at remaining later y.1 x.1 (output_there x.1 (x.1.output, x.3)) (x.5 ∙ same ∙ sym y.5) back))
+                  | inl both ↦
+                      let drives = sym (other_drive remaining later x.1 (drive first) (is_exposed first x more).fits y.1 there) ∙ (is_exposed second y both).told in
+                      inr (more, both, ap (level_of_drive 0) drives)
+                ]
+              ]
+        ]
+      where
+        x : OutputOn first
+        x = plain_output cut blif facts i p m step first a one
+
+        y : OutputOn second
+        y = plain_output cut blif facts i p m step second b other
+
+        not_same : (k l : ℕ) → (k ≡ l → ⊥) → (k == l) ≡ false
+        not_same k l ne = false_from_ne_true (k == l) (λ e. ne (eqb-true k l e))
+
+    pub ports : HasPlacedPorts k.circuit c at base exposed drive
+    ports = record {
+      exposed_plain = λ n e.
+          let port = exposure.ports n e in
+          subst (λ (x : ℕ). IsPlain k.circuit x) port.2 (output_plain cut blif facts i p m step port.0 port.1).1;
+      channels = channel_at;
+      plain = λ n lt plain.
+          let out = plain_output cut blif facts i p m step n lt plain in
+          let known = (may cut blif facts i p m step).plain out.1 (out.1.output, out.3) in
+          subst (λ (x : ℕ). IsPlain c x) out.5 (plain_with (before cut i) (with_one (before cut i) i) blif facts c circuit refl out.1.pin.net.0 known.0);
+      others = device_at;
+      pins = pin_at_net;
+      pins_plain = λ out on. let one = pin_before out on in subst (λ (x : ℕ). IsPlain c x) one.2 (earlier_plain one.0 one.1);
+      unheld = λ n lt plain held.
+          let out = plain_output cut blif facts i p m step n lt plain in
+          let known = (may cut blif facts i p m step).plain out.1 (out.1.output, out.3) in
+          known.1 (held_with (before cut i) (with_one (before cut i) i) blif facts c circuit refl out.1.pin.net.0 (subst (λ (x : ℕ). IsHeld c x) (sym out.5) held));
+      apart = one_net;
+    }
 
   -- ---- the whole
 
   pub shows : ShowsInside t p.at depth front back c
   shows = cut_shows_inside (before cut i) blif facts c i p.at depth front back step.netlist.design split (λ j e. ltb-true j i (and_parts (cut.choice j) (nat_lt j i) e).1) (free cut blif facts i p m step) circuit
 
-  pub placed : (drive : ℕ → ℕ) → IsPlaced k.circuit c at (λ n. false) drive
-  placed drive =
-      instance_is_placed t k.pairing i p.at depth front back c (λ n. false) drive step.netlist.design step.netlist.ordered step.netlist.there step.netlist.ties split
-      (none cut blif facts i p m step) step.roles (no_holds cut blif facts i p m step) shows (ports drive)
+  pub placed : (exposed : ℕ → Bool) (drive : ℕ → ℕ) → AreExposed cut blif facts i p m exposed drive → IsPlaced k.circuit c at exposed drive
+  placed exposed drive exposure =
+      instance_is_placed t k.pairing i p.at depth front back c exposed drive step.netlist.design step.netlist.ordered step.netlist.there step.netlist.ties split
+      (none cut blif facts i p m step) step.roles (no_holds cut blif facts i p m step) shows (ports exposed drive exposure)
+
+-- where all outputs meet gates alone, one of another instance is at none of them
+module _ (cut : Cut) (blif : Blif) (facts : List CellFacts) (i : ℕ) (p : NumberedPlace) (m : ℕ) (step : IsStepAtGates cut blif facts i p m)
+    (depth : ℕ) (front back : List Place) (split : IsSplit cut.top (suc i) p.at depth front back)
+    (c : Circuit) (circuit : IsCircuitWith (before cut i) blif facts c) where
+  pub no_pin : (o one : OutputAt) → Among (outputs_of_place cut.top blif facts p) o → Among (all_outputs (before cut i) blif facts) one → one.pin.net.0 ≡ o.pin.net.0 → ⊥
+  no_pin o one on there same =
+      no_other_at (checked_devices (before cut (suc i))) (all_outputs (before cut (suc i)) blif facts) o one (step.gates o on)
+      (other_there cut blif facts i p m step depth front back split c circuit o one on there same)
 
 -- ---- the laws
 
 pub ports_are_placed : PortsArePlaced
 ports_are_placed cut blif facts i p m c drive step circuit =
     let s = places_in_stand_together cut.top (suc i) p.at (place_there cut blif facts i p m step) in
-    ports cut blif facts i p m step s.0 s.1 s.2 s.3 c circuit drive
+    ports cut blif facts i p m step s.0 s.1 s.2 s.3 c circuit (λ n. false) drive (none_exposed cut blif facts i p m drive step)
 
 pub step_is_placed : StepIsPlaced
 step_is_placed cut blif facts i p m c drive step circuit =
     let s = places_in_stand_together cut.top (suc i) p.at (place_there cut blif facts i p m step) in
-    placed cut blif facts i p m step s.0 s.1 s.2 s.3 c circuit drive
+    placed cut blif facts i p m step s.0 s.1 s.2 s.3 c circuit (λ n. false) drive (none_exposed cut blif facts i p m drive step)

@@ -1,21 +1,21 @@
--- The ports of an instance that comes to be whole: its outputs are at its plain nets there, and they meet gates alone.
-use Rattle.std.proofs.Common.{◌≡◌, ◌⊎◌, ◌+◌, ◌++◌, ◌<◌, ◌&&◌, ◌||◌, ◌∷◌, [], ℕ, zero, suc, not, List, Bool, true, false, map, length, Option, Some, None, refl, ap, sym, ◌∙◌, subst, arith, inl, inr}
+-- The ports of an instance that comes to be whole: its outputs are at its plain nets there.
+use Rattle.std.proofs.Common.{◌≡◌, ◌⊎◌, ◌+◌, ◌++◌, ◌<◌, ◌&&◌, ◌∷◌, [], ℕ, zero, suc, not, List, Bool, true, false, map, length, Option, Some, None, refl, ap, sym, ◌∙◌, subst, arith, inl, inr}
 use Rattle.std.specs.Prelude.{flat_map, is_some, option_map, slice_get, unwrap_or, ◌==◌}
 use Rattle.std.specs.List.{enumerate_from}
-use Rattle.std.proofs.lemmas.Bool.{and_from, and_parts, cases_Bool, eq-eqb, eqb-true, false≢true, or_left, or_right}
+use Rattle.std.proofs.lemmas.Bool.{and_parts, cases_Bool, eqb-true, false≢true}
 use Rattle.std.proofs.lemmas.Option.{none-some, same_Some, slice_get_within}
 use Rattle.cell_inside.specs.Inside.{Touches}
 use Rattle.cell_inside.specs.Placed.{IsSupply}
 use Rattle.cell_inside.specs.Shifted.{NamesNoGlobal, top_alone}
 use Rattle.checked_chain.proofs.ChoiceLaws.{at_enumerated, numbered_at}
-use Rattle.checked_chain.proofs.DriveLaws.{nothing_in}
 use Rattle.placed_cells.proofs.AboveLaws.{instances_are_shifted, no_globals}
 use Rattle.placed_cells.proofs.NameLaws.{name_among}
 use Rattle.placed_cells.proofs.RowLaws.{port_count}
 use Rattle.placed_cells.proofs.TieLaws.{instances_are_tied}
 use Rattle.placed_cells.specs.Above.{IsTied, net_above, place_alone}
-use Rattle.replaced_instances.proofs.OutputPorts.{IsRising, NamedNets, driven_nets, flat_of_port, is_net_role, out_is_net, outputs_rise, pin_at, pins_are, port_of_flat}
-use Rattle.replaced_instances.specs.Steps.{IsAllowedInstance, IsStepAtGates, compared_at}
+use Rattle.replaced_instances.proofs.Exposures.{no_channel_at, no_other_at, other_at}
+use Rattle.replaced_instances.proofs.OutputPorts.{IsRising, NamedNets, driven_drive, driven_nets, flat_of_port, is_net_role, out_is_net, outputs_rise, pin_at, pins_are, port_of_flat}
+use Rattle.replaced_instances.specs.Steps.{IsAllowedInstance, IsStep, IsStepAtGates, compared_at}
 use Rattle.vrt_model.proofs.Filtered.{among_kept, filter_among}
 use Rattle.vrt_model.proofs.Lists.{at_front, at_map, at_there, map_at, one_at}
 use Rattle.vrt_model.proofs.Members.{at_all}
@@ -27,10 +27,10 @@ use Rattle.vrt_model.specs.Cut.{Cut, NumberedPlace, is_inside_whole}
 use Rattle.vrt_model.specs.Facts.{IsTrueFor, output_ports}
 use Rattle.vrt_model.specs.FlatCircuit.{flat_circuit_of, flat_nets, kind_by_role, own_flat_nets, plain_net, port_nets_of, supply_flat}
 use Rattle.vrt_model.specs.Known.{IsPlain, is_plain_kind}
-use Rattle.vrt_model.specs.Lists.{Among, At, is_empty}
+use Rattle.vrt_model.specs.Lists.{Among, At}
 use Rattle.vrt_model.specs.PairedPorts.{Paired, Model, Skipped, Missing}
 use Rattle.vrt_model.specs.Unrolled.{Top, all_places, deepest, globals_of, names_global}
-use Rattle.vrt_model.specs.WholeInstances.{OutputAt, Pin, all_outputs, channels_at, driven_pins, driven_pins_from, others_at, outputs_of_place, pins_from, pins_of}
+use Rattle.vrt_model.specs.WholeInstances.{OutputAt, Pin, all_outputs, drive_in, driven_pins, driven_pins_from, outputs_of_place, pins_from, pins_of}
 use Rattle.vrt_model.specs.declared.blif.Blif.{Blif}
 use Rattle.vrt_model.specs.declared.circuit.Device.{Device}
 use Rattle.vrt_model.specs.declared.circuit.FlatNet.{FlatNet}
@@ -68,7 +68,7 @@ enumerated_at {X} n (y ∷ xs) zero x e = ap (λ (z : X). Some (n, z)) (same_Som
 enumerated_at {X} n (y ∷ xs) (suc i) x e =
     enumerated_at (n + 1) xs i x e ∙ ap (λ (k : ℕ). Some (k, x)) (let same : (n + 1) + i ≡ n + suc i = omega arith in same)
 
-module _ (cut : Cut) (blif : Blif) (facts : List CellFacts) (i : ℕ) (p : NumberedPlace) (m : ℕ) (step : IsStepAtGates cut blif facts i p m) where
+module _ {at_gates : Bool} (cut : Cut) (blif : Blif) (facts : List CellFacts) (i : ℕ) (p : NumberedPlace) (m : ℕ) (step : IsStep at_gates cut blif facts i p m) where
   abbrev t : Top
   t = cut.top
 
@@ -92,12 +92,6 @@ module _ (cut : Cut) (blif : Blif) (facts : List CellFacts) (i : ℕ) (p : Numbe
 
   abbrev outs : List OutputAt
   outs = outputs_of_place cut.top blif facts p
-
-  abbrev devices : List Device
-  devices = checked_devices (before cut (suc i))
-
-  abbrev outputs : List OutputAt
-  outputs = all_outputs (before cut (suc i)) blif facts
 
   -- ---- what is known of the instance
 
@@ -180,6 +174,16 @@ module _ (cut : Cut) (blif : Blif) (facts : List CellFacts) (i : ℕ) (p : Numbe
       let number = there.0 in
       let is : from.0.0 ≡ j = omega (arith, number) in
       (port.0, port.1, ap (λ (x : OutputAt). x.pin.net.0) (sym from.2) ∙ sym port.2, ap (λ (x : OutputAt). x.output) (sym from.2) ∙ is)
+
+  -- it has the drive that is told of it
+  pub output_drive : (j : ℕ) (o : OutputAt) → At outs j o → o.pin.drive ≡ drive_in facts p.at.cell j
+  output_drive j o e =
+      let pins = driven_pins facts k p.at in
+      let make : ℕ × WholePin → OutputAt = λ q. record { instance = p.number; output = q.0; pin = q.1 } in
+      let from = at_map make (enumerate_from 0 pins) j o (subst (λ (os : List OutputAt). At os j o) outs_are e) in
+      let there = at_enumerated 0 pins j from.0 from.1 in
+      let number : 0 + j ≡ j = omega arith in
+      ap (λ (x : OutputAt). x.pin.drive) (sym from.2) ∙ driven_drive facts p.at.cell 0 (pins_of k p.at) j from.0.1 there.1 ∙ ap (drive_in facts p.at.cell) number
 
   pub output_of_port : (j : ℕ) (port : CellPort) → At (output_ports k) j port → (o : OutputAt) × At outs j o × (o.pin.net.0 ≡ at port.net) × (o.output ≡ j)
   output_of_port j port e =
@@ -287,24 +291,22 @@ module _ (cut : Cut) (blif : Blif) (facts : List CellFacts) (i : ℕ) (p : Numbe
         o.2 ∙ ap at port.2,
       )
 
-  -- ---- its outputs meet gates alone
+-- ---- its outputs at gates alone
 
-  pub no_channel : (o : OutputAt) (e : Device) → Among outs o → Among devices e → Touches e o.pin.net.0 → ⊥
-  no_channel o e on there touch =
-      let n = o.pin.net.0 in
-      let parts = and_parts (is_empty (channels_at devices n)) (is_empty (others_at outputs o)) (step.gates o on) in
-      let test : ((e.left.0 == n) || (e.right.0 == n)) ≡ true =
-      elim touch [ inl left ↦ or_left (e.left.0 == n) (e.right.0 == n) (eq-eqb e.left.0 n left) | inr right ↦ or_right (e.left.0 == n) (e.right.0 == n) (eq-eqb e.right.0 n right) ] in
-      nothing_in (channels_at devices n) e parts.0 (among_kept (λ (d : Device). (d.left.0 == n) || (d.right.0 == n)) devices e there test)
+module _ (cut : Cut) (blif : Blif) (facts : List CellFacts) (i : ℕ) (p : NumberedPlace) (m : ℕ) (step : IsStepAtGates cut blif facts i p m) where
+  abbrev devices : List Device
+  devices = checked_devices (before cut (suc i))
+
+  abbrev outputs : List OutputAt
+  outputs = all_outputs (before cut (suc i)) blif facts
+
+  pub no_channel : (o : OutputAt) (e : Device) → Among (outputs_of_place cut.top blif facts p) o → Among devices e → Touches e o.pin.net.0 → ⊥
+  no_channel o e on there touch = no_channel_at devices outputs o e (step.gates o on) there touch
 
   -- at its net no other output is
-  pub one_output : (o other : OutputAt) → Among outs o → Among outputs other → other.pin.net.0 ≡ o.pin.net.0 → ((other.instance == o.instance) ≡ true) × (other.output ≡ o.output)
+  pub one_output : (o other : OutputAt) → Among (outputs_of_place cut.top blif facts p) o → Among outputs other → other.pin.net.0 ≡ o.pin.net.0 → ((other.instance == o.instance) ≡ true) × (other.output ≡ o.output)
   one_output o other on there same =
       elim (cases_Bool ((other.instance == o.instance) && (other.output == o.output))) [
         | inl e ↦ (let both = and_parts (other.instance == o.instance) (other.output == o.output) e in (both.0, eqb-true other.output o.output both.1))
-        | inr e ↦
-            let parts = and_parts (is_empty (channels_at devices o.pin.net.0)) (is_empty (others_at outputs o)) (step.gates o on) in
-            absurd (nothing_in (others_at outputs o) other parts.1
-            (among_kept (λ (x : OutputAt). (x.pin.net.0 == o.pin.net.0) && not ((x.instance == o.instance) && (x.output == o.output))) outputs other there
-            (and_from (other.pin.net.0 == o.pin.net.0) (not ((other.instance == o.instance) && (other.output == o.output))) (eq-eqb other.pin.net.0 o.pin.net.0 same) (ap not e))))
+        | inr e ↦ absurd (no_other_at devices outputs o other (step.gates o on) (other_at devices outputs o other there same e))
       ]

@@ -1,5 +1,5 @@
--- One further instance of a circuit is left whole, where its outputs then meet gates alone.
-use Rattle.std.specs.Prelude.{◌≡◌, ℕ, suc, ◌+◌, ◌<◌, ◌&&◌, ◌||◌, Bool, true, false, not, List, filter, length, None, nat_le, nat_lt, ◌==◌}
+-- One further instance of a circuit is left whole. Its outputs then meet gates alone, or are exposed to channels and to other outputs.
+use Rattle.std.specs.Prelude.{◌≡◌, ℕ, suc, ◌+◌, ◌<◌, ◌&&◌, ◌||◌, Bool, true, false, not, List, filter, length, None, nat_le, nat_lt, option_map, slice_get, unwrap_or, ◌==◌}
 use Rattle.std.specs.List.{list_any}
 use Rattle.cell_inside.specs.LeftWhole.{IsLeftWhole}
 use Rattle.cell_inside.specs.Placed.{IsPlaced}
@@ -11,19 +11,21 @@ use Rattle.vrt_model.specs.Checked.{IsCircuitWith, before, circuit_with, is_cell
 use Rattle.vrt_model.specs.CheckedParts.{checked_devices}
 use Rattle.vrt_model.specs.Comparison.{CellPort, Comparison, cell_at}
 use Rattle.vrt_model.specs.Cut.{Cut, NumberedPlace, is_inside_whole, numbered_places}
-use Rattle.vrt_model.specs.Facts.{IsTrueOf, output_ports}
+use Rattle.vrt_model.specs.Facts.{IsTrueDrive, IsTrueOf, output_ports}
 use Rattle.vrt_model.specs.Hierarchy.{IsOrdered}
 use Rattle.vrt_model.specs.Inputs.{IsDesign}
 use Rattle.vrt_model.specs.Known.{IsHeld, IsPlain, is_plain_at}
 use Rattle.vrt_model.specs.Lists.{Among, At}
 use Rattle.vrt_model.specs.PairedPorts.{HasRoles, Model, paired_model}
+use Rattle.vrt_model.specs.Path.{level_of_drive}
 use Rattle.vrt_model.specs.Unrolled.{Place, Top}
 use Rattle.vrt_model.specs.Unsupported.{comparison_of, supply_tie}
 use Rattle.vrt_model.specs.Variables.{places}
-use Rattle.vrt_model.specs.WholeInstances.{OutputAt, all_outputs, is_output_allowed, meets_gates_only, outputs_of_place}
+use Rattle.vrt_model.specs.WholeInstances.{OutputAt, all_outputs, drive_in, is_output_allowed, meets_gates_only, outputs_of_place}
 use Rattle.vrt_model.specs.declared.blif.Blif.{Blif}
 use Rattle.vrt_model.specs.declared.circuit.Circuit.{Circuit}
 use Rattle.vrt_model.specs.declared.whole.CellFacts.{CellFacts}
+use Rattle.vrt_model.specs.declared.whole.Drive.TheVariants.{Level}
 
 -- ---- a step
 
@@ -56,9 +58,16 @@ AreAllowed cut blif facts =
     (i : ℕ) (p : NumberedPlace) → At (numbered_places cut.top) (suc i) p → cut.choice i ≡ true
     → (is_inside_whole (before cut i) p.at ≡ false) × ((m : ℕ) × IsAllowedInstance (before cut i) blif facts i p m)
 
--- the instance at place i, whose cell pairs with model m, is among those that are left whole, which are tried one by one; what is told of
--- cells is so; and where it and those before it are whole, each of its outputs meets gates alone
-pub record IsStepAtGates (cut : Cut) (blif : Blif) (facts : List CellFacts) (i : ℕ) (p : NumberedPlace) (m : ℕ) : Type 0 where
+-- where it is asked for, each output of an instance meets gates alone in the circuit in which it and the chosen ones before it are whole
+abbrev pub AreAtGates : Bool → Cut → Blif → List CellFacts → ℕ → NumberedPlace → Type 0
+AreAtGates false cut blif facts i p = Unit {0}
+AreAtGates true cut blif facts i p =
+    (o : OutputAt) → Among (outputs_of_place cut.top blif facts p) o
+    → meets_gates_only (checked_devices (before cut (suc i))) (all_outputs (before cut (suc i)) blif facts) o ≡ true
+
+-- the instance at place i, whose cell pairs with model m, is among those that are left whole, which are tried one by one; and what is told
+-- of cells is so
+pub record IsStep (at_gates : Bool) (cut : Cut) (blif : Blif) (facts : List CellFacts) (i : ℕ) (p : NumberedPlace) (m : ℕ) : Type 0 where
   pub netlist : IsSoundNetlist cut.top
   pub told : (cell : ℕ) (f : CellFacts) → At facts cell f → IsTrueOf cut.top.design blif cut.top.rules cell f
   pub tried : AreAllowed cut blif facts
@@ -66,13 +75,63 @@ pub record IsStepAtGates (cut : Cut) (blif : Blif) (facts : List CellFacts) (i :
   pub place : At (numbered_places cut.top) (suc i) p
   pub paired : paired_model cut.top.design blif cut.top.rules p.at.cell ≡ Model m
   pub roles : HasRoles cut.top.rules (cell_at cut.top.design p.at.cell) (compared_at cut.top blif p m).pairing
-  pub gates :
-      (o : OutputAt) → Among (outputs_of_place cut.top blif facts p) o
-      → meets_gates_only (checked_devices (before cut (suc i))) (all_outputs (before cut (suc i)) blif facts) o ≡ true
+  pub gates : AreAtGates at_gates cut blif facts i p
+
+-- a step, whatever its outputs meet
+abbrev pub IsChosenStep : Cut → Blif → List CellFacts → ℕ → NumberedPlace → ℕ → Type 0
+IsChosenStep cut blif facts i p m = IsStep false cut blif facts i p m
+
+-- a step behind which the outputs of the instance meet gates alone
+abbrev pub IsStepAtGates : Cut → Blif → List CellFacts → ℕ → NumberedPlace → ℕ → Type 0
+IsStepAtGates cut blif facts i p m = IsStep true cut blif facts i p m
+
+-- ---- what the outputs meet
+
+-- the place, among the output ports of a cell, of the one at this net: their nets rise
+abbrev pub output_place : Comparison → ℕ → ℕ
+output_place k n = length (filter (λ (port : CellPort). nat_lt port.net n) (output_ports k))
+
+-- the output is that of the output port at this net of its cell
+abbrev pub is_output_at : Comparison → ℕ → OutputAt → Bool
+is_output_at k n o = unwrap_or (option_map (λ (port : CellPort). port.net == n) (slice_get (output_ports k) o.output)) false
+
+-- the output at the net n of the cell is exposed: it does not meet gates alone in the circuit after the step
+abbrev pub exposed_at : Cut → Blif → List CellFacts → ℕ → NumberedPlace → Comparison → ℕ → Bool
+exposed_at cut blif facts i p k n =
+    list_any (λ (o : OutputAt). is_output_at k n o && not (meets_gates_only (checked_devices (before cut (suc i))) (all_outputs (before cut (suc i)) blif facts) o))
+    (outputs_of_place cut.top blif facts p)
+
+-- the level of the drive that is told of the output at this net of the cell
+abbrev pub drive_at : List CellFacts → NumberedPlace → Comparison → ℕ → ℕ
+drive_at facts p k n = level_of_drive 0 (drive_in facts p.at.cell (output_place k n))
+
+-- The law: what is told of an exposed output is so: its net in the cell always has the level of its drive, and is alone inside.
+abbrev pub ExposedDrivesAreTrue : Type 0
+ExposedDrivesAreTrue =
+    (cut : Cut) (blif : Blif) (facts : List CellFacts) (i : ℕ) (p : NumberedPlace) (m n : ℕ) → IsChosenStep cut blif facts i p m
+    → let k = compared_at cut.top blif p m in
+    exposed_at cut blif facts i p k n ≡ true
+    → (port : CellPort) × Among (output_ports k) port × (port.net ≡ n) × IsTrueDrive k port (Level (drive_at facts p k n))
 
 -- ---- the cell in the circuit before
 
--- The law: in the circuit before the step the cell's ports are as they have to be, and none is exposed.
+-- The law: in the circuit before the step the cell's ports are as they have to be, with these exposed, by these drives.
+abbrev pub ChosenPortsArePlaced : Type 0
+ChosenPortsArePlaced =
+    (cut : Cut) (blif : Blif) (facts : List CellFacts) (i : ℕ) (p : NumberedPlace) (m : ℕ) (c : Circuit)
+    → IsChosenStep cut blif facts i p m → 0 < length cut.top.rules.phases → IsCircuitWith (before cut i) blif facts c
+    → let k = compared_at cut.top blif p m in
+    HasPlacedPorts k.circuit c (net_above cut.top p.at) (place_alone cut.top p.at).base (exposed_at cut blif facts i p k) (drive_at facts p k)
+
+-- The law: so the cell's flat circuit stands there.
+abbrev pub ChosenStepIsPlaced : Type 0
+ChosenStepIsPlaced =
+    (cut : Cut) (blif : Blif) (facts : List CellFacts) (i : ℕ) (p : NumberedPlace) (m : ℕ) (c : Circuit)
+    → IsChosenStep cut blif facts i p m → 0 < length cut.top.rules.phases → IsCircuitWith (before cut i) blif facts c
+    → let k = compared_at cut.top blif p m in
+    IsPlaced k.circuit c (net_above cut.top p.at) (exposed_at cut blif facts i p k) (drive_at facts p k)
+
+-- The law: where its outputs meet gates alone, its ports are as they have to be with none exposed.
 abbrev pub PortsArePlaced : Type 0
 PortsArePlaced =
     (cut : Cut) (blif : Blif) (facts : List CellFacts) (i : ℕ) (p : NumberedPlace) (m : ℕ) (c : Circuit) (drive : ℕ → ℕ)
@@ -96,14 +155,31 @@ is_inside_at cell at n = list_any (λ j. is_plain_at cell j && (at j == n)) (pla
 abbrev pub is_outside_at : Top → ℕ → Place → ℕ → Bool
 is_outside_at t depth p n = nat_lt n p.base || nat_le (p.base + size_inside t depth p.cell) n
 
+-- the net is that of a plain net of the cell that is not exposed
+abbrev pub is_hidden_at : Circuit → (ℕ → Bool) → (ℕ → ℕ) → ℕ → Bool
+is_hidden_at cell exposed at n = list_any (λ j. not (exposed j) && (is_plain_at cell j && (at j == n))) (places 0 cell.nets)
+
+-- compared are all nets but plain nets of the cell that are not exposed
+abbrev pub compared_at_step : Cut → Blif → List CellFacts → ℕ → NumberedPlace → Comparison → ℕ → Bool
+compared_at_step cut blif facts i p k n = not (is_hidden_at k.circuit (exposed_at cut blif facts i p k) (net_above cut.top p.at) n)
+
 -- where the pin of an output at a net of the cell stands among those of the circuit after the step: behind all pins that were there, and
 -- behind those of the outputs at lower nets
 abbrev pub fresh_place : Cut → Blif → List CellFacts → Comparison → ℕ → ℕ
-fresh_place cut blif facts k n =
-    length (all_outputs cut blif facts) + length (filter (λ (port : CellPort). nat_lt port.net n) (output_ports k))
+fresh_place cut blif facts k n = length (all_outputs cut blif facts) + output_place k n
 
 -- The law: what is left is the circuit after the step. All nets keep their numbers, and own nets of the instance are no more met; all
--- but plain nets of the cell are compared. The pins that were there keep their places and drives.
+-- but plain nets of the cell that are not exposed are compared. The pins that were there keep their places and drives.
+abbrev pub ChosenStepIsLeftWhole : Type 0
+ChosenStepIsLeftWhole =
+    (cut : Cut) (blif : Blif) (facts : List CellFacts) (i : ℕ) (p : NumberedPlace) (m depth : ℕ) (front back : List Place) (c whole_circuit : Circuit)
+    → IsChosenStep cut blif facts i p m → 0 < length cut.top.rules.phases → IsSplit cut.top (suc i) p.at depth front back
+    → IsCircuitWith (before cut i) blif facts c → IsCircuitWith (before cut (suc i)) blif facts whole_circuit
+    → let k = compared_at cut.top blif p m in
+    IsLeftWhole k.circuit c whole_circuit (net_above cut.top p.at) (λ n. n) (λ j. j) (fresh_place (before cut i) blif facts k)
+    (is_outside_at cut.top depth p.at) (compared_at_step cut blif facts i p k) (exposed_at cut blif facts i p k) (drive_at facts p k)
+
+-- The law: where its outputs meet gates alone, none is exposed, and all but plain nets of the cell are compared.
 abbrev pub StepIsLeftWhole : Type 0
 StepIsLeftWhole =
     (cut : Cut) (blif : Blif) (facts : List CellFacts) (i : ℕ) (p : NumberedPlace) (m depth : ℕ) (front back : List Place) (c whole_circuit : Circuit) (drive : ℕ → ℕ)

@@ -1,5 +1,6 @@
-//! One further instance is left whole.
+//! One further instance is left whole, where its outputs then meet gates alone.
 
+ghost use Rattle.std.specs.Prelude.{Bool};
 ghost use Rattle.replaced_instances.specs.Shown.{StepHasLeftInstances, StepHidesItsNets};
 ghost use Rattle.replaced_instances.specs.Steps.{PortsArePlaced, StepIsLeftWhole, StepIsPlaced};
 
@@ -26,8 +27,8 @@ pub fn step_hides_its_nets()
     ensures { StepHidesItsNets }
 {}
 
-/// Instances inside the cell are gone, and all others stay; whole instances stay, and the cell is one more, with an observed pin at
+/// Whatever the outputs meet, instances inside the cell are gone, and all others stay; whole instances stay, and the cell is one more, with an observed pin at
 /// each observed input.
 pub fn step_has_left_instances()
-    ensures { StepHasLeftInstances }
+    ensures { (at_gates : Bool) → StepHasLeftInstances at_gates }
 {}

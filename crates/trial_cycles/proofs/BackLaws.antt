@@ -1,7 +1,7 @@
 -- Two graphs of nets, of which the first is the second with a part opened: each of its arcs is one of the second or one inside, and what is
 -- linked inside is joined by arcs of the second. Where the second has no cycle, the first has none.
-use Rattle.std.proofs.Common.{◌≡◌, ℕ, zero, suc, ◌<◌, ◌⊎◌, Bool, true, false, List, [], ◌∷◌, arith, subst, sym, refl, ◌∙◌, inl, inr}
-use Rattle.std.proofs.lemmas.Bool.{cases_Bool, false≢true}
+use Rattle.std.proofs.Common.{◌≡◌, ℕ, zero, suc, ◌<◌, ◌⊎◌, Bool, true, false, List, [], ◌∷◌, arith, subst, sym, refl, inl, inr}
+use Rattle.std.proofs.lemmas.Bool.{cases_Bool}
 use Rattle.std.proofs.lemmas.Option.{none-some, same_Some}
 use Rattle.graphs.proofs.Acyclic.{none_behind}
 use Rattle.vrt_model.proofs.Members.{among_later}
@@ -27,36 +27,50 @@ walk_last Arc n (l ∷ nets) last walk = among_later n (l ∷ nets) last (walk_l
 
 -- ---- two graphs
 
-module _ (Low High Inner : ℕ → ℕ → Type 0) (IsInside : ℕ → Type 0) (at rank : ℕ → ℕ) (remaining : ℕ → Bool) (count : ℕ) where
-  -- an arc inside
+-- `Meets n k` says that what is at the net n inside is at the net k that remains; `LeadsOut n l` that the net n inside is behind the same nets as
+-- the net l, which remains
+module _ (Low High Inner Meets LeadsOut : ℕ → ℕ → Type 0) (IsInside : ℕ → Type 0) (at rank : ℕ → ℕ) (remaining : ℕ → Bool) (count : ℕ) where
+  -- an arc of the second between nets that remain, or one from inside to what is met there
+  abbrev pub IsOuterArc : ℕ → ℕ → Type 0
+  IsOuterArc a b = ((remaining a ≡ true) × High a b) ⊎ ((g : ℕ) × (n : ℕ) × (a ≡ at g) × IsInside n × Inner g n × Meets n b)
+
+  -- an arc inside, or one to a net that leads out
   abbrev pub IsInnerArc : ℕ → ℕ → Type 0
-  IsInnerArc a b = (g : ℕ) × (n : ℕ) × (a ≡ at g) × (b ≡ at n) × IsInside n × Inner g n
+  IsInnerArc a b = (n : ℕ) × (b ≡ at n) × IsInside n × (((g : ℕ) × (a ≡ at g) × Inner g n) ⊎ ((l : ℕ) × LeadsOut n l))
 
   -- the first is the second with a part opened
   pub record AreOpened : Type 0 where
     pub bounded : (a b : ℕ) → Low a b → b < count
-    pub arcs : (a b : ℕ) → Low a b → ((remaining a ≡ true) × (remaining b ≡ true) × High a b) ⊎ IsInnerArc a b
+    pub outer : (a b : ℕ) → Low a b → remaining b ≡ true → IsOuterArc a b
+    pub inner : (a b : ℕ) → Low a b → remaining b ≡ false → IsInnerArc a b
+    pub moves : (n l a : ℕ) → LeadsOut n l → Low a (at n) → Low a (at l)
+    pub stays : (n l : ℕ) → LeadsOut n l → remaining (at l) ≡ true
     pub rises : (g n : ℕ) → Inner g n → rank g < rank n
     pub own : (g n l : ℕ) → Inner g l → remaining (at g) ≡ false → IsInside n → at g ≡ at n → g ≡ n
-    pub linked : (g n : ℕ) → IsInside n → IsChain Inner g n → remaining (at g) ≡ true → remaining (at n) ≡ true → High (at g) (at n)
+    pub linked : (g n k : ℕ) → IsInside n → IsChain Inner g n → Meets n k → remaining k ≡ true → remaining (at g) ≡ true → High (at g) k
+    pub linked_beside : (g n k l : ℕ) → IsInside n → IsChain Inner g n → Meets n k → remaining k ≡ true → LeadsOut g l → High (at l) k
 
-  module _ (opened : AreOpened) (free : IsAcyclic High) (P : ℕ → Type 0) (back : (k : ℕ) → P k → (a : ℕ) × P a × Low a k) where
+  module _ (opened : AreOpened) (free : IsAcyclic High) (P : ℕ → Type 0) (back : (k : ℕ) → P k → (a : ℕ) × P a × Low a k)
+      (moved : (n l : ℕ) → LeadsOut n l → P (at n) → P (at l)) where
     -- back along arcs inside to a net that remains
-    find : (fuel g n : ℕ) → rank g < fuel → P (at g) → IsInside n → IsChain Inner g n → remaining (at n) ≡ true
-        → (u : ℕ) × P u × (remaining u ≡ true) × High u (at n)
-    find zero g n lt p inside chain stays = absurd (omega (arith, lt))
-    find (suc fuel) g n lt p inside chain stays =
+    find : (fuel g n k : ℕ) → rank g < fuel → P (at g) → IsInside n → IsChain Inner g n → Meets n k → remaining k ≡ true
+        → (u : ℕ) × P u × (remaining u ≡ true) × High u k
+    find zero g n k lt p inside chain meets stays = absurd (omega (arith, lt))
+    find (suc fuel) g n k lt p inside chain meets stays =
         elim (cases_Bool (remaining (at g))) [
-          | inl here ↦ (at g, p, here, opened.linked g n inside chain here stays)
+          | inl here ↦ (at g, p, here, opened.linked g n k inside chain meets stays here)
           | inr gone ↦
               let from = back (at g) p in
-              elim (opened.arcs from.0 (at g) from.2) [
-                | inl outer ↦ absurd (false≢true (sym gone ∙ outer.1))
-                | inr inner ↦
-                    let same = opened.own g inner.1 chain.0 chain.2 gone inner.4 inner.3 in
-                    let arc : Inner inner.0 g = subst (λ (x : ℕ). Inner inner.0 x) (sym same) inner.5 in
-                    let up = opened.rises inner.0 g arc in
-                    find fuel inner.0 n (omega (arith, lt, up)) (subst P inner.2 from.1) inside (g, chain.0 ∷ chain.1, arc, (chain.2, chain.3)) stays
+              let arc = opened.inner from.0 (at g) from.2 gone in
+              let same = opened.own g arc.0 chain.0 chain.2 gone arc.2 arc.1 in
+              elim arc.3 [
+                | inl (h, there, step) ↦
+                    let next : Inner h g = subst (λ (x : ℕ). Inner h x) (sym same) step in
+                    let up = opened.rises h g next in
+                    find fuel h n k (omega (arith, lt, up)) (subst P there from.1) inside (g, chain.0 ∷ chain.1, next, (chain.2, chain.3)) meets stays
+                | inr (l, out) ↦
+                    let exits : LeadsOut g l = subst (λ (x : ℕ). LeadsOut x l) (sym same) out in
+                    (at l, moved g l exits p, opened.stays g l exits, opened.linked_beside g n k l inside chain meets stays exits)
               ]
         ]
 
@@ -64,18 +78,19 @@ module _ (Low High Inner : ℕ → ℕ → Type 0) (IsInside : ℕ → Type 0) (
     behind : (k : ℕ) → P k × (remaining k ≡ true) → (a : ℕ) × (P a × (remaining a ≡ true)) × High a k
     behind k p =
         let from = back k p.0 in
-        elim (opened.arcs from.0 k from.2) [
-          | inl outer ↦ (from.0, (from.1, outer.0), outer.2)
-          | inr inner ↦
-              let found =
-              find (suc (rank inner.0)) inner.0 inner.1 (omega arith) (subst P inner.2 from.1) inner.4 (inner.1, [], inner.5, refl)
-              (subst (λ (x : ℕ). remaining x ≡ true) inner.3 p.1) in
-              (found.0, (found.1, found.2), subst (λ (x : ℕ). High found.0 x) (sym inner.3) found.3)
+        elim (opened.outer from.0 k from.2 p.1) [
+          | inl outer ↦ (from.0, (from.1, outer.0), outer.1)
+          | inr (g, n, there, inside, step, meets) ↦
+              let found = find (suc (rank g)) g n k (omega arith) (subst P there from.1) inside (n, [], step, refl) meets p.1 in
+              (found.0, (found.1, found.2), found.3)
         ]
 
     none_remains : (k : ℕ) → P k → remaining k ≡ true → ⊥
     none_remains k p stays =
         none_behind High count free (λ (x : ℕ). P x × (remaining x ≡ true)) (λ x q. let from = back x q.0 in opened.bounded from.0 x from.2) behind k (p, stays)
+
+    none_out : (n l : ℕ) → LeadsOut n l → P (at n) → ⊥
+    none_out n l out p = none_remains (at l) (moved n l out p) (opened.stays n l out)
 
     none_inside : (fuel g l : ℕ) → rank g < fuel → Inner g l → P (at g) → ⊥
     none_inside zero g l lt arc p = omega (arith, lt)
@@ -84,29 +99,37 @@ module _ (Low High Inner : ℕ → ℕ → Type 0) (IsInside : ℕ → Type 0) (
           | inl here ↦ none_remains (at g) p here
           | inr gone ↦
               let from = back (at g) p in
-              elim (opened.arcs from.0 (at g) from.2) [
-                | inl outer ↦ false≢true (sym gone ∙ outer.1)
-                | inr inner ↦
-                    let same = opened.own g inner.1 l arc gone inner.4 inner.3 in
-                    let next : Inner inner.0 g = subst (λ (x : ℕ). Inner inner.0 x) (sym same) inner.5 in
-                    let up = opened.rises inner.0 g next in
-                    none_inside fuel inner.0 g (omega (arith, lt, up)) next (subst P inner.2 from.1)
+              let inner = opened.inner from.0 (at g) from.2 gone in
+              let same = opened.own g inner.0 l arc gone inner.2 inner.1 in
+              elim inner.3 [
+                | inl (h, there, step) ↦
+                    let next : Inner h g = subst (λ (x : ℕ). Inner h x) (sym same) step in
+                    let up = opened.rises h g next in
+                    none_inside fuel h g (omega (arith, lt, up)) next (subst P there from.1)
+                | inr (k, out) ↦ none_out g k (subst (λ (x : ℕ). LeadsOut x k) (sym same) out) p
               ]
         ]
 
     -- so there is no set of nets each of which is behind one of them
     none_there : (k : ℕ) → P k → ⊥
     none_there k p =
-        let from = back k p in
-        elim (opened.arcs from.0 k from.2) [
-          | inl outer ↦ none_remains k p outer.1
-          | inr inner ↦ none_inside (suc (rank inner.0)) inner.0 inner.1 (omega arith) inner.5 (subst P inner.2 from.1)
+        elim (cases_Bool (remaining k)) [
+          | inl here ↦ none_remains k p here
+          | inr gone ↦
+              let from = back k p in
+              let inner = opened.inner from.0 k from.2 gone in
+              elim inner.3 [
+                | inl (g, there, step) ↦ none_inside (suc (rank g)) g inner.0 (omega arith) step (subst P there from.1)
+                | inr (l, out) ↦ none_out inner.0 l out (subst P inner.1 p)
+              ]
         ]
 
+  -- the nets behind those of a cycle would be such a set
   pub opened_is_acyclic : AreOpened → IsAcyclic High → IsAcyclic Low
   opened_is_acyclic opened free [] cycle = cycle
   opened_is_acyclic opened free (n ∷ nets) cycle =
-      none_there opened free (λ (x : ℕ). Among (n ∷ nets) x) (λ k m. by_place k m) n (0, refl)
+      none_there opened free (λ (x : ℕ). (a : ℕ) × Among (n ∷ nets) a × Low a x) (λ k p. (p.0, by_place p.0 p.1, p.2))
+      (λ m l out p. (p.0, p.1, opened.moves m l p.0 out p.2)) n (by_place n (0, refl))
     where
       by_place : (k : ℕ) → Among (n ∷ nets) k → (a : ℕ) × Among (n ∷ nets) a × Low a k
       by_place k (zero, e) = (cycle.0, walk_last Low n nets cycle.0 cycle.1, subst (λ (z : ℕ). Low cycle.0 z) (same_Some n k e) cycle.2)

@@ -1,5 +1,10 @@
 pub mod BackLaws
+pub mod CellPorts
 pub mod OpenedArcs
 pub mod OpenedNets
+pub mod SharedSets
 pub mod StepArcs
+pub mod StepOpened
 pub mod TrialLaws
+pub mod UnsettledOutputs
+pub mod WithoutLinks

@@ -1,15 +1,13 @@
--- A cell in a circuit, at gates alone, and the circuit in which it is whole: what is known in the cell, and what is known with it whole, is
--- known with it opened.
+-- A cell in a circuit, and the circuit in which it is whole: what is known in the cell, and what is known with it whole, is known with it
+-- opened.
 use Rattle.std.proofs.Common.{◌≡◌, ◌⊎◌, ℕ, ◌&&◌, Bool, true, false, List, map, Option, ap, subst, sym, refl, ◌∙◌, inl, inr}
 use Rattle.std.specs.Prelude.{unwrap_or, ◌==◌}
 use Rattle.std.specs.List.{list_any}
-use Rattle.std.proofs.lemmas.Bool.{and_from, and_parts, cases_Bool, eq-eqb, eqb-true, false≢true}
-use Rattle.cell_inside.proofs.AssuredLaws.{response_by}
+use Rattle.std.proofs.lemmas.Bool.{and_from, and_parts, cases_Bool, eq-eqb, eqb-true}
 use Rattle.cell_inside.proofs.Copies.{touched}
 use Rattle.cell_inside.proofs.Images.{image_conducts, image_in}
-use Rattle.cell_inside.proofs.LeftWholeLaws.{left_whole_is_same}
 use Rattle.cell_inside.proofs.NetKinds.{plain_not_given, supply_given}
-use Rattle.cell_inside.specs.Inside.{HasSameReaches, Touches}
+use Rattle.cell_inside.specs.Inside.{Touches}
 use Rattle.cell_inside.specs.LeftWhole.{IsLeftDevice, IsLeftWhole}
 use Rattle.cell_inside.specs.Placed.{IsImage, IsPlaced, IsSupply}
 use Rattle.known_nets.specs.Wired.{IsWired}
@@ -20,7 +18,7 @@ use Rattle.vrt_model.proofs.Laws.{turned}
 use Rattle.vrt_model.proofs.Lists.{map_among}
 use Rattle.vrt_model.proofs.Locality.{fixed_given}
 use Rattle.vrt_model.proofs.Members.{among_any, among_flat_map, among_map, any_among, flat_map_among}
-use Rattle.vrt_model.specs.Known.{HasFixedBit, IsDriven, IsFixed, IsHeld, IsKnown, IsPlain, IsShut, fixed, settled}
+use Rattle.vrt_model.specs.Known.{HasFixedBit, IsDriven, IsFixed, IsHeld, IsKnown, IsPlain, IsShut, IsTogether, fixed, settled}
 use Rattle.vrt_model.specs.Lists.{Among, At}
 use Rattle.vrt_model.specs.Networks.{HasRanges}
 use Rattle.vrt_model.specs.Path.{Joins}
@@ -34,26 +32,23 @@ use Rattle.vrt_model.specs.declared.circuit.NetKind.{NetKind}
 use Rattle.vrt_model.specs.declared.rules.Phase.{Phase}
 use Rattle.vrt_model.specs.declared.whole.Whole.{Whole}
 use Rattle.vrt_model.specs.declared.whole.WholePin.{WholePin}
+use Rattle.trial_cycles.proofs.SharedSets.{AreImages, HasImages, image_joined, image_joins, responds_there}
 use Rattle.whole_solutions.proofs.SettledSets.{set_responds, supply_bit}
-
--- the test that no net passes
-abbrev pub no_net : ℕ → Bool
-no_net n = false
-
-abbrev pub no_drive : ℕ → ℕ
-no_drive n = 0
+use Rattle.whole_solutions.specs.KnownInside.{AreExposedUnsettled}
 
 -- The cell stands in the one circuit and is whole in the other, over the same nets. What is hidden is a plain net of the cell; where it remains, the
--- whole instance drives it.
-pub record IsOpenedIn (cell low high : Circuit) (phase : Phase) (at place fresh : ℕ → ℕ) (remaining compared : ℕ → Bool) : Type 0 where
+-- whole instance drives it. Exposed nets are in no set that is settled in the cell, and none is in one part of it with another net that remains.
+pub record IsOpenedIn (cell low high : Circuit) (phase : Phase) (at place fresh : ℕ → ℕ) (remaining compared exposed : ℕ → Bool) (drive : ℕ → ℕ) : Type 0 where
   pub ranges : HasRanges cell
   pub wired : IsWired low
-  pub whole_ranges : HasRanges high
-  pub placed : IsPlaced cell low at no_net no_drive
-  pub whole : IsLeftWhole cell low high at (λ n. n) place fresh remaining compared no_net no_drive
+  pub whole_wired : IsWired high
+  pub placed : IsPlaced cell low at exposed drive
+  pub whole : IsLeftWhole cell low high at (λ n. n) place fresh remaining compared exposed drive
   pub nets : high.nets ≡ low.nets
   pub hidden : (n : ℕ) → compared n ≡ false → (m : ℕ) × (n ≡ at m) × IsPlain cell m
   pub driven : (m : ℕ) → IsPlain cell m → remaining (at m) ≡ true → IsDriven high (at m)
+  pub unsettled : AreExposedUnsettled cell phase exposed
+  pub alone : (m n : ℕ) → exposed m ≡ true → IsPlain cell n → remaining (at n) ≡ true → IsTogether cell phase true m n → m ≡ n
 
 -- a supply has its bit
 pub supply_fixed : (c : Circuit) (phase : Phase) (n : ℕ) (value : Bool) → IsSupply c n value → IsFixed c phase n value
@@ -73,17 +68,8 @@ driven_by_pin c n out m e =
     let pin = among_map (make from.0) from.0.outputs out from.2 in
     (from.0, pin.0, from.1, pin.1, ap (λ (x : OutputPin). x.pin.net.0) pin.2 ∙ e)
 
--- a device that stays joins the same nets
-pub joins_same : (e f : Device) (k l : ℕ) → IsImage (λ n. n) e f → Joins e k l → Joins f k l
-joins_same e f k l image (inl j) = inl (image.left ∙ j.0, image.right ∙ j.1)
-joins_same e f k l image (inr j) = inr (image.left ∙ j.0, image.right ∙ j.1)
-
-joins_back : (e f : Device) (k l : ℕ) → IsImage (λ n. n) e f → Joins f k l → Joins e k l
-joins_back e f k l image (inl j) = inl (sym image.left ∙ j.0, sym image.right ∙ j.1)
-joins_back e f k l image (inr j) = inr (sym image.left ∙ j.0, sym image.right ∙ j.1)
-
-module _ (cell low high : Circuit) (phase : Phase) (at place fresh : ℕ → ℕ) (remaining compared : ℕ → Bool)
-    (o : IsOpenedIn cell low high phase at place fresh remaining compared) where
+module _ (cell low high : Circuit) (phase : Phase) (at place fresh : ℕ → ℕ) (remaining compared exposed : ℕ → Bool) (drive : ℕ → ℕ)
+    (o : IsOpenedIn cell low high phase at place fresh remaining compared exposed drive) where
   pub plain_up : (n : ℕ) → IsPlain low n → IsPlain high n
   plain_up n p = (p.0, subst (λ (ns : List FlatNet). At ns n p.0) (sym o.nets) p.1, p.2)
 
@@ -105,33 +91,38 @@ module _ (cell low high : Circuit) (phase : Phase) (at place fresh : ℕ → ℕ
             absurd (plain_not_given low (at x) up.0 (subst (IsPlain low) (sym e) plain) up.1 (supply_given low (at x) s.0 up))
       ]
 
-  -- it is apart from the other plain nets
-  one_net : (d : Device) (x m : ℕ) → Among cell.devices d → Touches d x → IsPlain cell m → at x ≡ at m → x ≡ m
+  -- it is apart from the other plain nets, but for exposed ones
+  one_net : (d : Device) (x m : ℕ) → Among cell.devices d → Touches d x → IsPlain cell m → at x ≡ at m → (x ≡ m) ⊎ (exposed m ≡ true)
   one_net d x m a t plain e =
       elim (o.placed.apart x m (end_plain d x (at m) a t e (o.placed.plain m plain)) plain e) [
-        | inl same ↦ same
-        | inr both ↦ absurd (false≢true both.0)
+        | inl same ↦ inl same
+        | inr both ↦ inr both.1
       ]
 
-  -- a device at a plain net of the cell is the cell's
-  pub own_device : (e : Device) (n : ℕ) → Among (devices_of true low) e → IsPlain cell n → Touches e (at n)
-      → (d : Device) × Among (devices_of true cell) d × IsImage at d e
-  own_device e n m plain t =
+  -- a device of the circuit is one of the cell, which joins a net of it to another
+  abbrev pub IsOwnJoin : Device → ℕ → ℕ → Type 0
+  IsOwnJoin e n l = (d : Device) × Among (devices_of true cell) d × IsImage at d e × ((k : ℕ) × (l ≡ at k) × Joins d n k)
+
+  -- a device at a plain net of the cell is the cell's, and joins there what it joins in the cell; or the net is exposed
+  pub own_device : (e : Device) (n l : ℕ) → Among (devices_of true low) e → IsPlain cell n → Joins e (at n) l → IsOwnJoin e n l ⊎ (exposed n ≡ true)
+  own_device e n l m plain j =
       let listed = device_among true low e m in
-      elim (o.placed.others e n listed.0 plain t) [
-        | inl own ↦ (own.0, among_devices true cell own.0 own.1 (sym (image_in true at own.0 e own.2) ∙ listed.1), own.2)
-        | inr met ↦ absurd (false≢true met.0)
+      elim (o.placed.others e n listed.0 plain (touched e l (at n) (turned e (at n) l j))) [
+        | inr met ↦ inr met.0
+        | inl own ↦ joined own.0 own.1 own.2 (among_devices true cell own.0 own.1 (sym (image_in true at own.0 e own.2) ∙ listed.1)) j
       ]
-
-  -- and joins there what it joins in the cell
-  pub own_joins : (d e : Device) (n l : ℕ) → Among (devices_of true cell) d → IsImage at d e → IsPlain cell n → Joins e (at n) l
-      → (k : ℕ) × (l ≡ at k) × Joins d n k
-  own_joins d e n l m image plain (inl j) =
-      let same = one_net d d.left.0 n (device_among true cell d m).0 (inl refl) plain (sym image.left ∙ j.0) in
-      (d.right.0, sym j.1 ∙ image.right, inl (same, refl))
-  own_joins d e n l m image plain (inr j) =
-      let same = one_net d d.right.0 n (device_among true cell d m).0 (inr refl) plain (sym image.right ∙ j.1) in
-      (d.left.0, sym j.0 ∙ image.left, inr (refl, same))
+    where
+      joined : (d : Device) → Among cell.devices d → IsImage at d e → Among (devices_of true cell) d → Joins e (at n) l → IsOwnJoin e n l ⊎ (exposed n ≡ true)
+      joined d a image on (inl i) =
+          elim (one_net d d.left.0 n a (inl refl) plain (sym image.left ∙ i.0)) [
+            | inl same ↦ inl (d, on, image, (d.right.0, sym i.1 ∙ image.right, inl (same, refl)))
+            | inr out ↦ inr out
+          ]
+      joined d a image on (inr i) =
+          elim (one_net d d.right.0 n a (inr refl) plain (sym image.right ∙ i.1)) [
+            | inl same ↦ inl (d, on, image, (d.left.0, sym i.0 ∙ image.left, inr (refl, same)))
+            | inr out ↦ inr out
+          ]
 
   -- ---- what is known in the cell
 
@@ -161,7 +152,7 @@ module _ (cell low high : Circuit) (phase : Phase) (at place fresh : ℕ → ℕ
   is_above inside m k plain ins e =
       among_any (λ (x : ℕ). inside x && (at x == k)) (plain_nets cell) m ((plain_listed cell m).1 plain) (and_from (inside m) (at m == k) ins (eq-eqb (at m) k e))
 
-  module _ (inside reading : ℕ → Bool) (shut : IsShut cell phase inside reading) (own : IsReading cell phase reading reading)
+  module _ (inside reading : ℕ → Bool) (shut : IsShut cell phase inside reading) (own : IsReading cell phase reading reading) (apart : (n : ℕ) → inside n ≡ true → exposed n ≡ true → ⊥)
       (gates : (m l : ℕ) (d : Device) → inside m ≡ true → Among (devices_of true cell) d → Joins d m l → IsKnown low phase (at d.gate.0) (reading d.gate.0)) where
     plain_in : (m : ℕ) → inside m ≡ true → IsPlain cell m
     plain_in m ins = (shut.plain m ins).0
@@ -183,10 +174,10 @@ module _ (cell low high : Circuit) (phase : Phase) (at place fresh : ℕ → ℕ
     found_at : (e : Device) (k l : ℕ) → above inside k ≡ true → Among (devices_of true low) e → Joins e k l → IsFound e k l
     found_at e k l i a j =
         let m = of_above inside k i in
-        let here : Joins e (at m.0) l = subst (λ (x : ℕ). Joins e x l) (sym m.2) j in
-        let d = own_device e m.0 a (plain_in m.0 m.1) (touched e l (at m.0) (turned e (at m.0) l here)) in
-        let far = own_joins d.0 e m.0 l d.1 d.2 (plain_in m.0 m.1) here in
-        record { net = m.0; far = far.0; device = d.0; ins = m.1; listed = d.1; image = d.2; there = far.1; joins = far.2 }
+        elim (own_device e m.0 l a (plain_in m.0 m.1) (subst (λ (x : ℕ). Joins e x l) (sym m.2) j)) [
+          | inl d ↦ record { net = m.0; far = d.3.0; device = d.0; ins = m.1; listed = d.1; image = d.2; there = d.3.1; joins = d.3.2 }
+          | inr out ↦ absurd (apart m.0 m.1 out)
+        ]
 
     conducts_in : (e : Device) (k l : ℕ) (f : IsFound e k l) → conducts bits e ≡ true → conducts reading f.device ≡ true
     conducts_in e k l f on =
@@ -205,10 +196,10 @@ module _ (cell low high : Circuit) (phase : Phase) (at place fresh : ℕ → ℕ
           ]
         ]
 
-    not_driven : (m : ℕ) → IsPlain cell m → IsDriven low (at m) → ⊥
-    not_driven m plain d =
+    not_driven : (m : ℕ) → inside m ≡ true → IsDriven low (at m) → ⊥
+    not_driven m ins d =
         let out = pin_of_driven low (at m) d in
-        false≢true (o.placed.pins out.0 m out.1 plain out.2).0
+        apart m ins (o.placed.pins out.0 m out.1 (plain_in m ins) out.2).0
 
     set_above : IsShut low phase (above inside) bits
     set_above = record {
@@ -217,7 +208,7 @@ module _ (cell low high : Circuit) (phase : Phase) (at place fresh : ℕ → ℕ
           let plain = plain_in m.0 m.1 in (
             subst (IsPlain low) m.2 (o.placed.plain m.0 plain),
             λ h. o.placed.unheld m.0 plain (subst (IsHeld low) (sym m.2) h),
-            λ d. not_driven m.0 plain (subst (IsDriven low) (sym m.2) d),
+            λ d. not_driven m.0 m.1 (subst (IsDriven low) (sym m.2) d),
           ));
       joined = joined_above;
     }
@@ -233,14 +224,15 @@ module _ (cell low high : Circuit) (phase : Phase) (at place fresh : ℕ → ℕ
         → IsResponse (network_of cell true held (record { reading = reading; driven = driven })) n (Shows v) → IsKnown low phase (at n) v
     known_set held driven n v ins shows =
         settled (above inside) bits (λ j. false) (λ j. false) set_above (is_above inside n (at n) (plain_in n ins) ins refl) reads gate_above
-        (set_responds cell low at no_net no_drive phase (λ j. false) (record { reading = bits; driven = λ j. false }) o.ranges o.wired.ranges o.placed
-        (supply_bit low phase bits bits reads) inside reading held driven shut own (λ m i e. false≢true e) gate_bit n (Shows v) ins shows)
+        (set_responds cell low at exposed drive phase (λ j. false) (record { reading = bits; driven = λ j. false }) o.ranges o.wired.ranges o.placed
+        (supply_bit low phase bits bits reads) inside reading held driven shut own apart gate_bit n (Shows v) ins shows)
 
   -- what is known in the cell is known with it in the circuit, where its supplies and clock ports are
   pub known_above : ((n : ℕ) (v : Bool) → IsFixed cell phase n v → IsKnown low phase (at n) v) → {n : ℕ} {v : Bool} → IsKnown cell phase n v → IsKnown low phase (at n) v
   known_above clocks {n} {v} (fixed f) = clocks n v f
   known_above clocks {n} {v} (settled inside reading held driven shut ins own gates shows) =
-      known_set inside reading shut own (λ m l d i a j. known_above clocks (gates m l d i a j)) held driven n v ins shows
+      known_set inside reading shut own (λ m i e. o.unsettled inside reading m (record { shut = shut; reads = own; gates = gates }) i e)
+      (λ m l d i a j. known_above clocks (gates m l d i a j)) held driven n v ins shows
 
   -- ---- what is known with the cell whole
 
@@ -256,21 +248,37 @@ module _ (cell low high : Circuit) (phase : Phase) (at place fresh : ℕ → ℕ
       driven_unknown (subst (IsPlain high) (sym m.1) (plain_up (at m.0) (o.placed.plain m.0 m.2)))
       (subst (IsDriven high) (sym m.1) (o.driven m.0 m.2 (subst (λ (x : ℕ). remaining x ≡ true) m.1 stays))) known
 
-  -- a device at a compared net stays
-  pub stays : (e : Device) (k : ℕ) → Among (devices_of true low) e → Touches e k → compared k ≡ true → IsPlain low k
-      → (f : Device) × Among (devices_of true high) f × IsLeftDevice (λ n. n) remaining compared e f
-  stays e k m t c plain =
+  -- the whole instance drives exposed nets
+  exposed_driven : (n : ℕ) → exposed n ≡ true → IsDriven high (at n)
+  exposed_driven n e = o.driven n (o.placed.exposed_plain n e) (o.whole.compared_remaining (at n) (o.whole.exposed_compared n e))
+
+  -- a device of the circuit stays
+  abbrev pub IsLeft : Device → Type 0
+  IsLeft e = (f : Device) × Among (devices_of true high) f × IsLeftDevice (λ n. n) remaining compared e f
+
+  -- a device of the circuit is one of the cell, which joins an exposed net of it to another
+  abbrev pub IsExposedJoin : Device → ℕ → ℕ → Type 0
+  IsExposedJoin e k l = (n : ℕ) × (k ≡ at n) × (exposed n ≡ true) × IsOwnJoin e n l
+
+  -- a device at a compared net is one of the two
+  pub outer_device : (e : Device) (k l : ℕ) → Among (devices_of true low) e → Joins e k l → compared k ≡ true → IsPlain low k → IsLeft e ⊎ IsExposedJoin e k l
+  outer_device e k l m j c plain =
       let listed = device_among true low e m in
       elim (o.whole.devices e listed.0) [
-        | inr left ↦ (left.0, among_devices true high left.0 left.1 (image_in true (λ n. n) e left.0 left.2.image ∙ listed.1), left.2)
-        | inl own ↦ absurd (elim t [
-          | inl q ↦ none_at own.0 own.0.left.0 own.1 (inl refl) (sym own.2.left ∙ q)
-          | inr q ↦ none_at own.0 own.0.right.0 own.1 (inr refl) (sym own.2.right ∙ q)
-        ])
+        | inr left ↦ inl (left.0, among_devices true high left.0 left.1 (image_in true (λ n. n) e left.0 left.2.image ∙ listed.1), left.2)
+        | inl own ↦ inr (joined own.0 own.1 own.2 (among_devices true cell own.0 own.1 (sym (image_in true at own.0 e own.2) ∙ listed.1)) j)
       ]
     where
-      none_at : (d : Device) (x : ℕ) → Among cell.devices d → Touches d x → at x ≡ k → ⊥
-      none_at d x a touch e = false≢true (o.whole.inside_compared x (end_plain d x k a touch e plain) (subst (λ (y : ℕ). compared y ≡ true) (sym e) c))
+      is_exposed : (d : Device) (x : ℕ) → Among cell.devices d → Touches d x → at x ≡ k → exposed x ≡ true
+      is_exposed d x a touch e = o.whole.inside_compared x (end_plain d x k a touch e plain) (subst (λ (y : ℕ). compared y ≡ true) (sym e) c)
+
+      joined : (d : Device) → Among cell.devices d → IsImage at d e → Among (devices_of true cell) d → Joins e k l → IsExposedJoin e k l
+      joined d a image on (inl i) =
+          let here = sym image.left ∙ i.0 in
+          (d.left.0, sym here, is_exposed d d.left.0 a (inl refl) here, (d, on, image, (d.right.0, sym i.1 ∙ image.right, inl (refl, refl))))
+      joined d a image on (inr i) =
+          let here = sym image.right ∙ i.1 in
+          (d.right.0, sym here, is_exposed d d.right.0 a (inr refl) here, (d, on, image, (d.left.0, sym i.0 ∙ image.left, inr (refl, refl))))
 
   -- its gate is known with the cell opened, if it is with the cell whole
   pub gate_below : (e f : Device) (v : Bool) → IsLeftDevice (λ n. n) remaining compared e f → IsKnown high phase f.gate.0 v
@@ -305,17 +313,21 @@ module _ (cell low high : Circuit) (phase : Phase) (at place fresh : ℕ → ℕ
         let pin = o.whole.pins out.1.0 out.0 out.1.1 in
         driven_by_pin high n pin.0 (place out.1.0, pin.1) (pin.2.net ∙ out.2)
 
-    -- a device at one of them
-    kept_device : (n m : ℕ) (e : Device) → kept n ≡ true → Among (devices_of true low) e → Joins e n m
-        → (f : Device) × Among (devices_of true high) f × IsLeftDevice (λ x. x) remaining compared e f
-    kept_device n m e i a j = stays e n a (touched e m n (turned e n m j)) (and_parts (set n) (compared n) i).1 (plain_kept n i)
+    -- a device at one of them stays
+    kept_device : (n m : ℕ) (e : Device) → kept n ≡ true → Among (devices_of true low) e → Joins e n m → IsLeft e
+    kept_device n m e i a j =
+        let both = and_parts (set n) (compared n) i in
+        elim (outer_device e n m a j both.1 (plain_kept n i)) [
+          | inl left ↦ left
+          | inr out ↦ absurd ((shut.plain n both.0).2 (subst (IsDriven high) (sym out.1) (exposed_driven out.0 out.2)))
+        ]
 
     joined_below : (n m : ℕ) (e : Device) → kept n ≡ true → Among (devices_of true low) e → Joins e n m → conducts reading e ≡ true
         → (kept m ≡ true) ⊎ ((v : Bool) × IsFixed low phase m v)
     joined_below n m e i a j on =
         let f = kept_device n m e i a j in
         let s : State = record { reading = reading; driven = λ x. false } in
-        elim (shut.joined n m f.0 (and_parts (set n) (compared n) i).0 f.1 (joins_same e f.0 n m f.2.image j) (image_conducts s (λ x. x) e f.0 f.2.image ∙ on)) [
+        elim (shut.joined n m f.0 (and_parts (set n) (compared n) i).0 f.1 (image_joins e f.0 n m f.2.image j) (image_conducts s (λ x. x) e f.0 f.2.image ∙ on)) [
           | inl ins ↦ inl (and_from (set m) (compared m) ins (f.2.channels m (touched e n m j)))
           | inr is ↦ inr (is.0, fixed_down m is.0 is.1)
         ]
@@ -332,29 +344,39 @@ module _ (cell low high : Circuit) (phase : Phase) (at place fresh : ℕ → ℕ
     gate_known n m e i a j =
         let f = kept_device n m e i a j in
         subst (λ (x : ℕ). IsKnown low phase e.gate.0 (reading x)) f.2.image.gate
-        (gates n m e f.0 (and_parts (set n) (compared n) i).0 f.1 (joins_same e f.0 n m f.2.image j) f.2)
+        (gates n m e f.0 (and_parts (set n) (compared n) i).0 f.1 (image_joins e f.0 n m f.2.image j) f.2)
 
-    abbrev state_low : (ℕ → Bool) → State
-    state_low driven = record { reading = reading; driven = λ i. driven (place i) }
+    set_kept : IsShut high phase kept reading
+    set_kept = record {
+      plain = λ n i. shut.plain n (and_parts (set n) (compared n) i).0;
+      joined = λ n m f i a j on.
+          (let both = and_parts (set n) (compared n) i in
+          let e = o.whole.devices_back f (device_among true high f a).0 in
+          elim (shut.joined n m f both.0 a j on) [
+            | inl ins ↦ inl (and_from (set m) (compared m) ins (e.2.channels m (touched e.0 n m (image_joined e.0 f n m e.2.image j))))
+            | inr is ↦ inr is
+          ]);
+    }
 
-    abbrev state_high : (ℕ → Bool) → State
-    state_high driven = record { reading = reading; driven = driven }
+    -- they are the same in both circuits
+    left_image : (e f : Device) → IsImage (λ x. x) e f → IsImage (λ x. x) f e
+    left_image e f i = record { kind = sym i.kind; gate = sym i.gate; left = sym i.left; right = sym i.right; level = sym i.level; keeper = sym i.keeper }
 
-    reaches_same : (held driven : ℕ → Bool) → HasSameReaches (network_of low true held (state_low driven)) (network_of high true held (state_high driven)) (λ x. x) compared
-    reaches_same held driven =
-        (left_whole_is_same cell low high at (λ x. x) place fresh remaining compared no_net no_drive no_net phase reading held true (state_low driven) (state_high driven)
-        o.ranges o.wired.ranges o.whole_ranges o.placed o.whole reads_below
-        (record { reading = λ k stays_there. refl; driven = λ i out e. refl; fresh_driven = λ m e. absurd (false≢true e) })
-        (record { drives = λ m e. absurd (false≢true e); values = λ m e. absurd (false≢true e) })
-        (λ a b e. absurd (false≢true e))).1
+    images : HasImages high low kept
+    images n m f i a j =
+        let listed = device_among true high f a in
+        let e = o.whole.devices_back f listed.0 in
+        (e.0, among_devices true low e.0 e.1 (sym (image_in true (λ x. x) e.0 f e.2.image) ∙ listed.1), left_image e.0 f e.2.image)
+
+    images_alone : AreImages high low kept
+    images_alone n m e i a j = let f = kept_device n m e i a j in (f.0, f.1, left_image e f.0 f.2.image)
 
     known_kept : (held driven : ℕ → Bool) (n : ℕ) (v : Bool) → set n ≡ true → compared n ≡ true
         → IsResponse (network_of high true held (record { reading = reading; driven = driven })) n (Shows v) → IsKnown low phase n v
     known_kept held driven n v ins c shows =
-        let same = reaches_same held driven in
-        settled kept reading held (λ i. driven (place i)) set_below (and_from (set n) (compared n) ins c) reads_below gate_known
-        (response_by (network_of high true held (state_high driven)) (network_of low true held (state_low driven)) n n
-        (λ u. ((same n u c).1, (same n u c).0)) (Shows v) shows)
+        let here = and_from (set n) (compared n) ins c in
+        settled kept reading held driven set_below here reads_below gate_known
+        (responds_there high low phase o.whole_wired o.wired kept reading set_kept set_below own reads_below (λ m u f. fixed_down m u f) images images_alone held held driven driven n (Shows v) here shows)
 
   -- a compared net that is known with the cell whole is known with it opened
   pub known_below : {n : ℕ} {v : Bool} → IsKnown high phase n v → compared n ≡ true → IsKnown low phase n v

@@ -1,53 +1,44 @@
 -- The arcs of the circuit before one more instance is whole, and those of the circuit after it.
-use Rattle.std.proofs.Common.{◌≡◌, ◌⊎◌, ℕ, zero, suc, ◌+◌, ◌<◌, ◌≤◌, Bool, true, false, not, List, [], ◌∷◌, length, Option, Some, None, arith, ap, subst, sym, refl, ◌∙◌, inl, inr}
+use Rattle.std.proofs.Common.{◌≡◌, ◌⊎◌, ℕ, suc, ◌<◌, ◌≤◌, Bool, true, false, List, [], ◌∷◌, length, Option, Some, None, arith, ap, subst, sym, refl, ◌∙◌, inl, inr}
 use Rattle.std.specs.Prelude.{is_some}
-use Rattle.std.proofs.lemmas.Bool.{cases_Bool, false≢true, not-false}
-use Rattle.std.proofs.lemmas.Option.{none-some, same_Some, slice_get_within}
-use Rattle.cell_inside.specs.Placed.{IsPlaced}
-use Rattle.checked_chain.proofs.GateArcs.{gate_there, known_there, together_there, without, without_is}
+use Rattle.std.proofs.lemmas.Bool.{cases_Bool, false≢true}
+use Rattle.std.proofs.lemmas.Option.{none-some, slice_get_within}
 use Rattle.formed_cells.specs.Formed.{IsFormed}
-use Rattle.known_nets.specs.Wired.{IsWired}
 use Rattle.placed_cells.proofs.AboveLaws.{port_outside}
 use Rattle.placed_cells.proofs.CutLaws.{pin_among}
 use Rattle.placed_cells.specs.Above.{net_above}
 use Rattle.placed_cells.specs.Splits.{IsSplit}
-use Rattle.replaced_instances.proofs.OutputPorts.{is_net_role, pin_at}
+use Rattle.replaced_instances.proofs.OutputPorts.{pin_at}
 use Rattle.replaced_instances.proofs.PinOutputs.{output_pin}
 use Rattle.replaced_instances.proofs.StepHides.{remaining_port, whole_outside}
 use Rattle.replaced_instances.proofs.StepInstances.{input_role, port_of_net}
-use Rattle.replaced_instances.proofs.StepLeft.{inside_is, outside_is, step_is_left_whole}
-use Rattle.replaced_instances.proofs.StepOutputs.{one_more_place, outputs_behind}
-use Rattle.replaced_instances.proofs.StepPlaced.{step_is_placed}
-use Rattle.replaced_instances.proofs.StepPorts.{none, output_of_port, pins_shifted, plain_output, plain_port, port_listed, tied}
-use Rattle.replaced_instances.specs.Steps.{IsStepAtGates, compared_at, fresh_place, is_inside_at, is_outside_at}
-use Rattle.trial_cycles.proofs.BackLaws.{opened_is_acyclic}
-use Rattle.trial_cycles.proofs.OpenedArcs.{gate_arc, together_inside, together_up}
-use Rattle.trial_cycles.proofs.OpenedNets.{IsOpenedIn, driven_by_pin, known_stays, no_drive, no_net, supply_fixed}
+use Rattle.replaced_instances.proofs.StepLeft.{outside_is}
+use Rattle.replaced_instances.proofs.StepOutputs.{one_more_place}
+use Rattle.replaced_instances.proofs.StepPorts.{none, output_of_port, pins_shifted, plain_port, port_listed, tied}
+use Rattle.replaced_instances.specs.Steps.{IsChosenStep, compared_at, fresh_place, is_outside_at}
 use Rattle.vrt_model.proofs.Filtered.{among_kept, device_among, filter_among}
-use Rattle.vrt_model.proofs.Lists.{at_back, at_there, map_among, one_at}
+use Rattle.vrt_model.proofs.Lists.{at_there, map_among}
 use Rattle.vrt_model.proofs.Members.{all_among, among_left, among_map, among_right, flat_map_among}
 use Rattle.vrt_model.proofs.Ranked.{together_first}
-use Rattle.vrt_model.specs.Checked.{HasArcWith, HasLinkArc, IsCircuitWith, before, circuit_with}
+use Rattle.vrt_model.specs.Checked.{HasArcWith, HasLinkArc, IsCircuitWith, before}
 use Rattle.vrt_model.specs.Circuits.{IsDevice}
-use Rattle.vrt_model.specs.Comparison.{CellPort, Comparison, cell_at, input_signal, output_signal, phase_at, port_nets, ports_from, ports_of}
+use Rattle.vrt_model.specs.Comparison.{CellPort, Comparison, input_signal, output_signal, phase_at, ports_of}
 use Rattle.vrt_model.specs.Cut.{Cut, NumberedPlace, whole_places}
 use Rattle.vrt_model.specs.Facts.{output_ports}
-use Rattle.vrt_model.specs.FlatCircuit.{flat_circuit_of, kind_by_role}
-use Rattle.vrt_model.specs.Known.{HasArc, HasFixedBit, HasGateArc, IsDriven, IsFixed, IsKnown, IsPlain, IsRanking, IsTogether, IsUnknown, IsWalk, fixed, itself, onward}
+use Rattle.vrt_model.specs.FlatCircuit.{flat_circuit_of}
+use Rattle.vrt_model.specs.Known.{HasArc, HasFixedBit, HasGateArc, IsFixed, IsKnown, IsPlain, IsRanking, IsTogether, IsUnknown, IsWalk, fixed, itself}
 use Rattle.vrt_model.specs.Lists.{Among, At}
-use Rattle.vrt_model.specs.Networks.{HasRanges}
 use Rattle.vrt_model.specs.PairedPorts.{Missing, Model, Paired, Skipped, paired_model}
 use Rattle.vrt_model.specs.Reading.{bare, clock_bit}
 use Rattle.vrt_model.specs.Unrolled.{Place, Top}
 use Rattle.vrt_model.specs.Unsupported.{IsAcyclic, IsSupported}
-use Rattle.vrt_model.specs.WholeInstances.{IsChain, Links, OutputAt, Pin, all_outputs, outputs_of_place, pins_of}
+use Rattle.vrt_model.specs.WholeInstances.{IsChain, Links, Pin, all_outputs, outputs_of_place, pins_of}
 use Rattle.vrt_model.specs.declared.blif.Blif.{Blif}
 use Rattle.vrt_model.specs.declared.circuit.Circuit.{Circuit}
 use Rattle.vrt_model.specs.declared.circuit.FlatNet.{FlatNet}
 use Rattle.vrt_model.specs.declared.circuit.NetKind.{NetKind}
 use Rattle.vrt_model.specs.declared.circuit.NetKind.TheVariants.{Supply as SupplyNet, Clock as ClockNet, Input as InputNet, Plain}
-use Rattle.vrt_model.specs.declared.pairing.PortRole.{PortRole}
-use Rattle.vrt_model.specs.declared.pairing.PortRole.TheVariants.{Supply, Clock, Input, Output}
+use Rattle.vrt_model.specs.declared.pairing.PortRole.TheVariants.{Clock}
 use Rattle.vrt_model.specs.declared.rules.ClockRef.{ClockRef}
 use Rattle.vrt_model.specs.declared.rules.Phase.{Phase}
 use Rattle.vrt_model.specs.declared.whole.CellFacts.{CellFacts}
@@ -55,88 +46,26 @@ use Rattle.vrt_model.specs.declared.whole.Whole.{Whole}
 use Rattle.vrt_model.specs.declared.whole.WholePin.{WholePin}
 use Rattle.whole_ranks.proofs.RankLaws.{acyclic_nets_have_ranks}
 use Rattle.whole_ranks.specs.WholeCells.{IsInputNet}
+use Rattle.trial_cycles.proofs.BackLaws.{IsInnerArc, IsOuterArc, opened_is_acyclic}
+use Rattle.trial_cycles.proofs.OpenedArcs.{LeadsOut, gate_moves, inner_arc, outer_arc, pin_inside, pin_up, together_up}
+use Rattle.trial_cycles.proofs.OpenedNets.{IsOpenedIn, known_stays, plain_up, supply_fixed}
+use Rattle.channel_parts.proofs.Labels.{together_further}
+use Rattle.channel_parts.proofs.RankLaws.{together_back}
+use Rattle.fault_places.proofs.PartRanks.{same_rank}
+use Rattle.trial_cycles.proofs.CellPorts.{clock_in, clock_role, is_input, one_port, signal_is_net}
+use Rattle.trial_cycles.proofs.WithoutLinks.{gate_in, gate_out, together_in, together_out}
+use Rattle.vrt_model.specs.State.{OutputPin, output_pins}
 
--- ---- arcs without links
-
-module _ (c : Circuit) (phase : Phase) where
-  together_back : {n m : ℕ} → IsTogether (without c) phase bare n m → IsTogether c phase bare n m
-  together_back (itself p) = itself p
-  together_back (onward d t channel joins p) = onward d (together_back t) (channel.0, λ v known. channel.1 v (known_there c phase known)) joins p
-
-  gate_back : (a b : ℕ) → HasGateArc (without c) phase a b → HasGateArc c phase a b
-  gate_back a b h =
-      (h.0, (h.1.0, h.1.1, together_back h.1.2, (h.1.3.0, λ v known. h.1.3.1 v (known_there c phase known)), h.1.4), h.2, λ v known. h.3 v (known_there c phase known))
-
-module _ (cut : Cut) (blif : Blif) (facts : List CellFacts) (c : Circuit) (h : IsCircuitWith cut blif facts c) (phase : Phase) where
-  gate_in : (a b : ℕ) → HasGateArc (circuit_with cut blif facts) phase a b → HasGateArc c phase a b
-  gate_in a b arc = gate_back c phase a b (subst (λ (d : Circuit). HasGateArc d phase a b) (sym (without_is cut blif facts c h)) arc)
-
-  gate_out : (a b : ℕ) → HasGateArc c phase a b → HasGateArc (circuit_with cut blif facts) phase a b
-  gate_out a b arc = subst (λ (d : Circuit). HasGateArc d phase a b) (without_is cut blif facts c h) (gate_there c phase a b arc)
-
-  together_in : (a b : ℕ) → IsTogether (circuit_with cut blif facts) phase bare a b → IsTogether c phase bare a b
-  together_in a b t = together_back c phase (subst (λ (d : Circuit). IsTogether d phase bare a b) (sym (without_is cut blif facts c h)) t)
-
-  together_out : (a b : ℕ) → IsTogether c phase bare a b → IsTogether (circuit_with cut blif facts) phase bare a b
-  together_out a b t = subst (λ (d : Circuit). IsTogether d phase bare a b) (without_is cut blif facts c h) (together_there c phase t)
-
--- ---- ports
-
--- an input has a net of its own
-signal_is_net : (role : PortRole) (s : ℕ) → input_signal role ≡ Some s → is_net_role role ≡ true
-signal_is_net (Supply value) s e = absurd (none-some s e)
-signal_is_net (Clock clock) s e = refl
-signal_is_net (Input signal) s e = refl
-signal_is_net (Output signal) s e = refl
-
--- the clock that a kind of nets carries, if any
-clock_in : NetKind → Option ClockRef
-clock_in (SupplyNet value) = None
-clock_in (ClockNet clock) = Some clock
-clock_in InputNet = None
-clock_in Plain = None
-
-is_input : NetKind → Bool
-is_input (SupplyNet value) = false
-is_input (ClockNet clock) = false
-is_input InputNet = true
-is_input Plain = false
-
-clock_role : (role : PortRole) (clock : ClockRef) → kind_by_role role ≡ ClockNet clock → role ≡ Clock clock
-unfolding clock_in
-clock_role (Supply value) clock e = absurd (none-some clock (ap clock_in e))
-clock_role (Clock other) clock e = ap (λ (x : ClockRef). Clock x) (same_Some other clock (ap clock_in e))
-clock_role (Input signal) clock e = absurd (none-some clock (ap clock_in e))
-clock_role (Output signal) clock e = absurd (none-some clock (ap clock_in e))
-
--- a port stands at its place
-port_place : (first : ℕ) (names : List (List ℕ)) (nets : List ℕ) (roles : List PortRole) (i : ℕ) (port : CellPort) → At (ports_from first names nets roles) i port → port.place ≡ first + i
-port_place first [] nets roles i port e = absurd (none-some port e)
-port_place first (x ∷ names) [] roles i port e = absurd (none-some port e)
-port_place first (x ∷ names) (n ∷ nets) [] i port e = absurd (none-some port e)
-port_place first (x ∷ names) (n ∷ nets) (r ∷ roles) zero port e =
-    let here : first ≡ port.place = ap (λ (q : CellPort). q.place) (same_Some _ port e) in omega (arith, here)
-port_place first (x ∷ names) (n ∷ nets) (r ∷ roles) (suc i) port e = let more = port_place (suc first) names nets roles i port e in omega (arith, more)
-
--- so two ports of a cell at one place are one
-one_port : (k : Comparison) (a b : CellPort) → Among (ports_of k) a → Among (ports_of k) b → a.place ≡ b.place → a ≡ b
-one_port k a b on there same =
-    let cell = cell_at k.design k.cell in
-    let first = port_place 0 cell.ports (port_nets k.rules cell.ports) k.pairing.ports on.0 a on.1 in
-    let second = port_place 0 cell.ports (port_nets k.rules cell.ports) k.pairing.ports there.0 b there.1 in
-    let place : on.0 ≡ there.0 = omega (arith, same, first, second) in
-    one_at (ports_of k) there.0 a b (subst (λ (j : ℕ). At (ports_of k) j a) place on.1) there.1
-
--- ---- a step
-
-module _ (cut : Cut) (blif : Blif) (facts : List CellFacts) (i : ℕ) (p : NumberedPlace) (m : ℕ) (step : IsStepAtGates cut blif facts i p m)
+module _ (cut : Cut) (blif : Blif) (facts : List CellFacts) (i : ℕ) (p : NumberedPlace) (m : ℕ) (step : IsChosenStep cut blif facts i p m)
     (supported : IsSupported cut.top.design blif cut.top.rules p.at.cell m) (formed : IsFormed (compared_at cut.top blif p m))
     (depth : ℕ) (front back : List Place) (split : IsSplit cut.top (suc i) p.at depth front back)
     (c whole_circuit : Circuit) (circuit : IsCircuitWith (before cut i) blif facts c) (after : IsCircuitWith (before cut (suc i)) blif facts whole_circuit)
-    (wired : IsWired c) (whole_ranges : HasRanges whole_circuit) (phase : ℕ) (lt : phase < length cut.top.rules.phases)
+    (phase : ℕ) (lt : phase < length cut.top.rules.phases) (compared exposed : ℕ → Bool) (drive : ℕ → ℕ)
+    (opened : IsOpenedIn (compared_at cut.top blif p m).circuit c whole_circuit (phase_at cut.top.rules phase) (λ n. net_above cut.top p.at n) (λ j. j)
+    (fresh_place (before cut i) blif facts (compared_at cut.top blif p m)) (is_outside_at cut.top depth p.at) compared exposed drive)
     (clocks : (pin : Pin) (clock : ClockRef) → Among (pins_of (compared_at cut.top blif p m) p.at) pin → pin.port.role ≡ Clock clock
     → IsKnown whole_circuit (phase_at cut.top.rules phase) pin.net.0 (clock_bit (phase_at cut.top.rules phase) clock))
-    (steps : (o : NumberedPlace) → Among (whole_places (before cut i)) o → (j : ℕ) × (l : ℕ) × IsStepAtGates cut blif facts j o l) where
+    (steps : (o : NumberedPlace) → Among (whole_places (before cut i)) o → (j : ℕ) × (l : ℕ) × IsChosenStep cut blif facts j o l) where
   abbrev t : Top
   t = cut.top
 
@@ -152,41 +81,11 @@ module _ (cut : Cut) (blif : Blif) (facts : List CellFacts) (i : ℕ) (p : Numbe
   abbrev remaining : ℕ → Bool
   remaining n = is_outside_at cut.top depth p.at n
 
-  abbrev compared : ℕ → Bool
-  compared n = not (is_inside_at (compared_at cut.top blif p m).circuit (λ j. net_above cut.top p.at j) n)
-
-  placed : IsPlaced q.circuit c at no_net no_drive
-  placed = step_is_placed cut blif facts i p m c no_drive step circuit
+  abbrev fresh : ℕ → ℕ
+  fresh = fresh_place (before cut i) blif facts q
 
   pin_there : (port : CellPort) → Among (ports_of q) port → Among (pins_of q p.at) (pin_at at port)
   pin_there port on = subst (λ (pins : List Pin). Among pins (pin_at at port)) (sym (pins_shifted cut blif facts i p m step)) (map_among (pin_at at) (ports_of q) port on)
-
-  -- ---- the two circuits
-
-  -- where a plain net of the cell remains, an output of the instance drives it
-  driven_there : (n : ℕ) → IsPlain q.circuit n → remaining (at n) ≡ true → IsDriven whole_circuit (at n)
-  driven_there n plain stays =
-      let low = remaining_port cut blif facts i p m step depth front back split n plain stays in
-      let found = plain_output cut blif facts i p m step n low plain in
-      let o = found.1 in
-      let olds = all_outputs (before cut i) blif facts in
-      let outs = outputs_of_place t blif facts p in
-      let here : At (all_outputs (before cut (suc i)) blif facts) (length olds + o.output) o =
-      subst (λ (os : List OutputAt). At os (length olds + o.output) o) (sym (outputs_behind cut i p step.place step.chosen blif facts)) (at_back olds outs o.output o found.3) in
-      let pin = output_pin (before cut (suc i)) blif facts whole_circuit after (length olds + o.output) o here in
-      driven_by_pin whole_circuit (at n) pin.0 (length olds + o.output, pin.1) (ap (λ (y : WholePin). y.net.0) pin.2 ∙ found.5)
-
-  opened : IsOpenedIn q.circuit c whole_circuit now at (λ j. j) (fresh_place (before cut i) blif facts q) remaining compared
-  opened = record {
-    ranges = record { devices = formed.circuit.devices; holds = formed.circuit.holds; wholes = formed.circuit.wholes };
-    wired = wired;
-    whole_ranges = whole_ranges;
-    placed = placed;
-    whole = step_is_left_whole cut blif facts i p m depth front back c whole_circuit no_drive step split circuit after;
-    nets = after.nets ∙ sym circuit.nets;
-    hidden = λ n e. (let j = inside_is q.circuit at n (not-false (is_inside_at q.circuit at n) e) in (j.0, sym j.2, j.1));
-    driven = driven_there;
-  }
 
   -- ---- ports of whole instances
 
@@ -204,7 +103,7 @@ module _ (cut : Cut) (blif : Blif) (facts : List CellFacts) (i : ℕ) (p : Numbe
   -- so what is known of them after the step was known before it
   known_down : (o : NumberedPlace) (n : ℕ) (v : Bool) → Among (whole_places later) o → Among o.at.ports n → IsKnown whole_circuit now n v → IsKnown c now n v
   known_down o n v on port known =
-      known_stays q.circuit c whole_circuit now at (λ j. j) (fresh_place (before cut i) blif facts q) remaining compared opened n v (port_remains o n on port) known
+      known_stays q.circuit c whole_circuit now at (λ j. j) fresh remaining compared exposed drive opened n v (port_remains o n on port) known
 
   -- supplies and clock ports are at nets that are known, with their bits
   fixed_above : (n : ℕ) (v : Bool) → IsFixed q.circuit now n v → IsKnown c now (at n) v
@@ -223,7 +122,7 @@ module _ (cut : Cut) (blif : Blif) (facts : List CellFacts) (i : ℕ) (p : Numbe
 
       by_kind : (kind : NetKind) → net.kind ≡ kind → HasFixedBit now kind v → IsKnown c now (at n) v
       by_kind (SupplyNet value) e b =
-          subst (λ (x : Bool). IsKnown c now (at n) x) (sym b) (fixed (supply_fixed c now (at n) value (placed.supplies n value (net, here, e))))
+          subst (λ (x : Bool). IsKnown c now (at n) x) (sym b) (fixed (supply_fixed c now (at n) value (opened.placed.supplies n value (net, here, e))))
       by_kind (ClockNet clock) e b = subst (λ (x : Bool). IsKnown c now (at n) x) (sym b) (clock_there clock e)
       by_kind InputNet e b = absurd b
       by_kind Plain e b = absurd b
@@ -257,12 +156,12 @@ module _ (cut : Cut) (blif : Blif) (facts : List CellFacts) (i : ℕ) (p : Numbe
   walk_rises n [] last e = let same = ap rank e in omega (arith, same)
   walk_rises n (x ∷ nets) last walk = let first = rises n x walk.0 in let more = walk_rises x nets last walk.1 in omega (arith, first, more)
 
-  -- a net is not behind itself
-  never_back : (g n : ℕ) → IsChain (HasArc q.circuit now) g n → g ≡ n → ⊥
-  never_back g n chain e =
+  -- a net is not behind one of its own part
+  never_back : (g n : ℕ) → IsChain (HasArc q.circuit now) g n → IsTogether q.circuit now bare g n → ⊥
+  never_back g n chain t =
       let first = rises g chain.0 chain.2 in
       let more = walk_rises chain.0 chain.1 n chain.3 in
-      let same = ap rank e in
+      let same = same_rank q.circuit now rank ranked.1 g n t in
       omega (arith, first, more, same)
 
   -- an arc begins at a plain net or at an input
@@ -314,63 +213,101 @@ module _ (cut : Cut) (blif : Blif) (facts : List CellFacts) (i : ℕ) (p : Numbe
   own_net : (g n l : ℕ) → HasArc q.circuit now g l → remaining (at g) ≡ false → IsPlain q.circuit n → at g ≡ at n → g ≡ n
   own_net g n l arc gone plain e =
       elim (begins_at g l arc) [
-        | inl inside ↦ elim (placed.apart g n inside plain e) [ inl same ↦ same | inr both ↦ absurd (false≢true both.0) ]
+        | inl inside ↦ elim (opened.placed.apart g n inside plain e) [
+          | inl same ↦ same
+          | inr both ↦ absurd (false≢true (sym gone ∙ opened.whole.compared_remaining (at g) (opened.whole.exposed_compared g both.0)))
+        ]
         | inr input ↦ absurd (false≢true (sym gone ∙ input_remains g input))
       ]
 
   -- ---- links
 
-  link_over : (g n : ℕ) (from to : CellPort) → Among (ports_of q) from → Among (ports_of q) to → from.net ≡ g → to.net ≡ n → IsPlain q.circuit n → Links q phase from to
-      → HasArcWith later blif facts phase (at g) (at n)
-  link_over g n from to on there e f plain link =
-      let here : IsPlain whole_circuit (at n) =
-      (let up = placed.plain n plain in (up.0, subst (λ (ns : List FlatNet). At ns (at n) up.0) (circuit.nets ∙ sym after.nets) up.1, up.2)) in
-      inr (
-        p,
-        m,
-        pin_at at from,
-        pin_at at to,
-        itself_whole,
-        step.paired,
-        (pin_there from on, pin_there to there, link),
-        ap at e,
-        subst (λ (x : ℕ). IsTogether (circuit_with later blif facts) now bare (at n) x) (ap at (sym f)) (together_out later blif facts whole_circuit after now (at n) (at n) (itself here)),
-      )
+  -- the net is in the part of what a net of the cell is above, an output
+  abbrev Meets : ℕ → ℕ → Type 0
+  Meets n k = (remaining (at n) ≡ true) × IsTogether whole_circuit now bare k (at n)
 
-  linked : (g n : ℕ) → IsPlain q.circuit n → IsChain (HasArc q.circuit now) g n → remaining (at g) ≡ true → remaining (at n) ≡ true
-      → HasArcWith later blif facts phase (at g) (at n)
-  linked g n plain chain from_stays to_stays =
+  abbrev LeadsOutOf : ℕ → ℕ → Type 0
+  LeadsOutOf n l = LeadsOut q.circuit c whole_circuit now at (λ j. j) fresh remaining compared exposed drive opened fixed_above n l
+
+  leads_to : (n l : ℕ) → LeadsOutOf n l → remaining (at l) ≡ true
+  leads_to n l out = opened.whole.compared_remaining (at l) (opened.whole.exposed_compared l out.0)
+
+  link_over : (g n k : ℕ) (from to : CellPort) → Among (ports_of q) from → Among (ports_of q) to → from.net ≡ g → to.net ≡ n → Meets n k → Links q phase from to
+      → HasArcWith later blif facts phase (at g) k
+  link_over g n k from to on there e f meets link = inr (
+    p,
+    m,
+    pin_at at from,
+    pin_at at to,
+    itself_whole,
+    step.paired,
+    (pin_there from on, pin_there to there, link),
+    ap at e,
+    together_out later blif facts whole_circuit after now k (at to.net) (subst (λ (x : ℕ). IsTogether whole_circuit now bare k (at x)) (sym f) meets.1),
+  )
+
+  -- an output is linked to another that is behind a net of its part
+  link_outputs : (l g n k : ℕ) → IsPlain q.circuit l → remaining (at l) ≡ true → IsTogether q.circuit now bare l g → IsPlain q.circuit n → IsChain (HasArc q.circuit now) g n → Meets n k
+      → HasArcWith later blif facts phase (at l) k
+  link_outputs l g n k from_plain from_stays t to_plain chain meets =
+      let from = output_port l from_plain from_stays in
+      let to = output_port n to_plain meets.0 in
+      let apart : from.0.place ≡ to.0.place → ⊥ = λ same.
+      (let one : l ≡ n = sym from.2 ∙ (ap (λ (x : CellPort). x.net) (one_port q from.0 to.0 from.1 to.1 same) ∙ to.2) in
+      never_back g n chain (together_back q.circuit now bare n g (subst (λ (x : ℕ). IsTogether q.circuit now bare x g) one t))) in
+      link_over l n k from.0 to.0 from.1 to.1 from.2 to.2 meets
+      (inl (
+        from.3.0,
+        to.3.0,
+        inr (
+          from.3.1,
+          to.3.1,
+          apart,
+          (
+            g,
+            subst (λ (x : ℕ). IsTogether q.circuit now bare x g) (sym from.2) t,
+            subst (λ (y : ℕ). IsChain (HasArc q.circuit now) g y) (sym to.2) chain,
+          ),
+        ),
+      ))
+
+  linked : (g n k : ℕ) → IsPlain q.circuit n → IsChain (HasArc q.circuit now) g n → Meets n k → remaining k ≡ true → remaining (at g) ≡ true
+      → HasArcWith later blif facts phase (at g) k
+  linked g n k plain chain meets stays from_stays =
       elim (begins_at g chain.0 chain.2) [
+        | inl inside ↦ link_outputs g g n k inside from_stays (itself inside) plain chain meets
         | inr input ↦
             let from = input_port g input in
-            link_over g n from.0 to.0 from.1 to.1 from.2 to.2 plain (inl (from.3.0, to.3.0, inl (from.3.1, to.3.1, inl (moved from.0.net (sym from.2)))))
-        | inl inside ↦
-            let from = output_port g inside from_stays in
-            link_over g n from.0 to.0 from.1 to.1 from.2 to.2 plain
-            (inl (from.3.0, to.3.0, inr (from.3.1, to.3.1, apart from.0 from.1 from.2, (g, subst (λ (x : ℕ). IsTogether q.circuit now bare x g) (sym from.2) (itself inside), moved g refl))))
+            let to = output_port n plain meets.0 in
+            link_over g n k from.0 to.0 from.1 to.1 from.2 to.2 meets
+            (inl (
+              from.3.0,
+              to.3.0,
+              inl (
+                from.3.1,
+                to.3.1,
+                inl (subst (λ (x : ℕ). IsChain (HasArc q.circuit now) x to.0.net) (sym from.2) (subst (λ (y : ℕ). IsChain (HasArc q.circuit now) g y) (sym to.2) chain)),
+              ),
+            ))
       ]
-    where
-      to : (port : CellPort) × Among (ports_of q) port × (port.net ≡ n) × ((s : ℕ) × (output_signal port.role ≡ Some s))
-      to = output_port n plain to_stays
 
-      moved : (x : ℕ) → g ≡ x → IsChain (HasArc q.circuit now) x to.0.net
-      moved x e = subst (λ (y : ℕ). IsChain (HasArc q.circuit now) y to.0.net) e (subst (λ (y : ℕ). IsChain (HasArc q.circuit now) g y) (sym to.2) chain)
-
-      apart : (from : CellPort) → Among (ports_of q) from → from.net ≡ g → from.place ≡ to.0.place → ⊥
-      apart from on e same = never_back g n chain (sym e ∙ (ap (λ (x : CellPort). x.net) (one_port q from to.0 on to.1 same) ∙ to.2))
+  linked_beside : (g n k l : ℕ) → IsPlain q.circuit n → IsChain (HasArc q.circuit now) g n → Meets n k → remaining k ≡ true → LeadsOutOf g l
+      → HasArcWith later blif facts phase (at l) k
+  linked_beside g n k l plain chain meets stays out =
+      link_outputs l g n k (opened.placed.exposed_plain l out.0) (leads_to g l out) (together_back q.circuit now bare g l out.1) plain chain meets
 
   -- ---- the other whole instances
 
-  -- the output of one is at no net of the cell
-  no_output : (o : NumberedPlace) (l : ℕ) (out : Pin) (s n : ℕ) → Among (whole_places (before cut i)) o → paired_model t.design blif t.rules o.at.cell ≡ Model l
-      → Among (pins_of (compared_at t blif o l) o.at) out → output_signal out.port.role ≡ Some s → IsPlain q.circuit n → out.net.0 ≡ at n → ⊥
-  no_output o l out s n on paired among role plain e =
+  -- an output of one is an output pin of the circuit
+  other_output : (o : NumberedPlace) (l : ℕ) (out : Pin) (s : ℕ) → Among (whole_places (before cut i)) o → paired_model t.design blif t.rules o.at.cell ≡ Model l
+      → Among (pins_of (compared_at t blif o l) o.at) out → output_signal out.port.role ≡ Some s → (pin : OutputPin) × Among (output_pins c) pin × (pin.pin.net.0 ≡ out.net.0)
+  other_output o l out s on paired among role =
       let found = steps o on in
       let model : Paired → ℕ = λ x. elim x [ Model j ↦ j | Skipped ↦ 0 | Missing ↦ 0 ] in
       let same : found.1 ≡ l = ap model (sym found.2.paired ∙ paired) in
-      by_step found.0 (subst (λ (x : ℕ). IsStepAtGates cut blif facts found.0 o x) same found.2)
+      by_step found.0 (subst (λ (x : ℕ). IsChosenStep cut blif facts found.0 o x) same found.2)
     where
-      by_step : (j : ℕ) → IsStepAtGates cut blif facts j o l → ⊥
+      by_step : (j : ℕ) → IsChosenStep cut blif facts j o l → (pin : OutputPin) × Among (output_pins c) pin × (pin.pin.net.0 ≡ out.net.0)
       by_step j other =
           let above : ℕ → ℕ = λ x. net_above cut.top o.at x in
           let k = compared_at t blif o l in
@@ -380,50 +317,110 @@ module _ (cut : Cut) (blif : Blif) (facts : List CellFacts) (i : ℕ) (p : Numbe
           let one = output_of_port cut blif facts j o l other listed.0 port.0 listed.1 in
           let there : Among (all_outputs (before cut i) blif facts) one.0 = flat_map_among (outputs_of_place t blif facts) (whole_places (before cut i)) o one.0 on (listed.0, one.1) in
           let pin = output_pin (before cut i) blif facts c circuit there.0 one.0 there.1 in
-          let net : pin.0.pin.net.0 ≡ at n =
-          ap (λ (x : WholePin). x.net.0) pin.2 ∙ (one.2 ∙ (ap (λ (x : Pin). x.net.0) port.2 ∙ e)) in
-          false≢true (placed.pins pin.0 n (there.0, pin.1) plain net).0
+          (pin.0, (there.0, pin.1), ap (λ (x : WholePin). x.net.0) pin.2 ∙ (one.2 ∙ ap (λ (x : Pin). x.net.0) port.2))
+
+  link_output : (k : Comparison) (from to : CellPort) → Links k phase from to → (s : ℕ) × (output_signal to.role ≡ Some s)
+  link_output k from to (inl (s, out, inl inside)) = (out, inside.1)
+  link_output k from to (inl (s, out, inr inside)) = (out, inside.1)
+  link_output k from to (inr named) = named.1
 
   -- ---- arcs
-
-  outer_link : (a b : ℕ) → HasLinkArc (before cut i) blif facts phase a b → (remaining a ≡ true) × (remaining b ≡ true) × HasArcWith later blif facts phase a b
-  outer_link a b (o, l, pin, out, on, paired, linked_by, net, together) =
-      let inside = together_in (before cut i) blif facts c circuit now b out.net.0 together in
-      let signal = to_output (compared_at t blif o l) pin.port out.port linked_by.2 in
-      let kept : compared b ≡ true =
-      elim (cases_Bool (compared b)) [
-        | inl yes_it ↦ yes_it
-        | inr gone ↦
-            let n = opened.hidden b gone in
-            let x = together_inside q.circuit c whole_circuit now at (λ j. j) (fresh_place (before cut i) blif facts q) remaining compared opened fixed_above inside n.0 n.2 n.1 in
-            absurd (no_output o l out signal.0 x.0 on paired linked_by.1 signal.1 x.2 x.1)
-      ] in
-      let up = together_up q.circuit c whole_circuit now at (λ j. j) (fresh_place (before cut i) blif facts q) remaining compared opened fixed_above inside kept in
-      let more : Among (whole_places later) o =
-      subst (λ (ps : List NumberedPlace). Among ps o) (sym (one_more_place cut i p step.place step.chosen)) (among_left (whole_places (before cut i)) (p ∷ []) o on) in
-      let port = pin_among (ports_of (compared_at t blif o l)) o.at.ports pin linked_by.0 in (
-        subst (λ (x : ℕ). remaining x ≡ true) net (port_remains o pin.net.0 more port),
-        opened.whole.compared_remaining b kept,
-        inr (o, l, pin, out, more, paired, linked_by, net, together_out later blif facts whole_circuit after now b out.net.0 up.0),
-      )
-    where
-      to_output : (k : Comparison) (from to : CellPort) → Links k phase from to → (s : ℕ) × (output_signal to.role ≡ Some s)
-      to_output k from to (inl (s, out, inl inside)) = (out, inside.1)
-      to_output k from to (inl (s, out, inr inside)) = (out, inside.1)
-      to_output k from to (inr named) = named.1
 
   abbrev Inside : ℕ → Type 0
   Inside n = IsPlain (compared_at cut.top blif p m).circuit n
 
-  arcs : (a b : ℕ) → HasArcWith (before cut i) blif facts phase a b
-      → ((remaining a ≡ true) × (remaining b ≡ true) × HasArcWith later blif facts phase a b)
-      ⊎ ((g : ℕ) × (n : ℕ) × (a ≡ at g) × (b ≡ at n) × Inside n × HasArc q.circuit now g n)
-  arcs a b (inr link) = inl (outer_link a b link)
-  arcs a b (inl gate) =
-      elim (gate_arc q.circuit c whole_circuit now at (λ j. j) (fresh_place (before cut i) blif facts q) remaining compared opened fixed_above a b (gate_in (before cut i) blif facts c circuit now a b gate)) [
-        | inl outer ↦ inl (outer.0, outer.1, inl (gate_out later blif facts whole_circuit after now a b outer.2))
-        | inr inner ↦ inr (inner.0, inner.1, inner.2, inner.3, inner.4, inl inner.5)
+  abbrev IsOuter : ℕ → ℕ → Type 0
+  IsOuter a b = IsOuterArc (HasArcWith (before cut i) blif facts phase) (HasArcWith later blif facts phase) (HasArc q.circuit now) Meets LeadsOutOf Inside at rank remaining (length c.nets) a b
+
+  abbrev IsInner : ℕ → ℕ → Type 0
+  IsInner a b = IsInnerArc (HasArcWith (before cut i) blif facts phase) (HasArcWith later blif facts phase) (HasArc q.circuit now) Meets LeadsOutOf Inside at rank remaining (length c.nets) a b
+
+  -- a net that remains and is not compared is an output that meets gates alone, so its part does not lead out
+  stays_in : (b n l : ℕ) → remaining b ≡ true → compared b ≡ false → b ≡ at n → Inside n → LeadsOutOf n l → ⊥
+  stays_in b n l stays gone here plain out =
+      let same : l ≡ n = opened.alone l n out.0 plain (subst (λ (x : ℕ). remaining x ≡ true) here stays) (together_back q.circuit now bare n l out.1) in
+      false≢true (sym gone ∙ subst (λ (x : ℕ). compared x ≡ true) (sym here) (subst (λ (x : ℕ). compared (at x) ≡ true) same (opened.whole.exposed_compared l out.0)))
+
+  outer_gate : (a b : ℕ) → HasGateArc c now a b → remaining b ≡ true → IsOuter a b
+  outer_gate a b arc stays =
+      elim (cases_Bool (compared b)) [
+        | inl kept ↦ elim (outer_arc q.circuit c whole_circuit now at (λ j. j) fresh remaining compared exposed drive opened fixed_above a b arc kept) [
+          | inl out ↦ inl (out.0, inl (gate_out later blif facts whole_circuit after now a b out.1))
+          | inr (g, n, from, out, inner, above) ↦
+              inr (g, n, from, opened.placed.exposed_plain n out, inl inner, (opened.whole.compared_remaining (at n) (opened.whole.exposed_compared n out), above))
+        ]
+        | inr gone ↦
+            let n = opened.hidden b gone in
+            elim (inner_arc q.circuit c whole_circuit now at (λ j. j) fresh remaining compared exposed drive opened fixed_above a b arc n.0 n.1 n.2) [
+              | inl (g, from, inner) ↦ inr (g, n.0, from, n.2, inl inner, (subst (λ (x : ℕ). remaining x ≡ true) n.1 stays, above b n.0 n.1 n.2))
+              | inr (l, out) ↦ absurd (stays_in b n.0 l stays gone n.1 n.2 out)
+            ]
       ]
+    where
+      above : (x n : ℕ) → x ≡ at n → Inside n → IsTogether whole_circuit now bare x (at n)
+      above x n e plain =
+          subst (λ (y : ℕ). IsTogether whole_circuit now bare y (at n)) (sym e)
+          (itself (plain_up q.circuit c whole_circuit now at (λ j. j) fresh remaining compared exposed drive opened (at n) (opened.placed.plain n plain)))
+
+  outer_link : (a b : ℕ) → HasLinkArc (before cut i) blif facts phase a b → remaining b ≡ true → IsOuter a b
+  outer_link a b (o, l, pin, out, on, paired, linked_by, net, together) stays =
+      let inside = together_in (before cut i) blif facts c circuit now b out.net.0 together in
+      let signal = link_output (compared_at t blif o l) pin.port out.port linked_by.2 in
+      let there = other_output o l out signal.0 on paired linked_by.1 signal.1 in
+      elim (cases_Bool (compared b)) [
+        | inr gone ↦
+            let n = opened.hidden b gone in
+            let exits = pin_inside q.circuit c whole_circuit now at (λ j. j) fresh remaining compared exposed drive opened fixed_above n.0 b out.net.0 there.0 there.1 there.2 inside n.2 n.1 in
+            absurd (stays_in b n.0 exits.0 stays gone n.1 n.2 exits.1)
+        | inl kept ↦
+            let up = pin_up q.circuit c whole_circuit now at (λ j. j) fresh remaining compared exposed drive opened fixed_above b out.net.0 there.0 there.1 there.2
+            (together_up q.circuit c whole_circuit now at (λ j. j) fresh remaining compared exposed drive opened fixed_above inside kept) in
+            let more : Among (whole_places later) o =
+            subst (λ (ps : List NumberedPlace). Among ps o) (sym (one_more_place cut i p step.place step.chosen)) (among_left (whole_places (before cut i)) (p ∷ []) o on) in
+            let port = pin_among (ports_of (compared_at t blif o l)) o.at.ports pin linked_by.0 in
+            inl (
+              subst (λ (x : ℕ). remaining x ≡ true) net (port_remains o pin.net.0 more port),
+              inr (o, l, pin, out, more, paired, linked_by, net, together_out later blif facts whole_circuit after now b out.net.0 up.1),
+            )
+      ]
+
+  outer : (a b : ℕ) → HasArcWith (before cut i) blif facts phase a b → remaining b ≡ true → IsOuter a b
+  outer a b (inl gate) stays = outer_gate a b (gate_in (before cut i) blif facts c circuit now a b gate) stays
+  outer a b (inr link) stays = outer_link a b link stays
+
+  inner : (a b : ℕ) → HasArcWith (before cut i) blif facts phase a b → remaining b ≡ false → IsInner a b
+  inner a b arc gone =
+      let n = opened.hidden b (elim (cases_Bool (compared b)) [ inr f ↦ f | inl kept ↦ absurd (false≢true (sym gone ∙ opened.whole.compared_remaining b kept)) ]) in
+      (n.0, n.1, n.2, by_kind n.0 n.1 n.2 arc)
+    where
+      by_kind : (n : ℕ) → b ≡ at n → Inside n → HasArcWith (before cut i) blif facts phase a b → ((g : ℕ) × (a ≡ at g) × HasArc q.circuit now g n) ⊎ ((l : ℕ) × LeadsOutOf n l)
+      by_kind n here plain (inl gate) =
+          elim (inner_arc q.circuit c whole_circuit now at (λ j. j) fresh remaining compared exposed drive opened fixed_above a b (gate_in (before cut i) blif facts c circuit now a b gate) n here plain) [
+            | inl (g, from, arc) ↦ inl (g, from, inl arc)
+            | inr out ↦ inr out
+          ]
+      by_kind n here plain (inr (o, l, pin, out, on, paired, linked_by, net, together)) =
+          let signal = link_output (compared_at t blif o l) pin.port out.port linked_by.2 in
+          let there = other_output o l out signal.0 on paired linked_by.1 signal.1 in
+          inr (pin_inside q.circuit c whole_circuit now at (λ j. j) fresh remaining compared exposed drive opened fixed_above n b out.net.0 there.0 there.1 there.2
+          (together_in (before cut i) blif facts c circuit now b out.net.0 together) plain here)
+
+  moves : (n l a : ℕ) → LeadsOutOf n l → HasArcWith (before cut i) blif facts phase a (at n) → HasArcWith (before cut i) blif facts phase a (at l)
+  moves n l a out (inl gate) =
+      inl (gate_out (before cut i) blif facts c circuit now a (at l)
+      (gate_moves q.circuit c whole_circuit now at (λ j. j) fresh remaining compared exposed drive opened fixed_above n l a out (gate_in (before cut i) blif facts c circuit now a (at n) gate)))
+  moves n l a exits (inr (o, k, pin, out, on, paired, linked_by, net, together)) = inr (
+    o,
+    k,
+    pin,
+    out,
+    on,
+    paired,
+    linked_by,
+    net,
+    together_out (before cut i) blif facts c circuit now (at l) out.net.0
+        (together_further c now bare (at l) (at n) out.net.0 (together_back c now bare (at n) (at l) exits.2) (together_in (before cut i) blif facts c circuit now (at n) out.net.0 together)),
+  )
 
   bounded : (a b : ℕ) → HasArcWith (before cut i) blif facts phase a b → b < length c.nets
   bounded a b arc = let plain = plain_end arc in slice_get_within c.nets b plain.0 plain.1
@@ -440,6 +437,7 @@ module _ (cut : Cut) (blif : Blif) (facts : List CellFacts) (i : ℕ) (p : Numbe
   step_goes = (
     known_down,
     λ free.
-        opened_is_acyclic (HasArcWith (before cut i) blif facts phase) (HasArcWith (before cut (suc i)) blif facts phase) (HasArc q.circuit now) Inside at rank remaining (length c.nets)
-        (record { bounded = bounded; arcs = arcs; rises = rises; own = own_net; linked = linked }) free,
+        opened_is_acyclic (HasArcWith (before cut i) blif facts phase) (HasArcWith (before cut (suc i)) blif facts phase) (HasArc q.circuit now) Meets LeadsOutOf Inside at rank remaining
+        (length c.nets)
+        (record { bounded = bounded; outer = outer; inner = inner; moves = moves; stays = leads_to; rises = rises; own = own_net; linked = linked; linked_beside = linked_beside }) free,
   )

@@ -1,12 +1,15 @@
 -- Instances that are tried together: whether arcs have a cycle is asked once, of the circuit in which all of them are whole.
 use Rattle.std.specs.Prelude.{◌≡◌, ◌↔◌, ℕ, suc, ◌<◌, true, false, List, length}
-use Rattle.replaced_instances.specs.Steps.{IsAllowedInstance}
+use Rattle.formed_cells.specs.Formed.{AreRead}
+use Rattle.known_nets.specs.Wired.{IsWired}
+use Rattle.replaced_instances.specs.Steps.{AreAllowed, IsAllowedInstance, IsSoundNetlist}
 use Rattle.whole_circuits.specs.Acyclic.{AreAcyclic}
 use Rattle.substitution_laws.specs.Chosen.{IsSoftTrial}
 use Rattle.vrt_model.specs.Checked.{HasArcWith, IsChoice, IsCircuitWith, MayBeWhole, before}
 use Rattle.vrt_model.specs.Circuits.{IsCircuit}
 use Rattle.vrt_model.specs.Comparison.{phase_at}
 use Rattle.vrt_model.specs.Cut.{Cut, NumberedPlace, is_inside_whole, numbered_places, whole_places}
+use Rattle.vrt_model.specs.Facts.{IsTrueOf}
 use Rattle.vrt_model.specs.FlatCircuit.{flat_circuit_of, flat_nets}
 use Rattle.vrt_model.specs.Known.{HasArc, IsKnown}
 use Rattle.vrt_model.specs.Lists.{Among, At}
@@ -48,9 +51,72 @@ CarriedClocksAreKnown =
     (cut : Cut) (blif : Blif) (facts : List CellFacts) (c : Circuit) (phase : ℕ)
     → IsCircuitWith cut blif facts c → AreClocksCarried cut blif → AreClocksKnown cut blif c phase
 
--- ---- cycles
+-- ---- trials
 
--- instances that are allowed one besides the other in a well-formed flat circuit, with the circuit in which all of them are whole; their clock ports
+-- instances each of which is allowed besides those before it, by true facts, whatever these say of how strongly outputs drive
+pub record IsTrial (cut : Cut) (blif : Blif) (facts : List CellFacts) : Type 0 where
+  pub netlist : IsSoundNetlist cut.top
+  pub read : AreRead blif cut.top.rules
+  pub told : (cell : ℕ) (f : CellFacts) → At facts cell f → IsTrueOf cut.top.design blif cut.top.rules cell f
+  pub tried : AreAllowed cut blif facts
+
+-- each circuit with the instances before some place whole has its numbers and levels in range, and outputs of whole instances at plain nets
+abbrev pub AreWired : Cut → Blif → List CellFacts → Type 0
+AreWired cut blif facts = (i : ℕ) (c : Circuit) → IsCircuitWith (before cut i) blif facts c → IsWired c
+
+-- such instances, with the circuit in which all of them are whole; their clock ports are known there in the phase
+pub record IsTrialInPhase (cut : Cut) (blif : Blif) (facts : List CellFacts) (c : Circuit) (phase : ℕ) : Type 0 where
+  pub trial : IsTrial cut blif facts
+  pub wired : AreWired cut blif facts
+  pub circuit : IsCircuitWith cut blif facts c
+  pub there : phase < length cut.top.rules.phases
+  pub clocks : AreClocksKnown cut blif c phase
+
+-- The law: where the arcs have no cycle with the instances up to one whole, they have none with those before it whole.
+abbrev pub AnyStepKeepsAcyclic : Type 0
+AnyStepKeepsAcyclic =
+    (cut : Cut) (blif : Blif) (facts : List CellFacts) (c : Circuit) (i phase : ℕ)
+    → IsTrialInPhase cut blif facts c phase → suc i < length (all_places cut.top)
+    → IsAcyclic (HasArcWith (before cut (suc i)) blif facts phase) → IsAcyclic (HasArcWith (before cut i) blif facts phase)
+
+-- The law: so where they have none with all of them whole, they have none with those before any of them whole, nor has the flat circuit.
+abbrev pub AnyTrialsAreAcyclic : Type 0
+AnyTrialsAreAcyclic =
+    (cut : Cut) (blif : Blif) (facts : List CellFacts) (c : Circuit) (phase : ℕ)
+    → IsTrialInPhase cut blif facts c phase → IsAcyclic (HasArc c (phase_at cut.top.rules phase))
+    → ((i : ℕ) → IsAcyclic (HasArcWith (before cut i) blif facts phase))
+    × IsAcyclic (HasArc (flat_circuit_of cut.top) (phase_at cut.top.rules phase))
+
+-- so in each phase, and the arcs of the circuit in which all are whole have no cycle in any
+pub record IsAcyclicTrial (cut : Cut) (blif : Blif) (facts : List CellFacts) (c : Circuit) : Type 0 where
+  pub trial : IsTrial cut blif facts
+  pub wired : AreWired cut blif facts
+  pub circuit : IsCircuitWith cut blif facts c
+  pub clocks : (phase : ℕ) → phase < length cut.top.rules.phases → AreClocksKnown cut blif c phase
+  pub acyclic : AreAcyclic c cut.top.rules.phases
+
+-- The law: then each of the instances may be left whole besides those before it.
+abbrev pub AnyTriedMayBeWhole : Type 0
+AnyTriedMayBeWhole =
+    (cut : Cut) (blif : Blif) (facts : List CellFacts) (c : Circuit) (i : ℕ) (p : NumberedPlace)
+    → IsAcyclicTrial cut blif facts c → At (numbered_places cut.top) (suc i) p → cut.choice i ≡ true
+    → (is_inside_whole (before cut i) p.at ≡ false) × ((m : ℕ) × MayBeWhole (before cut i) blif facts i p m)
+
+-- an instance is chosen exactly where it is not inside a whole one and is allowed besides those before it
+abbrev pub IsChoiceOfAllowed : Cut → Blif → List CellFacts → Type 0
+IsChoiceOfAllowed cut blif facts =
+    (i : ℕ) (p : NumberedPlace) → At (numbered_places cut.top) (suc i) p
+    → (cut.choice i ≡ true) ↔ ((is_inside_whole (before cut i) p.at ≡ false) × ((m : ℕ) × IsAllowedInstance (before cut i) blif facts i p m))
+
+-- The law: so all that are allowed are chosen as the definition asks, without a look at cycles on the way.
+abbrev pub AnyAllowedAreChosen : Type 0
+AnyAllowedAreChosen =
+    (cut : Cut) (blif : Blif) (facts : List CellFacts) (c : Circuit)
+    → IsChoiceOfAllowed cut blif facts → IsAcyclicTrial cut blif facts c → IsChoice cut blif facts
+
+-- ---- cycles, where facts say of no output how strongly it drives
+
+-- such instances in a well-formed flat circuit, with the circuit in which all of them are whole; their clock ports
 -- are known there in the phase
 pub record IsTrialAtClocks (cut : Cut) (blif : Blif) (facts : List CellFacts) (c : Circuit) (phase : ℕ) : Type 0 where
   pub trial : IsSoftTrial cut blif facts
@@ -59,14 +125,14 @@ pub record IsTrialAtClocks (cut : Cut) (blif : Blif) (facts : List CellFacts) (c
   pub there : phase < length cut.top.rules.phases
   pub clocks : AreClocksKnown cut blif c phase
 
--- The law: where the arcs have no cycle with the instances up to one whole, they have none with those before it whole.
+-- The law: so it is here, step by step.
 abbrev pub StepKeepsAcyclic : Type 0
 StepKeepsAcyclic =
     (cut : Cut) (blif : Blif) (facts : List CellFacts) (c : Circuit) (i phase : ℕ)
     → IsTrialAtClocks cut blif facts c phase → suc i < length (all_places cut.top)
     → IsAcyclic (HasArcWith (before cut (suc i)) blif facts phase) → IsAcyclic (HasArcWith (before cut i) blif facts phase)
 
--- The law: so where they have none with all of them whole, they have none with those before any of them whole.
+-- The law: so where arcs have no cycle with all of them whole, they have none with those before any of them whole.
 abbrev pub TrialsAreAcyclic : Type 0
 TrialsAreAcyclic =
     (cut : Cut) (blif : Blif) (facts : List CellFacts) (c : Circuit) (i phase : ℕ)
@@ -90,20 +156,14 @@ pub record IsTrialWithoutCycles (cut : Cut) (blif : Blif) (facts : List CellFact
   pub clocks : (phase : ℕ) → phase < length cut.top.rules.phases → AreClocksKnown cut blif c phase
   pub acyclic : AreAcyclic c cut.top.rules.phases
 
--- The law: then each of the instances may be left whole besides those before it.
+-- The law: then each may be left whole besides those before it.
 abbrev pub TriedMayBeWhole : Type 0
 TriedMayBeWhole =
     (cut : Cut) (blif : Blif) (facts : List CellFacts) (c : Circuit) (i : ℕ) (p : NumberedPlace)
     → IsTrialWithoutCycles cut blif facts c → At (numbered_places cut.top) (suc i) p → cut.choice i ≡ true
     → (is_inside_whole (before cut i) p.at ≡ false) × ((m : ℕ) × MayBeWhole (before cut i) blif facts i p m)
 
--- an instance is chosen exactly where it is not inside a whole one and is allowed besides those before it
-abbrev pub IsChoiceOfAllowed : Cut → Blif → List CellFacts → Type 0
-IsChoiceOfAllowed cut blif facts =
-    (i : ℕ) (p : NumberedPlace) → At (numbered_places cut.top) (suc i) p
-    → (cut.choice i ≡ true) ↔ ((is_inside_whole (before cut i) p.at ≡ false) × ((m : ℕ) × IsAllowedInstance (before cut i) blif facts i p m))
-
--- The law: so all that are allowed are chosen as the definition asks, without a look at cycles on the way.
+-- The law: and where all are chosen that are allowed, they are chosen as the definition asks.
 abbrev pub AllowedAreChosen : Type 0
 AllowedAreChosen =
     (cut : Cut) (blif : Blif) (facts : List CellFacts) (c : Circuit)
