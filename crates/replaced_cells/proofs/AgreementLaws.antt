@@ -4,6 +4,7 @@ use Rattle.channel_parts.specs.OneSolution.{HasOneSolution}
 use Rattle.replaced_cells.proofs.GoesDown.{agreement_goes_down}
 use Rattle.replaced_cells.proofs.GoesUp.{agreement_goes_up}
 use Rattle.replaced_cells.specs.Agreement.{AgreementIsTransitive, OneMoreWholeAgrees}
+use Rattle.replaced_cells.specs.OneMoreWhole.{no_net}
 use Rattle.vrt_model.specs.Checked.{with_circuit}
 use Rattle.vrt_model.specs.Comparison.{is_observed, phase_at}
 use Rattle.vrt_model.specs.Equal.{Agree}
@@ -19,7 +20,7 @@ one_more_whole_agrees k q whole_circuit at place fresh remaining compared drive 
         (agreement_goes_up k q phase whole_circuit at place fresh remaining compared drive (setting_of k phase bits) (one phase lt)
         (subst (λ (setting : Setting). HasOneSolution whole_circuit (phase_at k.rules phase) (is_observed (with_circuit k whole_circuit) phase) setting) (same.settings phase bits) (whole_solved phase bits lt)) fine),
     λ fine.
-        agreement_goes_down k q phase whole_circuit at place fresh remaining compared drive (setting_of k phase bits) (one phase lt) (solved phase bits lt)
+        agreement_goes_down k q phase whole_circuit at place fresh remaining compared no_net drive (setting_of k phase bits) (one phase lt) (solved phase bits lt)
         (subst (Agree (with_circuit k whole_circuit) phase) (same.settings phase bits) fine),
   );
 }

@@ -8,12 +8,14 @@ pub fn agreement_goes_down()
     ensures { AgreementGoesDown }
 {}
 
-/// The other way round: where nothing is wrong with the cell in the circuit, nothing is wrong with the instance whole.
+/// The other way round, where each output meets gates alone: where nothing is wrong with the cell in the circuit, nothing is wrong with the
+/// instance whole.
 pub fn agreement_goes_up()
     ensures { AgreementGoesUp }
 {}
 
-/// So the two comparisons agree in all phases, where both circuits always have exactly one solution and their valuations are the same.
+/// So the two comparisons agree in all phases, where each output meets gates alone, both circuits always have exactly one solution, and their
+/// valuations are the same.
 pub fn one_more_whole_agrees()
     ensures { OneMoreWholeAgrees }
 {}

@@ -1,6 +1,6 @@
 //! A circuit with a cell in it, and the circuit in which this instance is whole too: the model of an equal cell stands for the cell.
-//! Where nothing is wrong in the one circuit nothing is wrong in the other, and both have the same bits at the nets that remain. The
-//! instance's outputs meet gates alone. Laws alone, each the contract of a function that does nothing.
+//! Where nothing is wrong in the one circuit nothing is wrong in the other, and both have the same bits at the nets that remain. Exposed
+//! outputs of the instance may meet channels, all others meet gates alone. Laws alone, each the contract of a function that does nothing.
 #![tactic(auto)]
 
 mod agreement;
