@@ -5,6 +5,7 @@ pub mod ChainLaws
 pub mod ExposedPins
 pub mod GoesDown
 pub mod GoesUp
+pub mod GoesUpByFaults
 pub mod MissedLaws
 pub mod ObservedFaults
 pub mod OwnBits

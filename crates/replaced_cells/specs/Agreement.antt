@@ -1,17 +1,21 @@
 -- Bits of a circuit with a cell in it, and of the circuit with this instance whole; and where nothing is wrong in either.
-use Rattle.std.specs.Prelude.{◌≡◌, ◌↔◌, ℕ, ◌<◌, Bool, true, List, IsSome, length}
+use Rattle.std.specs.Prelude.{◌≡◌, ◌↔◌, ◌⊎◌, ℕ, ◌<◌, Bool, true, List, IsSome, length}
 use Rattle.channel_parts.specs.OneSolution.{HasOneSolution}
 use Rattle.replaced_cells.specs.OneMoreWhole.{AreSolvedAlike, IsOneMoreWhole, no_net}
+use Rattle.vrt_model.specs.Assignment.{Assignment}
 use Rattle.vrt_model.specs.Checked.{with_circuit}
 use Rattle.vrt_model.specs.Comparison.{Comparison, is_observed, phase_at}
 use Rattle.vrt_model.specs.Constraints.{Meets}
 use Rattle.vrt_model.specs.Equal.{Agree}
-use Rattle.vrt_model.specs.Faults.{BreaksConstraint, Responds, Solves}
+use Rattle.vrt_model.specs.Faults.{Assigns, BreaksConstraint, Responds, Solves, Stands}
 use Rattle.vrt_model.specs.Held.{setting_of}
+use Rattle.vrt_model.specs.Known.{IsPlain}
 use Rattle.vrt_model.specs.Reading.{Partial, bare}
-use Rattle.vrt_model.specs.Response.{Fight}
+use Rattle.vrt_model.specs.Response.{Fight, Float}
 use Rattle.vrt_model.specs.State.{Setting, State}
 use Rattle.vrt_model.specs.declared.circuit.Circuit.{Circuit}
+use Rattle.vrt_model.specs.declared.verdict.FaultKind.TheVariants.{Constraint, Fight as FightFault, Float as FloatFault}
+use Rattle.whole_ranks.specs.Defined.{HasBitAt}
 
 -- ---- bits
 
@@ -59,6 +63,34 @@ AgreementGoesUp =
     (k q : Comparison) (phase : ℕ) (whole_circuit : Circuit) (at place fresh : ℕ → ℕ) (remaining compared : ℕ → Bool) (drive : ℕ → ℕ) (setting : Setting)
     → IsOneMoreWhole k q phase whole_circuit at place fresh remaining compared no_net drive
     → HasOneSolution whole_circuit (phase_at k.rules phase) (is_observed (with_circuit k whole_circuit) phase) setting
+    → Agree k phase setting → Agree (with_circuit k whole_circuit) phase setting
+
+-- ---- from the faults of the bare stage
+
+-- a fault of the bare stage stands by some solution: a fight, a float, or a broken constraint
+abbrev pub HasBareFault : Comparison → ℕ → Setting → Type 0
+HasBareFault k phase setting =
+    (a : Partial) × (g : Assignment) × (at : ℕ) × Solves k phase setting a × Assigns k phase setting g
+    × (Stands k phase setting a g FightFault at ⊎ (Stands k phase setting a g FloatFault at ⊎ Stands k phase setting a g Constraint at))
+
+-- what the faults of the bare stage tell with the instance whole: where nothing fights and nothing floats a solution has a bit at each
+-- observed net, and where any of them stands something is wrong in the circuit
+pub record BareFaultsTell (k : Comparison) (phase : ℕ) (whole_circuit : Circuit) (setting : Setting) : Type 0 where
+  pub defined :
+      (a : Partial) → Solves (with_circuit k whole_circuit) phase setting a
+      → ((n : ℕ) → IsPlain whole_circuit n → ¬ Responds (with_circuit k whole_circuit) phase setting a bare n Fight)
+      → ((n : ℕ) → is_observed (with_circuit k whole_circuit) phase n ≡ true → ¬ Responds (with_circuit k whole_circuit) phase setting a bare n Float)
+      → (n : ℕ) → is_observed (with_circuit k whole_circuit) phase n ≡ true → HasBitAt a n
+  pub wrong : HasBareFault (with_circuit k whole_circuit) phase setting → ¬ Agree k phase setting
+
+-- The law: where nothing is wrong with the cell in the circuit, nothing is wrong with the instance whole, where there is one solution and
+-- the faults of the bare stage tell so much.
+abbrev pub AgreementGoesUpByFaults : Type 0
+AgreementGoesUpByFaults =
+    (k q : Comparison) (phase : ℕ) (whole_circuit : Circuit) (at place fresh : ℕ → ℕ) (remaining compared exposed : ℕ → Bool) (drive : ℕ → ℕ) (setting : Setting)
+    → IsOneMoreWhole k q phase whole_circuit at place fresh remaining compared exposed drive
+    → HasOneSolution whole_circuit (phase_at k.rules phase) (is_observed (with_circuit k whole_circuit) phase) setting
+    → BareFaultsTell k phase whole_circuit setting
     → Agree k phase setting → Agree (with_circuit k whole_circuit) phase setting
 
 -- ---- all phases
