@@ -123,6 +123,15 @@ OneMoreWholeAgrees =
     → IsAlwaysSolved k → IsAlwaysSolved (with_circuit k whole_circuit) → HaveSameValuations k (with_circuit k whole_circuit)
     → AgreesWith k (with_circuit k whole_circuit)
 
+-- The law: so they do where outputs may be exposed, and in each phase and at each valuation the faults of the bare stage tell so much.
+abbrev pub OneMoreWholeAgreesByFaults : Type 0
+OneMoreWholeAgreesByFaults =
+    (k q : Comparison) (whole_circuit : Circuit) (at place fresh : ℕ → ℕ) (remaining compared exposed : ℕ → Bool) (drive : ℕ → ℕ)
+    → ((phase : ℕ) → phase < length k.rules.phases → IsOneMoreWhole k q phase whole_circuit at place fresh remaining compared exposed drive)
+    → IsAlwaysSolved k → IsAlwaysSolved (with_circuit k whole_circuit) → HaveSameValuations k (with_circuit k whole_circuit)
+    → ((phase : ℕ) (bits : List Bool) → phase < length k.rules.phases → Meets k phase bits → BareFaultsTell k phase whole_circuit (setting_of k phase bits))
+    → AgreesWith k (with_circuit k whole_circuit)
+
 -- The law: so do the first and the last of three, of which each agrees with the next.
 abbrev pub AgreementIsTransitive : Type 0
 AgreementIsTransitive =

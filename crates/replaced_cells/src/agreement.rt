@@ -1,6 +1,6 @@
 //! Where nothing is wrong in the one circuit nothing is wrong in the other.
 
-ghost use Rattle.replaced_cells.specs.Agreement.{AgreementGoesDown, AgreementGoesUp, AgreementGoesUpByFaults, AgreementIsTransitive, OneMoreWholeAgrees};
+ghost use Rattle.replaced_cells.specs.Agreement.{AgreementGoesDown, AgreementGoesUp, AgreementGoesUpByFaults, AgreementIsTransitive, OneMoreWholeAgrees, OneMoreWholeAgreesByFaults};
 
 /// Where nothing is wrong with the instance whole, nothing is wrong with the cell in its place: there is a solution, it is defined, and
 /// no fault of any kind stands. It asks that the circuit has exactly one solution.
@@ -24,6 +24,11 @@ pub fn agreement_goes_up_by_faults()
 /// valuations are the same.
 pub fn one_more_whole_agrees()
     ensures { OneMoreWholeAgrees }
+{}
+
+/// So they do where outputs are exposed, if in each phase and at each valuation the faults of the bare stage tell so much.
+pub fn one_more_whole_agrees_by_faults()
+    ensures { OneMoreWholeAgreesByFaults }
 {}
 
 /// And step by step along a chain of circuits.

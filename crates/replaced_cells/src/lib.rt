@@ -10,7 +10,7 @@ mod faults;
 
 pub use agreement::{
     agreement_goes_down, agreement_goes_up, agreement_goes_up_by_faults, agreement_is_transitive,
-    one_more_whole_agrees,
+    one_more_whole_agrees, one_more_whole_agrees_by_faults,
 };
 pub use bits::{bits_go_down, bits_go_up};
 pub use chain::{agreement_follows_chain, chain_keeps_valuations};
