@@ -1,15 +1,14 @@
--- Where nothing is wrong with the cell in the circuit, nothing is wrong with the instance whole.
+-- Where nothing is wrong with the cell in the circuit, nothing is wrong with the instance whole, where each output meets gates alone.
 use Rattle.std.proofs.Common.{◌≡◌, ℕ, Bool, true, false, List, Option, Some, subst, sym, refl, ◌∙◌, ap, inl, inr}
 use Rattle.std.specs.Prelude.{IsSome, unwrap_or}
 use Rattle.std.proofs.lemmas.Bool.{cases_Bool}
 use Rattle.std.proofs.lemmas.Option.{same_Some}
-use Rattle.channel_parts.specs.OneSolution.{HasOneSolution}
+use Rattle.replaced_cells.proofs.AgreeAlike.{agrees_above}
 use Rattle.replaced_cells.proofs.GoesDown.{bit_there}
-use Rattle.replaced_cells.proofs.ObservedFaults.{stands_there}
+use Rattle.replaced_cells.proofs.OwnBits.{HaveOwnBits, outside_response}
 use Rattle.replaced_cells.proofs.Prepared.{IsBase, cell_solved, circuit_state, circuit_state_is, mixed, mixed_inside, mixed_outside, mixed_reads, output_bit, reads_above, states_correspond, valuation_of, whole_state, whole_state_is}
-use Rattle.replaced_cells.proofs.SharedFaults.{faults_are_shared}
 use Rattle.replaced_cells.proofs.ShownInside.{plain_shown, shown, shown_solves}
-use Rattle.replaced_cells.proofs.SolvedAlike.{outside_response, pin_inside, pin_shows, solution_shows, solved_by}
+use Rattle.replaced_cells.proofs.SolvedAlike.{pin_inside, pin_shows, solution_shows, solved_by}
 use Rattle.replaced_cells.proofs.States.{solution_same, state_at, state_is, with_given, with_given_agrees, with_given_reads}
 use Rattle.replaced_cells.specs.Agreement.{AgreementGoesUp, BitsGoUp, HaveSameBits}
 use Rattle.replaced_cells.specs.OneMoreWhole.{AreSolvedAlike, IsOneMoreWhole, all_bits, no_net}
@@ -32,7 +31,7 @@ use Rattle.whole_solutions.proofs.ObservedCases.{observed_for}
 use Rattle.whole_solutions.proofs.ObservedLaws.{remains, whole_observes_no_more}
 
 module _ (k q : Comparison) (phase : ℕ) (whole_circuit : Circuit) (at place fresh : ℕ → ℕ) (remaining compared : ℕ → Bool) (drive : ℕ → ℕ)
-    (one : IsOneMoreWhole k q phase whole_circuit at place fresh remaining compared drive) (setting : Setting)
+    (one : IsOneMoreWhole k q phase whole_circuit at place fresh remaining compared no_net drive) (setting : Setting)
     (a : Partial) (a_solves : Solves k phase setting a) (a_defined : (n : ℕ) → is_observed k phase n ≡ true → IsSome (a n))
     (met : ¬ BreaksConstraint k.design k.rules phase a one.instance.0) where
   abbrev now : Phase
@@ -74,7 +73,7 @@ module _ (k q : Comparison) (phase : ℕ) (whole_circuit : Circuit) (at place fr
 
   base : IsBase k phase whole_circuit one.instance.0 inputs a first
   base = record {
-    reads = reads_above k q phase whole_circuit at place fresh remaining compared drive one inputs first first_reads;
+    reads = reads_above k q phase whole_circuit at place fresh remaining compared no_net drive one inputs first first_reads;
     seen = λ n o. first_seen n (observed_back n o);
     met = met;
   }
@@ -82,7 +81,7 @@ module _ (k q : Comparison) (phase : ℕ) (whole_circuit : Circuit) (at place fr
   -- ---- what the nets of the cell show is a solution of the cell
 
   first_bits : (v : List Bool) × Meets q phase v × IsReading q.circuit (phase_at q.rules phase) (setting_of q phase v).inputs (λ n. first (at n))
-  first_bits = valuation_of k q phase whole_circuit at place fresh remaining compared drive one inputs a first base
+  first_bits = valuation_of k q phase whole_circuit at place fresh remaining compared no_net drive one inputs a first base
 
   equal : Agree q phase (setting_of q phase first_bits.0)
   equal = one.cell.equal.agree first_bits.0 first_bits.1
@@ -104,19 +103,19 @@ module _ (k q : Comparison) (phase : ℕ) (whole_circuit : Circuit) (at place fr
   -- ---- the bits of both circuits
 
   abbrev bits : ℕ → Bool
-  bits = mixed k q phase whole_circuit at place fresh remaining compared drive one first inner
+  bits = mixed k q phase whole_circuit at place fresh remaining compared no_net drive one first inner
 
   reads : IsReading whole_circuit now inputs bits
-  reads = mixed_reads k q phase whole_circuit at place fresh remaining compared drive one first inner inputs base.reads
+  reads = mixed_reads k q phase whole_circuit at place fresh remaining compared no_net drive one first inner inputs base.reads
 
   inside_is : (m : ℕ) → IsPlain q.circuit m → bits (at m) ≡ inner m
-  inside_is m p = mixed_inside k q phase whole_circuit at place fresh remaining compared drive one first inner m p
+  inside_is m p = mixed_inside k q phase whole_circuit at place fresh remaining compared no_net drive one first inner m p refl
 
   -- the bits at observed nets are those of the solution
   seen : (n : ℕ) → is_observed k phase n ≡ true → a n ≡ Some (bits n)
   seen n o =
       elim (cases_Bool (compared n)) [
-        | inl t ↦ first_seen n o ∙ ap (λ (v : Bool). Some v) (sym (mixed_outside k q phase whole_circuit at place fresh remaining compared drive one first inner n t))
+        | inl t ↦ first_seen n o ∙ ap (λ (v : Bool). Some v) (sym (mixed_outside k q phase whole_circuit at place fresh remaining compared no_net drive one first inner n t))
         | inr f ↦
             let h = one.hides.hidden n f in
             let up : is_observed k phase (at h.0) ≡ true = subst (λ (x : ℕ). is_observed k phase x ≡ true) h.1 o in
@@ -131,12 +130,12 @@ module _ (k q : Comparison) (phase : ℕ) (whole_circuit : Circuit) (at place fr
   inner_seen n p o = bit_there (b n) (equal.defined b b_solves n o) ∙ ap (λ (v : Bool). Some v) (sym (inside_is n p))
 
   own_bits_there : (v : List Bool) × Meets q phase v × IsReading q.circuit (phase_at q.rules phase) (setting_of q phase v).inputs (λ n. bits (at n))
-  own_bits_there = valuation_of k q phase whole_circuit at place fresh remaining compared drive one inputs a bits more
+  own_bits_there = valuation_of k q phase whole_circuit at place fresh remaining compared no_net drive one inputs a bits more
 
   cell_solves : Solves q phase (setting_of q phase own_bits_there.0) (all_bits (λ n. bits (at n)))
   unfolding own_bits_there
   cell_solves =
-      cell_solved k q phase whole_circuit at place fresh remaining compared drive one inputs a first bits base more first_bits.0 first_bits.1 first_bits.2 b b_solves inner_seen
+      cell_solved k q phase whole_circuit at place fresh remaining compared no_net drive one inputs a first bits base more first_bits.0 first_bits.1 first_bits.2 b b_solves inner_seen
 
   solves : Solves k phase setting (all_bits bits)
   solves = solution_same k.circuit now (is_observed k phase) setting a (all_bits bits) seen a_solves
@@ -144,16 +143,16 @@ module _ (k q : Comparison) (phase : ℕ) (whole_circuit : Circuit) (at place fr
   -- ---- both circuits
 
   abbrev s : State
-  s = circuit_state k q phase whole_circuit at place fresh remaining compared drive one inputs bits reads
+  s = circuit_state k q phase whole_circuit at place fresh remaining compared no_net drive one inputs bits reads
 
   abbrev r : State
-  r = whole_state k q phase whole_circuit at place fresh remaining compared drive one inputs bits reads
+  r = whole_state k q phase whole_circuit at place fresh remaining compared no_net drive one inputs bits reads
 
   s_is : IsState k.circuit now inputs s
-  s_is = circuit_state_is k q phase whole_circuit at place fresh remaining compared drive one inputs bits reads
+  s_is = circuit_state_is k q phase whole_circuit at place fresh remaining compared no_net drive one inputs bits reads
 
   r_is : IsState whole_circuit now inputs r
-  r_is = whole_state_is k q phase whole_circuit at place fresh remaining compared drive one inputs bits reads
+  r_is = whole_state_is k q phase whole_circuit at place fresh remaining compared no_net drive one inputs bits reads
 
   -- an output that is observed with the instance whole shows the bit of its pin, which is that of the cell's solution
   output_shows : (m : ℕ) → IsPlain q.circuit m → is_observed there phase (at m) ≡ true → IsResponse (network_of whole_circuit bare setting.held r) (at m) (Shows (bits (at m)))
@@ -161,19 +160,28 @@ module _ (k q : Comparison) (phase : ℕ) (whole_circuit : Circuit) (at place fr
       let stays : remaining (at m) ≡ true =
       remains k q phase whole_circuit at place fresh remaining compared no_net drive one.design one.rules one.placed one.whole one.instances one.hides one.within (at m) (observed_for there phase (at m) o) in
       let out = one.pins.there m p stays in
-      let here : fresh m ≡ out.1.0 = pin_inside k q phase whole_circuit at place fresh remaining compared drive one m out.1.0 out.0 p out.1.1 out.2 in
+      let here : fresh m ≡ out.1.0 = pin_inside k q phase whole_circuit at place fresh remaining compared no_net drive one m out.1.0 out.0 p refl out.1.1 out.2 in
       let there_is : At (output_pins whole_circuit) (fresh m) out.0 = subst (λ (j : ℕ). At (output_pins whole_circuit) j out.0) (sym here) out.1.1 in
-      let bit = output_bit k q phase whole_circuit at place fresh remaining compared drive one inputs r r_is own_bits_there.0 own_bits_there.1 own_bits_there.2
+      let bit = output_bit k q phase whole_circuit at place fresh remaining compared no_net drive one inputs r r_is own_bits_there.0 own_bits_there.1 own_bits_there.2
       (all_bits (λ n. bits (at n))) cell_solves m out.0 p there_is out.2 in
       subst (λ (v : Bool). IsResponse (network_of whole_circuit bare setting.held r) (at m) (Shows v)) (sym (same_Some (bits (at m)) (r.driven (fresh m)) bit))
-      (pin_shows k q phase whole_circuit at place fresh remaining compared drive one bare setting.held r m out.0 p there_is out.2)
+      (pin_shows k q phase whole_circuit at place fresh remaining compared no_net drive one bare setting.held r m out.0 p refl there_is out.2)
+
+  abbrev own : HaveOwnBits k q phase whole_circuit at place fresh remaining setting s r own_bits_there.0
+  own = record {
+    state = s_is;
+    whole_state = r_is;
+    same = states_correspond k q phase whole_circuit at place fresh remaining compared no_net drive one inputs bits reads;
+    meets = own_bits_there.1;
+    reads = own_bits_there.2;
+    cell_solves = cell_solves;
+  }
 
   shows_above : (n : ℕ) → is_observed there phase n ≡ true → IsResponse (network_of whole_circuit bare setting.held r) n (Shows (bits n))
   shows_above n o =
       elim (cases_Bool (compared n)) [
         | inl t ↦
-            (outside_response k q phase whole_circuit at place fresh remaining compared drive one setting s r s_is
-            (states_correspond k q phase whole_circuit at place fresh remaining compared drive one inputs bits reads) bare n (Shows (bits n)) t).0
+            (outside_response k q phase whole_circuit at place fresh remaining compared no_net drive one setting s r own_bits_there.0 own bare n (Shows (bits n)) t).0
             (solution_shows k phase setting s s_is one.determined solves n (observed_back n o))
         | inr f ↦
             let h = one.hides.hidden n f in
@@ -188,7 +196,7 @@ module _ (k q : Comparison) (phase : ℕ) (whole_circuit : Circuit) (at place fr
   alike = record {
     state = s_is;
     whole_state = r_is;
-    same = states_correspond k q phase whole_circuit at place fresh remaining compared drive one inputs bits reads;
+    same = states_correspond k q phase whole_circuit at place fresh remaining compared no_net drive one inputs bits reads;
     meets = own_bits_there.1;
     reads = own_bits_there.2;
     solves = solves;
@@ -202,8 +210,8 @@ module _ (k q : Comparison) (phase : ℕ) (whole_circuit : Circuit) (at place fr
 -- ---- nothing is wrong
 
 module _ (k q : Comparison) (phase : ℕ) (whole_circuit : Circuit) (at place fresh : ℕ → ℕ) (remaining compared : ℕ → Bool) (drive : ℕ → ℕ)
-    (one : IsOneMoreWhole k q phase whole_circuit at place fresh remaining compared drive) (setting : Setting)
-    (agree : Agree k phase setting) (only : HasOneSolution whole_circuit (phase_at k.rules phase) (is_observed (with_circuit k whole_circuit) phase) setting) where
+    (one : IsOneMoreWhole k q phase whole_circuit at place fresh remaining compared no_net drive) (setting : Setting)
+    (agree : Agree k phase setting) where
   -- no constraint of the instance is broken
   met_here : ¬ BreaksConstraint k.design k.rules phase agree.solution.0 one.instance.0
   met_here h =
@@ -213,28 +221,11 @@ module _ (k q : Comparison) (phase : ℕ) (whole_circuit : Circuit) (at place fr
   pub bits_above : HaveSameBits k q phase whole_circuit at place fresh remaining setting
   bits_above = same_bits k q phase whole_circuit at place fresh remaining compared drive one setting agree.solution.0 agree.solution.1 (agree.defined agree.solution.0 agree.solution.1) met_here
 
-  abbrev bits_there : ℕ → Bool
-  bits_there = bits_above.1.reading
-
-  each_same : (c : Partial) → Solves (with_circuit k whole_circuit) phase setting c → (n : ℕ) → is_observed (with_circuit k whole_circuit) phase n ≡ true → c n ≡ Some (bits_there n)
-  each_same c c_solves n o = sym (only.only c c_solves n o) ∙ only.only (all_bits bits_there) bits_above.3.whole_solves n o
-
-  pub agrees : Agree (with_circuit k whole_circuit) phase setting
-  agrees = record {
-    solution = (all_bits bits_there, bits_above.3.whole_solves);
-    one_solution = λ c d c_solves d_solves n o. each_same c c_solves n o ∙ sym (each_same d d_solves n o);
-    assignment = agree.assignment;
-    one_assignment = λ g h is it. let same = agree.one_assignment g h is it in record { signals = same.signals; elements = same.elements };
-    defined = λ c c_solves n o. subst IsSome (sym (each_same c c_solves n o)) refl;
-    no_fault = λ c g c_solves is kind at_place h.
-        (faults_are_shared k q phase whole_circuit at place fresh remaining compared drive setting bits_above.0 bits_above.1 bits_above.2 g one bits_above.3).0
-        (λ other n. agree.no_fault (all_bits bits_above.0.reading) g bits_above.3.solves is other n) kind at_place
-        (stands_there (with_circuit k whole_circuit) phase setting c (all_bits bits_there) (each_same c c_solves) g kind at_place h);
-  }
-
 pub bits_go_up : BitsGoUp
 bits_go_up k q phase whole_circuit at place fresh remaining compared drive setting a one solves defined met =
     same_bits k q phase whole_circuit at place fresh remaining compared drive one setting a solves defined met
 
 pub agreement_goes_up : AgreementGoesUp
-agreement_goes_up k q phase whole_circuit at place fresh remaining compared drive setting one only agree = agrees k q phase whole_circuit at place fresh remaining compared drive one setting agree only
+agreement_goes_up k q phase whole_circuit at place fresh remaining compared drive setting one only agree =
+    agrees_above k q phase whole_circuit at place fresh remaining compared no_net drive one setting
+    (bits_above k q phase whole_circuit at place fresh remaining compared drive one setting agree) only agree

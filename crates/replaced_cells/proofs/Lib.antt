@@ -1,10 +1,14 @@
+pub mod AgreeAlike
 pub mod AgreementLaws
 pub mod BrokenLaws
 pub mod ChainLaws
+pub mod ExposedPins
 pub mod GoesDown
 pub mod GoesUp
+pub mod GoesUpByFaults
 pub mod MissedLaws
 pub mod ObservedFaults
+pub mod OwnBits
 pub mod Prepared
 pub mod PrintedLaws
 pub mod SameResponses

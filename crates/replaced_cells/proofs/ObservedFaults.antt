@@ -21,7 +21,7 @@ module _ (k : Comparison) (phase : ℕ) (setting : Setting) (a b : Partial) (sam
   agrees : (reading : ℕ → Bool) → Agrees (is_observed k phase) b reading → Agrees (is_observed k phase) a reading
   agrees reading h n v o e = h n v o (sym (same n o) ∙ e)
 
-  responds : (which : Bool) (n : ℕ) (r : Response) → AlwaysResponds k.circuit (phase_at k.rules phase) (is_observed k phase) setting a which n r
+  pub responds : (which : Bool) (n : ℕ) (r : Response) → AlwaysResponds k.circuit (phase_at k.rules phase) (is_observed k phase) setting a which n r
       → AlwaysResponds k.circuit (phase_at k.rules phase) (is_observed k phase) setting b which n r
   responds which n r h s is ok = h s is (agrees s.reading ok)
 

@@ -24,7 +24,7 @@ use Rattle.vrt_model.specs.Held.{setting_of}
 use Rattle.vrt_model.specs.Known.{IsPlain}
 use Rattle.vrt_model.specs.Lists.{Among, At}
 use Rattle.vrt_model.specs.Reading.{HasGivenBit, IsReading, Partial, is_given}
-use Rattle.vrt_model.specs.State.{IsState, OutputPin, State, output_pins, surroundings_of_whole}
+use Rattle.vrt_model.specs.State.{IsState, ModelGives, OutputPin, State, output_pins, surroundings_of_whole}
 use Rattle.vrt_model.specs.declared.circuit.Circuit.{Circuit}
 use Rattle.vrt_model.specs.declared.circuit.FlatInstance.{FlatInstance}
 use Rattle.vrt_model.specs.declared.circuit.FlatNet.{FlatNet}
@@ -52,8 +52,8 @@ pub record IsBase (k : Comparison) (phase : ℕ) (whole_circuit : Circuit) (i : 
   pub seen : (n : ℕ) → is_observed (with_circuit k whole_circuit) phase n ≡ true → a n ≡ Some (reading n)
   pub met : ¬ BreaksConstraint k.design k.rules phase a i
 
-module _ (k q : Comparison) (phase : ℕ) (whole_circuit : Circuit) (at place fresh : ℕ → ℕ) (remaining compared : ℕ → Bool) (drive : ℕ → ℕ)
-    (one : IsOneMoreWhole k q phase whole_circuit at place fresh remaining compared drive) where
+module _ (k q : Comparison) (phase : ℕ) (whole_circuit : Circuit) (at place fresh : ℕ → ℕ) (remaining compared exposed : ℕ → Bool) (drive : ℕ → ℕ)
+    (one : IsOneMoreWhole k q phase whole_circuit at place fresh remaining compared exposed drive) where
   abbrev now : Phase
   now = phase_at k.rules phase
 
@@ -82,14 +82,15 @@ module _ (k q : Comparison) (phase : ℕ) (whole_circuit : Circuit) (at place fr
         found true e is = refl
         found false e is = absurd (false≢true is)
 
-    pub mixed_inside : (m : ℕ) → IsPlain q.circuit m → mixed (at m) ≡ inner m
+    pub mixed_inside : (m : ℕ) → IsPlain q.circuit m → exposed m ≡ false → mixed (at m) ≡ inner m
     unfolding mixed
-    mixed_inside m p = found (compared (at m)) refl
+    mixed_inside m p hidden = found (compared (at m)) refl
       where
         found : (t : Bool) (e : compared (at m) ≡ t) → by_test (at m) t e ≡ inner m
-        found true e = absurd (false≢true (sym (not_compared k q phase whole_circuit at place fresh remaining compared drive one m p) ∙ e))
+        found true e = absurd (false≢true (sym (not_compared k q phase whole_circuit at place fresh remaining compared exposed drive one m p hidden) ∙ e))
         found false e =
-            let h = one.hides.hidden (at m) e in ap inner (inside_apart k q phase whole_circuit at place fresh remaining compared drive one h.0 m h.2 p (sym h.1))
+            let h = one.hides.hidden (at m) e in
+            ap inner (sym (inside_apart k q phase whole_circuit at place fresh remaining compared exposed drive one m h.0 p h.2 hidden h.1))
 
     pub mixed_reads : (inputs : ℕ → Bool) → IsReading whole_circuit now inputs reading → IsReading whole_circuit now inputs mixed
     mixed_reads inputs reads n net e =
@@ -97,7 +98,7 @@ module _ (k q : Comparison) (phase : ℕ) (whole_circuit : Circuit) (at place fr
           | inl t ↦ subst (HasGivenBit now inputs net.kind n) (sym (mixed_outside n t)) (reads n net e)
           | inr f ↦
               let h = one.hides.hidden n f in
-              let plain = plain_there k q phase whole_circuit at place fresh remaining compared drive one (at h.0) (one.placed.plain h.0 h.2) in
+              let plain = plain_there k q phase whole_circuit at place fresh remaining compared exposed drive one (at h.0) (one.placed.plain h.0 h.2) in
               let same : net ≡ plain.0 = same_Some net plain.0 (sym e ∙ subst (λ (x : ℕ). At whole_circuit.nets x plain.0) (sym h.1) plain.1) in
               plain_any now inputs net.kind n (mixed n) (ap (λ (x : FlatNet). is_given x.kind) same ∙ ap is_given plain.2)
         ]
@@ -117,18 +118,24 @@ module _ (k q : Comparison) (phase : ℕ) (whole_circuit : Circuit) (at place fr
   input_same bits reading reads n i =
       sym (subst (λ (kind : NetKind). HasGivenBit own_now (setting_of q phase bits).inputs kind n (reading (at n))) i.2 (reads n i.0 i.1))
 
-  -- a solution of the cell has the bit that its pin drives, with the instance whole
+  -- a solution of the cell has the bit that a reading gives the cell's own pin
+  pub output_gives : (reading : ℕ → Bool) (bits : List Bool) → Meets q phase bits
+      → IsReading q.circuit own_now (setting_of q phase bits).inputs (λ n. reading (at n)) → (b : Partial) → Solves q phase (setting_of q phase bits) b
+      → (n : ℕ) (out : OutputPin) (v : Bool) → IsPlain q.circuit n → At (output_pins whole_circuit) (fresh n) out → out.pin.net.0 ≡ at n → ModelGives now out reading v → b n ≡ Some v
+  output_gives reading bits meets reads b solves n out v p e net g =
+      let own = one.pins.own n out p e net in
+      let assigns = inside q phase whole_circuit (is_observed there phase) at out.whole one.cell own.0 reading g.0 (setting_of q phase bits)
+      (subst (λ (rules : Rules). IsAssignment out.whole.model (surroundings_of_whole (phase_at rules phase) out.whole reading) g.0) (sym one.rules) g.1)
+      (input_same bits reading reads) in
+      let signal = shows_signal q phase whole_circuit (is_observed there phase) at out.whole one.cell own.0 bits b g.0 meets solves assigns own.1.0 own.1.1 out.pin.signal own.1.2 in
+      subst (λ (m : ℕ). b m ≡ Some (g.0.signal out.pin.signal)) own.1.3 signal ∙ ap (λ (x : Bool). Some x) g.2
+
+  -- so it has the bit that the pin drives in a state, with the instance whole
   pub output_bit : (inputs : ℕ → Bool) (r : State) → IsState whole_circuit now inputs r → (bits : List Bool) → Meets q phase bits
       → IsReading q.circuit own_now (setting_of q phase bits).inputs (λ n. r.reading (at n)) → (b : Partial) → Solves q phase (setting_of q phase bits) b
       → (n : ℕ) (out : OutputPin) → IsPlain q.circuit n → At (output_pins whole_circuit) (fresh n) out → out.pin.net.0 ≡ at n → b n ≡ Some (r.driven (fresh n))
   output_bit inputs r is bits meets reads b solves n out p e net =
-      let own = one.pins.own n out p (fresh n, e) net in
-      let g = is.driven (fresh n) out e in
-      let assigns = inside q phase whole_circuit (is_observed there phase) at out.whole one.cell own.0 r.reading g.0 (setting_of q phase bits)
-      (subst (λ (rules : Rules). IsAssignment out.whole.model (surroundings_of_whole (phase_at rules phase) out.whole r.reading) g.0) (sym one.rules) g.1)
-      (input_same bits r.reading reads) in
-      let signal = shows_signal q phase whole_circuit (is_observed there phase) at out.whole one.cell own.0 bits b g.0 meets solves assigns own.1.0 own.1.1 out.pin.signal own.1.2 in
-      subst (λ (m : ℕ). b m ≡ Some (g.0.signal out.pin.signal)) own.1.3 signal ∙ ap (λ (v : Bool). Some v) g.2
+      output_gives r.reading bits meets reads b solves n out (r.driven (fresh n)) p e net (is.driven (fresh n) out e)
 
   -- ---- the instance
 

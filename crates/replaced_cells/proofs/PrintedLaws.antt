@@ -17,9 +17,9 @@ use Rattle.vrt_model.specs.declared.circuit.Circuit.{Circuit}
 use Rattle.vrt_model.specs.declared.verdict.FaultKind.{FaultKind}
 use Rattle.vrt_model.specs.declared.verdict.FaultKind.TheVariants.{Fight, FightKept, Float, Unsettled, Constraint, Differs, Next, Apart, Enter}
 
-module _ (k q : Comparison) (phase : ℕ) (whole_circuit : Circuit) (at place fresh : ℕ → ℕ) (remaining compared : ℕ → Bool) (drive : ℕ → ℕ)
+module _ (k q : Comparison) (phase : ℕ) (whole_circuit : Circuit) (at place fresh : ℕ → ℕ) (remaining compared exposed : ℕ → Bool) (drive : ℕ → ℕ)
     (setting : Setting) (s r : State) (bits : List Bool)
-    (one : IsOneMoreWhole k q phase whole_circuit at place fresh remaining compared drive)
+    (one : IsOneMoreWhole k q phase whole_circuit at place fresh remaining compared exposed drive)
     (alike : AreSolvedAlike k q phase whole_circuit at place fresh remaining setting s r bits) where
   abbrev there : Comparison
   there = with_circuit k whole_circuit
@@ -29,7 +29,7 @@ module _ (k q : Comparison) (phase : ℕ) (whole_circuit : Circuit) (at place fr
   unsettled_compared g n (o, never) =
       elim (cases_Bool (compared n)) [
         | inl t ↦ t
-        | inr f ↦ absurd (never_here there phase setting r alike.whole_state one.whole_determined n never (keeps_inside k q phase whole_circuit at place fresh remaining compared drive setting s r bits one alike n f o))
+        | inr f ↦ absurd (never_here there phase setting r alike.whole_state one.whole_determined n never (keeps_inside k q phase whole_circuit at place fresh remaining compared exposed drive setting s r bits one alike n f o))
       ]
 
   abbrev PrintedThere : Assignment → FaultKind → ℕ → Option Bool → Option Bool → Type 0
@@ -43,55 +43,55 @@ module _ (k q : Comparison) (phase : ℕ) (whole_circuit : Circuit) (at place fr
       let there_too : compared x ≡ true = subst (λ (y : ℕ). compared y ≡ true) net c in
       inl (
         x,
-        (net, want ∙ bit_same k q phase whole_circuit at place fresh remaining compared drive setting s r bits one alike x (one.whole.compared_remaining x there_too)),
-        (bit, is, (always k phase setting s alike.state one.determined kept x (Shows bit)).1 ((out k q phase whole_circuit at place fresh remaining compared drive setting s r bits one alike kept x (Shows bit) there_too).1 (always_whole k q phase whole_circuit at place fresh remaining compared drive setting s r bits one alike kept x (Shows bit) responds))),
+        (net, want ∙ bit_same k q phase whole_circuit at place fresh remaining compared exposed drive setting s r bits one alike x (one.whole.compared_remaining x there_too)),
+        (bit, is, (always k phase setting s alike.state one.determined kept x (Shows bit)).1 ((out k q phase whole_circuit at place fresh remaining compared exposed drive setting s r bits one alike kept x (Shows bit) there_too).1 (always_whole k q phase whole_circuit at place fresh remaining compared exposed drive setting s r bits one alike kept x (Shows bit) responds))),
       )
   unsettled_printed g n circuit wanted c (inr (none, no_value, no_want)) = absurd (none n (all_bits r.reading n) (refl, refl))
 
   pub differs_printed : (g : Assignment) (n : ℕ) (circuit wanted : Option Bool) → PrintedThere g Differs n circuit wanted → PrintedHere g Differs n circuit wanted
   differs_printed g n circuit wanted (inl (x, want, value)) =
-      let same = differs_wanted k phase whole_circuit k.circuit there.groups k.groups (all_bits r.reading) (all_bits s.reading) one.held_groups (hold_back k q phase whole_circuit at place fresh remaining compared drive setting s r bits one alike) (λ next i. sym (one.enters next i)) (hold_bits_back k q phase whole_circuit at place fresh remaining compared drive setting s r bits one alike) (port_bits_back k q phase whole_circuit at place fresh remaining compared drive setting s r bits one alike) g n x wanted want in
+      let same = differs_wanted k phase whole_circuit k.circuit there.groups k.groups (all_bits r.reading) (all_bits s.reading) one.held_groups (hold_back k q phase whole_circuit at place fresh remaining compared exposed drive setting s r bits one alike) (λ next i. sym (one.enters next i)) (hold_bits_back k q phase whole_circuit at place fresh remaining compared exposed drive setting s r bits one alike) (port_bits_back k q phase whole_circuit at place fresh remaining compared exposed drive setting s r bits one alike) g n x wanted want in
       inl (x, same.0, value ∙ same.1)
   differs_printed g n circuit wanted (inr (none, no_value, no_want)) =
       inr (
         λ x w want.
-            none x w (differs_wanted k phase k.circuit whole_circuit k.groups there.groups (all_bits s.reading) (all_bits r.reading) (sym one.held_groups) (hold_there k q phase whole_circuit at place fresh remaining compared drive setting s r bits one alike) one.enters (hold_bits k q phase whole_circuit at place fresh remaining compared drive setting s r bits one alike) (port_bits k q phase whole_circuit at place fresh remaining compared drive setting s r bits one alike) g n x w want).0,
+            none x w (differs_wanted k phase k.circuit whole_circuit k.groups there.groups (all_bits s.reading) (all_bits r.reading) (sym one.held_groups) (hold_there k q phase whole_circuit at place fresh remaining compared exposed drive setting s r bits one alike) one.enters (hold_bits k q phase whole_circuit at place fresh remaining compared exposed drive setting s r bits one alike) (port_bits k q phase whole_circuit at place fresh remaining compared exposed drive setting s r bits one alike) g n x w want).0,
         no_value,
         no_want,
       )
 
   pub next_printed : (g : Assignment) (n : ℕ) (circuit wanted : Option Bool) → PrintedThere g Next n circuit wanted → PrintedHere g Next n circuit wanted
   next_printed g n circuit wanted (inl (x, want, value)) =
-      let same = next_wanted k phase whole_circuit k.circuit there.groups k.groups (all_bits r.reading) (all_bits s.reading) one.held_groups (hold_back k q phase whole_circuit at place fresh remaining compared drive setting s r bits one alike) (λ next i. sym (one.enters next i)) (hold_bits_back k q phase whole_circuit at place fresh remaining compared drive setting s r bits one alike) (port_bits_back k q phase whole_circuit at place fresh remaining compared drive setting s r bits one alike) g n x wanted want in
+      let same = next_wanted k phase whole_circuit k.circuit there.groups k.groups (all_bits r.reading) (all_bits s.reading) one.held_groups (hold_back k q phase whole_circuit at place fresh remaining compared exposed drive setting s r bits one alike) (λ next i. sym (one.enters next i)) (hold_bits_back k q phase whole_circuit at place fresh remaining compared exposed drive setting s r bits one alike) (port_bits_back k q phase whole_circuit at place fresh remaining compared exposed drive setting s r bits one alike) g n x wanted want in
       inl (x, same.0, value ∙ same.1)
   next_printed g n circuit wanted (inr (none, no_value, no_want)) =
       inr (
         λ x w want.
-            none x w (next_wanted k phase k.circuit whole_circuit k.groups there.groups (all_bits s.reading) (all_bits r.reading) (sym one.held_groups) (hold_there k q phase whole_circuit at place fresh remaining compared drive setting s r bits one alike) one.enters (hold_bits k q phase whole_circuit at place fresh remaining compared drive setting s r bits one alike) (port_bits k q phase whole_circuit at place fresh remaining compared drive setting s r bits one alike) g n x w want).0,
+            none x w (next_wanted k phase k.circuit whole_circuit k.groups there.groups (all_bits s.reading) (all_bits r.reading) (sym one.held_groups) (hold_there k q phase whole_circuit at place fresh remaining compared exposed drive setting s r bits one alike) one.enters (hold_bits k q phase whole_circuit at place fresh remaining compared exposed drive setting s r bits one alike) (port_bits k q phase whole_circuit at place fresh remaining compared exposed drive setting s r bits one alike) g n x w want).0,
         no_value,
         no_want,
       )
 
   pub apart_printed : (g : Assignment) (n : ℕ) (circuit wanted : Option Bool) → PrintedThere g Apart n circuit wanted → PrintedHere g Apart n circuit wanted
   apart_printed g n circuit wanted (inl (x, want, value)) =
-      let same = apart_wanted k phase whole_circuit k.circuit there.groups k.groups (all_bits r.reading) (all_bits s.reading) one.held_groups (hold_back k q phase whole_circuit at place fresh remaining compared drive setting s r bits one alike) (λ next i. sym (one.enters next i)) (hold_bits_back k q phase whole_circuit at place fresh remaining compared drive setting s r bits one alike) (port_bits_back k q phase whole_circuit at place fresh remaining compared drive setting s r bits one alike) g n x wanted want in
+      let same = apart_wanted k phase whole_circuit k.circuit there.groups k.groups (all_bits r.reading) (all_bits s.reading) one.held_groups (hold_back k q phase whole_circuit at place fresh remaining compared exposed drive setting s r bits one alike) (λ next i. sym (one.enters next i)) (hold_bits_back k q phase whole_circuit at place fresh remaining compared exposed drive setting s r bits one alike) (port_bits_back k q phase whole_circuit at place fresh remaining compared exposed drive setting s r bits one alike) g n x wanted want in
       inl (x, same.0, value ∙ same.1)
   apart_printed g n circuit wanted (inr (none, no_value, no_want)) =
       inr (
         λ x w want.
-            none x w (apart_wanted k phase k.circuit whole_circuit k.groups there.groups (all_bits s.reading) (all_bits r.reading) (sym one.held_groups) (hold_there k q phase whole_circuit at place fresh remaining compared drive setting s r bits one alike) one.enters (hold_bits k q phase whole_circuit at place fresh remaining compared drive setting s r bits one alike) (port_bits k q phase whole_circuit at place fresh remaining compared drive setting s r bits one alike) g n x w want).0,
+            none x w (apart_wanted k phase k.circuit whole_circuit k.groups there.groups (all_bits s.reading) (all_bits r.reading) (sym one.held_groups) (hold_there k q phase whole_circuit at place fresh remaining compared exposed drive setting s r bits one alike) one.enters (hold_bits k q phase whole_circuit at place fresh remaining compared exposed drive setting s r bits one alike) (port_bits k q phase whole_circuit at place fresh remaining compared exposed drive setting s r bits one alike) g n x w want).0,
         no_value,
         no_want,
       )
 
   pub enter_printed : (g : Assignment) (n : ℕ) (circuit wanted : Option Bool) → PrintedThere g Enter n circuit wanted → PrintedHere g Enter n circuit wanted
   enter_printed g n circuit wanted (inl (x, want, value)) =
-      let same = enter_wanted k phase whole_circuit k.circuit there.groups k.groups (all_bits r.reading) (all_bits s.reading) one.held_groups (hold_back k q phase whole_circuit at place fresh remaining compared drive setting s r bits one alike) (λ next i. sym (one.enters next i)) (hold_bits_back k q phase whole_circuit at place fresh remaining compared drive setting s r bits one alike) (port_bits_back k q phase whole_circuit at place fresh remaining compared drive setting s r bits one alike) g n x wanted want in
+      let same = enter_wanted k phase whole_circuit k.circuit there.groups k.groups (all_bits r.reading) (all_bits s.reading) one.held_groups (hold_back k q phase whole_circuit at place fresh remaining compared exposed drive setting s r bits one alike) (λ next i. sym (one.enters next i)) (hold_bits_back k q phase whole_circuit at place fresh remaining compared exposed drive setting s r bits one alike) (port_bits_back k q phase whole_circuit at place fresh remaining compared exposed drive setting s r bits one alike) g n x wanted want in
       inl (x, same.0, value ∙ same.1)
   enter_printed g n circuit wanted (inr (none, no_value, no_want)) =
       inr (
         λ x w want.
-            none x w (enter_wanted k phase k.circuit whole_circuit k.groups there.groups (all_bits s.reading) (all_bits r.reading) (sym one.held_groups) (hold_there k q phase whole_circuit at place fresh remaining compared drive setting s r bits one alike) one.enters (hold_bits k q phase whole_circuit at place fresh remaining compared drive setting s r bits one alike) (port_bits k q phase whole_circuit at place fresh remaining compared drive setting s r bits one alike) g n x w want).0,
+            none x w (enter_wanted k phase k.circuit whole_circuit k.groups there.groups (all_bits s.reading) (all_bits r.reading) (sym one.held_groups) (hold_there k q phase whole_circuit at place fresh remaining compared exposed drive setting s r bits one alike) one.enters (hold_bits k q phase whole_circuit at place fresh remaining compared exposed drive setting s r bits one alike) (port_bits k q phase whole_circuit at place fresh remaining compared exposed drive setting s r bits one alike) g n x w want).0,
         no_value,
         no_want,
       )
@@ -114,5 +114,5 @@ module _ (k q : Comparison) (phase : ℕ) (whole_circuit : Circuit) (at place fr
   printed_below g Enter m n circuit wanted e h p = subst (λ (x : ℕ). PrintedHere g Enter x circuit wanted) (sym e) (enter_printed g n circuit wanted p)
 
 pub printed_values_are_same : PrintedValuesAreSame
-printed_values_are_same k q phase whole_circuit at place fresh remaining compared drive setting s r bits g one alike kind m n e h circuit wanted p =
-    printed_below k q phase whole_circuit at place fresh remaining compared drive setting s r bits one alike g kind m n circuit wanted e h p
+printed_values_are_same k q phase whole_circuit at place fresh remaining compared exposed drive setting s r bits g one alike kind m n e h circuit wanted p =
+    printed_below k q phase whole_circuit at place fresh remaining compared exposed drive setting s r bits one alike g kind m n circuit wanted e h p

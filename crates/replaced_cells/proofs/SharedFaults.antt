@@ -9,9 +9,10 @@ use Rattle.replaced_cells.proofs.BrokenLaws.{bit_at_port, breaks_there, ports_sa
 use Rattle.replaced_cells.proofs.MissedLaws.{apart_there, differs_there, enter_there, next_there}
 use Rattle.replaced_cells.proofs.SameResponses.{response_other}
 use Rattle.replaced_cells.proofs.States.{given_there}
-use Rattle.replaced_cells.proofs.SolvedAlike.{alone_is, always, free_inside, inside_response, never_here, never_there, no_pins, none_determined, outside_response, own_bits, plain_back, plain_there, reached_inside, solution_shows}
+use Rattle.replaced_cells.proofs.OwnBits.{HaveOwnBits, calm_inside, inside_response, outside_response, own_state}
+use Rattle.replaced_cells.proofs.SolvedAlike.{always, free_inside, hidden_net, never_here, never_there, none_determined, own_bits, plain_back, plain_there, reached_inside, solution_shows}
 use Rattle.replaced_cells.specs.Faults.{FaultsAreShared, FaultsStandBelow, IsFaultless, IsSameIn}
-use Rattle.replaced_cells.specs.OneMoreWhole.{AreSolvedAlike, IsOneMoreWhole, all_bits, no_net}
+use Rattle.replaced_cells.specs.OneMoreWhole.{AreSolvedAlike, IsOneMoreWhole, all_bits}
 use Rattle.vrt_model.proofs.Laws.{shows_no_float}
 use Rattle.vrt_model.specs.Assignment.{Assignment}
 use Rattle.vrt_model.specs.CellRules.{is_observed_port}
@@ -45,9 +46,9 @@ use Rattle.whole_solutions.specs.Observed.{IsInstanceImage, is_given_at}
 two_values : (x : Bool) → x ≡ true → x ≡ false → ⊥
 two_values x t f = false≢true (sym f ∙ t)
 
-module _ (k q : Comparison) (phase : ℕ) (whole_circuit : Circuit) (at place fresh : ℕ → ℕ) (remaining compared : ℕ → Bool) (drive : ℕ → ℕ)
+module _ (k q : Comparison) (phase : ℕ) (whole_circuit : Circuit) (at place fresh : ℕ → ℕ) (remaining compared exposed : ℕ → Bool) (drive : ℕ → ℕ)
     (setting : Setting) (s r : State) (bits : List Bool)
-    (one : IsOneMoreWhole k q phase whole_circuit at place fresh remaining compared drive)
+    (one : IsOneMoreWhole k q phase whole_circuit at place fresh remaining compared exposed drive)
     (alike : AreSolvedAlike k q phase whole_circuit at place fresh remaining setting s r bits) where
   abbrev there : Comparison
   there = with_circuit k whole_circuit
@@ -60,32 +61,35 @@ module _ (k q : Comparison) (phase : ℕ) (whole_circuit : Circuit) (at place fr
 
   -- the bits of the state at the nets of the cell
   abbrev own_bits_here : State
-  own_bits_here = own_bits k q phase whole_circuit at place fresh remaining compared drive one s
+  own_bits_here = own_bits k q phase whole_circuit at place fresh remaining compared exposed drive one s
 
   abbrev own : Bool → Network
   own bare = network_of q.circuit bare (setting_of q phase bits).held own_bits_here
 
-  own_state : IsState q.circuit (phase_at q.rules phase) (setting_of q phase bits).inputs own_bits_here
-  own_state = record { reading = alike.reads; driven = λ i pin e. absurd (no_pins q.circuit one.cell.wholes i pin e) }
+  abbrev own_bits_are : HaveOwnBits k q phase whole_circuit at place fresh remaining setting s r bits
+  own_bits_are = record { state = alike.state; whole_state = alike.whole_state; same = alike.same; meets = alike.meets; reads = alike.reads; cell_solves = alike.cell_solves }
 
-  own_determined : AreDetermined q.circuit (phase_at q.rules phase) (is_observed q phase)
-  own_determined = none_determined k q phase whole_circuit at place fresh remaining compared drive one
+  own_is : IsState q.circuit (phase_at q.rules phase) (setting_of q phase bits).inputs own_bits_here
+  own_is = own_state k q phase whole_circuit at place fresh remaining compared exposed drive one setting s r bits own_bits_are
+
+  own_pins : AreDetermined q.circuit (phase_at q.rules phase) (is_observed q phase)
+  own_pins = none_determined k q phase whole_circuit at place fresh remaining compared exposed drive one
 
   -- ---- responses
 
+  -- a net outside responds alike in both circuits
   pub out : (bare : Bool) (n : ℕ) (x : Response) → compared n ≡ true → (IsResponse (above bare) n x → IsResponse (whole bare) n x) × (IsResponse (whole bare) n x → IsResponse (above bare) n x)
-  out bare n x c = outside_response k q phase whole_circuit at place fresh remaining compared drive one setting s r alike.state alike.same bare n x c
+  out bare n x c = outside_response k q phase whole_circuit at place fresh remaining compared exposed drive one setting s r bits own_bits_are bare n x c
 
-  -- a net inside responds in the cell as in the circuit
-  inside : (bare : Bool) (n : ℕ) (x : Response) → IsPlain q.circuit n → IsResponse (above bare) (at n) x → IsResponse (own bare) n x
-  inside bare n x p h =
-      subst (λ (w : Network). IsResponse w n x) (sym (alone_is k q phase whole_circuit at place fresh remaining compared drive one bits bare s))
-      ((inside_response k q phase whole_circuit at place fresh remaining compared drive one setting s alike.state bare n x p).1 h)
+  -- no exposed output fights with the instance whole
+  abbrev IsCalm : Bool → Type 0
+  IsCalm bare = (m : ℕ) → exposed m ≡ true → IsResponse (whole bare) (at m) FightResponse → ⊥
 
-  inside_back : (bare : Bool) (n : ℕ) (x : Response) → IsPlain q.circuit n → IsResponse (own bare) n x → IsResponse (above bare) (at n) x
-  inside_back bare n x p h =
-      (inside_response k q phase whole_circuit at place fresh remaining compared drive one setting s alike.state bare n x p).0
-      (subst (λ (w : Network). IsResponse w n x) (alone_is k q phase whole_circuit at place fresh remaining compared drive one bits bare s) h)
+  -- then a net inside responds in the cell as in the circuit
+  inside : (bare : Bool) → IsCalm bare → (n : ℕ) (x : Response) → IsPlain q.circuit n → (IsResponse (own bare) n x → IsResponse (above bare) (at n) x) × (IsResponse (above bare) (at n) x → IsResponse (own bare) n x)
+  inside bare calm n x p =
+      inside_response k q phase whole_circuit at place fresh remaining compared exposed drive one setting s r bits own_bits_are bare n x p
+      (calm_inside k q phase whole_circuit at place fresh remaining compared exposed drive one setting s r bits own_bits_are bare calm n)
 
   always_above : (bare : Bool) (n : ℕ) (x : Response) → Responds k phase setting (all_bits s.reading) bare n x → IsResponse (above bare) n x
   always_above bare n x h = (always k phase setting s alike.state one.determined bare n x).0 h
@@ -102,17 +106,17 @@ module _ (k q : Comparison) (phase : ℕ) (whole_circuit : Circuit) (at place fr
 
   always_own : (bare : Bool) (n : ℕ) (x : Response) → IsResponse (own bare) n x → Responds q phase (setting_of q phase bits) (all_bits (λ m. s.reading (at m))) bare n x
   always_own bare n x h =
-      (always q phase (setting_of q phase bits) own_bits_here own_state
-      own_determined bare n x).1 h
+      (always q phase (setting_of q phase bits) own_bits_here own_is
+      own_pins bare n x).1 h
 
   -- ---- which nets are observed
 
   observed_there : (n : ℕ) → is_observed k phase n ≡ true
       → ((compared n ≡ true) × ((is_observed there phase n || is_given_at whole_circuit n) ≡ true)) ⊎ ((m : ℕ) × (n ≡ at m) × IsPlain q.circuit m × (is_observed q phase m ≡ true))
-  observed_there n o = observed_nets_are_there k q phase whole_circuit at place fresh remaining compared no_net drive one.design one.rules one.within one.placed one.whole one.instances one.hides n o
+  observed_there n o = observed_nets_are_there k q phase whole_circuit at place fresh remaining compared exposed drive one.design one.rules one.within one.placed one.whole one.instances one.hides n o
 
   observed_back : (n : ℕ) → is_observed there phase n ≡ true → is_observed k phase n ≡ true
-  observed_back n o = whole_observes_no_more k q phase whole_circuit at place fresh remaining compared no_net drive one.design one.rules one.outputs one.placed one.whole one.instances n o
+  observed_back n o = whole_observes_no_more k q phase whole_circuit at place fresh remaining compared exposed drive one.design one.rules one.outputs one.placed one.whole one.instances n o
 
   -- ---- floats: an observed net shows its bit
 
@@ -172,16 +176,28 @@ module _ (k q : Comparison) (phase : ℕ) (whole_circuit : Circuit) (at place fr
   -- ---- down: nothing is wrong with the instance whole
 
   module _ (g : Assignment) (fine : IsFaultless there phase setting (all_bits r.reading) g) where
+    calm : (bare : Bool) → IsCalm bare
+    calm true m e h =
+        fine Fight (at m) (
+          plain_there k q phase whole_circuit at place fresh remaining compared exposed drive one (at m) (one.placed.plain m (one.placed.exposed_plain m e)),
+          (always there phase setting r alike.whole_state one.whole_determined true (at m) FightResponse).1 h,
+        )
+    calm false m e h =
+        fine FightKept (at m) (
+          plain_there k q phase whole_circuit at place fresh remaining compared exposed drive one (at m) (one.placed.plain m (one.placed.exposed_plain m e)),
+          (always there phase setting r alike.whole_state one.whole_determined false (at m) FightResponse).1 h,
+        )
+
     no_fight_below : (bare : Bool) (kind : FaultKind)
         → ((n : ℕ) → IsPlain whole_circuit n → IsResponse (whole bare) n FightResponse → Stands there phase setting (all_bits r.reading) g kind n)
         → ((n : ℕ) → IsPlain q.circuit n → IsResponse (own bare) n FightResponse → Stands q phase (setting_of q phase bits) (all_bits (λ m. s.reading (at m))) equal.assignment.0 kind n)
         → (n : ℕ) → IsPlain k.circuit n → IsResponse (above bare) n FightResponse → ⊥
     no_fight_below bare kind up within n p h =
         elim (cases_Bool (compared n)) [
-          | inl t ↦ fine kind n (up n (plain_there k q phase whole_circuit at place fresh remaining compared drive one n p) ((out bare n FightResponse t).0 h))
+          | inl t ↦ fine kind n (up n (plain_there k q phase whole_circuit at place fresh remaining compared exposed drive one n p) ((out bare n FightResponse t).0 h))
           | inr f ↦
               let hidden = one.hides.hidden n f in
-              own_faultless kind hidden.0 (within hidden.0 hidden.2 (inside bare hidden.0 FightResponse hidden.2 (subst (λ (x : ℕ). IsResponse (above bare) x FightResponse) hidden.1 h)))
+              own_faultless kind hidden.0 (within hidden.0 hidden.2 ((inside bare (calm bare) hidden.0 FightResponse hidden.2).1 (subst (λ (x : ℕ). IsResponse (above bare) x FightResponse) hidden.1 h)))
         ]
 
     unsettled_below : (n : ℕ) → ¬ Stands k phase setting (all_bits s.reading) g Unsettled n
@@ -202,8 +218,8 @@ module _ (k q : Comparison) (phase : ℕ) (whole_circuit : Circuit) (at place fr
           ]
           | inr (m, net, p, seen) ↦ own_faultless Unsettled m (
             seen,
-            never_there q phase (setting_of q phase bits) own_bits_here own_state own_determined m
-                (λ shows. here (subst (λ (x : ℕ). IsResponse (above false) x (Shows (s.reading x))) (sym net) (inside_back false m (Shows (s.reading (at m))) p shows))),
+            never_there q phase (setting_of q phase bits) own_bits_here own_is own_pins m
+                (λ shows. here (subst (λ (x : ℕ). IsResponse (above false) x (Shows (s.reading x))) (sym net) ((inside false (calm false) m (Shows (s.reading (at m))) p).0 shows))),
           )
         ]
 
@@ -239,11 +255,11 @@ module _ (k q : Comparison) (phase : ℕ) (whole_circuit : Circuit) (at place fr
 
   -- ---- from the instance whole to the cell in the circuit: what stands there stands here
 
-  -- a net of the cell that is an output has one pin with the instance whole, and so no two values
-  no_fight_inside : (bare : Bool) (m : ℕ) → IsPlain q.circuit m → IsResponse (whole bare) (at m) FightResponse → ⊥
-  no_fight_inside bare m p (high, low) =
-      let up = reached_inside k q phase whole_circuit at place fresh remaining compared drive one bare setting.held r m true p high in
-      let down = reached_inside k q phase whole_circuit at place fresh remaining compared drive one bare setting.held r m false p low in
+  -- a net of the cell that is an output at gates alone has one pin with the instance whole, and so no two values
+  no_fight_inside : (bare : Bool) (m : ℕ) → IsPlain q.circuit m → exposed m ≡ false → IsResponse (whole bare) (at m) FightResponse → ⊥
+  no_fight_inside bare m p hidden (high, low) =
+      let up = reached_inside k q phase whole_circuit at place fresh remaining compared exposed drive one bare setting.held r m true p hidden high in
+      let down = reached_inside k q phase whole_circuit at place fresh remaining compared exposed drive one bare setting.held r m false p hidden low in
       two_values (r.driven (fresh m)) up.3 down.3
 
   fight_above : (bare : Bool) (n : ℕ) → IsResponse (whole bare) n FightResponse → IsResponse (above bare) n FightResponse
@@ -251,8 +267,8 @@ module _ (k q : Comparison) (phase : ℕ) (whole_circuit : Circuit) (at place fr
       elim (cases_Bool (compared n)) [
         | inl t ↦ (out bare n FightResponse t).1 h
         | inr f ↦
-            let hidden = one.hides.hidden n f in
-            absurd (no_fight_inside bare hidden.0 hidden.2 (subst (λ (x : ℕ). IsResponse (whole bare) x FightResponse) hidden.1 h))
+            let hidden = hidden_net k q phase whole_circuit at place fresh remaining compared exposed drive one n f in
+            absurd (no_fight_inside bare hidden.0 hidden.2 hidden.3 (subst (λ (x : ℕ). IsResponse (whole bare) x FightResponse) hidden.1 h))
       ]
 
   fight_stands : (bare : Bool) (n : ℕ) → Responds there phase setting (all_bits r.reading) bare n FightResponse → Responds k phase setting (all_bits s.reading) bare n FightResponse
@@ -261,9 +277,9 @@ module _ (k q : Comparison) (phase : ℕ) (whole_circuit : Circuit) (at place fr
   -- an observed net that is hidden keeps the bit that it shows, since no channel is there
   pub keeps_inside : (n : ℕ) → compared n ≡ false → is_observed there phase n ≡ true → IsResponse (whole kept) n (Shows (r.reading n))
   keeps_inside n f o =
-      let hidden = one.hides.hidden n f in
+      let hidden = hidden_net k q phase whole_circuit at place fresh remaining compared exposed drive one n f in
       let free : (d : Device) → Among whole_circuit.devices d → Touches d n → ⊥
-      = λ d m t. free_inside k q phase whole_circuit at place fresh remaining compared drive one hidden.0 hidden.2 d m (subst (Touches d) hidden.1 t) in
+      = λ d m t. free_inside k q phase whole_circuit at place fresh remaining compared exposed drive one hidden.0 hidden.2 hidden.3 d m (subst (Touches d) hidden.1 t) in
       response_other whole_circuit setting.held r n free bare kept (Shows (r.reading n)) (solution_shows there phase setting r alike.whole_state one.whole_determined alike.whole_solves n o)
 
   unsettled_stands : (g : Assignment) (n : ℕ) → Stands there phase setting (all_bits r.reading) g Unsettled n → Stands k phase setting (all_bits s.reading) g Unsettled n
@@ -295,8 +311,8 @@ module _ (k q : Comparison) (phase : ℕ) (whole_circuit : Circuit) (at place fr
 
   pub stands_below : (g : Assignment) (kind : FaultKind) (n : ℕ) → Stands there phase setting (all_bits r.reading) g kind n
       → (m : ℕ) × IsSameIn k.circuit whole_circuit kind m n × Stands k phase setting (all_bits s.reading) g kind m
-  stands_below g Fight n h = (n, refl, (plain_back k q phase whole_circuit at place fresh remaining compared drive one n h.0, fight_stands bare n h.1))
-  stands_below g FightKept n h = (n, refl, (plain_back k q phase whole_circuit at place fresh remaining compared drive one n h.0, fight_stands kept n h.1))
+  stands_below g Fight n h = (n, refl, (plain_back k q phase whole_circuit at place fresh remaining compared exposed drive one n h.0, fight_stands bare n h.1))
+  stands_below g FightKept n h = (n, refl, (plain_back k q phase whole_circuit at place fresh remaining compared exposed drive one n h.0, fight_stands kept n h.1))
   stands_below g Float n h = absurd (float_whole n h.0 (always_whole bare n FloatResponse h.1))
   stands_below g Unsettled n h = (n, refl, unsettled_stands g n h)
   stands_below g Constraint n h = constraint_stands g n h
@@ -310,12 +326,12 @@ module _ (k q : Comparison) (phase : ℕ) (whole_circuit : Circuit) (at place fr
       (n, refl, enter_there k phase whole_circuit k.circuit there.groups k.groups (all_bits r.reading) (all_bits s.reading) one.held_groups hold_back (λ next i. sym (one.enters next i)) hold_bits_back port_bits_back g n h)
 
 pub faults_stand_below : FaultsStandBelow
-faults_stand_below k q phase whole_circuit at place fresh remaining compared drive setting s r bits g one alike kind n h =
-    stands_below k q phase whole_circuit at place fresh remaining compared drive setting s r bits one alike g kind n h
+faults_stand_below k q phase whole_circuit at place fresh remaining compared exposed drive setting s r bits g one alike kind n h =
+    stands_below k q phase whole_circuit at place fresh remaining compared exposed drive setting s r bits one alike g kind n h
 
 pub faults_are_shared : FaultsAreShared
-faults_are_shared k q phase whole_circuit at place fresh remaining compared drive setting s r bits g one alike = (
+faults_are_shared k q phase whole_circuit at place fresh remaining compared exposed drive setting s r bits g one alike = (
   λ fine kind n h.
-      let below = stands_below k q phase whole_circuit at place fresh remaining compared drive setting s r bits one alike g kind n h in fine kind below.0 below.2,
-  faultless_below k q phase whole_circuit at place fresh remaining compared drive setting s r bits one alike g,
+      let below = stands_below k q phase whole_circuit at place fresh remaining compared exposed drive setting s r bits one alike g kind n h in fine kind below.0 below.2,
+  faultless_below k q phase whole_circuit at place fresh remaining compared exposed drive setting s r bits one alike g,
 )

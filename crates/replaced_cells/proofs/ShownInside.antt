@@ -1,14 +1,19 @@
--- What the nets of a cell show in the circuit, where each observed net of the circuit shows its bit, is a solution of the cell.
+-- What the nets of a cell at gates alone show in the circuit, where each observed net of the circuit shows its bit, is a solution of the cell.
 use Rattle.std.proofs.Common.{◌≡◌, ℕ, ◌&&◌, Bool, true, false, cond, List, Option, Some, length, subst, sym, refl, ◌∙◌, ap, inl, inr}
 use Rattle.std.specs.Prelude.{◌↔◌, unwrap_or}
 use Rattle.std.proofs.lemmas.Bool.{and_from, and_parts, cases_Bool, cond-false, cond-true}
-use Rattle.std.proofs.lemmas.Option.{none-some, same_Some}
+use Rattle.std.proofs.lemmas.Option.{same_Some}
+use Rattle.cell_inside.proofs.AssuredLaws.{response_by}
+use Rattle.cell_inside.proofs.NetKinds.{is_plain_is}
 use Rattle.cell_inside.proofs.OneStateLaws.{one_state_says_all}
+use Rattle.cell_inside.proofs.PlacedLaws.{cell_at_gates_stands_alone}
 use Rattle.cell_inside.specs.OneState.{IsTotal}
+use Rattle.cell_inside.specs.Placed.{alone}
 use Rattle.cell_inside.specs.Regions.{ArePinsPlain}
 use Rattle.known_nets.proofs.NetKinds.{given_or_plain}
-use Rattle.replaced_cells.proofs.SolvedAlike.{alone_is, inside_response, no_pins, own_bits}
-use Rattle.replaced_cells.specs.OneMoreWhole.{IsOneMoreWhole, all_bits}
+use Rattle.replaced_cells.proofs.SameResponses.{response_is}
+use Rattle.replaced_cells.proofs.SolvedAlike.{alone_is, no_pins, own_bits}
+use Rattle.replaced_cells.specs.OneMoreWhole.{IsOneMoreWhole, all_bits, no_net}
 use Rattle.vrt_model.proofs.Decidable.{some_response}
 use Rattle.vrt_model.proofs.GatesGiven.{IsGiven, plain_any, shown_by}
 use Rattle.vrt_model.proofs.Laws.{one_response}
@@ -20,7 +25,7 @@ use Rattle.vrt_model.specs.Known.{IsPlain}
 use Rattle.vrt_model.specs.Lists.{Among}
 use Rattle.vrt_model.specs.Path.{Network}
 use Rattle.vrt_model.specs.Reading.{HasGivenBit, IsReading, Partial, bare, is_given}
-use Rattle.vrt_model.specs.Response.{Fight, Float, IsResponse, Response, Shows}
+use Rattle.vrt_model.specs.Response.{IsResponse, Reaches, Response, Shows}
 use Rattle.vrt_model.specs.Solution.{Agrees}
 use Rattle.vrt_model.specs.State.{IsState, Setting, State, network_of}
 use Rattle.vrt_model.specs.declared.circuit.Circuit.{Circuit}
@@ -29,14 +34,8 @@ use Rattle.vrt_model.specs.declared.rules.Phase.{Phase}
 use Rattle.whole_solutions.proofs.GivenShow.{given_shows}
 use Rattle.whole_solutions.proofs.ObservedCases.{gate_observed}
 
--- a response by which a bit is shown
-response_is : (r : Response) (v : Bool) → shown_by r ≡ Some v → r ≡ Shows v
-response_is Fight v e = absurd (none-some v e)
-response_is Float v e = absurd (none-some v e)
-response_is (Shows u) v e = ap (λ (x : Bool). Shows x) (same_Some u v e)
-
 module _ (k q : Comparison) (phase : ℕ) (whole_circuit : Circuit) (at place fresh : ℕ → ℕ) (remaining compared : ℕ → Bool) (drive : ℕ → ℕ)
-    (one : IsOneMoreWhole k q phase whole_circuit at place fresh remaining compared drive) (setting : Setting)
+    (one : IsOneMoreWhole k q phase whole_circuit at place fresh remaining compared no_net drive) (setting : Setting)
     (s : State) (state : IsState k.circuit (phase_at k.rules phase) setting.inputs s)
     (shows : (n : ℕ) → is_observed k phase n ≡ true → IsResponse (network_of k.circuit bare setting.held s) n (Shows (s.reading n)))
     (bits : List Bool) (reads : IsReading q.circuit (phase_at q.rules phase) (setting_of q phase bits).inputs (λ n. s.reading (at n))) where
@@ -51,7 +50,7 @@ module _ (k q : Comparison) (phase : ℕ) (whole_circuit : Circuit) (at place fr
 
   -- the bits of the state at the nets of the cell
   abbrev first : State
-  first = own_bits k q phase whole_circuit at place fresh remaining compared drive one s
+  first = own_bits k q phase whole_circuit at place fresh remaining compared no_net drive one s
 
   first_is : IsState q.circuit now own.inputs first
   first_is = record { reading = reads; driven = λ i pin e. absurd (no_pins q.circuit one.cell.wholes i pin e) }
@@ -78,12 +77,18 @@ module _ (k q : Comparison) (phase : ℕ) (whole_circuit : Circuit) (at place fr
   given_shown : (n : ℕ) → IsGiven q.circuit n → shown n ≡ Some (first.reading n)
   given_shown n g = shown_at n (first.reading n) (given_shows q.circuit one.cell.ranges pins bare own.held first n g)
 
+  -- a net responds in the cell as in the circuit
+  inside_same : (n : ℕ) (u : Bool) → IsPlain q.circuit n → Reaches (alone q.circuit bare at s) n u ↔ Reaches (network_of k.circuit bare setting.held s) (at n) u
+  inside_same n u p =
+      (cell_at_gates_stands_alone q.circuit k.circuit at drive (phase_at k.rules phase) setting.inputs setting.held bare s one.cell.ranges one.ranges one.placed state.reading).1
+      n u (is_plain_is q.circuit n p)
+
   -- a net of the cell that is observed in the circuit shows its bit
   pub plain_shown : (n : ℕ) → IsPlain q.circuit n → is_observed k phase (at n) ≡ true → shown n ≡ Some (s.reading (at n))
   plain_shown n p o =
       shown_at n (s.reading (at n))
-      (subst (λ (w : Network). IsResponse w n (Shows (s.reading (at n)))) (sym (alone_is k q phase whole_circuit at place fresh remaining compared drive one bits bare s))
-      ((inside_response k q phase whole_circuit at place fresh remaining compared drive one setting s state bare n (Shows (s.reading (at n))) p).1 (shows (at n) o)))
+      (subst (λ (w : Network). IsResponse w n (Shows (s.reading (at n)))) (sym (alone_is k q phase whole_circuit at place fresh remaining compared no_net drive one bits bare s))
+      (response_by (network_of k.circuit bare setting.held s) (alone q.circuit bare at s) (at n) n (λ u. let e = inside_same n u p in (e.1, e.0)) (Shows (s.reading (at n))) (shows (at n) o)))
 
   shown_both : (n : ℕ) → is_observed q phase n ≡ true → is_observed k phase (at n) ≡ true → shown n ≡ Some (first.reading n)
   shown_both n seen o = elim (given_or_plain q.circuit n (one.within n seen)) [ inl g ↦ given_shown n g | inr p ↦ plain_shown n p o ]

@@ -1,22 +1,18 @@
--- Bits that are solutions of a circuit with a cell in it, of the circuit with this instance whole, and of the cell: each net responds alike.
+-- What one state tells where the bits of all nets are given; and nets of a cell that meet gates alone, with the instance whole.
 use Rattle.std.proofs.Common.{◌≤◌, arith, ◌≡◌, ℕ, Bool, true, false, List, [], subst, sym, refl, ◌∙◌, ap, inl, inr}
 use Rattle.std.specs.Prelude.{◌↔◌}
 use Rattle.std.proofs.lemmas.Bool.{cases_Bool, false≢true}
 use Rattle.std.proofs.lemmas.Option.{none-some, same_Some}
-use Rattle.cell_inside.proofs.AssuredLaws.{response_by}
-use Rattle.cell_inside.proofs.LeftWholeLaws.{left_whole_is_same}
-use Rattle.cell_inside.proofs.NetKinds.{is_plain_is, plain_not_given}
+use Rattle.cell_inside.proofs.NetKinds.{plain_not_given}
 use Rattle.cell_inside.proofs.OneStateLaws.{one_state_says_all}
 use Rattle.cell_inside.proofs.OutputPins.{pin_found, pin_there}
-use Rattle.cell_inside.proofs.PlacedLaws.{cell_at_gates_stands_alone}
 use Rattle.cell_inside.specs.Inside.{Touches}
-use Rattle.cell_inside.specs.LeftWhole.{Correspond, HasOutputs}
 use Rattle.cell_inside.specs.OneState.{IsTotal}
 use Rattle.cell_inside.specs.Placed.{alone}
 use Rattle.channel_parts.specs.OneSolution.{AreDetermined}
 use Rattle.known_nets.proofs.WiredLaws.{pin_of_whole}
 use Rattle.replaced_cells.proofs.SameResponses.{driven_same, root_alone}
-use Rattle.replaced_cells.specs.OneMoreWhole.{IsOneMoreWhole, all_bits, no_net}
+use Rattle.replaced_cells.specs.OneMoreWhole.{IsOneMoreWhole, all_bits}
 use Rattle.vrt_model.proofs.Laws.{level_below_root, shows_from}
 use Rattle.vrt_model.proofs.Lists.{one_at}
 use Rattle.vrt_model.specs.Comparison.{Comparison, is_observed, phase_at}
@@ -82,22 +78,32 @@ module _ (k : Comparison) (phase : ℕ) (setting : Setting) (s : State) (state :
 
 -- ---- both circuits
 
-module _ (k q : Comparison) (phase : ℕ) (whole_circuit : Circuit) (at place fresh : ℕ → ℕ) (remaining compared : ℕ → Bool) (drive : ℕ → ℕ)
-    (one : IsOneMoreWhole k q phase whole_circuit at place fresh remaining compared drive) where
-  -- a plain net of the cell is not compared
-  pub not_compared : (n : ℕ) → IsPlain q.circuit n → compared (at n) ≡ false
-  not_compared n p = elim (cases_Bool (compared (at n))) [ inl t ↦ absurd (false≢true (one.whole.inside_compared n p t)) | inr f ↦ f ]
+module _ (k q : Comparison) (phase : ℕ) (whole_circuit : Circuit) (at place fresh : ℕ → ℕ) (remaining compared exposed : ℕ → Bool) (drive : ℕ → ℕ)
+    (one : IsOneMoreWhole k q phase whole_circuit at place fresh remaining compared exposed drive) where
+  -- a plain net of the cell that is not exposed is not compared
+  pub not_compared : (n : ℕ) → IsPlain q.circuit n → exposed n ≡ false → compared (at n) ≡ false
+  not_compared n p hidden = elim (cases_Bool (compared (at n))) [ inl t ↦ absurd (false≢true (sym hidden ∙ one.whole.inside_compared n p t)) | inr f ↦ f ]
 
-  -- two plain nets of the cell are two nets above
-  pub inside_apart : (m n : ℕ) → IsPlain q.circuit m → IsPlain q.circuit n → at m ≡ at n → m ≡ n
-  inside_apart m n p o e = elim (one.placed.apart m n p o e) [ inl same ↦ same | inr exposed ↦ absurd (false≢true exposed.0) ]
+  -- a net that is not compared is that of such a net
+  pub hidden_net : (n : ℕ) → compared n ≡ false → (m : ℕ) × (n ≡ at m) × IsPlain q.circuit m × (exposed m ≡ false)
+  hidden_net n f =
+      let h = one.hides.hidden n f in (
+        h.0,
+        h.1,
+        h.2,
+        elim (cases_Bool (exposed h.0)) [ inl t ↦ absurd (false≢true (sym f ∙ subst (λ (x : ℕ). compared x ≡ true) (sym h.1) (one.whole.exposed_compared h.0 t))) | inr g ↦ g ],
+      )
+
+  -- two plain nets of the cell, of which one is not exposed, are two nets above
+  pub inside_apart : (m n : ℕ) → IsPlain q.circuit m → IsPlain q.circuit n → exposed m ≡ false → at m ≡ at n → m ≡ n
+  inside_apart m n p o hidden e = elim (one.placed.apart m n p o e) [ inl same ↦ same | inr both ↦ absurd (false≢true (sym hidden ∙ both.0)) ]
 
   -- with the instance whole no channel is at such a net
-  pub free_inside : (n : ℕ) → IsPlain q.circuit n → (d : Device) → Among whole_circuit.devices d → Touches d (at n) → ⊥
-  free_inside n p d m t =
+  pub free_inside : (n : ℕ) → IsPlain q.circuit n → exposed n ≡ false → (d : Device) → Among whole_circuit.devices d → Touches d (at n) → ⊥
+  free_inside n p hidden d m t =
       let e = one.whole.devices_back d m in
       let touches : Touches e.0 (at n) = elim t [ inl l ↦ inl (sym e.2.image.left ∙ l) | inr l ↦ inr (sym e.2.image.right ∙ l) ] in
-      false≢true (sym (not_compared n p) ∙ e.2.channels (at n) touches)
+      false≢true (sym (not_compared n p hidden) ∙ e.2.channels (at n) touches)
 
   pub plain_there : (n : ℕ) → IsPlain k.circuit n → IsPlain whole_circuit n
   plain_there n p = (p.0, subst (λ (nets : List FlatNet). At nets n p.0) (sym one.nets) p.1, p.2)
@@ -106,25 +112,25 @@ module _ (k q : Comparison) (phase : ℕ) (whole_circuit : Circuit) (at place fr
   plain_back n p = (p.0, subst (λ (nets : List FlatNet). At nets n p.0) one.nets p.1, p.2)
 
   -- and of output pins there is one, the cell's
-  pub pin_inside : (n j : ℕ) (out : OutputPin) → IsPlain q.circuit n → At (output_pins whole_circuit) j out → out.pin.net.0 ≡ at n → fresh n ≡ j
-  pin_inside n j out p e net =
+  pub pin_inside : (n j : ℕ) (out : OutputPin) → IsPlain q.circuit n → exposed n ≡ false → At (output_pins whole_circuit) j out → out.pin.net.0 ≡ at n → fresh n ≡ j
+  pin_inside n j out p hidden e net =
       elim (one.whole.pins_back j out e) [
-        | inl old ↦ absurd (false≢true (one.placed.pins old.1 n (old.0, old.2) p (sym old.4.net ∙ net)).0)
-        | inr own ↦ ap fresh (inside_apart n own.0 p own.2.plain (sym net ∙ own.2.net)) ∙ own.1
+        | inl old ↦ absurd (false≢true (sym hidden ∙ (one.placed.pins old.1 n (old.0, old.2) p (sym old.4.net ∙ net)).0))
+        | inr own ↦ ap fresh (inside_apart n own.0 p own.2.plain hidden (sym net ∙ own.2.net)) ∙ own.1
       ]
 
   -- so a root there is that of the pin
-  root_inside : (bare : Bool) (held : ℕ → Bool) (r : State) (n : ℕ) (root : Root) → IsPlain q.circuit n → root.net ≡ at n → IsRoot (network_of whole_circuit bare held r) root
+  root_inside : (bare : Bool) (held : ℕ → Bool) (r : State) (n : ℕ) (root : Root) → IsPlain q.circuit n → exposed n ≡ false → root.net ≡ at n → IsRoot (network_of whole_circuit bare held r) root
       → (out : OutputPin) × At (output_pins whole_circuit) (fresh n) out × (out.pin.net.0 ≡ at n) × (root.level ≡ level_of_drive (source_level whole_circuit) out.pin.drive)
       × (root.value ≡ r.driven (fresh n))
-  root_inside bare held r n root p ends (inl g) =
+  root_inside bare held r n root p hidden ends (inl g) =
       absurd (plain_not_given whole_circuit (at n) g.0 (plain_there (at n) (one.placed.plain n p)) (subst (λ (x : ℕ). At whole_circuit.nets x g.0) ends g.1) g.2)
-  root_inside bare held r n root p ends (inr (inl h)) =
+  root_inside bare held r n root p hidden ends (inr (inl h)) =
       let below = one.whole.holds_back h.0 h.1 h.2 in absurd (one.placed.unheld n p (below.0, (h.0, below.1), sym below.2.net ∙ sym h.3 ∙ ends))
-  root_inside bare held r n root p ends (inr (inr o)) =
+  root_inside bare held r n root p hidden ends (inr (inr o)) =
       let out = pin_found whole_circuit o.0 o.1 o.2 in
       let net : out.0.pin.net.0 ≡ at n = ap (λ (x : WholePin). x.net.0) out.2 ∙ sym o.3 ∙ ends in
-      let here : fresh n ≡ o.0 = pin_inside n o.0 out.0 p out.1 net in (
+      let here : fresh n ≡ o.0 = pin_inside n o.0 out.0 p hidden out.1 net in (
         out.0,
         subst (λ (j : ℕ). At (output_pins whole_circuit) j out.0) (sym here) out.1,
         net,
@@ -133,12 +139,12 @@ module _ (k q : Comparison) (phase : ℕ) (whole_circuit : Circuit) (at place fr
       )
 
   -- and what reaches the net is what the pin drives
-  pub reached_inside : (bare : Bool) (held : ℕ → Bool) (r : State) (n : ℕ) (u : Bool) → IsPlain q.circuit n → Reaches (network_of whole_circuit bare held r) (at n) u
+  pub reached_inside : (bare : Bool) (held : ℕ → Bool) (r : State) (n : ℕ) (u : Bool) → IsPlain q.circuit n → exposed n ≡ false → Reaches (network_of whole_circuit bare held r) (at n) u
       → (out : OutputPin) × At (output_pins whole_circuit) (fresh n) out × (out.pin.net.0 ≡ at n) × (r.driven (fresh n) ≡ u)
-  reached_inside bare held r n u p (root, hops, path, clear, e, is) =
-      let alone = root_alone whole_circuit held r (at n) (free_inside n p) bare root hops path e in
+  reached_inside bare held r n u p hidden (root, hops, path, clear, e, is) =
+      let alone = root_alone whole_circuit held r (at n) (free_inside n p hidden) bare root hops path e in
       let ends : root.net ≡ at n = subst (λ (hs : List Hop). end_of root hs ≡ at n) alone e in
-      let found = root_inside bare held r n root p ends (subst (λ (hs : List Hop). IsPath (network_of whole_circuit bare held r) root hs) alone path) in
+      let found = root_inside bare held r n root p hidden ends (subst (λ (hs : List Hop). IsPath (network_of whole_circuit bare held r) root hs) alone path) in
       (found.0, found.1, found.2, sym found.4 ∙ is)
 
   -- the root that the pin at such a net is
@@ -146,9 +152,9 @@ module _ (k q : Comparison) (phase : ℕ) (whole_circuit : Circuit) (at place fr
   pin_root r n out = record { net = at n; level = level_of_drive (source_level whole_circuit) out.pin.drive; value = r.driven (fresh n) }
 
   -- so it shows that
-  pub pin_shows : (bare : Bool) (held : ℕ → Bool) (r : State) (n : ℕ) (out : OutputPin) → IsPlain q.circuit n → At (output_pins whole_circuit) (fresh n) out → out.pin.net.0 ≡ at n
+  pub pin_shows : (bare : Bool) (held : ℕ → Bool) (r : State) (n : ℕ) (out : OutputPin) → IsPlain q.circuit n → exposed n ≡ false → At (output_pins whole_circuit) (fresh n) out → out.pin.net.0 ≡ at n
       → IsResponse (network_of whole_circuit bare held r) (at n) (Shows (r.driven (fresh n)))
-  pin_shows bare held r n out p e net = shows_from (network_of whole_circuit bare held r) (at n) (r.driven (fresh n))
+  pin_shows bare held r n out p hidden e net = shows_from (network_of whole_circuit bare held r) (at n) (r.driven (fresh n))
       (pin_root r n out, [], is, (bound, inr (pin_root r n out, [], is, refl, refl)), refl, refl) only
     where
       is : IsRoot (network_of whole_circuit bare held r) (pin_root r n out)
@@ -156,51 +162,14 @@ module _ (k q : Comparison) (phase : ℕ) (whole_circuit : Circuit) (at place fr
 
       bound : (other : Root) (hops : List Hop) → IsPath (network_of whole_circuit bare held r) other hops → end_of other hops ≡ at n → level_of other hops ≤ level_of_drive (source_level whole_circuit) out.pin.drive
       bound other hops path ends =
-          let alone = root_alone whole_circuit held r (at n) (free_inside n p) bare other hops path ends in
-          let here = root_inside bare held r n other p (subst (λ (hs : List Hop). end_of other hs ≡ at n) alone ends) (subst (λ (hs : List Hop). IsPath (network_of whole_circuit bare held r) other hs) alone path) in
+          let alone = root_alone whole_circuit held r (at n) (free_inside n p hidden) bare other hops path ends in
+          let here = root_inside bare held r n other p hidden (subst (λ (hs : List Hop). end_of other hs ≡ at n) alone ends) (subst (λ (hs : List Hop). IsPath (network_of whole_circuit bare held r) other hs) alone path) in
           let same : here.0 ≡ out = one_at (output_pins whole_circuit) (fresh n) here.0 out here.1 e in
           let level : other.level ≡ level_of_drive (source_level whole_circuit) out.pin.drive = here.3 ∙ ap (λ (x : OutputPin). level_of_drive (source_level whole_circuit) x.pin.drive) same in
           let most = level_below_root other hops in omega (arith, level, most)
 
       only : (u : Bool) → Reaches (network_of whole_circuit bare held r) (at n) u → u ≡ r.driven (fresh n)
-      only u reached = sym (reached_inside bare held r n u p reached).3
-
-  -- ---- a state of the circuit
-
-  module _ (setting : Setting) (s : State) (state : IsState k.circuit (phase_at k.rules phase) setting.inputs s) where
-    -- the same values reach a net inside as in the cell alone
-    inside_same : (bare : Bool) (n : ℕ) (u : Bool) → IsPlain q.circuit n → Reaches (alone q.circuit bare at s) n u ↔ Reaches (network_of k.circuit bare setting.held s) (at n) u
-    inside_same bare n u p =
-        (cell_at_gates_stands_alone q.circuit k.circuit at drive (phase_at k.rules phase) setting.inputs setting.held bare s one.cell.ranges one.ranges one.placed state.reading).1
-        n u (is_plain_is q.circuit n p)
-
-    pub inside_response : (bare : Bool) (n : ℕ) (x : Response) → IsPlain q.circuit n
-        → IsResponse (alone q.circuit bare at s) n x ↔ IsResponse (network_of k.circuit bare setting.held s) (at n) x
-    inside_response bare n x p = (
-      response_by (alone q.circuit bare at s) (network_of k.circuit bare setting.held s) n (at n) (λ u. inside_same bare n u p) x,
-      response_by (network_of k.circuit bare setting.held s) (alone q.circuit bare at s) (at n) n (λ u. let e = inside_same bare n u p in (e.1, e.0)) x,
-    )
-
-  -- ---- states that correspond
-
-  module _ (setting : Setting) (s r : State) (state : IsState k.circuit (phase_at k.rules phase) setting.inputs s)
-      (same : Correspond k.circuit (λ n. n) place fresh remaining no_net no_net s r) where
-    outputs : (bare : Bool) → HasOutputs q.circuit bare at s no_net drive no_net
-    outputs bare = record { drives = λ n e. absurd (false≢true e); values = λ n e. absurd (false≢true e) }
-
-    -- the same values reach a net outside in both circuits
-    outside_same : (bare : Bool) (n : ℕ) (u : Bool) → compared n ≡ true
-        → Reaches (network_of k.circuit bare setting.held s) n u ↔ Reaches (network_of whole_circuit bare setting.held r) n u
-    outside_same bare n u c =
-        (left_whole_is_same q.circuit k.circuit whole_circuit at (λ x. x) place fresh remaining compared no_net drive no_net (phase_at k.rules phase) setting.inputs setting.held bare s r
-        one.cell.ranges one.ranges one.whole_ranges one.placed one.whole state.reading same (outputs bare) (λ m l e. absurd (false≢true e))).1 n u c
-
-    pub outside_response : (bare : Bool) (n : ℕ) (x : Response) → compared n ≡ true
-        → IsResponse (network_of k.circuit bare setting.held s) n x ↔ IsResponse (network_of whole_circuit bare setting.held r) n x
-    outside_response bare n x c = (
-      response_by (network_of k.circuit bare setting.held s) (network_of whole_circuit bare setting.held r) n n (λ u. outside_same bare n u c) x,
-      response_by (network_of whole_circuit bare setting.held r) (network_of k.circuit bare setting.held s) n n (λ u. let e = outside_same bare n u c in (e.1, e.0)) x,
-    )
+      only u reached = sym (reached_inside bare held r n u p hidden reached).3
 
   -- ---- the cell alone
 

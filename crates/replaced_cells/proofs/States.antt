@@ -9,6 +9,7 @@ use Rattle.channel_parts.specs.OneSolution.{AreDetermined}
 use Rattle.known_nets.proofs.WiredLaws.{pin_of_whole}
 use Rattle.replaced_cells.specs.OneMoreWhole.{HasSameSignal}
 use Rattle.vrt_model.proofs.GatesGiven.{IsGiven, base_reading, given_once, plain_any}
+use Rattle.vrt_model.proofs.Members.{among_map}
 use Rattle.vrt_model.specs.Assignment.{Obeys, Tied}
 use Rattle.vrt_model.specs.Constraints.{given_bit}
 use Rattle.vrt_model.specs.Lists.{Among, At}
@@ -99,6 +100,21 @@ gives_same_signal phase out pin same reading v (g, is, e) = (
     obeys = subst (λ (model : FlatModel). Obeys model false (λ i. false) g) same.model is.obeys;
   },
   ap g.signal (sym same.signal) ∙ e,
+)
+
+-- a pin is given the same bit by readings that are the same at the inputs of its instance
+pub gives_elsewhere : (phase : Phase) (out : OutputPin) (reading other : ℕ → Bool) → ((input : WholePin) → Among out.whole.inputs input → reading input.net.0 ≡ other input.net.0)
+    → (v : Bool) → ModelGives phase out reading v → ModelGives phase out other v
+gives_elsewhere phase out reading other same v (g, is, e) = (
+  g,
+  record {
+    clocks = is.clocks;
+    inputs = λ t m.
+        let from = among_map (λ (p : WholePin). let tied : Tied = record { net = p.net.0; signal = p.signal } in tied) out.whole.inputs t m in
+        is.inputs t m ∙ subst (λ (x : Tied). reading x.net ≡ other x.net) from.2 (same from.0 from.1);
+    obeys = is.obeys;
+  },
+  e,
 )
 
 module _ (c : Circuit) (phase : Phase) (observed : ℕ → Bool) (determined : AreDetermined c phase observed) (reading : ℕ → Bool) where

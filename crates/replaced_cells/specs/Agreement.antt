@@ -1,16 +1,21 @@
 -- Bits of a circuit with a cell in it, and of the circuit with this instance whole; and where nothing is wrong in either.
-use Rattle.std.specs.Prelude.{◌≡◌, ◌↔◌, ℕ, ◌<◌, Bool, true, List, IsSome, length}
+use Rattle.std.specs.Prelude.{◌≡◌, ◌↔◌, ◌⊎◌, ℕ, ◌<◌, Bool, true, List, IsSome, length}
 use Rattle.channel_parts.specs.OneSolution.{HasOneSolution}
-use Rattle.replaced_cells.specs.OneMoreWhole.{AreSolvedAlike, IsOneMoreWhole}
+use Rattle.replaced_cells.specs.OneMoreWhole.{AreSolvedAlike, IsOneMoreWhole, no_net}
+use Rattle.vrt_model.specs.Assignment.{Assignment}
 use Rattle.vrt_model.specs.Checked.{with_circuit}
 use Rattle.vrt_model.specs.Comparison.{Comparison, is_observed, phase_at}
 use Rattle.vrt_model.specs.Constraints.{Meets}
 use Rattle.vrt_model.specs.Equal.{Agree}
-use Rattle.vrt_model.specs.Faults.{BreaksConstraint, Solves}
+use Rattle.vrt_model.specs.Faults.{Assigns, BreaksConstraint, Responds, Solves, Stands}
 use Rattle.vrt_model.specs.Held.{setting_of}
-use Rattle.vrt_model.specs.Reading.{Partial}
+use Rattle.vrt_model.specs.Known.{IsPlain}
+use Rattle.vrt_model.specs.Reading.{Partial, bare}
+use Rattle.vrt_model.specs.Response.{Fight, Float}
 use Rattle.vrt_model.specs.State.{Setting, State}
 use Rattle.vrt_model.specs.declared.circuit.Circuit.{Circuit}
+use Rattle.vrt_model.specs.declared.verdict.FaultKind.TheVariants.{Constraint, Fight as FightFault, Float as FloatFault}
+use Rattle.whole_ranks.specs.Defined.{HasBitAt}
 
 -- ---- bits
 
@@ -19,22 +24,23 @@ abbrev pub HaveSameBits : Comparison → Comparison → ℕ → Circuit → (ℕ
 HaveSameBits k q phase whole_circuit at place fresh remaining setting =
     (s : State) × (r : State) × (bits : List Bool) × AreSolvedAlike k q phase whole_circuit at place fresh remaining setting s r bits
 
--- The law: there are such solutions where one with the instance whole has a bit at each observed net, and no constraint of the
--- instance is broken.
+-- The law: there are such solutions where one with the instance whole has a bit at each observed net, no exposed output always fights,
+-- and no constraint of the instance is broken.
 abbrev pub BitsGoDown : Type 0
 BitsGoDown =
-    (k q : Comparison) (phase : ℕ) (whole_circuit : Circuit) (at place fresh : ℕ → ℕ) (remaining compared : ℕ → Bool) (drive : ℕ → ℕ) (setting : Setting) (a : Partial)
-    → (one : IsOneMoreWhole k q phase whole_circuit at place fresh remaining compared drive)
+    (k q : Comparison) (phase : ℕ) (whole_circuit : Circuit) (at place fresh : ℕ → ℕ) (remaining compared exposed : ℕ → Bool) (drive : ℕ → ℕ) (setting : Setting) (a : Partial)
+    → (one : IsOneMoreWhole k q phase whole_circuit at place fresh remaining compared exposed drive)
     → Solves (with_circuit k whole_circuit) phase setting a
     → ((n : ℕ) → is_observed (with_circuit k whole_circuit) phase n ≡ true → IsSome (a n))
+    → ((n : ℕ) → exposed n ≡ true → ¬ Responds (with_circuit k whole_circuit) phase setting a bare (at n) Fight)
     → ¬ BreaksConstraint k.design k.rules phase a one.instance.0
     → HaveSameBits k q phase whole_circuit at place fresh remaining setting
 
--- The law: so there are where one of the circuit with the cell in it has.
+-- The law: so there are where one of the circuit with the cell in it has, and each output meets gates alone.
 abbrev pub BitsGoUp : Type 0
 BitsGoUp =
     (k q : Comparison) (phase : ℕ) (whole_circuit : Circuit) (at place fresh : ℕ → ℕ) (remaining compared : ℕ → Bool) (drive : ℕ → ℕ) (setting : Setting) (a : Partial)
-    → (one : IsOneMoreWhole k q phase whole_circuit at place fresh remaining compared drive)
+    → (one : IsOneMoreWhole k q phase whole_circuit at place fresh remaining compared no_net drive)
     → Solves k phase setting a
     → ((n : ℕ) → is_observed k phase n ≡ true → IsSome (a n))
     → ¬ BreaksConstraint k.design k.rules phase a one.instance.0
@@ -45,17 +51,46 @@ BitsGoUp =
 -- The law: where nothing is wrong with the instance whole, nothing is wrong with the cell in its place, where there is one solution.
 abbrev pub AgreementGoesDown : Type 0
 AgreementGoesDown =
-    (k q : Comparison) (phase : ℕ) (whole_circuit : Circuit) (at place fresh : ℕ → ℕ) (remaining compared : ℕ → Bool) (drive : ℕ → ℕ) (setting : Setting)
-    → IsOneMoreWhole k q phase whole_circuit at place fresh remaining compared drive
+    (k q : Comparison) (phase : ℕ) (whole_circuit : Circuit) (at place fresh : ℕ → ℕ) (remaining compared exposed : ℕ → Bool) (drive : ℕ → ℕ) (setting : Setting)
+    → IsOneMoreWhole k q phase whole_circuit at place fresh remaining compared exposed drive
     → HasOneSolution k.circuit (phase_at k.rules phase) (is_observed k phase) setting
     → Agree (with_circuit k whole_circuit) phase setting → Agree k phase setting
 
--- The law: where nothing is wrong with the cell in the circuit, nothing is wrong with the instance whole, where there is one solution.
+-- The law: where nothing is wrong with the cell in the circuit, nothing is wrong with the instance whole, where there is one solution
+-- and each output meets gates alone.
 abbrev pub AgreementGoesUp : Type 0
 AgreementGoesUp =
     (k q : Comparison) (phase : ℕ) (whole_circuit : Circuit) (at place fresh : ℕ → ℕ) (remaining compared : ℕ → Bool) (drive : ℕ → ℕ) (setting : Setting)
-    → IsOneMoreWhole k q phase whole_circuit at place fresh remaining compared drive
+    → IsOneMoreWhole k q phase whole_circuit at place fresh remaining compared no_net drive
     → HasOneSolution whole_circuit (phase_at k.rules phase) (is_observed (with_circuit k whole_circuit) phase) setting
+    → Agree k phase setting → Agree (with_circuit k whole_circuit) phase setting
+
+-- ---- from the faults of the bare stage
+
+-- a fault of the bare stage stands by some solution: a fight, a float, or a broken constraint
+abbrev pub HasBareFault : Comparison → ℕ → Setting → Type 0
+HasBareFault k phase setting =
+    (a : Partial) × (g : Assignment) × (at : ℕ) × Solves k phase setting a × Assigns k phase setting g
+    × (Stands k phase setting a g FightFault at ⊎ (Stands k phase setting a g FloatFault at ⊎ Stands k phase setting a g Constraint at))
+
+-- what the faults of the bare stage tell with the instance whole: where nothing fights and nothing floats a solution has a bit at each
+-- observed net, and where any of them stands something is wrong in the circuit
+pub record BareFaultsTell (k : Comparison) (phase : ℕ) (whole_circuit : Circuit) (setting : Setting) : Type 0 where
+  pub defined :
+      (a : Partial) → Solves (with_circuit k whole_circuit) phase setting a
+      → ((n : ℕ) → IsPlain whole_circuit n → ¬ Responds (with_circuit k whole_circuit) phase setting a bare n Fight)
+      → ((n : ℕ) → is_observed (with_circuit k whole_circuit) phase n ≡ true → ¬ Responds (with_circuit k whole_circuit) phase setting a bare n Float)
+      → (n : ℕ) → is_observed (with_circuit k whole_circuit) phase n ≡ true → HasBitAt a n
+  pub wrong : HasBareFault (with_circuit k whole_circuit) phase setting → ¬ Agree k phase setting
+
+-- The law: where nothing is wrong with the cell in the circuit, nothing is wrong with the instance whole, where there is one solution and
+-- the faults of the bare stage tell so much.
+abbrev pub AgreementGoesUpByFaults : Type 0
+AgreementGoesUpByFaults =
+    (k q : Comparison) (phase : ℕ) (whole_circuit : Circuit) (at place fresh : ℕ → ℕ) (remaining compared exposed : ℕ → Bool) (drive : ℕ → ℕ) (setting : Setting)
+    → IsOneMoreWhole k q phase whole_circuit at place fresh remaining compared exposed drive
+    → HasOneSolution whole_circuit (phase_at k.rules phase) (is_observed (with_circuit k whole_circuit) phase) setting
+    → BareFaultsTell k phase whole_circuit setting
     → Agree k phase setting → Agree (with_circuit k whole_circuit) phase setting
 
 -- ---- all phases
@@ -79,12 +114,22 @@ pub record HaveSameValuations (k j : Comparison) : Type 0 where
   pub settings : (phase : ℕ) (bits : List Bool) → setting_of j phase bits ≡ setting_of k phase bits
   pub meets : (phase : ℕ) (bits : List Bool) → Meets j phase bits ↔ Meets k phase bits
 
--- The law: where one more instance is whole in each phase, and both circuits are always solved, the two agree.
+-- The law: where one more instance is whole in each phase, each of its outputs meets gates alone, and both circuits are always solved,
+-- the two agree.
 abbrev pub OneMoreWholeAgrees : Type 0
 OneMoreWholeAgrees =
     (k q : Comparison) (whole_circuit : Circuit) (at place fresh : ℕ → ℕ) (remaining compared : ℕ → Bool) (drive : ℕ → ℕ)
-    → ((phase : ℕ) → phase < length k.rules.phases → IsOneMoreWhole k q phase whole_circuit at place fresh remaining compared drive)
+    → ((phase : ℕ) → phase < length k.rules.phases → IsOneMoreWhole k q phase whole_circuit at place fresh remaining compared no_net drive)
     → IsAlwaysSolved k → IsAlwaysSolved (with_circuit k whole_circuit) → HaveSameValuations k (with_circuit k whole_circuit)
+    → AgreesWith k (with_circuit k whole_circuit)
+
+-- The law: so they do where outputs may be exposed, and in each phase and at each valuation the faults of the bare stage tell so much.
+abbrev pub OneMoreWholeAgreesByFaults : Type 0
+OneMoreWholeAgreesByFaults =
+    (k q : Comparison) (whole_circuit : Circuit) (at place fresh : ℕ → ℕ) (remaining compared exposed : ℕ → Bool) (drive : ℕ → ℕ)
+    → ((phase : ℕ) → phase < length k.rules.phases → IsOneMoreWhole k q phase whole_circuit at place fresh remaining compared exposed drive)
+    → IsAlwaysSolved k → IsAlwaysSolved (with_circuit k whole_circuit) → HaveSameValuations k (with_circuit k whole_circuit)
+    → ((phase : ℕ) (bits : List Bool) → phase < length k.rules.phases → Meets k phase bits → BareFaultsTell k phase whole_circuit (setting_of k phase bits))
     → AgreesWith k (with_circuit k whole_circuit)
 
 -- The law: so do the first and the last of three, of which each agrees with the next.

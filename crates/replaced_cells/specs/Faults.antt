@@ -41,9 +41,9 @@ IsSameIn c d Enter m n = m ≡ n
 -- The law: where bits are solutions of both circuits, a fault that stands with the instance whole stands in the circuit, at the same place.
 abbrev pub FaultsStandBelow : Type 0
 FaultsStandBelow =
-    (k q : Comparison) (phase : ℕ) (whole_circuit : Circuit) (at place fresh : ℕ → ℕ) (remaining compared : ℕ → Bool) (drive : ℕ → ℕ)
+    (k q : Comparison) (phase : ℕ) (whole_circuit : Circuit) (at place fresh : ℕ → ℕ) (remaining compared exposed : ℕ → Bool) (drive : ℕ → ℕ)
     (setting : Setting) (s r : State) (bits : List Bool) (g : Assignment)
-    → IsOneMoreWhole k q phase whole_circuit at place fresh remaining compared drive
+    → IsOneMoreWhole k q phase whole_circuit at place fresh remaining compared exposed drive
     → AreSolvedAlike k q phase whole_circuit at place fresh remaining setting s r bits
     → (kind : FaultKind) (n : ℕ) → Stands (with_circuit k whole_circuit) phase setting (all_bits r.reading) g kind n
     → (m : ℕ) × IsSameIn k.circuit whole_circuit kind m n × Stands k phase setting (all_bits s.reading) g kind m
@@ -51,9 +51,9 @@ FaultsStandBelow =
 -- The law: and it is printed with the same values.
 abbrev pub PrintedValuesAreSame : Type 0
 PrintedValuesAreSame =
-    (k q : Comparison) (phase : ℕ) (whole_circuit : Circuit) (at place fresh : ℕ → ℕ) (remaining compared : ℕ → Bool) (drive : ℕ → ℕ)
+    (k q : Comparison) (phase : ℕ) (whole_circuit : Circuit) (at place fresh : ℕ → ℕ) (remaining compared exposed : ℕ → Bool) (drive : ℕ → ℕ)
     (setting : Setting) (s r : State) (bits : List Bool) (g : Assignment)
-    → IsOneMoreWhole k q phase whole_circuit at place fresh remaining compared drive
+    → IsOneMoreWhole k q phase whole_circuit at place fresh remaining compared exposed drive
     → AreSolvedAlike k q phase whole_circuit at place fresh remaining setting s r bits
     → (kind : FaultKind) (m n : ℕ) → IsSameIn k.circuit whole_circuit kind m n
     → Stands (with_circuit k whole_circuit) phase setting (all_bits r.reading) g kind n
@@ -64,8 +64,8 @@ PrintedValuesAreSame =
 -- exactly where nothing is in the other.
 abbrev pub FaultsAreShared : Type 0
 FaultsAreShared =
-    (k q : Comparison) (phase : ℕ) (whole_circuit : Circuit) (at place fresh : ℕ → ℕ) (remaining compared : ℕ → Bool) (drive : ℕ → ℕ)
+    (k q : Comparison) (phase : ℕ) (whole_circuit : Circuit) (at place fresh : ℕ → ℕ) (remaining compared exposed : ℕ → Bool) (drive : ℕ → ℕ)
     (setting : Setting) (s r : State) (bits : List Bool) (g : Assignment)
-    → IsOneMoreWhole k q phase whole_circuit at place fresh remaining compared drive
+    → IsOneMoreWhole k q phase whole_circuit at place fresh remaining compared exposed drive
     → AreSolvedAlike k q phase whole_circuit at place fresh remaining setting s r bits
     → IsFaultless k phase setting (all_bits s.reading) g ↔ IsFaultless (with_circuit k whole_circuit) phase setting (all_bits r.reading) g

@@ -1,6 +1,6 @@
 //! A circuit with a cell in it, and the circuit in which this instance is whole too: the model of an equal cell stands for the cell.
-//! Where nothing is wrong in the one circuit nothing is wrong in the other, and both have the same bits at the nets that remain. The
-//! instance's outputs meet gates alone. Laws alone, each the contract of a function that does nothing.
+//! Where nothing is wrong in the one circuit nothing is wrong in the other, and both have the same bits at the nets that remain. Exposed
+//! outputs of the instance may meet channels, all others meet gates alone. Laws alone, each the contract of a function that does nothing.
 #![tactic(auto)]
 
 mod agreement;
@@ -9,7 +9,8 @@ mod chain;
 mod faults;
 
 pub use agreement::{
-    agreement_goes_down, agreement_goes_up, agreement_is_transitive, one_more_whole_agrees,
+    agreement_goes_down, agreement_goes_up, agreement_goes_up_by_faults, agreement_is_transitive,
+    one_more_whole_agrees, one_more_whole_agrees_by_faults,
 };
 pub use bits::{bits_go_down, bits_go_up};
 pub use chain::{agreement_follows_chain, chain_keeps_valuations};

@@ -19,7 +19,7 @@ use Rattle.replaced_cells.proofs.PrintedLaws.{apart_printed, differs_printed, en
 use Rattle.replaced_cells.proofs.SharedFaults.{bit_same, faults_stand_below}
 use Rattle.replaced_cells.specs.Agreement.{HaveSameBits}
 use Rattle.replaced_cells.specs.Faults.{IsSameIn}
-use Rattle.replaced_cells.specs.OneMoreWhole.{IsOneMoreWhole, all_bits}
+use Rattle.replaced_cells.specs.OneMoreWhole.{IsOneMoreWhole, all_bits, no_net}
 use Rattle.replaced_instances.specs.Steps.{compared_at, fresh_place, is_inside_at, is_outside_at}
 use Rattle.substitution_laws.proofs.ToldLaws.{ends_before}
 use Rattle.substitution_laws.proofs.ChainLaws.{always_solved, at_last, is_itself, of_chain, ports_within, step_at}
@@ -192,7 +192,7 @@ module _ (k : Comparison) (cut : Cut) (blif : Blif) (facts : List CellFacts) (c 
     lt_here : phase < length t.rules.phases
     lt_here = subst (λ (u : Top). phase < length u.rules.phases) (sym h.top) lt
 
-    one : IsOneMoreWhole (with_circuit k d) q phase e above (λ j. j) (fresh_place (before cut i) blif facts q) (is_outside_at t step.2 p.at) (λ n. not (is_inside_at q.circuit above n)) (λ n. 0)
+    one : IsOneMoreWhole (with_circuit k d) q phase e above (λ j. j) (fresh_place (before cut i) blif facts q) (is_outside_at t step.2 p.at) (λ n. not (is_inside_at q.circuit above n)) no_net (λ n. 0)
     one = one_more k cut blif facts i p step.1 step.2 step.3 step.4 d e step.5 phase lt_here
 
     own_unbroken : ¬ BreaksConstraint k.design k.rules phase there.bits one.instance.0
@@ -204,8 +204,8 @@ module _ (k : Comparison) (cut : Cut) (blif : Blif) (facts : List CellFacts) (c 
 
     down : HaveSameBits (with_circuit k d) q phase e above (λ j. j) (fresh_place (before cut i) blif facts q) (is_outside_at t step.2 p.at) setting
     down =
-        bits_go_down (with_circuit k d) q phase e above (λ j. j) (fresh_place (before cut i) blif facts q) (is_outside_at t step.2 p.at) (λ n. not (is_inside_at q.circuit above n)) (λ n. 0) setting there.bits one
-        there.solves there.defined own_unbroken
+        bits_go_down (with_circuit k d) q phase e above (λ j. j) (fresh_place (before cut i) blif facts q) (is_outside_at t step.2 p.at) (λ n. not (is_inside_at q.circuit above n)) no_net (λ n. 0) setting there.bits one
+        there.solves there.defined (λ n e. absurd (false≢true e)) own_unbroken
 
     abbrev below : Partial
     below = all_bits down.0.reading
@@ -220,7 +220,7 @@ module _ (k : Comparison) (cut : Cut) (blif : Blif) (facts : List CellFacts) (c 
 
     kept_bit : (n : ℕ) → is_outside_at t step.2 p.at n ≡ true → whole n ≡ below n
     kept_bit n stays =
-        bit_same (with_circuit k d) q phase e above (λ j. j) (fresh_place (before cut i) blif facts q) (is_outside_at t step.2 p.at) (λ n. not (is_inside_at q.circuit above n)) (λ n. 0) setting down.0 down.1 down.2 one
+        bit_same (with_circuit k d) q phase e above (λ j. j) (fresh_place (before cut i) blif facts q) (is_outside_at t step.2 p.at) (λ n. not (is_inside_at q.circuit above n)) no_net (λ n. 0) setting down.0 down.1 down.2 one
         down.3 n stays
 
     unbroken_below : (j : ℕ) (o : NumberedPlace) → IsChosenAt cut j o → ¬ BreaksConstraint k.design k.rules phase below (flat_instance o.at)
@@ -238,7 +238,7 @@ module _ (k : Comparison) (cut : Cut) (blif : Blif) (facts : List CellFacts) (c 
     stands_below =
         let st = observed_bits_show_faults (with_circuit k e) phase setting there.bits whole g kind at same_there there.stands in
         let found =
-        faults_stand_below (with_circuit k d) q phase e above (λ j. j) (fresh_place (before cut i) blif facts q) (is_outside_at t step.2 p.at) (λ n. not (is_inside_at q.circuit above n)) (λ n. 0) setting down.0 down.1
+        faults_stand_below (with_circuit k d) q phase e above (λ j. j) (fresh_place (before cut i) blif facts q) (is_outside_at t step.2 p.at) (λ n. not (is_inside_at q.circuit above n)) no_net (λ n. 0) setting down.0 down.1
         down.2 g one down.3 kind at st in
         subst (λ (n : ℕ). Stands (with_circuit k d) phase setting below g kind n) (kept_place d e kind found.0 at later found.1) found.2
 
@@ -250,19 +250,19 @@ module _ (k : Comparison) (cut : Cut) (blif : Blif) (facts : List CellFacts) (c 
     printed_down x FightKept ok st (inl no_value) = absurd no_value.1
     printed_down x FightKept ok st (inr (none, c, w)) = inr (λ n v want. want, c, w)
     printed_down x Unsettled ok st p_there =
-        printed_below (with_circuit k d) q phase e above (λ j. j) (fresh_place (before cut i) blif facts q) (is_outside_at t step.2 p.at) (λ n. not (is_inside_at q.circuit above n)) (λ n. 0) setting down.0 down.1 down.2
+        printed_below (with_circuit k d) q phase e above (λ j. j) (fresh_place (before cut i) blif facts q) (is_outside_at t step.2 p.at) (λ n. not (is_inside_at q.circuit above n)) no_net (λ n. 0) setting down.0 down.1 down.2
         one down.3 x Unsettled at at value wanted refl st p_there
     printed_down x Differs ok st p_there =
-        differs_printed (with_circuit k d) q phase e above (λ j. j) (fresh_place (before cut i) blif facts q) (is_outside_at t step.2 p.at) (λ n. not (is_inside_at q.circuit above n)) (λ n. 0) setting down.0 down.1 down.2
+        differs_printed (with_circuit k d) q phase e above (λ j. j) (fresh_place (before cut i) blif facts q) (is_outside_at t step.2 p.at) (λ n. not (is_inside_at q.circuit above n)) no_net (λ n. 0) setting down.0 down.1 down.2
         one down.3 x at value wanted p_there
     printed_down x Next ok st p_there =
-        next_printed (with_circuit k d) q phase e above (λ j. j) (fresh_place (before cut i) blif facts q) (is_outside_at t step.2 p.at) (λ n. not (is_inside_at q.circuit above n)) (λ n. 0) setting down.0 down.1 down.2 one
+        next_printed (with_circuit k d) q phase e above (λ j. j) (fresh_place (before cut i) blif facts q) (is_outside_at t step.2 p.at) (λ n. not (is_inside_at q.circuit above n)) no_net (λ n. 0) setting down.0 down.1 down.2 one
         down.3 x at value wanted p_there
     printed_down x Apart ok st p_there =
-        apart_printed (with_circuit k d) q phase e above (λ j. j) (fresh_place (before cut i) blif facts q) (is_outside_at t step.2 p.at) (λ n. not (is_inside_at q.circuit above n)) (λ n. 0) setting down.0 down.1 down.2
+        apart_printed (with_circuit k d) q phase e above (λ j. j) (fresh_place (before cut i) blif facts q) (is_outside_at t step.2 p.at) (λ n. not (is_inside_at q.circuit above n)) no_net (λ n. 0) setting down.0 down.1 down.2
         one down.3 x at value wanted p_there
     printed_down x Enter ok st p_there =
-        enter_printed (with_circuit k d) q phase e above (λ j. j) (fresh_place (before cut i) blif facts q) (is_outside_at t step.2 p.at) (λ n. not (is_inside_at q.circuit above n)) (λ n. 0) setting down.0 down.1 down.2
+        enter_printed (with_circuit k d) q phase e above (λ j. j) (fresh_place (before cut i) blif facts q) (is_outside_at t step.2 p.at) (λ n. not (is_inside_at q.circuit above n)) no_net (λ n. 0) setting down.0 down.1 down.2
         one down.3 x at value wanted p_there
 
     printed_below_it : (x : Assignment) → Assigns k phase setting x → IsPrintedWith (with_circuit k d) phase setting below x kind at value wanted

@@ -2,6 +2,7 @@
 use Rattle.std.proofs.Common.{◌≡◌, ℕ, suc, ◌<◌, not, true, List, [], map, length, refl, ap, sym, ◌∙◌, subst}
 use Rattle.std.specs.Prelude.{All, find, is_some, ◌==◌}
 use Rattle.std.specs.List.{enumerate_from}
+use Rattle.std.proofs.lemmas.Bool.{false≢true}
 use Rattle.std.proofs.lemmas.Simd.{map-map}
 use Rattle.placed_cells.proofs.AboveLaws.{instances_are_shifted}
 use Rattle.placed_cells.specs.Above.{net_above}
@@ -11,7 +12,7 @@ use Rattle.replaced_instances.proofs.StepInstances.{step_has_left_instances}
 use Rattle.replaced_instances.proofs.StepLeft.{step_is_left_whole}
 use Rattle.replaced_instances.proofs.StepPlaced.{step_is_placed}
 use Rattle.replaced_instances.proofs.StepPorts.{output_plain, tied}
-use Rattle.replaced_cells.specs.OneMoreWhole.{IsOneMoreWhole}
+use Rattle.replaced_cells.specs.OneMoreWhole.{IsOneMoreWhole, no_net}
 use Rattle.replaced_instances.specs.Steps.{compared_at, fresh_place, is_inside_at, is_outside_at}
 use Rattle.substitution_laws.proofs.LogicCells.{logic_cell}
 use Rattle.substitution_laws.proofs.SeenNets.{HasPortsWithin, port_range, seen_within}
@@ -92,7 +93,7 @@ module _ (k : Comparison) (cut : Cut) (blif : Blif) (facts : List CellFacts) (i 
   }
 
   pub one_more : (phase : ℕ) → phase < length t.rules.phases
-      → IsOneMoreWhole (with_circuit k c) q phase whole_circuit at (λ j. j) (fresh_place (before cut i) blif facts q) (is_outside_at t depth p.at) (λ n. not (is_inside_at q.circuit at n)) (λ n. 0)
+      → IsOneMoreWhole (with_circuit k c) q phase whole_circuit at (λ j. j) (fresh_place (before cut i) blif facts q) (is_outside_at t depth p.at) (λ n. not (is_inside_at q.circuit at n)) no_net (λ n. 0)
   one_more phase lt =
       let step = h.step in
       let cell = logic_cell cut blif facts i p m step.at_gates step.supported (formed_cell cut blif facts p.at.cell m step.choice step.supported) phase lt in
@@ -115,6 +116,7 @@ module _ (k : Comparison) (cut : Cut) (blif : Blif) (facts : List CellFacts) (i 
           instance_of,
         );
         pins = has_cell_pins cut blif facts i p m depth front back c whole_circuit step phase k same lt;
+        exposed_outputs = λ n e. absurd (false≢true e);
         nets = both.nets;
         enters = both.enters;
         held_groups = both.held_groups;

@@ -10,7 +10,7 @@ use Rattle.firm_faults.specs.StepDown.{HasOneMoreOriginal, HasOneMoreWhole, IsIn
 use Rattle.firm_faults.specs.StepParts.{IsReplacedOver, StandsForInstance}
 use Rattle.placed_cells.specs.Above.{net_above}
 use Rattle.replaced_cells.proofs.States.{pins_plain}
-use Rattle.replaced_cells.specs.OneMoreWhole.{IsOneMoreWhole}
+use Rattle.replaced_cells.specs.OneMoreWhole.{IsOneMoreWhole, no_net}
 use Rattle.replaced_instances.proofs.OutputPorts.{pin_at}
 use Rattle.replaced_instances.proofs.StepInstances.{input_role, pin_of_input}
 use Rattle.replaced_instances.proofs.StepPorts.{pins_shifted}
@@ -91,7 +91,7 @@ module _ (k : Comparison) (cut : Cut) (blif : Blif) (facts : List CellFacts) (i 
   own_is : IsWholeAt (before cut (suc i)) blif facts p own
   own_is = x_is cut blif facts i p m depth front back c whole_circuit h.step phase
 
-  abbrev one : IsOneMoreWhole (with_circuit k c) q phase whole_circuit at (λ j. j) (fresh_place (before cut i) blif facts q) (is_outside_at t depth p.at) (λ n. not (is_inside_at q.circuit at n)) (λ n. 0)
+  abbrev one : IsOneMoreWhole (with_circuit k c) q phase whole_circuit at (λ j. j) (fresh_place (before cut i) blif facts q) (is_outside_at t depth p.at) (λ n. not (is_inside_at q.circuit at n)) no_net (λ n. 0)
   one = one_more k cut blif facts i p m depth front back c whole_circuit h phase lt
 
   -- ---- links

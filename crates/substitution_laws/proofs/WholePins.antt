@@ -19,7 +19,7 @@ use Rattle.replaced_instances.proofs.StepInstances.{zip_at_left}
 use Rattle.replaced_instances.proofs.StepOutputs.{one_more_place, outputs_behind}
 use Rattle.replaced_instances.proofs.StepPlaced.{step_is_placed}
 use Rattle.replaced_instances.proofs.StepPorts.{output_plain, pins_shifted, plain_output}
-use Rattle.replaced_instances.specs.Steps.{compared_at, is_outside_at}
+use Rattle.replaced_instances.specs.Steps.{compared_at, fresh_place, is_outside_at}
 use Rattle.substitution_laws.proofs.WholeCells.{whole_chosen, wholes_are_determined, wholes_stand_for_cells}
 use Rattle.substitution_laws.proofs.ChosenLaws.{chosen_steps_are_at_gates}
 use Rattle.substitution_laws.specs.Pins.{IsStep, StepHasCellPins, StepHasOneMoreWhole}
@@ -309,15 +309,15 @@ module _ (cut : Cut) (blif : Blif) (facts : List CellFacts) (i : ℕ) (p : Numbe
       )
 
   module _ (k : Comparison) (same : cut.top ≡ top_of k) (lt : phase < length cut.top.rules.phases) where
-    pub has_cell_pins : HasCellPins (with_circuit k c) q phase whole_circuit at (λ j. j) (is_outside_at t depth p.at)
+    pub has_cell_pins : HasCellPins (with_circuit k c) q phase whole_circuit at (λ j. j) (fresh_place (before cut i) blif facts q) (is_outside_at t depth p.at)
     has_cell_pins = record {
       stay = λ j out pin e f.
           let there = pin_stays j out e in
           let one = one_at (output_pins whole_circuit) j there.0 pin there.1 f in
           subst (HasSameSignal out) one (record { model = there.2.whole.model; clocked = there.2.whole.clocked; inputs = there.2.whole.inputs; signal = there.2.signal });
-      own = λ n pin plain on net.
-          elim (pin_is on.0 pin on.1) [
-            | inr old ↦ absurd (no_old on.0 n old.0 old.1 plain (ap (λ (y : Net). y.0) old.2.net ∙ net))
+      own = λ n pin plain there net.
+          elim (pin_is (fresh_place (before cut i) blif facts q n) pin there) [
+            | inr old ↦ absurd (no_old (fresh_place (before cut i) blif facts q n) n old.0 old.1 plain (ap (λ (y : Net). y.0) old.2.net ∙ net))
             | inl own ↦ (
               subst (λ (w : Whole). StandsFor q phase whole_circuit (is_observed (with_circuit k whole_circuit) phase) at w) (sym own.0)
                   (wholes_stand_for_cells k cut blif facts i p m phase (suc i) whole_circuit x same step.choice step.at_gates step.supported lt step.whole x_there x_is),

@@ -4,7 +4,7 @@ use Rattle.firm_faults.specs.StepDown.{HasOneMoreWhole}
 use Rattle.placed_cells.specs.Above.{net_above}
 use Rattle.placed_cells.specs.Splits.{IsSplit}
 use Rattle.replaced_cells.specs.OneMoreWhole.{HasCellPins}
-use Rattle.replaced_instances.specs.Steps.{IsStepAtGates, compared_at, is_outside_at}
+use Rattle.replaced_instances.specs.Steps.{IsStepAtGates, compared_at, fresh_place, is_outside_at}
 use Rattle.substitution_laws.specs.Chosen.{IsSoftChoice}
 use Rattle.vrt_model.specs.Checked.{IsCircuitWith, before, top_of, with_circuit}
 use Rattle.vrt_model.specs.Comparison.{Comparison, phase_at}
@@ -31,7 +31,8 @@ abbrev pub StepHasCellPins : Type 0
 StepHasCellPins =
     (k : Comparison) (cut : Cut) (blif : Blif) (facts : List CellFacts) (i : ℕ) (p : NumberedPlace) (m depth : ℕ) (front back : List Place) (c whole_circuit : Circuit) (phase : ℕ)
     → cut.top ≡ top_of k → phase < length cut.top.rules.phases → IsStep cut blif facts i p m depth front back c whole_circuit
-    → HasCellPins (with_circuit k c) (compared_at cut.top blif p m) phase whole_circuit (net_above cut.top p.at) (λ j. j) (is_outside_at cut.top depth p.at)
+    → let q = compared_at cut.top blif p m in
+    HasCellPins (with_circuit k c) q phase whole_circuit (net_above cut.top p.at) (λ j. j) (fresh_place (before cut i) blif facts q) (is_outside_at cut.top depth p.at)
 
 -- The law: whole instances stay, each with its model, inputs, outputs and links, and the instance is one more.
 abbrev pub StepHasOneMoreWhole : Type 0

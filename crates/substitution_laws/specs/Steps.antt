@@ -2,7 +2,7 @@
 use Rattle.std.specs.Prelude.{ℕ, suc, ◌<◌, not, List, length}
 use Rattle.checked_chain.specs.Holds.{IsOfChain}
 use Rattle.placed_cells.specs.Above.{net_above}
-use Rattle.replaced_cells.specs.OneMoreWhole.{IsOneMoreWhole}
+use Rattle.replaced_cells.specs.OneMoreWhole.{IsOneMoreWhole, no_net}
 use Rattle.replaced_instances.specs.Steps.{compared_at, fresh_place, is_inside_at, is_outside_at}
 use Rattle.substitution_laws.specs.Pins.{IsStep}
 use Rattle.vrt_model.specs.Checked.{before, with_circuit}
@@ -29,4 +29,4 @@ StepsAreOneMoreWhole =
     → phase < length cut.top.rules.phases → IsStepOf k cut blif facts i p m depth front back c whole_circuit
     → let q = compared_at cut.top blif p m in
     IsOneMoreWhole (with_circuit k c) q phase whole_circuit (net_above cut.top p.at) (λ j. j) (fresh_place (before cut i) blif facts q)
-    (is_outside_at cut.top depth p.at) (λ n. not (is_inside_at q.circuit (net_above cut.top p.at) n)) (λ n. 0)
+    (is_outside_at cut.top depth p.at) (λ n. not (is_inside_at q.circuit (net_above cut.top p.at) n)) no_net (λ n. 0)
