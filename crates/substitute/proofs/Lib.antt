@@ -1,4 +1,5 @@
 pub mod ChosenLaws
+pub mod InsideLaws
 pub mod RightLaws
 pub mod SoundLaws
 pub mod TakenLaws

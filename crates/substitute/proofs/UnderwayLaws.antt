@@ -1,8 +1,8 @@
 -- Instances that are tried one after the other.
-use Rattle.std.proofs.Common.{◌≡◌, ℕ, zero, suc, ◌+◌, ◌<◌, ◌||◌, ◌++◌, Bool, true, false, All, Global, Vec, List, [], length, map, replicate, Option, Some, None, arith, ap, refl, subst, sym, ◌∙◌}
+use Rattle.std.proofs.Common.{◌≡◌, ℕ, zero, suc, ◌+◌, ◌<◌, ◌&&◌, ◌||◌, ◌++◌, Bool, true, false, All, Global, Vec, List, [], length, map, replicate, Option, Some, None, arith, ap, refl, subst, sym, ◌∙◌}
 use Rattle.std.specs.Prelude.{◌==◌, flat_map}
 use Rattle.std.specs.List.{enumerate_from}
-use Rattle.std.proofs.lemmas.Bool.{eq-eqb, eqb-true, false≢true}
+use Rattle.std.proofs.lemmas.Bool.{and_parts, eq-eqb, eqb-true, false_from_ne_true, false≢true}
 use Rattle.std.proofs.lemmas.Bool.Decides.{nat_tests}
 use Rattle.std.proofs.lemmas.List.{length-map, length-replicate}
 use Rattle.std.proofs.lemmas.List.FromFn.{length-enumerate_from}
@@ -14,7 +14,7 @@ use Rattle.net_places.specs.declared.places.Place.{Place}
 use Rattle.phase_ports.specs.declared.port_list.Port.{Port}
 use Rattle.replaced_instances.proofs.StepPorts.{enumerated_at}
 use Rattle.whole_circuits.proofs.WholeLaws.{at_ports}
-use Rattle.whole_circuits.specs.Insides.{IsCutAt}
+use Rattle.whole_circuits.specs.Insides.{AreMarkedBefore, IsCutAt}
 use Rattle.whole_circuits.specs.Outputs.{AreTaken, output_at, own_outputs}
 use Rattle.whole_circuits.specs.Pins.{AreDrivesOf, IsAtPorts}
 use Rattle.whole_circuits.specs.Shown.{AreMarks}
@@ -23,10 +23,10 @@ use Rattle.whole_circuits.specs.declared.marks.Marks.{Marks}
 use Rattle.whole_circuits.specs.declared.whole_cell.WholeCell.{WholeCell}
 use Rattle.substitution_laws.proofs.ChosenLaws.{pin_soft}
 use Rattle.vrt_model.proofs.Lists.{at_there, filter_none, map_among, map_at, none_marked, one_at}
-use Rattle.vrt_model.proofs.Members.{all_by}
+use Rattle.vrt_model.proofs.Members.{all_by, any_among}
 use Rattle.vrt_model.specs.Checked.{with_one}
 use Rattle.vrt_model.specs.Comparison.{Comparison}
-use Rattle.vrt_model.specs.Cut.{Cut, NumberedPlace, is_inside_whole, is_whole, numbered_places}
+use Rattle.vrt_model.specs.Cut.{Cut, NumberedPlace, is_inside, is_inside_whole, is_whole, numbered_places}
 use Rattle.vrt_model.specs.Lists.{Among, At, mark_at}
 use Rattle.vrt_model.specs.Unrolled.{Place as FlatPlace, Top, all_places}
 use Rattle.vrt_model.specs.Unsupported.{comparison_of}
@@ -39,13 +39,14 @@ use Rattle.whole_cells.proofs.EnteredLaws.{entered_are_apart, entered_are_whole_
 use Rattle.whole_cells.specs.Entered.{AreEntered}
 use Rattle.whole_cells.specs.Entries.{IsEntry, IsWholeEntry}
 use Rattle.substitute.proofs.ChosenLaws.{marked_is_with_one, one_more_brings_its_own, one_more_is_decided}
+use Rattle.substitute.proofs.InsideLaws.{marks_stay}
 use Rattle.substitute.proofs.RightLaws.{allowed_of, inside_is_left_out, open_of, refused_is_left_out, with_model}
 use Rattle.substitute.proofs.TakenLaws.{taken_grow}
 use Rattle.substitute.specs.Candidates.{IsCandidate}
 use Rattle.substitute.specs.Chosen.{IsRightly, MarksOneMore, MayBeChosen, cut_of}
 use Rattle.substitute.specs.Right.{AreItsOutputsOpen, IsNext}
 use Rattle.substitute.specs.Taken.{has_pin}
-use Rattle.substitute.specs.Underway.{AreChosen, AreChosenBy, AreTables, HasEntry, IsNextTrial, IsOutside}
+use Rattle.substitute.specs.Underway.{AreChosen, AreChosenBy, AreReached, AreTables, HasEntry, IsNextTrial, IsOutside}
 use Rattle.substitute.specs.declared.choice.Chosen.{Chosen}
 use Rattle.substitute.specs.declared.tables.Tables.{Tables}
 
@@ -110,7 +111,7 @@ turned n i = grind (arith, nat_tests)
 
 module _ (asked : Bool) (t : Top) (blif : Blif) (facts : List CellFacts) (tables : Tables) (i : ℕ) where
   -- an instance that is left out
-  pub left_out : (chosen : Chosen) → AreChosen asked t blif facts tables i chosen → IsRightly asked (cut_of t chosen.whole.items) blif facts i false → AreChosen asked t blif facts tables (suc i) chosen
+  pub left_out : (chosen : Chosen) → AreReached asked t blif facts tables i chosen → IsRightly asked (cut_of t chosen.whole.items) blif facts i false → AreChosen asked t blif facts tables (suc i) chosen
   left_out chosen is right =
       let marks = chosen.whole.items in
       let next = one_more_is_decided asked t blif facts i marks marks false is.none (λ n. sym (or_none (mark_at marks n))) right is.decided in
@@ -121,17 +122,20 @@ module _ (asked : Bool) (t : Top) (blif : Blif) (facts : List CellFacts) (tables
         none = next.0;
         decided = λ j lt. next.1 j (omega (arith, lt));
         entered = is.entered;
+        marked = is.marked;
         held = is.held;
         taken = is.taken;
         room = is.room;
       }
 
   -- the same marks
-  pub same_chosen : (old new : Chosen) → new.whole ≡ old.whole → new.nets.held ≡ old.nets.held → new.nets.taken ≡ old.nets.taken → AreChosen asked t blif facts tables i old → AreChosen asked t blif facts tables i new
-  same_chosen old new whole held taken is =
-      subst (λ (v : Vec Bool Global). AreChosenBy asked t blif facts tables i v.items new.nets.held.items new.nets.taken.items) (sym whole)
-      (subst (λ (v : Vec Bool Global). AreChosenBy asked t blif facts tables i old.whole.items v.items new.nets.taken.items) (sym held)
-      (subst (λ (v : Vec Bool Global). AreChosenBy asked t blif facts tables i old.whole.items old.nets.held.items v.items) (sym taken) is))
+  pub same_chosen : (old new : Chosen) → new.whole ≡ old.whole → new.inside ≡ old.inside → new.nets.held ≡ old.nets.held → new.nets.taken ≡ old.nets.taken → AreChosen asked t blif facts tables i old
+      → AreChosen asked t blif facts tables i new
+  same_chosen old new whole inside held taken is =
+      subst (λ (v : Vec Bool Global). AreChosenBy asked t blif facts tables i (suc i) v.items new.inside.items new.nets.held.items new.nets.taken.items) (sym whole)
+      (subst (λ (v : Vec Bool Global). AreChosenBy asked t blif facts tables i (suc i) old.whole.items v.items new.nets.held.items new.nets.taken.items) (sym inside)
+      (subst (λ (v : Vec Bool Global). AreChosenBy asked t blif facts tables i (suc i) old.whole.items old.inside.items v.items new.nets.taken.items) (sym held)
+      (subst (λ (v : Vec Bool Global). AreChosenBy asked t blif facts tables i (suc i) old.whole.items old.inside.items old.nets.held.items v.items) (sym taken) is)))
 
   -- the marks are those of a cut
   pub cut_at_chosen : (chosen : Chosen) → AreChosen asked t blif facts tables i chosen → IsCutAt (cut_of t chosen.whole.items) tables.unrolled.now chosen.whole.items
@@ -141,21 +145,42 @@ module _ (asked : Bool) (t : Top) (blif : Blif) (facts : List CellFacts) (tables
       by_number zero = is.outermost
       by_number (suc j) = refl
 
+  -- with a mark for the place of the next instance
+  pub comes_to : (chosen : Chosen) (inside : List Bool) → AreChosen asked t blif facts tables i chosen
+      → ((cut : Cut) → IsCutAt cut tables.unrolled.now chosen.whole.items → AreMarkedBefore cut (suc i) chosen.inside.items → AreMarkedBefore cut (suc (suc i)) inside)
+      → AreChosenBy asked t blif facts tables i (suc (suc i)) chosen.whole.items inside chosen.nets.held.items chosen.nets.taken.items
+  comes_to chosen inside is more = record {
+    tables_are = is.tables_are;
+    each = is.each;
+    outermost = is.outermost;
+    none = is.none;
+    decided = is.decided;
+    entered = is.entered;
+    marked = more (cut_of t chosen.whole.items) (cut_at_chosen chosen is) is.marked;
+    held = is.held;
+    taken = is.taken;
+    room = is.room;
+  }
+
+  -- that mark says whether it is inside a chosen one
+  pub marked_at : (chosen : Chosen) → AreReached asked t blif facts tables i chosen → (p : FlatPlace) → At (all_places t) (suc i) p → is_inside_whole (cut_of t chosen.whole.items) p ≡ mark_at chosen.inside.items (suc i)
+  marked_at chosen is p there = let count = is.marked.count in sym (is.marked.are (suc i) p (omega (arith, count)) there)
+
   -- an instance inside a chosen one
-  pub left_inside : (chosen : Chosen) → AreChosen asked t blif facts tables i chosen → suc i < length tables.unrolled.now.places
-      → ((p : FlatPlace) → At (all_places t) (suc i) p → is_inside_whole (cut_of t chosen.whole.items) p ≡ true) → AreChosen asked t blif facts tables (suc i) chosen
+  pub left_inside : (chosen : Chosen) → AreReached asked t blif facts tables i chosen → suc i < length tables.unrolled.now.places → mark_at chosen.inside.items (suc i) ≡ true
+      → AreChosen asked t blif facts tables (suc i) chosen
   left_inside chosen is lt inside =
       let p = place_there t blif facts tables is.tables_are (suc i) lt in
-      left_out chosen is (inside_is_left_out asked (cut_of t chosen.whole.items) blif facts i p.0 p.1 (inside p.0.at (numbered_at t (suc i) p.0 p.1).1))
+      left_out chosen is (inside_is_left_out asked (cut_of t chosen.whole.items) blif facts i p.0 p.1 (marked_at chosen is p.0.at (numbered_at t (suc i) p.0 p.1).1 ∙ inside))
 
   -- the place that the code finds, and what the table has of its cell
-  pub has_entry_there : (chosen : Chosen) (own : WholeCell) (place : Place) → AreChosen asked t blif facts tables i chosen → At tables.unrolled.now.places (suc i) place
+  pub has_entry_there : (chosen : Chosen) (own : WholeCell) (place : Place) → AreReached asked t blif facts tables i chosen → At tables.unrolled.now.places (suc i) place
       → ((entry : Option WholeCell) → At tables.cells.now place.cell entry → Some own ≡ entry) → HasEntry asked t blif facts tables i chosen own
   has_entry_there chosen own place is here found =
       let entry = entry_there t blif facts tables is.tables_are (suc i) place here in
       record { chosen_are = is; place = place; here = here; entry = subst (At tables.cells.now place.cell) (sym (found entry.0 entry.1)) entry.1 }
 
-  pub left_without_entry : (chosen : Chosen) (place : Place) → AreChosen asked t blif facts tables i chosen → At tables.unrolled.now.places (suc i) place
+  pub left_without_entry : (chosen : Chosen) (place : Place) → AreReached asked t blif facts tables i chosen → At tables.unrolled.now.places (suc i) place
       → ((entry : Option WholeCell) → At tables.cells.now place.cell entry → None ≡ entry) → AreChosen asked t blif facts tables (suc i) chosen
   left_without_entry chosen place is here found =
       let entry = entry_there t blif facts tables is.tables_are (suc i) place here in
@@ -307,10 +332,10 @@ module _ (asked : Bool) (t : Top) (blif : Blif) (facts : List CellFacts) (tables
         ∙ ap (λ (c : Cut). all_outputs c blif facts) (sym now_is)
 
     -- where it is chosen
-    pub chosen_one : (pins : List WholePin) (held taken : List Bool) → length marks ≡ length whole → IsRightly asked old blif facts i true → pins ≡ driven_pins facts k p.at
-        → held ≡ chosen.nets.held.items → length taken ≡ length chosen.nets.taken.items → ((n : ℕ) → mark_at taken n ≡ (mark_at chosen.nets.taken.items n || has_pin n pins))
-        → AreChosenBy asked t blif facts tables (suc i) marks held taken
-    chosen_one pins held taken each right pins_same held_same room taken_more =
+    pub chosen_one : (pins : List WholePin) (inside held taken : List Bool) → length marks ≡ length whole → IsRightly asked old blif facts i true → pins ≡ driven_pins facts k p.at
+        → inside ≡ chosen.inside.items → held ≡ chosen.nets.held.items → length taken ≡ length chosen.nets.taken.items
+        → ((n : ℕ) → mark_at taken n ≡ (mark_at chosen.nets.taken.items n || has_pin n pins)) → AreChosenBy asked t blif facts tables (suc i) (suc (suc i)) marks inside held taken
+    chosen_one pins inside held taken each right pins_same inside_same held_same room taken_more =
         let later = one_more_is_decided asked t blif facts i whole marks true has.chosen_are.none one_more right has.chosen_are.decided in
         record {
           tables_are = are;
@@ -319,6 +344,9 @@ module _ (asked : Bool) (t : Top) (blif : Blif) (facts : List CellFacts) (tables
           none = later.0;
           decided = λ j lt. later.1 j (omega (arith, lt));
           entered = subst (λ (c : Cut). AreEntered c tables.unrolled.now tables.cells.now) (sym now_is) entered;
+          marked =
+              subst (λ (c : Cut). AreMarkedBefore c (suc (suc i)) inside) (sym now_is)
+              (marks_stay old i inside are.ground.netlist.design (subst (AreMarkedBefore old (suc (suc i))) (sym inside_same) has.chosen_are.marked));
           held = subst (AreHeldMarks tables.flat.now) (sym held_same) has.chosen_are.held;
           taken =
               subst (λ (os : List OutputAt). AreTaken os taken) (outputs_now pins pins_same)
@@ -351,11 +379,11 @@ module _ (asked : Bool) (t : Top) (blif : Blif) (facts : List CellFacts) (tables
     trial_candidate own_marks same marks_are =
         candidate asked t blif facts tables i chosen own has_entry marks more_here pins own_marks same marks_are trial.is.outside pins_same
 
-    pub trial_chosen : (held taken : List Bool) → length marks ≡ length chosen.whole.items → IsRightly asked (cut_of t chosen.whole.items) blif facts i true
-        → held ≡ chosen.nets.held.items → length taken ≡ length chosen.nets.taken.items → ((n : ℕ) → mark_at taken n ≡ (mark_at chosen.nets.taken.items n || has_pin n pins))
-        → AreChosenBy asked t blif facts tables (suc i) marks held taken
-    trial_chosen held taken each right held_same room taken_more =
-        chosen_one asked t blif facts tables i chosen own has_entry marks more_here pins held taken each right pins_same held_same room taken_more
+    pub trial_chosen : (inside held taken : List Bool) → length marks ≡ length chosen.whole.items → IsRightly asked (cut_of t chosen.whole.items) blif facts i true
+        → inside ≡ chosen.inside.items → held ≡ chosen.nets.held.items → length taken ≡ length chosen.nets.taken.items
+        → ((n : ℕ) → mark_at taken n ≡ (mark_at chosen.nets.taken.items n || has_pin n pins)) → AreChosenBy asked t blif facts tables (suc i) (suc (suc i)) marks inside held taken
+    trial_chosen inside held taken each right inside_same held_same room taken_more =
+        chosen_one asked t blif facts tables i chosen own has_entry marks more_here pins inside held taken each right pins_same inside_same held_same room taken_more
 
   pub trial_within : IsRightly asked (cut_of t chosen.whole.items) blif facts i true → All (λ (q : WholePin). q.net.0 < length chosen.nets.taken.items) pins
   trial_within right = pins_within asked t blif facts tables i chosen own has_entry pins pins_same right
@@ -370,11 +398,11 @@ module _ (asked : Bool) (t : Top) (blif : Blif) (facts : List CellFacts) (tables
   none_whole n zero = refl
   none_whole n (suc j) = none_marked n (suc j)
 
-  pub none_chosen : (whole held taken : List Bool) → whole ≡ nowhere (length tables.unrolled.now.places) → AreHeldMarks tables.flat.now held → taken ≡ nowhere (length tables.flat.now.nets)
-      → AreChosenBy asked t blif facts tables 0 whole held taken
-  none_chosen whole held taken whole_is held_are taken_is =
+  pub none_chosen : (whole inside held taken : List Bool) → whole ≡ nowhere (length tables.unrolled.now.places) → inside ≡ nowhere 1 → AreHeldMarks tables.flat.now held
+      → taken ≡ nowhere (length tables.flat.now.nets) → AreChosenBy asked t blif facts tables 0 1 whole inside held taken
+  none_chosen whole inside held taken whole_is inside_is held_are taken_is =
       let n = length tables.unrolled.now.places in
-      subst (λ (l : List Bool). AreChosenBy asked t blif facts tables 0 l held taken) (sym whole_is)
+      subst (λ (l : List Bool). AreChosenBy asked t blif facts tables 0 1 l inside held taken) (sym whole_is)
       (record {
         tables_are = are;
         each = length-replicate n false;
@@ -382,11 +410,22 @@ module _ (asked : Bool) (t : Top) (blif : Blif) (facts : List CellFacts) (tables
         none = λ j le. none_marked n (suc j);
         decided = λ j lt. absurd (let no : ⊥ = omega (arith, lt) in no);
         entered = λ j place on here. absurd (false≢true (sym (none_marked n (suc j)) ∙ on));
+        marked = record {
+          count = ap (λ (l : List Bool). length l) inside_is ∙ length-replicate 1 false;
+          are = λ m at lt there. ap (λ (l : List Bool). mark_at l m) inside_is ∙ none_marked 1 m ∙ sym (none_inside n at);
+        };
         held = held_are;
         taken = subst (λ (os : List OutputAt). AreTaken os taken) (sym (no_outputs n)) (λ m. ap (λ (l : List Bool). mark_at l m) taken_is ∙ none_marked (length tables.flat.now.nets) m);
         room = ap (λ (l : List Bool). length l) taken_is ∙ length-replicate (length tables.flat.now.nets) false;
       })
     where
+      none_inside : (n : ℕ) (at : FlatPlace) → is_inside_whole (cut_of t (nowhere n)) at ≡ false
+      none_inside n at =
+          false_from_ne_true (is_inside_whole (cut_of t (nowhere n)) at) (λ e.
+          let w = any_among (λ (o : NumberedPlace). is_whole (cut_of t (nowhere n)).choice o.number && is_inside at o.at) (numbered_places t) e in
+          let on = (and_parts (is_whole (cut_of t (nowhere n)).choice w.0.number) (is_inside at w.0.at) w.2).0 in
+          false≢true (sym (none_whole n w.0.number) ∙ on))
+
       no_outputs : (n : ℕ) → all_outputs (cut_of t (nowhere n)) blif facts ≡ []
       no_outputs n =
           ap (flat_map (outputs_of_place t blif facts))

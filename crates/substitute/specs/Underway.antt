@@ -2,6 +2,7 @@
 use Rattle.std.specs.Prelude.{◌≡◌, ℕ, suc, Bool, false, List, [], length, Some}
 use Rattle.known_nets.specs.Incidence.{AreHeldMarks}
 use Rattle.net_places.specs.declared.places.Place.{Place}
+use Rattle.whole_circuits.specs.Insides.{AreMarkedBefore}
 use Rattle.whole_circuits.specs.Outputs.{AreTaken}
 use Rattle.whole_circuits.specs.Pins.{AreDrivesOf, IsAtPorts}
 use Rattle.whole_circuits.specs.Shown.{device_places}
@@ -30,21 +31,29 @@ pub record AreTables (t : Top) (blif : Blif) (facts : List CellFacts) (tables : 
   pub each : length tables.cells.now ≡ length t.design.cells
   pub entered : IsEntered t blif facts tables.unrolled.now tables.cells.now
 
--- the instances before a number are rightly chosen or not, and none is chosen from there on; the marks are at their places, and at the
--- nets with holds and with their outputs
-pub record AreChosenBy (asked : Bool) (t : Top) (blif : Blif) (facts : List CellFacts) (tables : Tables) (i : ℕ) (whole holds outputs : List Bool) : Type 0 where
+-- the instances before a number are rightly chosen or not, and none is chosen from there on; the marks are at their places, at those inside them
+-- of so many, and at the nets with holds and with their outputs
+pub record AreChosenBy (asked : Bool) (t : Top) (blif : Blif) (facts : List CellFacts) (tables : Tables) (i reached : ℕ) (whole inside holds outputs : List Bool) : Type 0 where
   pub tables_are : AreTables t blif facts tables
   pub each : length whole ≡ length tables.unrolled.now.places
   pub outermost : mark_at whole 0 ≡ false
   pub none : NoneFrom (cut_of t whole) i
   pub decided : AreRightly asked (cut_of t whole) blif facts (suc i)
   pub entered : AreEntered (cut_of t whole) tables.unrolled.now tables.cells.now
+  pub marked : AreMarkedBefore (cut_of t whole) reached inside
   pub held : AreHeldMarks tables.flat.now holds
   pub taken : AreTaken (all_outputs (cut_of t whole) blif facts) outputs
   pub room : length outputs ≡ length tables.flat.now.nets
 
+-- with marks at the places of those before it
 abbrev pub AreChosen : Bool → Top → Blif → List CellFacts → Tables → ℕ → Chosen → Type 0
-AreChosen asked t blif facts tables i chosen = AreChosenBy asked t blif facts tables i chosen.whole.items chosen.nets.held.items chosen.nets.taken.items
+AreChosen asked t blif facts tables i chosen =
+    AreChosenBy asked t blif facts tables i (suc i) chosen.whole.items chosen.inside.items chosen.nets.held.items chosen.nets.taken.items
+
+-- and at that of the next instance
+abbrev pub AreReached : Bool → Top → Blif → List CellFacts → Tables → ℕ → Chosen → Type 0
+AreReached asked t blif facts tables i chosen =
+    AreChosenBy asked t blif facts tables i (suc (suc i)) chosen.whole.items chosen.inside.items chosen.nets.held.items chosen.nets.taken.items
 
 -- so of the instances whose places are below one
 abbrev pub AreChosenBelow : Bool → Top → Blif → List CellFacts → Tables → ℕ → Chosen → Type 0
@@ -52,7 +61,7 @@ AreChosenBelow asked t blif facts tables at chosen = (i : ℕ) → at ≡ suc i 
 
 -- the next instance is of a cell with an entry in the table
 pub record HasEntry (asked : Bool) (t : Top) (blif : Blif) (facts : List CellFacts) (tables : Tables) (i : ℕ) (chosen : Chosen) (own : WholeCell) : Type 0 where
-  pub chosen_are : AreChosen asked t blif facts tables i chosen
+  pub chosen_are : AreReached asked t blif facts tables i chosen
   pub place : Place
   pub here : At tables.unrolled.now.places (suc i) place
   pub entry : At tables.cells.now place.cell (Some own)

@@ -5,33 +5,34 @@ ghost use Rattle.std.specs.Option.{option_copied};
 ghost use Rattle.known_nets.specs.Incidence.{AreHeldMarks};
 ghost use Rattle.known_nets.specs.Wired.{IsWired};
 ghost use Rattle.net_places.specs.Instances.{AreSmall};
-ghost use Rattle.whole_circuits.specs.Insides.{IsCutAt};
 ghost use Rattle.whole_circuits.specs.declared.whole_cell.WholeCell.{WholeCell as CellValue};
 ghost use Rattle.vrt_model.specs.Circuits.{IsHold};
-ghost use Rattle.vrt_model.specs.Cut.{Cut, is_inside_whole};
 ghost use Rattle.vrt_model.specs.Lists.{At, mark_at};
-ghost use Rattle.vrt_model.specs.Unrolled.{Place as FlatPlace, Top, all_places};
+ghost use Rattle.vrt_model.specs.Unrolled.{Top};
 ghost use Rattle.vrt_model.specs.declared.blif.Blif.{Blif as BlifValue};
 ghost use Rattle.vrt_model.specs.declared.whole.CellFacts.{CellFacts as FactsValue};
 ghost use Rattle.vrt_model.specs.declared.whole.WholePin.{WholePin as PinValue};
 ghost use Rattle.substitute.specs.Chosen.{IsRightly, cut_of};
 ghost use Rattle.substitute.specs.Taken.{has_pin};
-ghost use Rattle.substitute.specs.Underway.{AreChosen, AreChosenBelow, AreTables, HasEntry, IsNextTrial, IsOutside};
+ghost use Rattle.substitute.specs.Underway.{AreChosen, AreChosenBelow, AreReached, AreTables, HasEntry, IsNextTrial, IsOutside};
+ghost use Rattle.substitute.specs.declared.tables.Tables.{Tables as TablesValue};
 
 use crate::candidate::passes;
 use crate::tables::Tables;
 use crate::taken::{mark, take_outputs};
 use crate::trial::{copy_marks, marks_with};
 use known_nets::{held_nets, is_marked, no_marks};
-use net_places::{Place, Unrolled};
+use net_places::Unrolled;
 use std::alloc::Global;
 use vrt_model::{NoMemory, WholePin};
-use whole_circuits::{NetMarks, WholeCell, driven_pins, inside_marks};
+use whole_circuits::{NetMarks, WholeCell, add_inside, driven_pins, place_at};
 
 /// The instances that are chosen so far.
 pub struct Chosen {
     /// A mark for each place, set where a chosen instance stands.
     pub whole: Vec<bool>,
+    /// A mark for each place that has been tried, set where it is inside a chosen instance.
+    pub inside: Vec<bool>,
     /// Which nets have holds or outputs of chosen instances, and which channels met at the last trial.
     pub nets: NetMarks,
 }
@@ -41,6 +42,7 @@ impl Drop for Chosen {
     fn drop(self) {
         let Chosen {
             whole: _whole,
+            inside: _inside,
             nets: _nets,
         } = self;
     }
@@ -64,16 +66,13 @@ fn none_chosen(alloc: Global, tables: Tables<'_>) -> Result<Chosen, NoMemory>
     ensures { IfOk result (λ chosen. (asked : Bool) (t : Top) (blif : BlifValue) (facts : List FactsValue) → AreTables t blif facts tables.entry → AreChosen asked t blif facts tables.entry 0 chosen) }
 {
     let whole = no_marks(alloc, tables.unrolled.places.len())?;
+    let inside = no_marks(alloc, 1)?;
     let nets = bare_nets(alloc, tables)?;
-    Ok(Chosen { whole, nets })
-}
-
-/// The place with a number.
-fn place_at(unrolled: &Unrolled, at: usize) -> &Place
-    requires { at < length unrolled.now.places }
-    ensures { At unrolled.entry.now.places at result.now }
-{
-    &unrolled.places.as_slice()[at]
+    Ok(Chosen {
+        whole,
+        inside,
+        nets,
+    })
 }
 
 /// What the instances of a cell have in common, if they may be left whole.
@@ -85,20 +84,6 @@ fn entry_of(cells: &[Option<WholeCell>], cell: usize) -> Option<&WholeCell>
         Some(None) => None,
         None => None,
     }
-}
-
-/// Whether a place is inside an instance that is chosen.
-fn is_inside(
-    alloc: Global,
-    unrolled: &Unrolled,
-    whole: &[bool],
-    at: usize,
-) -> Result<bool, NoMemory>
-    requires { at < length unrolled.now.places }
-    ensures { IfOk result (λ inside. (cut : Cut) (p : FlatPlace) → IsCutAt cut unrolled.now whole.now → At (all_places cut.top) at p → inside ≡ is_inside_whole cut p) }
-{
-    let marks = inside_marks(alloc, unrolled, whole)?;
-    Ok(is_marked(marks.as_slice(), at))
 }
 
 /// A copy of marks with one more.
@@ -124,6 +109,7 @@ fn is_right(
     requires small { AreSmall tables.unrolled.now.places }
     requires trial { (t : Top) × (blif : BlifValue) × (facts : List FactsValue) × (i : ℕ) × (own : CellValue) × (at ≡ suc i) × IsNextTrial asked t blif facts tables i chosen.old own pins.now }
     ensures whole { chosen.new.whole ≡ chosen.old.whole }
+    ensures inside { chosen.new.inside ≡ chosen.old.inside }
     ensures held { chosen.new.nets.held ≡ chosen.old.nets.held }
     ensures taken { chosen.new.nets.taken ≡ chosen.old.nets.taken }
     ensures right { IfOk result (λ right. (t : Top) (blif : BlifValue) (facts : List FactsValue) (i : ℕ) (own : CellValue) → at ≡ suc i → IsNextTrial asked t blif facts tables.entry i chosen.old own pins.now → IsRightly asked (cut_of t chosen.old.whole.items) blif facts i right) }
@@ -139,6 +125,7 @@ fn choose(chosen: &mut Chosen, at: usize, pins: &[WholePin])
     requires nets { All (λ (p : PinValue). p.net.0 < length chosen.old.nets.taken.items) pins.now }
     ensures each { length chosen.new.whole.items ≡ length chosen.old.whole.items }
     ensures whole { (n : ℕ) → mark_at chosen.new.whole.items n ≡ (mark_at chosen.old.whole.items n || at == n) }
+    ensures inside { chosen.new.inside ≡ chosen.old.inside }
     ensures held { chosen.new.nets.held ≡ chosen.old.nets.held }
     ensures room { length chosen.new.nets.taken.items ≡ length chosen.old.nets.taken.items }
     ensures taken { (n : ℕ) → mark_at chosen.new.nets.taken.items n ≡ (mark_at chosen.old.nets.taken.items n || has_pin n pins.now) }
@@ -186,14 +173,43 @@ fn try_whole(
     requires chosen { (t : Top) × (blif : BlifValue) × (facts : List FactsValue) × (i : ℕ) × (at ≡ suc i) × HasEntry asked t blif facts tables i chosen.old own.now }
     ensures { OnOk result ((t : Top) (blif : BlifValue) (facts : List FactsValue) (i : ℕ) → at ≡ suc i → HasEntry asked t blif facts tables.entry i chosen.old own.now → AreChosen asked t blif facts tables.entry (suc i) chosen.new) }
 {
-    let inside = is_inside(alloc, tables.unrolled, chosen.whole.as_slice(), at)?;
+    let inside = is_marked(chosen.inside.as_slice(), at);
     if inside {
         return Ok(());
     }
     try_outside(alloc, asked, tables, at, own, chosen)
 }
 
-/// Tries the instance at a place.
+/// Marks the place that comes next, if it is inside a chosen instance.
+fn come_to(unrolled: &Unrolled, at: usize, chosen: &mut Chosen) -> Result<(), NoMemory>
+    requires { at < length unrolled.now.places }
+    ensures { OnOk result ((asked : Bool) (t : Top) (blif : BlifValue) (facts : List FactsValue) (tables : TablesValue) (i : ℕ) → at ≡ suc i → tables.unrolled.now ≡ unrolled.now → AreChosen asked t blif facts tables i chosen.old → AreReached asked t blif facts tables i chosen.new) }
+{
+    add_inside(chosen.whole.as_slice(), &mut chosen.inside, unrolled, at)
+}
+
+/// Tries the instance at a place that is marked if it is inside a chosen one.
+fn try_place(
+    alloc: Global,
+    asked: bool,
+    tables: Tables<'_>,
+    at: usize,
+    chosen: &mut Chosen,
+) -> Result<(), NoMemory>
+    requires holds { All (IsHold tables.flat.now) tables.flat.now.holds }
+    requires small { AreSmall tables.unrolled.now.places }
+    requires there { at < length tables.unrolled.now.places }
+    requires reached { (t : Top) × (blif : BlifValue) × (facts : List FactsValue) × (i : ℕ) × (at ≡ suc i) × AreReached asked t blif facts tables i chosen.old }
+    ensures { OnOk result ((t : Top) (blif : BlifValue) (facts : List FactsValue) (i : ℕ) → at ≡ suc i → AreReached asked t blif facts tables.entry i chosen.old → AreChosen asked t blif facts tables.entry (suc i) chosen.new) }
+{
+    let cell = place_at(tables.unrolled, at).cell;
+    match entry_of(tables.cells, cell) {
+        Some(own) => try_whole(alloc, asked, tables, at, own, chosen),
+        None => Ok(()),
+    }
+}
+
+/// Tries the instance at the place that comes next.
 fn try_instance(
     alloc: Global,
     asked: bool,
@@ -207,11 +223,8 @@ fn try_instance(
     requires chosen { (t : Top) × (blif : BlifValue) × (facts : List FactsValue) × AreChosenBelow asked t blif facts tables at chosen.old }
     ensures { OnOk result ((t : Top) (blif : BlifValue) (facts : List FactsValue) → AreChosenBelow asked t blif facts tables.entry at chosen.old → AreChosenBelow asked t blif facts tables.entry (at + 1) chosen.new) }
 {
-    let cell = place_at(tables.unrolled, at).cell;
-    match entry_of(tables.cells, cell) {
-        Some(own) => try_whole(alloc, asked, tables, at, own, chosen),
-        None => Ok(()),
-    }
+    come_to(tables.unrolled, at, chosen)?;
+    try_place(alloc, asked, tables, at, chosen)
 }
 
 /// The instances that are chosen, tried in the order of their places: each that is outside those chosen before it, of a cell whose

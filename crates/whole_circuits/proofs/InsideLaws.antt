@@ -10,7 +10,7 @@ use Rattle.net_places.specs.Links.{Bare, bare, shown, step_of}
 use Rattle.net_places.specs.declared.places.Place.{Place}
 use Rattle.net_places.specs.declared.whole.Unrolled.{Unrolled}
 use Rattle.whole_circuits.proofs.ListLaws.{place_numbered}
-use Rattle.whole_circuits.specs.Insides.{AreInsideMarks, IsCutAt, is_within}
+use Rattle.whole_circuits.specs.Insides.{AreInsideMarks, AreMarkedBefore, IsCutAt, is_within}
 use Rattle.vrt_model.proofs.Lists.{map_at, one_at}
 use Rattle.vrt_model.proofs.Members.{among_any, any_among}
 use Rattle.vrt_model.proofs.Tests.{same_tests}
@@ -150,7 +150,7 @@ module _ (cut : Cut) (unrolled : Unrolled) (whole : List Bool) (is : IsCutAt cut
       ∙ sym (inside_around cut is.netlist p.around (suc i) n.0 at (step_of cut.top n.0 n.1) n.2.around there n.2.path)
 
   -- one mark more
-  pub inside_more : (i : ℕ) (p : Place) (inside : List Bool) → At unrolled.places i p → length inside ≡ i → AreInsideMarks cut inside
+  inside_more : (i : ℕ) (p : Place) (inside : List Bool) → At unrolled.places i p → length inside ≡ i → AreInsideMarks cut inside
       → AreInsideMarks cut (inside ++ is_within whole inside p ∷ [])
   inside_more i p inside here long are n at lt there =
       let count = length-append inside (is_within whole inside p ∷ []) in
@@ -171,6 +171,14 @@ module _ (cut : Cut) (unrolled : Unrolled) (whole : List Bool) (is : IsCutAt cut
       mark_last : (xs : List Bool) (b : Bool) → mark_at (xs ++ b ∷ []) (length xs) ≡ b
       mark_last [] b = refl
       mark_last (x ∷ xs) b = mark_last xs b
+
+  -- one place more
+  pub marked_more : (i : ℕ) (p : Place) (old new : List Bool) → At unrolled.places i p → AreMarkedBefore cut i old → new ≡ old ++ is_within whole old p ∷ [] → AreMarkedBefore cut (i + 1) new
+  marked_more i p old new here marked grown =
+      let count = ap (λ (marks : List Bool). length marks) grown in
+      let sum = length-append old (is_within whole old p ∷ []) in
+      let long = marked.count in
+      record { count = omega (arith, count, sum, long); are = subst (AreInsideMarks cut) (sym grown) (inside_more i p old here long marked.are) }
 
 -- no mark yet
 pub inside_none : (cut : Cut) → AreInsideMarks cut []

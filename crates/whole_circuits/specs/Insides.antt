@@ -16,6 +16,11 @@ AreWholeMarks cut marks = (n : ℕ) → mark_at marks n ≡ is_whole cut.choice 
 abbrev pub AreInsideMarks : Cut → List Bool → Type 0
 AreInsideMarks cut marks = (n : ℕ) (at : FlatPlace) → n < length marks → At (all_places cut.top) n at → mark_at marks n ≡ is_inside_whole cut at
 
+-- each place before a number has its mark
+pub record AreMarkedBefore (cut : Cut) (n : ℕ) (marks : List Bool) : Type 0 where
+  pub count : length marks ≡ n
+  pub are : AreInsideMarks cut marks
+
 -- a place is inside where the place around it is whole or inside
 abbrev pub is_within : List Bool → List Bool → Place → Bool
 is_within whole inside p = not (p.depth == 0) && (mark_at whole p.around || mark_at inside p.around)

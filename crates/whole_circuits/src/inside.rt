@@ -1,11 +1,10 @@
 //! The places inside instances that are left whole.
 
-ghost use Rattle.std.specs.Prelude.{◌≡◌, ◌<◌, ◌++◌, ◌∷◌, [], IfOk, OnOk, length};
-ghost use Rattle.whole_circuits.specs.Insides.{AreInsideMarks, IsCutAt, is_within};
+ghost use Rattle.std.specs.Prelude.{◌≡◌, ◌<◌, ◌+◌, ◌++◌, ◌∷◌, [], IfOk, OnOk, length};
+ghost use Rattle.whole_circuits.specs.Insides.{AreInsideMarks, AreMarkedBefore, IsCutAt, is_within};
 ghost use Rattle.vrt_model.specs.Cut.{Cut};
-ghost use Rattle.vrt_model.specs.Lists.{At};
-ghost use Rattle.net_places.specs.declared.places.Place.{Place as PlaceValue};
 
+use crate::places::place_at;
 use known_nets::is_marked;
 use net_places::{Place, Unrolled};
 use std::alloc::Global;
@@ -33,17 +32,18 @@ fn add_mark(marks: &mut Vec<bool>, mark: bool) -> Result<(), NoMemory>
     }
 }
 
-/// Adds the mark of the place behind those that have one.
-fn add_place(
+/// Adds the mark of the place behind those that have one: whether it is inside an instance that is left whole.
+pub fn add_inside(
     whole: &[bool],
     inside: &mut Vec<bool>,
-    places: &[Place],
+    unrolled: &Unrolled,
     at: usize,
 ) -> Result<(), NoMemory>
-    requires { at < length places.now }
-    ensures { OnOk result ((p : PlaceValue) → At places.now at p → inside.new.items ≡ inside.old.items ++ is_within whole.now inside.old.items p ∷ []) }
+    requires { at < length unrolled.now.places }
+    ensures len { OnOk result (length inside.new.items ≡ length inside.old.items + 1) }
+    ensures are { OnOk result ((cut : Cut) → IsCutAt cut unrolled.now whole.now → AreMarkedBefore cut at inside.old.items → AreMarkedBefore cut (at + 1) inside.new.items) }
 {
-    let mark = is_within(whole, inside.as_slice(), &places[at]);
+    let mark = is_within(whole, inside.as_slice(), place_at(unrolled, at));
     add_mark(inside, mark)
 }
 
@@ -57,10 +57,9 @@ pub fn inside_marks(
     ensures len { IfOk result (λ inside. length inside.items ≡ length unrolled.now.places) }
     ensures are { IfOk result (λ inside. (cut : Cut) → IsCutAt cut unrolled.now whole.now → AreInsideMarks cut inside.items) }
 {
-    let places = unrolled.places.as_slice();
     let mut inside = Vec::new(alloc);
-    for at in 0..places.len() {
-        add_place(whole, &mut inside, places, at)?;
+    for at in 0..unrolled.places.len() {
+        add_inside(whole, &mut inside, unrolled, at)?;
     }
     Ok(inside)
 }

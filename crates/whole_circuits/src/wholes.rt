@@ -14,6 +14,7 @@ ghost use Rattle.vrt_model.specs.declared.blif.Blif.{Blif as BlifValue};
 ghost use Rattle.vrt_model.specs.declared.whole.CellFacts.{CellFacts as FactsValue};
 
 use crate::instance::whole_at;
+use crate::places::place_at;
 use crate::whole_cell::WholeCell;
 use known_nets::is_marked;
 use net_places::{Place, Unrolled};
@@ -34,14 +35,6 @@ fn add_whole(
     let whole = whole_at(alloc, phases, own, place)?;
     wholes.append(whole)?;
     Ok(())
-}
-
-/// The place with a number.
-fn place_at(unrolled: &Unrolled, at: usize) -> &Place
-    requires { at < length unrolled.now.places }
-    ensures { At unrolled.entry.now.places at result.now }
-{
-    &unrolled.places.as_slice()[at]
 }
 
 /// What the instances of the cell at a place have in common, if they may be left whole.

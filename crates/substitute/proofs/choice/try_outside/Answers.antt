@@ -41,14 +41,15 @@ returns c t blif facts i e out =
           let new = w.choose.new.chosen in
           subst (λ (x : Chosen). AreChosen c.args.asked t blif facts c.args.tables (suc i) x) (sym w.chosen-is)
           (trial_chosen c.args.asked t blif facts c.args.tables i chosen c.args.own.now list trial c.args.at e new.whole.items
-          (λ n. w.choose.ensures.whole n ∙ ap (λ (v : Vec Bool Global). mark_at v.items n || c.args.at == n) same.whole) new.nets.held.items new.nets.taken.items
-          (w.choose.ensures.each ∙ ap (λ (v : Vec Bool Global). length v.items) same.whole) right (ap (λ (v : Vec Bool Global). v.items) (w.choose.ensures.held ∙ same.held))
+          (λ n. w.choose.ensures.whole n ∙ ap (λ (v : Vec Bool Global). mark_at v.items n || c.args.at == n) same.whole) new.inside.items new.nets.held.items new.nets.taken.items
+          (w.choose.ensures.each ∙ ap (λ (v : Vec Bool Global). length v.items) same.whole) right (ap (λ (v : Vec Bool Global). v.items) (w.choose.ensures.inside ∙ same.inside))
+          (ap (λ (v : Vec Bool Global). v.items) (w.choose.ensures.held ∙ same.held))
           (w.choose.ensures.room ∙ ap (λ (v : Vec Bool Global). length v.items) same.taken)
           (λ n. w.choose.ensures.taken n ∙ ap (λ (v : Vec Bool Global). mark_at v.items n || has_pin n w.as_slice-then-right.result.now) same.taken
           ∙ ap (λ (ps : List WholePin). mark_at chosen.nets.taken.items n || has_pin n ps) (w.as_slice-then-right.ensures ∙ sym c.as_slice-2.ensures)))
       | else-right w ↦
           let right = subst (λ (b : Bool). IsRightly c.args.asked (cut_of t chosen.whole.items) blif facts i b) w.if-right.false told in
           subst (λ (x : Chosen). AreChosen c.args.asked t blif facts c.args.tables (suc i) x) (sym w.chosen-is)
-          (same_chosen c.args.asked t blif facts c.args.tables (suc i) chosen c.is_right.new.chosen same.whole same.held same.taken
+          (same_chosen c.args.asked t blif facts c.args.tables (suc i) chosen c.is_right.new.chosen same.whole same.inside same.held same.taken
           (left_out c.args.asked t blif facts c.args.tables i chosen out.has.chosen_are right))
     ]
