@@ -1,0 +1,5 @@
+pub mod CaseLevels
+pub mod LevelWork
+pub mod NetLevelLaws
+pub mod PartStrengths
+pub mod PhaseLevels

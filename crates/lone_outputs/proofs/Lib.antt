@@ -1,0 +1,3 @@
+pub mod FilterCounts
+pub mod LoneLaws
+pub mod PortPlaces

@@ -1,0 +1,24 @@
+-- Output ports that are alone in a phase: their nets are not known, and in their parts of the kept circuit is no other.
+use Rattle.std.specs.Prelude.{◌≡◌, ◌≢◌, ◌↔◌, ℕ, Bool, true, List, length, map}
+use Rattle.vrt_model.specs.Comparison.{CellPort, Comparison}
+use Rattle.vrt_model.specs.Facts.{output_ports}
+use Rattle.vrt_model.specs.Known.{IsTogether, IsUnknown}
+use Rattle.vrt_model.specs.Lists.{At, mark_at}
+use Rattle.vrt_model.specs.Reading.{kept}
+use Rattle.vrt_model.specs.declared.circuit.Circuit.{Circuit}
+use Rattle.vrt_model.specs.declared.ids.Net.{Net}
+use Rattle.vrt_model.specs.declared.rules.Phase.{Phase}
+
+-- the net n at place j of a list is not known, and the net at no other place is in its part of the kept circuit
+pub record IsLone (c : Circuit) (phase : Phase) (nets : List ℕ) (j n : ℕ) : Type 0 where
+  pub unknown : IsUnknown c phase n
+  pub alone : (i m : ℕ) → At nets i m → i ≢ j → ¬ IsTogether c phase kept n m
+
+-- a bit for each place of a list of nets, which says this
+pub record AreLone (c : Circuit) (phase : Phase) (nets : List ℕ) (lone : List Bool) : Type 0 where
+  pub count : length lone ≡ length nets
+  pub each : (j n : ℕ) → At nets j n → (mark_at lone j ≡ true) ↔ IsLone c phase nets j n
+
+-- the nets are those of the output ports, in port order
+abbrev pub AreOutputNets : Comparison → List Net → Type 0
+AreOutputNets k nets = map (λ (n : Net). n.0) nets ≡ map (λ (p : CellPort). p.net) (output_ports k)
