@@ -1,7 +1,9 @@
 pub mod FirstFirm
 pub mod InnerRegions
 pub mod InnerSettled
+pub mod LocalParts
 pub mod RankOrder
+pub mod Restricted
 pub mod SamePlaces
 pub mod SettledLaws
 pub mod ShutRegions
