@@ -52,6 +52,13 @@ pub record IsLocalPart (cell c rest : Circuit) (at : ℕ → ℕ) (remaining exp
   pub exposed_inner : (n : ℕ) → exposed n ≡ true → region (at n) ≡ true → inner n ≡ true
   pub gates : (n m : ℕ) (d : Device) → inner n ≡ true → Among (devices_of true cell) d → Joins d n m → bits d.gate.0 ≡ s.reading (at d.gate.0)
 
+-- the cell alone with its bits, and with the devices at a set of its nets alone
+abbrev pub cell_alone : Circuit → (ℕ → Bool) → Network
+cell_alone cell bits = network_of cell true (λ j. false) (record { reading = bits; driven = λ j. false })
+
+abbrev pub cell_part : Circuit → (ℕ → Bool) → (ℕ → Bool) → Network
+cell_part cell inner bits = restricted (cell_alone cell bits) (λ d. inner d.left.0 || inner d.right.0)
+
 -- a device with an end in a set
 pub end_in : (set : ℕ → Bool) (d : Device) (n : ℕ) → Touches d n → set n ≡ true → (set d.left.0 || set d.right.0) ≡ true
 end_in set d n (inl e) ins = or_left (set d.left.0) (set d.right.0) (subst (λ (x : ℕ). set x ≡ true) (sym e) ins)
@@ -76,14 +83,14 @@ module _ (cell c rest : Circuit) (at place fresh : ℕ → ℕ) (remaining compa
     (p : IsLocalPart cell c rest at remaining exposed s t region inner bits) where
   -- the cell alone, with its bits
   abbrev pub cell_network : Network
-  cell_network = network_of cell true (λ j. false) (record { reading = bits; driven = λ j. false })
+  cell_network = cell_alone cell bits
 
   -- a device of the cell at a net of the set, and the cell with these devices alone
   abbrev near : Device → Bool
   near d = inner d.left.0 || inner d.right.0
 
   abbrev pub part : Network
-  part = restricted cell_network near
+  part = cell_part cell inner bits
 
   -- what of the region is compared, with the nets at which the set is
   abbrev pub joint : ℕ → Bool
@@ -137,10 +144,10 @@ module _ (cell c rest : Circuit) (at place fresh : ℕ → ℕ) (remaining compa
       ]
 
   -- a device of the circuit at such a net is that of a device at the set, or it stays
-  abbrev IsOwn : Device → Type 0
+  abbrev pub IsOwn : Device → Type 0
   IsOwn e = (d : Device) × Among cell.devices d × IsImage at d e × (near d ≡ true)
 
-  abbrev IsStaying : Device → Type 0
+  abbrev pub IsStaying : Device → Type 0
   IsStaying e = (f : Device) × Among rest.devices f × IsLeftDevice (λ n. n) remaining compared e f
 
   near_end : (n : ℕ) → joint n ≡ true → (d : Device) → Among cell.devices d → (m : ℕ) → Touches d m → at m ≡ n → near d ≡ true
@@ -153,7 +160,7 @@ module _ (cell c rest : Circuit) (at place fresh : ℕ → ℕ) (remaining compa
         | inr own ↦ inner_too m own.0 d a touch own.1 (e ∙ sym own.2)
       ])
 
-  own_or_left : (e : Device) (n : ℕ) → Among c.devices e → Touches e n → joint n ≡ true → IsOwn e ⊎ IsStaying e
+  pub own_or_left : (e : Device) (n : ℕ) → Among c.devices e → Touches e n → joint n ≡ true → IsOwn e ⊎ IsStaying e
   own_or_left e n a touch ins =
       elim (left.devices e a) [
         | inr stays ↦ inr stays
@@ -652,13 +659,17 @@ module _ (cell c rest : Circuit) (at place fresh : ℕ → ℕ) (remaining compa
           λ r. (whole_reaches n v left_there).1 ((whole_law.1 n v there).0 ((circuit_reaches n v joint_there).0 r)),
         )
 
+    -- what reaches a net of the set in the cell alone reaches it in the circuit
+    pub inner_reaches : (n : ℕ) (v : Bool) → inner n ≡ true → Reaches cell_network n v → Reaches circuit_network (at n) v
+    inner_reaches n v ins r = (circuit_reaches (at n) v (inner_joint n (at n) ins refl)).1 (kept_inside n v ins ((part_reaches n v ins).0 r))
+
     -- a net of the set responds as in the cell alone, where no exposed output that is joined to it fights
     pub inner_alike : (n : ℕ) (v : Bool) → inner n ≡ true
         → ((m : ℕ) → exposed m ≡ true → IsJoined part inner m n → Reaches whole_network (at m) true → Reaches whole_network (at m) false → ⊥)
         → Reaches cell_network n v ↔ Reaches circuit_network (at n) v
     inner_alike n v ins calm =
         let joint_there = inner_joint n (at n) ins refl in (
-          λ r. (circuit_reaches (at n) v joint_there).1 (kept_inside n v ins ((part_reaches n v ins).0 r)),
+          λ r. inner_reaches n v ins r,
           λ r. elim (whole_law.2 n v ins ((circuit_reaches (at n) v joint_there).0 r)) [
             | inl own ↦ (part_reaches n v ins).1 own
             | inr beside ↦
