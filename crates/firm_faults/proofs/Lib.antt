@@ -9,6 +9,7 @@ pub mod RegionDown
 pub mod Restricted
 pub mod SamePlaces
 pub mod SettledLaws
+pub mod ShownBits
 pub mod ShutRegions
 pub mod StepBits
 pub mod StepLaws

@@ -13,9 +13,10 @@ use Rattle.cell_inside.specs.Inside.{ComesFromOutside, IsCopy, IsInside, IsOutsi
 use Rattle.cell_inside.specs.LeftWhole.{IsLeftDevice, IsLeftWhole}
 use Rattle.cell_inside.specs.Placed.{IsImage, IsPlaced, IsSupply}
 use Rattle.cell_inside.specs.Regions.{IsGivenNet}
-use Rattle.cell_inside.specs.Replaced.{FightsBeside, IsJoined, IsReplaced, drive_root, root_at}
+use Rattle.cell_inside.specs.Replaced.{FightsBeside, IsJoined, IsReplaced, drive_root, itself, onward, root_at}
 use Rattle.firm_faults.proofs.InnerRegions.{image, in_image, of_image}
 use Rattle.firm_faults.proofs.Restricted.{on_restricted, restricted, restricted_finite, restricted_levels, restricted_on, restricted_reaches, restricted_strength}
+use Rattle.firm_faults.proofs.ShownBits.{only_shown_bit, shown_bit_reaches}
 use Rattle.vrt_model.proofs.Filtered.{among_devices, device_among}
 use Rattle.vrt_model.proofs.Laws.{turned}
 use Rattle.vrt_model.proofs.Members.{at_none}
@@ -58,6 +59,11 @@ cell_alone cell bits = network_of cell true (λ j. false) (record { reading = bi
 
 abbrev pub cell_part : Circuit → (ℕ → Bool) → (ℕ → Bool) → Network
 cell_part cell inner bits = restricted (cell_alone cell bits) (λ d. inner d.left.0 || inner d.right.0)
+
+-- the net from which others are joined is in the set
+pub joined_from : (w : Network) (inside : ℕ → Bool) (m n : ℕ) → IsJoined w inside m n → inside m ≡ true
+joined_from w inside m n (itself ins) = ins
+joined_from w inside m n (onward {l = l} d before on j ins) = joined_from w inside m l before
 
 -- a device with an end in a set
 pub end_in : (set : ℕ → Bool) (d : Device) (n : ℕ) → Touches d n → set n ≡ true → (set d.left.0 || set d.right.0) ≡ true
@@ -541,20 +547,10 @@ module _ (cell c rest : Circuit) (at place fresh : ℕ → ℕ) (remaining compa
     only_value n e =
         let is = exposed_is n e in
         let ins = p.exposed_inner n is.0 is.1 in
-        let shown = shown_value (bits n) (outputs n is.0 is.1).3 in
-        ((part_reaches n (bits n) ins).0 shown.0, λ v r. shown.1 v ((part_reaches n v ins).1 r))
-      where
-        shown_value : (b : Bool) → IsResponse cell_network n (Shows b) → Reaches cell_network n b × ((v : Bool) → Reaches cell_network n v → v ≡ b)
-        shown_value true h = (h.0, λ v r. by_value v r)
-          where
-            by_value : (v : Bool) → Reaches cell_network n v → v ≡ true
-            by_value true r = refl
-            by_value false r = absurd (h.1 r)
-        shown_value false h = (h.0, λ v r. by_value v r)
-          where
-            by_value : (v : Bool) → Reaches cell_network n v → v ≡ false
-            by_value true r = absurd (h.1 r)
-            by_value false r = refl
+        let shown = (outputs n is.0 is.1).3 in (
+          (part_reaches n (bits n) ins).0 (shown_bit_reaches cell_network n (bits n) shown),
+          λ v r. only_shown_bit cell_network n (bits n) v shown ((part_reaches n v ins).1 r),
+        )
 
     part_replaced : IsReplaced part circuit_part whole_part at (λ n. n) inner exposed_there compared_there drive bits
     part_replaced = record {

@@ -9,14 +9,15 @@ use Rattle.cell_inside.proofs.RegionLaws.{region_is_local}
 use Rattle.cell_inside.specs.Inside.{Touches}
 use Rattle.cell_inside.specs.Placed.{IsSupply}
 use Rattle.cell_inside.specs.Regions.{IsGivenNet, IsRegion}
-use Rattle.cell_inside.specs.Replaced.{IsJoined, itself, onward}
+use Rattle.cell_inside.specs.Replaced.{IsJoined}
 use Rattle.constraints.proofs.NamedLaws.{breaks_same}
 use Rattle.firm_faults.proofs.CellParts.{part_back, part_further, part_kept}
 use Rattle.firm_faults.proofs.InnerRegions.{image, in_image, of_image, pin_among}
 use Rattle.firm_faults.proofs.InnerSettled.{HasReadyEnds, chain_apart, gates_ready, inner_ready, part_joined}
 use Rattle.firm_faults.proofs.JointRegions.{in_parts, joined_part, joint_is_region, local_part, of_parts, parts, pin_region, plain_in, same_net}
-use Rattle.firm_faults.proofs.LocalParts.{IsLocalPart, cell_alone, cell_part, in_end, inner_alike, inner_joint, inner_reaches, joint_region, own_or_left, region_alike, region_joint}
+use Rattle.firm_faults.proofs.LocalParts.{IsLocalPart, cell_alone, cell_part, in_end, inner_alike, inner_joint, inner_reaches, joined_from, joint_region, own_or_left, region_alike, region_joint}
 use Rattle.firm_faults.proofs.ShutRegions.{gate_of, gates_at}
+use Rattle.firm_faults.proofs.ShownBits.{only_shown_bit, reached_is_driven, shown_bit_reaches}
 use Rattle.firm_faults.proofs.StepBits.{HasStepBits}
 use Rattle.firm_faults.proofs.StepStates.{compared_exposed, given_below, given_outside, state_below, whole_state}
 use Rattle.firm_faults.specs.Settled.{IsBacked, IsBrokenAt, IsInstanceOfWhole, IsLinkedOutput, IsSettled, ShowsOwnBit, given, nets_named_at, within}
@@ -26,14 +27,14 @@ use Rattle.vrt_model.proofs.Decidable.{some_response}
 use Rattle.vrt_model.proofs.Filtered.{among_devices, device_among}
 use Rattle.vrt_model.proofs.GatesGiven.{plain_any}
 use Rattle.vrt_model.proofs.Laws.{one_response, turned}
-use Rattle.vrt_model.proofs.Members.{all_among, at_none}
+use Rattle.vrt_model.proofs.Members.{all_among}
 use Rattle.vrt_model.proofs.Networks.{network_finite}
 use Rattle.vrt_model.specs.Checked.{with_circuit}
 use Rattle.vrt_model.specs.Circuits.{IsDevice}
 use Rattle.vrt_model.specs.Comparison.{Comparison, is_observed, phase_at}
 use Rattle.vrt_model.specs.Known.{HasArc, IsPlain, IsTogether}
 use Rattle.vrt_model.specs.Lists.{Among, At}
-use Rattle.vrt_model.specs.Path.{Hop, IsPath, Joins, Network, Root, end_of, level_of}
+use Rattle.vrt_model.specs.Path.{Hop, IsPath, Joins, Network, Root, end_of}
 use Rattle.vrt_model.specs.Reading.{HasGivenBit, IsReading, conducts, devices_of, is_given}
 use Rattle.vrt_model.specs.Response.{Fight as FightResponse, Float as FloatResponse, IsResponse, IsStrength, Reaches, Response, Shows}
 use Rattle.vrt_model.specs.State.{IsState, OutputPin, Setting, State, network_of, output_pins}
@@ -42,7 +43,6 @@ use Rattle.vrt_model.specs.declared.circuit.Circuit.{Circuit}
 use Rattle.vrt_model.specs.declared.circuit.Device.{Device}
 use Rattle.vrt_model.specs.declared.circuit.FlatInstance.{FlatInstance}
 use Rattle.vrt_model.specs.declared.circuit.FlatNet.{FlatNet}
-use Rattle.vrt_model.specs.declared.circuit.Hold.{Hold}
 use Rattle.vrt_model.specs.declared.circuit.NetKind.TheVariants.{Clock, Input}
 use Rattle.vrt_model.specs.declared.ids.Net.{Net}
 use Rattle.vrt_model.specs.declared.rules.ClockRef.{ClockRef}
@@ -51,30 +51,6 @@ use Rattle.vrt_model.specs.declared.whole.Whole.{Whole}
 use Rattle.vrt_model.specs.declared.whole.WholePin.{WholePin}
 use Rattle.whole_solutions.proofs.GivenShow.{given_shows}
 use Rattle.whole_solutions.proofs.SettledSets.{supply_bit}
-
--- a net that some value reaches in a cell without holds and whole instances has a strength above 0
-reached_is_driven : (cell : Circuit) (bits : ℕ → Bool) (n l : ℕ) (v : Bool) → ((d : Device) → Among (devices_of true cell) d → 0 < d.level) → cell.holds ≡ [] → cell.wholes ≡ []
-    → Reaches (cell_alone cell bits) n v → IsStrength (cell_alone cell bits) n l → 0 < l
-reached_is_driven cell bits n l v levels no_holds no_wholes reaches strong =
-    let low = above reaches.0 reaches.1 reaches.2 in
-    let le = strong.0 reaches.0 reaches.1 reaches.2 reaches.4 in
-    omega (arith, low, le)
-  where
-    above : (root : Root) (hops : List Hop) → IsPath (cell_alone cell bits) root hops → 0 < level_of root hops
-    above root (hop ∷ hops) path =
-        let before = above root hops path.0 in
-        let here = levels hop.device path.1.0 in
-        omega (arith, before, here)
-    above root [] path =
-        elim path [
-          | inl g ↦ (let is : root.level ≡ 8 = g.3 in omega (arith, is))
-          | inr other ↦ elim other [
-            | inl h ↦ absurd (at_none h.0 h.1 (subst (λ (hs : List Hold). At hs h.0 h.1) no_holds h.2))
-            | inr o ↦
-                let out = pin_found cell o.0 o.1 o.2 in
-                absurd (at_none o.0 out.0 (subst (λ (ws : List Whole). At (output_pins (record cell { wholes = ws })) o.0 out.0) no_wholes out.1))
-          ]
-        ]
 
 module _ (k : Comparison) (phase : ℕ) (setting : Setting) (cell whole_circuit : Circuit) (at place fresh : ℕ → ℕ) (remaining compared cell_observed exposed known : ℕ → Bool)
     (together : ℕ → ℕ → Bool) (drive rank : ℕ → ℕ) (x : Whole) (i : FlatInstance) (originals whole_originals : List FlatInstance)
@@ -490,26 +466,18 @@ module _ (k : Comparison) (phase : ℕ) (setting : Setting) (cell whole_circuit 
         let strong = sol.strengths n true e in (
           reg.pins t r changed.1 is (λ m b. same_base m b) (λ m b. refl) (fresh n) pin.0 pin.1 (pin_region_is n plain rem ins) ∙ sol.drives n pin.0 pin.1 pin.2 plain pin.3,
           strong,
-          reached_is_driven cell bits n (drive n) (bits n) (λ d a. let low = (all_among (IsDevice cell) cell.devices d own.ranges.devices (device_among true cell d a).0).level.0 in omega (arith, low)) p.placed.no_holds p.placed.no_wholes
-              (reached (bits n) shown) strong,
+          reached_is_driven cell true (record { reading = bits; driven = λ j. false }) n (drive n) (bits n) (λ d a. let low = (all_among (IsDevice cell) cell.devices d own.ranges.devices (device_among true cell d a).0).level.0 in omega (arith, low)) p.placed.no_holds p.placed.no_wholes
+              (shown_bit_reaches (cell_alone cell bits) n (bits n) shown) strong,
           shown,
         )
-      where
-        reached : (b : Bool) → IsResponse (cell_alone cell bits) n (Shows b) → Reaches (cell_alone cell bits) n b
-        reached true h = h.0
-        reached false h = h.0
 
     unjoined : (m n : ℕ) → exposed m ≡ true → exposed n ≡ true → IsJoined (cell_part cell inside bits) inside m n → at m ≡ at n
     unjoined m n em en j = one_place m n em en (together_by m n em j)
       where
-        first_in : (a b : ℕ) → IsJoined (cell_part cell inside bits) inside a b → inside a ≡ true
-        first_in a b (itself ins) = ins
-        first_in a b (onward {l = l} d before on j ins) = first_in a l before
-
         together_by : (a b : ℕ) → exposed a ≡ true → IsJoined (cell_part cell inside bits) inside a b → together a b ≡ true
         together_by a b e joint_there =
             joined_part k phase setting cell whole_circuit at place fresh remaining compared cell_observed exposed known together drive rank x i p own r region base reg bits joined a b e
-            (local.exposed_there a (first_in a b joint_there) e) joint_there
+            (local.exposed_there a (joined_from (cell_part cell inside bits) inside a b joint_there) e) joint_there
 
     left_alike : (n : ℕ) (v : Bool) → region n ≡ true → compared n ≡ true → Reaches whole_there n v ↔ Reaches below n v
     left_alike n v ins c =
@@ -529,20 +497,10 @@ module _ (k : Comparison) (phase : ℕ) (setting : Setting) (cell whole_circuit 
     exposed_reached : (l : ℕ) → exposed l ≡ true → region (at l) ≡ true → Reaches below (at l) (bits l)
     exposed_reached l e ins =
         inner_reaches cell k.circuit whole_circuit at place fresh remaining compared exposed drive p.placed p.whole s t region inside bits local setting.held own.ranges p.ranges p.whole_ranges
-        (λ j out f. refl) supplies outputs unjoined l (bits l) (local.exposed_inner l e ins) (reached (bits l) (outputs l e ins).3)
-      where
-        reached : (b : Bool) → IsResponse (cell_alone cell bits) l (Shows b) → Reaches (cell_alone cell bits) l b
-        reached true h = h.0
-        reached false h = h.0
-
-    only_shown : (n : ℕ) (u v : Bool) → IsResponse below n (Shows v) → Reaches below n u → u ≡ v
-    only_shown n true true h reaches = refl
-    only_shown n true false h reaches = absurd (h.1 reaches)
-    only_shown n false true h reaches = absurd (h.1 reaches)
-    only_shown n false false h reaches = refl
+        (λ j out f. refl) supplies outputs unjoined l (bits l) (local.exposed_inner l e ins) (shown_bit_reaches (cell_alone cell bits) l (bits l) (outputs l e ins).3)
 
     exposed_bit : (l : ℕ) (v : Bool) → exposed l ≡ true → region (at l) ≡ true → IsResponse view (at l) (Shows v) → bits l ≡ v
-    exposed_bit l v e ins h = only_shown (at l) (bits l) v (left_responds (at l) ins (p.whole.exposed_compared l e) (Shows v) h) (exposed_reached l e ins)
+    exposed_bit l v e ins h = only_shown_bit below (at l) v (bits l) (left_responds (at l) ins (p.whole.exposed_compared l e) (Shows v) h) (exposed_reached l e ins)
 
     -- the bit below of one that shows a bit
     shown_bit : (l : ℕ) (v : Bool) → exposed l ≡ true → region (at l) ≡ true → IsResponse view (at l) (Shows v) → sr (at l) ≡ bits l
@@ -602,16 +560,12 @@ module _ (k : Comparison) (phase : ℕ) (setting : Setting) (cell whole_circuit 
 
         beside : (m : ℕ) → exposed m ≡ true → IsJoined (cell_part cell inside bits) inside m g → Reaches whole_there (at m) true → Reaches whole_there (at m) false → ⊥
         beside m f j high low =
-            let at_m = local.exposed_there m (first_in m g j) f in
+            let at_m = local.exposed_there m (joined_from (cell_part cell inside bits) inside m g j) f in
             let back =
             joined_part k phase setting cell whole_circuit at place fresh remaining compared cell_observed exposed known together drive rank x i p own r region base reg bits joined m g f at_m j in
             let both : together l m ≡ true =
             (own.parts l m).1 (part_further cell here true l g m ((own.parts l g).0 part) (part_back cell here true m g ((own.parts m g).0 back))) in
             none (subst (λ (y : ℕ). IsResponse view y FightResponse) (sym (one_place l m e f both)) (from_there (at m) FightResponse at_m (high, low)))
-          where
-            first_in : (a b : ℕ) → IsJoined (cell_part cell inside bits) inside a b → inside a ≡ true
-            first_in a b (itself there) = there
-            first_in a b (onward {l = o} d before on w there) = first_in a o before
 
     pub left_goes : (n : ℕ) → region n ≡ true → compared n ≡ true → IsDown n
     left_goes n ins c = record {
