@@ -4,6 +4,7 @@ pub mod InnerRegions
 pub mod InnerSettled
 pub mod JointRegions
 pub mod LocalParts
+pub mod LocalResponses
 pub mod RankOrder
 pub mod RegionDown
 pub mod Restricted

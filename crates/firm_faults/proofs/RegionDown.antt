@@ -15,7 +15,8 @@ use Rattle.firm_faults.proofs.CellParts.{part_back, part_further, part_kept}
 use Rattle.firm_faults.proofs.InnerRegions.{image, in_image, of_image, pin_among}
 use Rattle.firm_faults.proofs.InnerSettled.{HasReadyEnds, chain_apart, gates_ready, inner_ready, part_joined}
 use Rattle.firm_faults.proofs.JointRegions.{in_parts, joined_part, joint_is_region, local_part, of_parts, parts, pin_region, plain_in, same_net}
-use Rattle.firm_faults.proofs.LocalParts.{IsLocalPart, cell_alone, cell_part, in_end, inner_alike, inner_joint, inner_reaches, joined_from, joint_region, own_or_left, region_alike, region_joint}
+use Rattle.firm_faults.proofs.LocalParts.{IsLocalPart, cell_alone, cell_part, in_end, inner_joint, joined_from, joint_region, own_or_left, region_joint}
+use Rattle.firm_faults.proofs.LocalResponses.{inner_alike, inner_reaches, region_alike}
 use Rattle.firm_faults.proofs.ShutRegions.{gate_of, gates_at}
 use Rattle.firm_faults.proofs.ShownBits.{only_shown_bit, reached_is_driven, shown_bit_reaches}
 use Rattle.firm_faults.proofs.StepBits.{HasStepBits}
@@ -202,10 +203,6 @@ module _ (k : Comparison) (phase : ℕ) (setting : Setting) (cell whole_circuit 
     near_down : (m : ℕ) → (base m ≡ true) ⊎ IsGivenNet whole_circuit m → IsSettled k originals phase setting s m × IsResponse below m (Shows (sr m))
     near_down m (inl b) = ((downs m b).firm, ((downs m b).own_bit (shows m b)).1.1)
     near_down m (inr g) = (given (given_down m g), given_shown m (given_down m g))
-
-    near_given : (n : ℕ) → (base n ≡ true) ⊎ IsGivenNet whole_circuit n → (base n ≡ true) ⊎ IsGivenNet k.circuit n
-    near_given n (inl b) = inl b
-    near_given n (inr g) = inr (given_down n g)
 
     -- ---- an output of the instance
 
