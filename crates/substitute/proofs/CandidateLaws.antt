@@ -3,9 +3,8 @@ use Rattle.std.proofs.Common.{◌≡◌, ℕ, suc, ◌++◌, true, false, List, 
 use Rattle.std.specs.Prelude.{◌==◌, ◌↔◌}
 use Rattle.std.proofs.lemmas.Bool.{false≢true}
 use Rattle.checked_chain.proofs.ChoiceLaws.{numbered_at}
-use Rattle.whole_circuits.proofs.FlatLaws.{flat_parts}
 use Rattle.whole_circuits.specs.Acyclic.{AreAcyclic}
-use Rattle.whole_circuits.specs.Outputs.{AreOpen, own_outputs}
+use Rattle.whole_circuits.specs.Outputs.{AreAround, AreOpen, own_outputs}
 use Rattle.whole_circuits.specs.declared.marks.Marks.{Marks}
 use Rattle.whole_circuits.specs.declared.outputs.NetMarks.{NetMarks}
 use Rattle.vrt_model.specs.Checked.{IsCircuitWith, with_one}
@@ -24,16 +23,15 @@ use Rattle.substitute.specs.Candidates.{IsCandidate}
 use Rattle.substitute.specs.Chosen.{IsRightly}
 use Rattle.substitute.specs.Cycles.{IsTriedSoundly}
 use Rattle.substitute.specs.Right.{AreItsOutputsOpen}
-use Rattle.substitute.specs.Trial.{IsTried}
+use Rattle.substitute.specs.Trial.{AreMarksBeside}
 use Rattle.substitute.specs.declared.tables.Tables.{Tables}
 
-module _ (asked : Bool) (cut : Cut) (blif : Blif) (facts : List CellFacts) (i : ℕ) (p : NumberedPlace) (m : ℕ) (tables : Tables) (own : Marks) (nets : NetMarks) (pins : List WholePin) (is : IsCandidate asked cut blif facts i p m tables own nets pins) where
-  pub is_tried : IsTried (with_one cut i) tables.flat.now own tables.owners.now nets (all_outputs cut blif facts) p.number
-  is_tried = record {
-    marks = is.by.marks;
-    places = is.by.places;
-    devices = (flat_parts cut.top tables.flat.now is.next.flat_is).devices;
+module _ (asked : Bool) (cut : Cut) (blif : Blif) (facts : List CellFacts) (i : ℕ) (p : NumberedPlace) (m : ℕ) (tables : Tables) (whole : List Bool) (at : ℕ) (nets : NetMarks) (pins : List WholePin)
+    (is : IsCandidate asked cut blif facts i p m tables whole at nets pins) where
+  pub is_around : AreAround tables.flat.now nets (checked_devices (with_one cut i)) (all_outputs cut blif facts) p.number
+  is_around = record {
     held = is.held;
+    counts = is.counts;
     taken = is.taken;
     apart = λ o on.
         subst (λ (n : ℕ). (o.instance == n) ≡ false) (sym (numbered_at cut.top (suc i) p is.next.place).0) (outputs_stand_apart cut blif facts i o is.next.none on);
@@ -49,9 +47,9 @@ module _ (asked : Bool) (cut : Cut) (blif : Blif) (facts : List CellFacts) (i : 
   shut bare off tells =
       closed_is_left_out asked cut blif facts i p m tables.flat.now is.next (λ free. false≢true (sym off ∙ tells.1 (subst Open (sym is.pins_are) free)))
 
-  pub tried_soundly : Open pins → IsTriedSoundly (with_one cut i) blif facts tables own
-  tried_soundly free = record {
-    by = is.by;
+  pub tried_soundly : Open pins → (own : Marks) → AreMarksBeside tables.unrolled.now whole at own → IsTriedSoundly (with_one cut i) blif facts tables own
+  tried_soundly free own beside = record {
+    by = is.by own beside;
     formed = is.ground.formed;
     trial = record {
       netlist = is.ground.netlist;

@@ -3,6 +3,8 @@ pub mod InsideLaws
 pub mod RightLaws
 pub mod SoundLaws
 pub mod TakenLaws
+pub mod GoneLaws
+pub mod RangeLaws
 pub mod CandidateLaws
 pub mod UnderwayLaws
 pub mod WholeLaws

@@ -1,13 +1,15 @@
 -- Instances that are tried one after the other.
-use Rattle.std.proofs.Common.{◌≡◌, ℕ, zero, suc, ◌+◌, ◌<◌, ◌&&◌, ◌||◌, ◌++◌, Bool, true, false, All, Global, Vec, List, [], length, map, replicate, Option, Some, None, arith, ap, refl, subst, sym, ◌∙◌}
+use Rattle.std.proofs.Common.{◌≡◌, ℕ, zero, suc, ◌+◌, ◌<◌, ◌&&◌, ◌||◌, ◌++◌, Bool, true, false, All, Global, Vec, List, [], cond, length, map, replicate, Option, Some, None, arith, ap, ap₂, refl, subst, sym, ◌∙◌}
 use Rattle.std.specs.Prelude.{◌==◌, flat_map}
-use Rattle.std.specs.List.{enumerate_from}
+use Rattle.std.specs.List.{enumerate_from, slice_index}
 use Rattle.std.proofs.lemmas.Bool.{and_parts, eq-eqb, eqb-true, false_from_ne_true, false≢true}
 use Rattle.std.proofs.lemmas.Bool.Decides.{nat_tests}
 use Rattle.std.proofs.lemmas.List.{length-map, length-replicate}
 use Rattle.std.proofs.lemmas.List.FromFn.{length-enumerate_from}
 use Rattle.std.proofs.lemmas.Option.{slice_get_within}
+use mathlib.Core.Path.{fun_ext}
 use Rattle.checked_chain.proofs.ChoiceLaws.{numbered, numbered_at}
+use Rattle.checked_chain.proofs.EndLaws.{chain_begins_flat}
 use Rattle.known_nets.specs.Incidence.{AreHeldMarks}
 use Rattle.net_places.specs.Links.{Bare, bare, shown}
 use Rattle.net_places.specs.declared.places.Place.{Place}
@@ -15,23 +17,24 @@ use Rattle.phase_ports.specs.declared.port_list.Port.{Port}
 use Rattle.replaced_instances.proofs.StepPorts.{enumerated_at}
 use Rattle.whole_circuits.proofs.WholeLaws.{at_ports}
 use Rattle.whole_circuits.specs.Insides.{AreMarkedBefore, IsCutAt}
-use Rattle.whole_circuits.specs.Outputs.{AreTaken, output_at, own_outputs}
+use Rattle.whole_circuits.specs.Outputs.{AreCounts, AreTaken, changed, output_at, own_outputs}
 use Rattle.whole_circuits.specs.Pins.{AreDrivesOf, IsAtPorts}
-use Rattle.whole_circuits.specs.Shown.{AreMarks}
 use Rattle.whole_circuits.specs.WholeCells.{IsPlacedWhole}
-use Rattle.whole_circuits.specs.declared.marks.Marks.{Marks}
+use Rattle.whole_circuits.specs.declared.outputs.NetMarks.{NetMarks}
 use Rattle.whole_circuits.specs.declared.whole_cell.WholeCell.{WholeCell}
 use Rattle.substitution_laws.proofs.ChosenLaws.{pin_soft}
 use Rattle.vrt_model.proofs.Lists.{at_there, filter_none, map_among, map_at, none_marked, one_at}
 use Rattle.vrt_model.proofs.Members.{all_by, any_among}
 use Rattle.vrt_model.specs.Checked.{with_one}
+use Rattle.vrt_model.specs.CheckedParts.{checked_devices}
 use Rattle.vrt_model.specs.Comparison.{Comparison}
 use Rattle.vrt_model.specs.Cut.{Cut, NumberedPlace, is_inside, is_inside_whole, is_whole, numbered_places}
 use Rattle.vrt_model.specs.Lists.{Among, At, mark_at}
 use Rattle.vrt_model.specs.Unrolled.{Place as FlatPlace, Top, all_places}
 use Rattle.vrt_model.specs.Unsupported.{comparison_of}
-use Rattle.vrt_model.specs.WholeInstances.{OutputAt, all_outputs, driven_pins, outputs_of_place, pins_of}
+use Rattle.vrt_model.specs.WholeInstances.{OutputAt, all_outputs, channels_at, driven_pins, outputs_of_place, pins_of}
 use Rattle.vrt_model.specs.declared.blif.Blif.{Blif}
+use Rattle.vrt_model.specs.declared.circuit.Device.{Device}
 use Rattle.vrt_model.specs.declared.ids.Net.{Net}
 use Rattle.vrt_model.specs.declared.whole.CellFacts.{CellFacts}
 use Rattle.vrt_model.specs.declared.whole.WholePin.{WholePin}
@@ -40,13 +43,15 @@ use Rattle.whole_cells.specs.Entered.{AreEntered}
 use Rattle.whole_cells.specs.Entries.{IsEntry, IsWholeEntry}
 use Rattle.substitute.proofs.ChosenLaws.{marked_is_with_one, one_more_brings_its_own, one_more_is_decided}
 use Rattle.substitute.proofs.InsideLaws.{marks_stay}
+use Rattle.substitute.proofs.GoneLaws.{counts_settled, counts_without}
 use Rattle.substitute.proofs.RightLaws.{allowed_of, inside_is_left_out, open_of, refused_is_left_out, with_model}
 use Rattle.substitute.proofs.TakenLaws.{taken_grow}
 use Rattle.substitute.specs.Candidates.{IsCandidate}
 use Rattle.substitute.specs.Chosen.{IsRightly, MarksOneMore, MayBeChosen, cut_of}
+use Rattle.substitute.specs.Ranges.{devices_gone, with_chosen}
 use Rattle.substitute.specs.Right.{AreItsOutputsOpen, IsNext}
 use Rattle.substitute.specs.Taken.{has_pin}
-use Rattle.substitute.specs.Underway.{AreChosen, AreChosenBy, AreReached, AreTables, HasEntry, IsNextTrial, IsOutside}
+use Rattle.substitute.specs.Underway.{AreChosen, AreChosenBy, AreCountsOf, AreReached, AreTables, HasEntry, IsNextTrial, IsOutside}
 use Rattle.substitute.specs.declared.choice.Chosen.{Chosen}
 use Rattle.substitute.specs.declared.tables.Tables.{Tables}
 
@@ -126,16 +131,30 @@ module _ (asked : Bool) (t : Top) (blif : Blif) (facts : List CellFacts) (tables
         held = is.held;
         taken = is.taken;
         room = is.room;
+        counted = is.counted;
       }
 
-  -- the same marks
-  pub same_chosen : (old new : Chosen) → new.whole ≡ old.whole → new.inside ≡ old.inside → new.nets.held ≡ old.nets.held → new.nets.taken ≡ old.nets.taken → AreChosen asked t blif facts tables i old
-      → AreChosen asked t blif facts tables i new
-  same_chosen old new whole inside held taken is =
-      subst (λ (v : Vec Bool Global). AreChosenBy asked t blif facts tables i (suc i) v.items new.inside.items new.nets.held.items new.nets.taken.items) (sym whole)
-      (subst (λ (v : Vec Bool Global). AreChosenBy asked t blif facts tables i (suc i) old.whole.items v.items new.nets.held.items new.nets.taken.items) (sym inside)
-      (subst (λ (v : Vec Bool Global). AreChosenBy asked t blif facts tables i (suc i) old.whole.items old.inside.items v.items new.nets.taken.items) (sym held)
-      (subst (λ (v : Vec Bool Global). AreChosenBy asked t blif facts tables i (suc i) old.whole.items old.inside.items old.nets.held.items v.items) (sym taken) is)))
+  -- the same marks, and the same counts at each net
+  pub same_chosen : (old new : Chosen) → new.whole ≡ old.whole → new.inside ≡ old.inside → new.nets.held ≡ old.nets.held → new.nets.taken ≡ old.nets.taken
+      → AreCountsOf (cut_of t old.whole.items) (length tables.flat.now.nets) new.nets.channels.items → AreChosen asked t blif facts tables i old → AreChosen asked t blif facts tables i new
+  same_chosen old new whole inside held taken counted is =
+      subst (λ (v : Vec Bool Global). AreChosenBy asked t blif facts tables i (suc i) v.items new.inside.items new.nets.held.items new.nets.taken.items new.nets.channels.items) (sym whole)
+      (subst (λ (v : Vec Bool Global). AreChosenBy asked t blif facts tables i (suc i) old.whole.items v.items new.nets.held.items new.nets.taken.items new.nets.channels.items) (sym inside)
+      (subst (λ (v : Vec Bool Global). AreChosenBy asked t blif facts tables i (suc i) old.whole.items old.inside.items v.items new.nets.taken.items new.nets.channels.items) (sym held)
+      (subst (λ (v : Vec Bool Global). AreChosenBy asked t blif facts tables i (suc i) old.whole.items old.inside.items old.nets.held.items v.items new.nets.channels.items) (sym taken)
+      (record {
+        tables_are = is.tables_are;
+        each = is.each;
+        outermost = is.outermost;
+        none = is.none;
+        decided = is.decided;
+        entered = is.entered;
+        marked = is.marked;
+        held = is.held;
+        taken = is.taken;
+        room = is.room;
+        counted = counted;
+      }))))
 
   -- the marks are those of a cut
   pub cut_at_chosen : (chosen : Chosen) → AreChosen asked t blif facts tables i chosen → IsCutAt (cut_of t chosen.whole.items) tables.unrolled.now chosen.whole.items
@@ -148,7 +167,7 @@ module _ (asked : Bool) (t : Top) (blif : Blif) (facts : List CellFacts) (tables
   -- with a mark for the place of the next instance
   pub comes_to : (chosen : Chosen) (inside : List Bool) → AreChosen asked t blif facts tables i chosen
       → ((cut : Cut) → IsCutAt cut tables.unrolled.now chosen.whole.items → AreMarkedBefore cut (suc i) chosen.inside.items → AreMarkedBefore cut (suc (suc i)) inside)
-      → AreChosenBy asked t blif facts tables i (suc (suc i)) chosen.whole.items inside chosen.nets.held.items chosen.nets.taken.items
+      → AreChosenBy asked t blif facts tables i (suc (suc i)) chosen.whole.items inside chosen.nets.held.items chosen.nets.taken.items chosen.nets.channels.items
   comes_to chosen inside is more = record {
     tables_are = is.tables_are;
     each = is.each;
@@ -160,6 +179,7 @@ module _ (asked : Bool) (t : Top) (blif : Blif) (facts : List CellFacts) (tables
     held = is.held;
     taken = is.taken;
     room = is.room;
+    counted = is.counted;
   }
 
   -- that mark says whether it is inside a chosen one
@@ -295,32 +315,6 @@ module _ (asked : Bool) (t : Top) (blif : Blif) (facts : List CellFacts) (tables
         by_number zero = outermost
         by_number (suc j) = let same : (suc i == suc j) ≡ (i == j) = grind (arith, nat_tests) in more (suc j) ∙ ap (λ (b : Bool). mark_at whole (suc j) || b) same
 
-    -- what is asked of a candidate
-    pub candidate : (pins : List WholePin) (own_marks : Marks) → own_marks.whole.items ≡ marks → ((cut : Cut) → IsCutAt cut tables.unrolled.now marks → AreMarks cut own_marks)
-        → ((q : FlatPlace) → At (all_places t) (suc i) q → is_inside_whole old q ≡ false) → pins ≡ driven_pins facts k p.at → IsCandidate asked old blif facts i p model tables own_marks chosen.nets pins
-    candidate pins own_marks same marks_are outside pins_same =
-        let cells = entered_are_whole_cells one blif facts tables.unrolled.now tables.cells.now are.entered entered in
-        record {
-          ground = are.ground;
-          phases_are = are.phases_are;
-          next = next;
-          decided = has.chosen_are.decided;
-          outside = outside p.at (numbered_at t (suc i) p numbered_here.1).1;
-          cell = entry.allowed model entry.cell.paired;
-          by = record {
-            flat_is = are.flat_is;
-            cut_at = subst (IsCutAt one tables.unrolled.now) (sym same) cut_at;
-            marks = marks_are one cut_at;
-            places = are.owners_are;
-            cells = record { phases_are = are.phases_are; cells_are = cells.cells_are };
-          };
-          apart = entered_are_apart one blif facts tables.unrolled.now tables.cells.now are.ground.read are.ground.told are.entered entered;
-          held = has.chosen_are.held;
-          taken = has.chosen_are.taken;
-          pins_are = pins_same;
-          soft_pins = λ pin on. pin_soft facts are.ground.soft p.at.cell 0 (pins_of k p.at) pin (subst (λ (ps : List WholePin). Among ps pin) pins_same on);
-        }
-
     now_is : cut_of t marks ≡ one
     now_is = marked_is_with_one t i whole marks one_more
 
@@ -332,10 +326,11 @@ module _ (asked : Bool) (t : Top) (blif : Blif) (facts : List CellFacts) (tables
         ∙ ap (λ (c : Cut). all_outputs c blif facts) (sym now_is)
 
     -- where it is chosen
-    pub chosen_one : (pins : List WholePin) (inside held taken : List Bool) → length marks ≡ length whole → IsRightly asked old blif facts i true → pins ≡ driven_pins facts k p.at
+    pub chosen_one : (pins : List WholePin) (inside held taken : List Bool) (counts : List ℕ) → length marks ≡ length whole → IsRightly asked old blif facts i true → pins ≡ driven_pins facts k p.at
         → inside ≡ chosen.inside.items → held ≡ chosen.nets.held.items → length taken ≡ length chosen.nets.taken.items
-        → ((n : ℕ) → mark_at taken n ≡ (mark_at chosen.nets.taken.items n || has_pin n pins)) → AreChosenBy asked t blif facts tables (suc i) (suc (suc i)) marks inside held taken
-    chosen_one pins inside held taken each right pins_same inside_same held_same room taken_more =
+        → ((n : ℕ) → mark_at taken n ≡ (mark_at chosen.nets.taken.items n || has_pin n pins)) → AreCountsOf one (length tables.flat.now.nets) counts
+        → AreChosenBy asked t blif facts tables (suc i) (suc (suc i)) marks inside held taken counts
+    chosen_one pins inside held taken counts each right pins_same inside_same held_same room taken_more counted =
         let later = one_more_is_decided asked t blif facts i whole marks true has.chosen_are.none one_more right has.chosen_are.decided in
         record {
           tables_are = are;
@@ -352,6 +347,53 @@ module _ (asked : Bool) (t : Top) (blif : Blif) (facts : List CellFacts) (tables
               subst (λ (os : List OutputAt). AreTaken os taken) (outputs_now pins pins_same)
               (taken_grow (all_outputs old blif facts) p.number pins chosen.nets.taken.items taken has.chosen_are.taken taken_more);
           room = room ∙ has.chosen_are.room;
+          counted = subst (λ (c : Cut). AreCountsOf c (length tables.flat.now.nets) counts) (sym now_is) counted;
+        }
+
+  -- the channels that are not inside it
+  module _ (outside : (q : FlatPlace) → At (all_places t) (suc i) q → is_inside_whole old q ≡ false) where
+    p_outside : is_inside_whole old p.at ≡ false
+    p_outside = outside p.at (numbered_at t (suc i) p numbered_here.1).1
+
+    pub without : (new : List ℕ) → length new ≡ length chosen.nets.channels.items
+        → ((n : ℕ) → n < length chosen.nets.channels.items → slice_index new n ≡ changed false (slice_index chosen.nets.channels.items n) (length (channels_at (devices_gone t i) n)))
+        → AreCountsOf one (length tables.flat.now.nets) new
+    without new each fewer =
+        counts_without old i p are.ground.netlist.design has.chosen_are.none numbered_here.1 p_outside (length tables.flat.now.nets) chosen.nets.channels.items new has.chosen_are.counted each fewer
+
+    pub settled : (right : Bool) (less new : List ℕ) → AreCountsOf one (length tables.flat.now.nets) less → length new ≡ length less
+        → ((n : ℕ) → n < length less → slice_index new n ≡ cond right (slice_index less n) (changed true (slice_index less n) (length (channels_at (devices_gone t i) n))))
+        → AreCountsOf (with_chosen right old i) (length tables.flat.now.nets) new
+    settled right less new counted each is =
+        counts_settled old i p are.ground.netlist.design has.chosen_are.none numbered_here.1 p_outside (length tables.flat.now.nets) right less new counted each is
+
+    -- what is asked of a candidate
+    pub candidate : (pins : List WholePin) (marks : List Bool) (nets : NetMarks) (at : ℕ) → at ≡ suc i → marks ≡ whole → nets.held.items ≡ chosen.nets.held.items → nets.taken.items ≡ chosen.nets.taken.items
+        → AreCountsOf one (length tables.flat.now.nets) nets.channels.items → pins ≡ driven_pins facts k p.at → IsCandidate asked old blif facts i p model tables marks at nets pins
+    candidate pins marks nets at at_is marks_same held_same taken_same counted pins_same =
+        let cells = entered_are_whole_cells one blif facts tables.unrolled.now tables.cells.now are.entered entered in
+        record {
+          ground = are.ground;
+          phases_are = are.phases_are;
+          next = next;
+          decided = has.chosen_are.decided;
+          outside = p_outside;
+          cell = entry.allowed model entry.cell.paired;
+          by = λ own beside.
+              (let there = cut_at own.whole.items (λ n. beside.one_more n ∙ ap₂ (λ (l : List Bool) (a : ℕ). mark_at l n || (a == n)) marks_same at_is) in
+              record {
+                flat_is = are.flat_is;
+                cut_at = there;
+                marks = beside.are one there;
+                places = are.owners_are;
+                cells = record { phases_are = are.phases_are; cells_are = cells.cells_are };
+              });
+          apart = entered_are_apart one blif facts tables.unrolled.now tables.cells.now are.ground.read are.ground.told are.entered entered;
+          held = subst (AreHeldMarks tables.flat.now) (sym held_same) has.chosen_are.held;
+          counts = counted.are;
+          taken = subst (AreTaken (all_outputs old blif facts)) (sym taken_same) has.chosen_are.taken;
+          pins_are = pins_same;
+          soft_pins = λ pin on. pin_soft facts are.ground.soft p.at.cell 0 (pins_of k p.at) pin (subst (λ (ps : List WholePin). Among ps pin) pins_same on);
         }
 
 -- ---- as the code tries it
@@ -374,16 +416,29 @@ module _ (asked : Bool) (t : Top) (blif : Blif) (facts : List CellFacts) (tables
     more_here : (n : ℕ) → mark_at marks n ≡ (mark_at chosen.whole.items n || (suc i == n))
     more_here n = more n ∙ ap (λ (a : ℕ). mark_at chosen.whole.items n || (a == n)) at_is
 
-    pub trial_candidate : (own_marks : Marks) → own_marks.whole.items ≡ marks → ((cut : Cut) → IsCutAt cut tables.unrolled.now marks → AreMarks cut own_marks)
-        → IsCandidate asked (cut_of t chosen.whole.items) blif facts i place_of_trial model_of_trial tables own_marks chosen.nets pins
-    trial_candidate own_marks same marks_are =
-        candidate asked t blif facts tables i chosen own has_entry marks more_here pins own_marks same marks_are trial.is.outside pins_same
-
-    pub trial_chosen : (inside held taken : List Bool) → length marks ≡ length chosen.whole.items → IsRightly asked (cut_of t chosen.whole.items) blif facts i true
+    pub trial_chosen : (inside held taken : List Bool) (counts : List ℕ) → length marks ≡ length chosen.whole.items → IsRightly asked (cut_of t chosen.whole.items) blif facts i true
         → inside ≡ chosen.inside.items → held ≡ chosen.nets.held.items → length taken ≡ length chosen.nets.taken.items
-        → ((n : ℕ) → mark_at taken n ≡ (mark_at chosen.nets.taken.items n || has_pin n pins)) → AreChosenBy asked t blif facts tables (suc i) (suc (suc i)) marks inside held taken
-    trial_chosen inside held taken each right inside_same held_same room taken_more =
-        chosen_one asked t blif facts tables i chosen own has_entry marks more_here pins inside held taken each right pins_same inside_same held_same room taken_more
+        → ((n : ℕ) → mark_at taken n ≡ (mark_at chosen.nets.taken.items n || has_pin n pins))
+        → AreCountsOf (with_one (cut_of t chosen.whole.items) i) (length tables.flat.now.nets) counts
+        → AreChosenBy asked t blif facts tables (suc i) (suc (suc i)) marks inside held taken counts
+    trial_chosen inside held taken counts each right inside_same held_same room taken_more counted =
+        chosen_one asked t blif facts tables i chosen own has_entry marks more_here pins inside held taken counts each right pins_same inside_same held_same room taken_more counted
+
+  pub trial_without : (new : List ℕ) → length new ≡ length chosen.nets.channels.items
+      → ((n : ℕ) → n < length chosen.nets.channels.items → slice_index new n ≡ changed false (slice_index chosen.nets.channels.items n) (length (channels_at (devices_gone t i) n)))
+      → AreCountsOf (with_one (cut_of t chosen.whole.items) i) (length tables.flat.now.nets) new
+  trial_without = without asked t blif facts tables i chosen own has_entry trial.is.outside
+
+  pub trial_settled : (right : Bool) (less new : List ℕ) → AreCountsOf (with_one (cut_of t chosen.whole.items) i) (length tables.flat.now.nets) less → length new ≡ length less
+      → ((n : ℕ) → n < length less → slice_index new n ≡ cond right (slice_index less n) (changed true (slice_index less n) (length (channels_at (devices_gone t i) n))))
+      → AreCountsOf (with_chosen right (cut_of t chosen.whole.items) i) (length tables.flat.now.nets) new
+  trial_settled = settled asked t blif facts tables i chosen own has_entry trial.is.outside
+
+  pub trial_candidate : (marks : List Bool) (nets : NetMarks) → marks ≡ chosen.whole.items → nets.held.items ≡ chosen.nets.held.items → nets.taken.items ≡ chosen.nets.taken.items
+      → AreCountsOf (with_one (cut_of t chosen.whole.items) i) (length tables.flat.now.nets) nets.channels.items
+      → IsCandidate asked (cut_of t chosen.whole.items) blif facts i place_of_trial model_of_trial tables marks at nets pins
+  trial_candidate marks nets marks_same held_same taken_same counted =
+      candidate asked t blif facts tables i chosen own has_entry trial.is.outside pins marks nets at at_is marks_same held_same taken_same counted pins_same
 
   pub trial_within : IsRightly asked (cut_of t chosen.whole.items) blif facts i true → All (λ (q : WholePin). q.net.0 < length chosen.nets.taken.items) pins
   trial_within right = pins_within asked t blif facts tables i chosen own has_entry pins pins_same right
@@ -398,11 +453,12 @@ module _ (asked : Bool) (t : Top) (blif : Blif) (facts : List CellFacts) (tables
   none_whole n zero = refl
   none_whole n (suc j) = none_marked n (suc j)
 
-  pub none_chosen : (whole inside held taken : List Bool) → whole ≡ nowhere (length tables.unrolled.now.places) → inside ≡ nowhere 1 → AreHeldMarks tables.flat.now held
-      → taken ≡ nowhere (length tables.flat.now.nets) → AreChosenBy asked t blif facts tables 0 1 whole inside held taken
-  none_chosen whole inside held taken whole_is inside_is held_are taken_is =
+  pub none_chosen : (whole inside held taken : List Bool) (counts : List ℕ) → whole ≡ nowhere (length tables.unrolled.now.places) → inside ≡ nowhere 1 → AreHeldMarks tables.flat.now held
+      → taken ≡ nowhere (length tables.flat.now.nets) → length counts ≡ length tables.flat.now.nets → AreCounts (length tables.flat.now.nets) tables.flat.now.devices counts
+      → AreChosenBy asked t blif facts tables 0 1 whole inside held taken counts
+  none_chosen whole inside held taken counts whole_is inside_is held_are taken_is each counts_are =
       let n = length tables.unrolled.now.places in
-      subst (λ (l : List Bool). AreChosenBy asked t blif facts tables 0 1 l inside held taken) (sym whole_is)
+      subst (λ (l : List Bool). AreChosenBy asked t blif facts tables 0 1 l inside held taken counts) (sym whole_is)
       (record {
         tables_are = are;
         each = length-replicate n false;
@@ -417,8 +473,16 @@ module _ (asked : Bool) (t : Top) (blif : Blif) (facts : List CellFacts) (tables
         held = held_are;
         taken = subst (λ (os : List OutputAt). AreTaken os taken) (sym (no_outputs n)) (λ m. ap (λ (l : List Bool). mark_at l m) taken_is ∙ none_marked (length tables.flat.now.nets) m);
         room = ap (λ (l : List Bool). length l) taken_is ∙ length-replicate (length tables.flat.now.nets) false;
+        counted = record { each = each; are = subst (λ (ds : List Device). AreCounts (length tables.flat.now.nets) ds counts) (all_shown n) counts_are };
       })
     where
+      -- all devices are shown
+      all_shown : (n : ℕ) → tables.flat.now.devices ≡ checked_devices (cut_of t (nowhere n))
+      all_shown n =
+          let no : Cut = record { top = t; choice = λ i. false } in
+          ((chain_begins_flat no blif facts tables.flat.now).1 are.flat_is).devices
+          ∙ ap (λ (f : ℕ → Bool). checked_devices (record { top = t; choice = f })) (fun_ext (λ i. sym (none_marked n (suc i))))
+
       none_inside : (n : ℕ) (at : FlatPlace) → is_inside_whole (cut_of t (nowhere n)) at ≡ false
       none_inside n at =
           false_from_ne_true (is_inside_whole (cut_of t (nowhere n)) at) (λ e.

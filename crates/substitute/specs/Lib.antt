@@ -2,6 +2,7 @@ pub mod Candidates
 pub mod Chosen
 pub mod Clocked
 pub mod Cycles
+pub mod Ranges
 pub mod Right
 pub mod Sound
 pub mod Taken

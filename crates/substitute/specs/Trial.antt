@@ -1,22 +1,13 @@
--- An instance that is tried.
-use Rattle.std.specs.Prelude.{◌≡◌, ℕ, ◌==◌, false, List}
-use Rattle.known_nets.specs.Incidence.{AreHeldMarks}
-use Rattle.whole_circuits.specs.Outputs.{AreTaken}
-use Rattle.whole_circuits.specs.Shown.{AreMarks, device_places}
+-- The marks where an instance that is tried is whole too.
+use Rattle.std.specs.Prelude.{◌≡◌, ℕ, ◌==◌, Bool, ◌||◌, List}
+use Rattle.net_places.specs.declared.whole.Unrolled.{Unrolled}
+use Rattle.whole_circuits.specs.Insides.{IsCutAt}
+use Rattle.whole_circuits.specs.Shown.{AreMarks}
 use Rattle.whole_circuits.specs.declared.marks.Marks.{Marks}
-use Rattle.whole_circuits.specs.declared.outputs.NetMarks.{NetMarks}
 use Rattle.vrt_model.specs.Cut.{Cut}
-use Rattle.vrt_model.specs.FlatCircuit.{flat_devices}
-use Rattle.vrt_model.specs.Lists.{Among}
-use Rattle.vrt_model.specs.WholeInstances.{OutputAt}
-use Rattle.vrt_model.specs.declared.circuit.Circuit.{Circuit}
+use Rattle.vrt_model.specs.Lists.{mark_at}
 
--- the marks are of the instances that are left whole with it; of the nets those with holds and those with outputs of the others are marked,
--- of which none is of the instance itself
-pub record IsTried (cut : Cut) (flat : Circuit) (own : Marks) (owners : List ℕ) (nets : NetMarks) (earlier : List OutputAt) (number : ℕ) : Type 0 where
-  pub marks : AreMarks cut own
-  pub places : owners ≡ device_places cut.top
-  pub devices : flat.devices ≡ flat_devices cut.top
-  pub held : AreHeldMarks flat nets.held.items
-  pub taken : AreTaken earlier nets.taken.items
-  pub apart : (o : OutputAt) → Among earlier o → (o.instance == number) ≡ false
+-- the marks of whole instances with that of one more place, and those of the places inside them
+pub record AreMarksBeside (unrolled : Unrolled) (whole : List Bool) (at : ℕ) (own : Marks) : Type 0 where
+  pub one_more : (n : ℕ) → mark_at own.whole.items n ≡ (mark_at whole n || (at == n))
+  pub are : (cut : Cut) → IsCutAt cut unrolled own.whole.items → AreMarks cut own

@@ -3,12 +3,13 @@ use Rattle.std.specs.Prelude.{◌≡◌, ℕ, suc, Bool, false, List, [], length
 use Rattle.known_nets.specs.Incidence.{AreHeldMarks}
 use Rattle.net_places.specs.declared.places.Place.{Place}
 use Rattle.whole_circuits.specs.Insides.{AreMarkedBefore}
-use Rattle.whole_circuits.specs.Outputs.{AreTaken}
+use Rattle.whole_circuits.specs.Outputs.{AreCounts, AreTaken}
 use Rattle.whole_circuits.specs.Pins.{AreDrivesOf, IsAtPorts}
 use Rattle.whole_circuits.specs.Shown.{device_places}
 use Rattle.whole_circuits.specs.declared.whole_cell.WholeCell.{WholeCell}
 use Rattle.vrt_model.specs.Comparison.{Comparison}
-use Rattle.vrt_model.specs.Cut.{is_inside_whole}
+use Rattle.vrt_model.specs.CheckedParts.{checked_devices}
+use Rattle.vrt_model.specs.Cut.{Cut, is_inside_whole}
 use Rattle.vrt_model.specs.FlatCircuit.{flat_circuit_of}
 use Rattle.vrt_model.specs.Lists.{At, mark_at}
 use Rattle.vrt_model.specs.Unrolled.{Place as FlatPlace, Top, all_places}
@@ -31,9 +32,14 @@ pub record AreTables (t : Top) (blif : Blif) (facts : List CellFacts) (tables : 
   pub each : length tables.cells.now ≡ length t.design.cells
   pub entered : IsEntered t blif facts tables.unrolled.now tables.cells.now
 
+-- so many nets have counts of the channels that are not inside the whole instances of a cut
+pub record AreCountsOf (cut : Cut) (count : ℕ) (counts : List ℕ) : Type 0 where
+  pub each : length counts ≡ count
+  pub are : AreCounts count (checked_devices cut) counts
+
 -- the instances before a number are rightly chosen or not, and none is chosen from there on; the marks are at their places, at those inside them
--- of so many, and at the nets with holds and with their outputs
-pub record AreChosenBy (asked : Bool) (t : Top) (blif : Blif) (facts : List CellFacts) (tables : Tables) (i reached : ℕ) (whole inside holds outputs : List Bool) : Type 0 where
+-- of so many, and at the nets with holds and with their outputs; and the counts are those of the channels that are not inside them
+pub record AreChosenBy (asked : Bool) (t : Top) (blif : Blif) (facts : List CellFacts) (tables : Tables) (i reached : ℕ) (whole inside holds outputs : List Bool) (counts : List ℕ) : Type 0 where
   pub tables_are : AreTables t blif facts tables
   pub each : length whole ≡ length tables.unrolled.now.places
   pub outermost : mark_at whole 0 ≡ false
@@ -44,16 +50,17 @@ pub record AreChosenBy (asked : Bool) (t : Top) (blif : Blif) (facts : List Cell
   pub held : AreHeldMarks tables.flat.now holds
   pub taken : AreTaken (all_outputs (cut_of t whole) blif facts) outputs
   pub room : length outputs ≡ length tables.flat.now.nets
+  pub counted : AreCountsOf (cut_of t whole) (length tables.flat.now.nets) counts
 
 -- with marks at the places of those before it
 abbrev pub AreChosen : Bool → Top → Blif → List CellFacts → Tables → ℕ → Chosen → Type 0
 AreChosen asked t blif facts tables i chosen =
-    AreChosenBy asked t blif facts tables i (suc i) chosen.whole.items chosen.inside.items chosen.nets.held.items chosen.nets.taken.items
+    AreChosenBy asked t blif facts tables i (suc i) chosen.whole.items chosen.inside.items chosen.nets.held.items chosen.nets.taken.items chosen.nets.channels.items
 
 -- and at that of the next instance
 abbrev pub AreReached : Bool → Top → Blif → List CellFacts → Tables → ℕ → Chosen → Type 0
 AreReached asked t blif facts tables i chosen =
-    AreChosenBy asked t blif facts tables i (suc (suc i)) chosen.whole.items chosen.inside.items chosen.nets.held.items chosen.nets.taken.items
+    AreChosenBy asked t blif facts tables i (suc (suc i)) chosen.whole.items chosen.inside.items chosen.nets.held.items chosen.nets.taken.items chosen.nets.channels.items
 
 -- so of the instances whose places are below one
 abbrev pub AreChosenBelow : Bool → Top → Blif → List CellFacts → Tables → ℕ → Chosen → Type 0

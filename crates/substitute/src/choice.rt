@@ -1,31 +1,37 @@
 //! The instances of a cell that are left whole, tried one after the other.
 
-ghost use Rattle.std.specs.Prelude.{◌≡◌, ◌<◌, ◌+◌, ◌||◌, ◌==◌, ℕ, suc, List, Option, Bool, false, All, length, replicate, IfOk, OnOk};
+ghost use Rattle.std.specs.Prelude.{◌≡◌, ◌<◌, ◌+◌, ◌||◌, ◌==◌, ℕ, suc, List, Option, Bool, true, false, All, cond, length, replicate, IfOk, OnOk};
+ghost use Rattle.std.specs.List.{slice_index};
 ghost use Rattle.std.specs.Option.{option_copied};
 ghost use Rattle.known_nets.specs.Incidence.{AreHeldMarks};
 ghost use Rattle.known_nets.specs.Wired.{IsWired};
 ghost use Rattle.net_places.specs.Instances.{AreSmall};
+ghost use Rattle.whole_circuits.specs.Outputs.{AreCounts, changed};
 ghost use Rattle.whole_circuits.specs.declared.whole_cell.WholeCell.{WholeCell as CellValue};
 ghost use Rattle.vrt_model.specs.Circuits.{IsHold};
 ghost use Rattle.vrt_model.specs.Lists.{At, mark_at};
 ghost use Rattle.vrt_model.specs.Unrolled.{Top};
+ghost use Rattle.vrt_model.specs.WholeInstances.{channels_at};
 ghost use Rattle.vrt_model.specs.declared.blif.Blif.{Blif as BlifValue};
 ghost use Rattle.vrt_model.specs.declared.whole.CellFacts.{CellFacts as FactsValue};
 ghost use Rattle.vrt_model.specs.declared.whole.WholePin.{WholePin as PinValue};
 ghost use Rattle.substitute.specs.Chosen.{IsRightly, cut_of};
+ghost use Rattle.substitute.specs.Ranges.{with_chosen};
 ghost use Rattle.substitute.specs.Taken.{has_pin};
-ghost use Rattle.substitute.specs.Underway.{AreChosen, AreChosenBelow, AreReached, AreTables, HasEntry, IsNextTrial, IsOutside};
+ghost use Rattle.substitute.specs.Underway.{AreChosen, AreChosenBelow, AreCountsOf, AreReached, AreTables, HasEntry, IsNextTrial, IsOutside};
 ghost use Rattle.substitute.specs.declared.tables.Tables.{Tables as TablesValue};
 
 use crate::candidate::passes;
+use crate::range::devices_gone;
 use crate::tables::Tables;
 use crate::taken::{mark, take_outputs};
-use crate::trial::{copy_marks, marks_with};
 use known_nets::{held_nets, is_marked, no_marks};
 use net_places::Unrolled;
 use std::alloc::Global;
-use vrt_model::{NoMemory, WholePin};
-use whole_circuits::{NetMarks, WholeCell, add_inside, driven_pins, place_at};
+use vrt_model::{Device, NoMemory, WholePin};
+use whole_circuits::{
+    NetMarks, WholeCell, add_inside, channel_counts, count_channels, driven_pins, place_at,
+};
 
 /// The instances that are chosen so far.
 pub struct Chosen {
@@ -33,7 +39,7 @@ pub struct Chosen {
     pub whole: Vec<bool>,
     /// A mark for each place that has been tried, set where it is inside a chosen instance.
     pub inside: Vec<bool>,
-    /// Which nets have holds or outputs of chosen instances, and which channels met at the last trial.
+    /// Which nets have holds or outputs of chosen instances, and how many channels that are not inside chosen ones end at each.
     pub nets: NetMarks,
 }
 
@@ -48,16 +54,23 @@ impl Drop for Chosen {
     }
 }
 
-/// No marks at the nets but those of holds.
+/// No marks at the nets but those of holds, and the counts of all channels.
 fn bare_nets(alloc: Global, tables: Tables<'_>) -> Result<NetMarks, NoMemory>
     requires { IsWired tables.flat.now }
     ensures held { IfOk result (λ nets. AreHeldMarks tables.entry.flat.now nets.held.items) }
     ensures taken { IfOk result (λ nets. nets.taken.items ≡ replicate (length tables.entry.flat.now.nets) false) }
+    ensures each { IfOk result (λ nets. length nets.channels.items ≡ length tables.entry.flat.now.nets) }
+    ensures counts { IfOk result (λ nets. AreCounts (length tables.entry.flat.now.nets) tables.entry.flat.now.devices nets.channels.items) }
 {
-    let taken = no_marks(alloc, tables.flat.nets.len())?;
+    let count = tables.flat.nets.len();
+    let taken = no_marks(alloc, count)?;
     let held = held_nets(alloc, tables.flat)?;
-    let met = Vec::new(alloc);
-    Ok(NetMarks { held, met, taken })
+    let channels = channel_counts(alloc, count, tables.flat.devices.as_slice())?;
+    Ok(NetMarks {
+        held,
+        channels,
+        taken,
+    })
 }
 
 /// No instance is chosen.
@@ -86,17 +99,19 @@ fn entry_of(cells: &[Option<WholeCell>], cell: usize) -> Option<&WholeCell>
     }
 }
 
-/// A copy of marks with one more.
-fn with_mark(alloc: Global, whole: &[bool], at: usize) -> Result<Vec<bool>, NoMemory>
-    requires { at < length whole.now }
-    ensures { IfOk result (λ marks. (n : ℕ) → mark_at marks.items n ≡ (mark_at whole.now n || at == n)) }
+/// Counts the channels of some devices in again, unless they stay out.
+fn settle(channels: &mut Vec<usize>, out: bool, devices: &[Device]) -> Result<(), NoMemory>
+    ensures len { OnOk result (length channels.new.items ≡ length channels.old.items) }
+    ensures is { OnOk result ((n : ℕ) → n < length channels.old.items → slice_index channels.new.items n ≡ cond out (slice_index channels.old.items n) (changed true (slice_index channels.old.items n) (length (channels_at devices.now n)))) }
 {
-    let mut marks = copy_marks(alloc, whole)?;
-    mark(&mut marks, at);
-    Ok(marks)
+    if out {
+        return Ok(());
+    }
+    count_channels(channels, true, devices)
 }
 
-/// Whether an instance that is tried, of these output pins, is rightly chosen besides those that are. What channels meet then is noted.
+/// Whether an instance that is tried, of these output pins, is rightly chosen besides those that are. If so, its channels are no longer counted. Without a
+/// look at cycles it takes time in proportion to the places and devices inside the instance, and to the square of its outputs.
 fn is_right(
     alloc: Global,
     asked: bool,
@@ -107,16 +122,28 @@ fn is_right(
 ) -> Result<bool, NoMemory>
     requires holds { All (IsHold tables.flat.now) tables.flat.now.holds }
     requires small { AreSmall tables.unrolled.now.places }
+    requires there { at < length tables.unrolled.now.places }
     requires trial { (t : Top) × (blif : BlifValue) × (facts : List FactsValue) × (i : ℕ) × (own : CellValue) × (at ≡ suc i) × IsNextTrial asked t blif facts tables i chosen.old own pins.now }
     ensures whole { chosen.new.whole ≡ chosen.old.whole }
     ensures inside { chosen.new.inside ≡ chosen.old.inside }
     ensures held { chosen.new.nets.held ≡ chosen.old.nets.held }
     ensures taken { chosen.new.nets.taken ≡ chosen.old.nets.taken }
     ensures right { IfOk result (λ right. (t : Top) (blif : BlifValue) (facts : List FactsValue) (i : ℕ) (own : CellValue) → at ≡ suc i → IsNextTrial asked t blif facts tables.entry i chosen.old own pins.now → IsRightly asked (cut_of t chosen.old.whole.items) blif facts i right) }
+    ensures counts { IfOk result (λ right. (t : Top) (blif : BlifValue) (facts : List FactsValue) (i : ℕ) (own : CellValue) → at ≡ suc i → IsNextTrial asked t blif facts tables.entry i chosen.old own pins.now → AreCountsOf (with_chosen right (cut_of t chosen.old.whole.items) i) (length tables.entry.flat.now.nets) chosen.new.nets.channels.items) }
 {
-    let with = with_mark(alloc, chosen.whole.as_slice(), at)?;
-    let marks = marks_with(alloc, tables.unrolled, with.as_slice())?;
-    passes(alloc, asked, tables, &marks, &mut chosen.nets, pins)
+    let gone = devices_gone(tables, at);
+    count_channels(&mut chosen.nets.channels, false, gone)?;
+    let right = passes(
+        alloc,
+        asked,
+        tables,
+        chosen.whole.as_slice(),
+        at,
+        &chosen.nets,
+        pins,
+    )?;
+    settle(&mut chosen.nets.channels, right, gone)?;
+    Ok(right)
 }
 
 /// Chooses the instance at a place, of these output pins.
@@ -127,6 +154,7 @@ fn choose(chosen: &mut Chosen, at: usize, pins: &[WholePin])
     ensures whole { (n : ℕ) → mark_at chosen.new.whole.items n ≡ (mark_at chosen.old.whole.items n || at == n) }
     ensures inside { chosen.new.inside ≡ chosen.old.inside }
     ensures held { chosen.new.nets.held ≡ chosen.old.nets.held }
+    ensures channels { chosen.new.nets.channels ≡ chosen.old.nets.channels }
     ensures room { length chosen.new.nets.taken.items ≡ length chosen.old.nets.taken.items }
     ensures taken { (n : ℕ) → mark_at chosen.new.nets.taken.items n ≡ (mark_at chosen.old.nets.taken.items n || has_pin n pins.now) }
 {
@@ -229,7 +257,8 @@ fn try_instance(
 
 /// The instances that are chosen, tried in the order of their places: each that is outside those chosen before it, of a cell whose
 /// instances may be left whole, with outputs that meet gates alone, and, where cycles are asked for, by which no arc leads around.
-/// Each trial takes time in proportion to the flat circuit.
+/// Where cycles are asked for each trial takes time in proportion to the flat circuit, else in proportion to the instance that is tried: the places and
+/// devices inside it, and the square of its outputs.
 pub fn choose_all(alloc: Global, asked: bool, tables: Tables<'_>) -> Result<Chosen, NoMemory>
     requires holds { All (IsHold tables.flat.now) tables.flat.now.holds }
     requires wired { IsWired tables.flat.now }

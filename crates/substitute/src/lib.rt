@@ -7,6 +7,7 @@ mod choice;
 mod clocked;
 mod cycles;
 mod laws;
+mod range;
 mod tables;
 mod taken;
 mod trial;

@@ -1,18 +1,17 @@
-//! One instance tried: whether its outputs meet gates alone where it is whole too.
+//! The marks at the places of a cell where an instance that is tried is whole too.
 
-ghost use Rattle.std.specs.Prelude.{◌≡◌, ◌++◌, ◌↔◌, ℕ, List, true, IfOk};
+ghost use Rattle.std.specs.Prelude.{◌≡◌, ◌<◌, ◌||◌, ◌==◌, ℕ, IfOk, length};
 ghost use Rattle.whole_circuits.specs.Insides.{IsCutAt};
-ghost use Rattle.whole_circuits.specs.Outputs.{AreOpen, AreSoft, own_outputs};
 ghost use Rattle.whole_circuits.specs.Shown.{AreMarks};
-ghost use Rattle.vrt_model.specs.CheckedParts.{checked_devices};
 ghost use Rattle.vrt_model.specs.Cut.{Cut};
-ghost use Rattle.vrt_model.specs.WholeInstances.{OutputAt};
-ghost use Rattle.substitute.specs.Trial.{IsTried};
+ghost use Rattle.vrt_model.specs.Lists.{mark_at};
+ghost use Rattle.substitute.specs.Trial.{AreMarksBeside};
 
+use crate::taken::mark;
 use net_places::Unrolled;
 use std::alloc::Global;
-use vrt_model::{Circuit, NoMemory, WholePin};
-use whole_circuits::{Marks, NetMarks, are_free, copy_items, inside_marks, met_nets};
+use vrt_model::NoMemory;
+use whole_circuits::{Marks, inside_marks};
 
 /// A copy of marks.
 pub(crate) fn copy_marks(alloc: Global, marks: &[bool]) -> Result<Vec<bool>, NoMemory>
@@ -34,23 +33,26 @@ pub fn marks_with(alloc: Global, unrolled: &Unrolled, whole: &[bool]) -> Result<
     Ok(Marks { whole, inside })
 }
 
-/// Whether each output of an instance is at a plain net without hold and meets gates alone where the instances with marks are
-/// whole, this one among them. The nets that channels meet then are noted anew.
-pub fn are_outputs_open(
-    alloc: Global,
-    flat: &Circuit,
-    marks: &Marks,
-    places: &[usize],
-    nets: &mut NetMarks,
-    pins: &[WholePin],
-) -> Result<bool, NoMemory>
-    ensures held { nets.new.held ≡ nets.old.held }
-    ensures taken { nets.new.taken ≡ nets.old.taken }
-    ensures tells { IfOk result (λ free. (cut : Cut) (earlier : List OutputAt) (number : ℕ) → IsTried cut flat.now marks.now places.now nets.old earlier number → AreSoft pins.now → (free ≡ true) ↔ AreOpen flat.now (checked_devices cut) (earlier ++ own_outputs number pins.now) (own_outputs number pins.now)) }
+/// A copy of marks with one more.
+fn with_mark(alloc: Global, whole: &[bool], at: usize) -> Result<Vec<bool>, NoMemory>
+    requires { at < length whole.now }
+    ensures { IfOk result (λ marks. (n : ℕ) → mark_at marks.items n ≡ (mark_at whole.now n || at == n)) }
 {
-    let count = flat.nets.len();
-    let met = met_nets(alloc, count, marks, places, flat.devices.as_slice())?;
-    nets.met = met;
-    let free = are_free(flat, nets, pins);
-    Ok(free)
+    let mut marks = copy_marks(alloc, whole)?;
+    mark(&mut marks, at);
+    Ok(marks)
+}
+
+/// The marks of both kinds where one more instance is whole.
+pub fn marks_beside(
+    alloc: Global,
+    unrolled: &Unrolled,
+    whole: &[bool],
+    at: usize,
+) -> Result<Marks, NoMemory>
+    requires { at < length whole.now }
+    ensures { IfOk result (λ marks. AreMarksBeside unrolled.now whole.now at marks) }
+{
+    let with = with_mark(alloc, whole, at)?;
+    marks_with(alloc, unrolled, with.as_slice())
 }

@@ -7,6 +7,7 @@ pub mod InsideLaws
 pub mod LinkLaws
 pub mod ListLaws
 pub mod OutputLaws
+pub mod OwnerLaws
 pub mod PinLaws
 pub mod ShownLaws
 pub mod StepLaws

@@ -1,13 +1,14 @@
--- Whether outputs meet gates alone, by marks at nets and by the definition.
-use Rattle.std.proofs.Common.{◌≡◌, ℕ, ◌<◌, ◌==◌, ◌&&◌, ◌||◌, ◌++◌, Bool, true, false, not, cond, List, [], ◌∷◌, length, map, ap, ap₂, refl, subst, sym, ◌∙◌}
+-- Whether outputs meet gates alone, by marks and counts at nets and by the definition.
+use Rattle.std.proofs.Common.{◌≡◌, ℕ, suc, ◌<◌, ◌==◌, ◌&&◌, ◌||◌, ◌++◌, Bool, true, false, not, cond, List, [], ◌∷◌, length, map, arith, ap, ap₂, refl, subst, sym, ◌∙◌}
 use Rattle.std.specs.Prelude.{◌↔◌, filter}
-use Rattle.std.specs.List.{enumerate_from, list_all, list_any}
+use Rattle.std.specs.List.{enumerate_from, list_all, list_any, slice_index}
 use Rattle.std.proofs.lemmas.Bool.{and_from, and_parts, eq-eqb, false_from_ne_true, false≢true}
+use Rattle.std.proofs.lemmas.Bool.Decides.{nat_tests}
 use Rattle.std.proofs.lemmas.List.Folds.{list_any-append}
 use Rattle.std.proofs.lemmas.Option.{slice_get_within}
 use Rattle.checked_chain.proofs.ChoiceLaws.{any_within, at_enumerated}
 use Rattle.known_nets.proofs.NetKinds.{is_plain_is, plain_is}
-use Rattle.whole_circuits.specs.Outputs.{AreAround, AreOpen, AreSoft, are_free, free_pin, is_other_at, meets, meets_other, output_at, own_outputs}
+use Rattle.whole_circuits.specs.Outputs.{AreAround, AreOpen, AreSoft, are_free, free_pin, is_other_at, meets_other, output_at, own_outputs}
 use Rattle.whole_circuits.specs.declared.outputs.NetMarks.{NetMarks}
 use Rattle.vrt_model.proofs.Lists.{map_among}
 use Rattle.vrt_model.proofs.Members.{among_later, among_map}
@@ -42,24 +43,10 @@ neither false b = refl
 
 -- ---- channels
 
-pub met_is : (devices : List Device) (n : ℕ) → meets devices n ≡ not (is_empty (channels_at devices n))
-met_is devices n = sym (ap not (none_passes (λ (d : Device). (d.left.0 == n) || (d.right.0 == n)) devices) ∙ twice (meets devices n))
-  where
-    twice : (b : Bool) → not (not b) ≡ b
-    twice true = refl
-    twice false = refl
-
--- one device more
-pub met_more : (left_out : Bool) (device : Device) (rest : List Device) (old new : Bool) (n : ℕ)
-    → new ≡ cond left_out old (old || (device.left.0 == n) || (device.right.0 == n))
-    → (new || meets rest n) ≡ (old || meets (cond left_out [] (device ∷ []) ++ rest) n)
-met_more true device rest old new n e = ap (λ (b : Bool). b || meets rest n) e
-met_more false device rest old new n e = ap (λ (b : Bool). b || meets rest n) e ∙ grouped old (device.left.0 == n) (device.right.0 == n) (meets rest n)
-  where
-    grouped : (a b c d : Bool) → ((a || b || c) || d) ≡ (a || ((b || c) || d))
-    grouped true b c d = refl
-    grouped false true c d = refl
-    grouped false false c d = refl
+-- no channel is there where their number is 0
+none_there : {X : Type 0} (xs : List X) → is_empty xs ≡ (length xs == 0)
+none_there [] = let zero_is : true ≡ (0 == 0) = grind (arith, nat_tests) in zero_is
+none_there (x ∷ xs) = let more : false ≡ (suc (length xs) == 0) = grind (arith, nat_tests) in more
 
 -- ---- outputs
 
@@ -97,12 +84,12 @@ module _ (c : Circuit) (marks : NetMarks) (devices : List Device) (earlier : Lis
         ∙ neither (mark_at marks.taken.items n) (meets_other pins n q.0)
 
     pub gates_are : is_output_allowed devices outputs (output_at number q)
-        ≡ ((not (mark_at marks.met.items n) && not (mark_at marks.taken.items n)) && not (meets_other pins n q.0))
+        ≡ (((slice_index marks.channels.items n == 0) && not (mark_at marks.taken.items n)) && not (meets_other pins n q.0))
     gates_are =
         ap (λ (d : Drive). meets_gates_only devices outputs (output_at number q) || fits_drive devices outputs (output_at number q) d) soft
         ∙ or_false (meets_gates_only devices outputs (output_at number q))
         ∙ ap₂ (λ (a b : Bool). a && b) channels others_are
-        ∙ grouped (not (mark_at marks.met.items n)) (not (mark_at marks.taken.items n)) (not (meets_other pins n q.0))
+        ∙ grouped ((slice_index marks.channels.items n == 0)) (not (mark_at marks.taken.items n)) (not (meets_other pins n q.0))
       where
         or_false : (b : Bool) → (b || false) ≡ b
         or_false true = refl
@@ -112,12 +99,8 @@ module _ (c : Circuit) (marks : NetMarks) (devices : List Device) (earlier : Lis
         grouped true b d = refl
         grouped false b d = refl
 
-        channels : is_empty (channels_at devices n) ≡ not (mark_at marks.met.items n)
-        channels = sym (ap not (around.met n within) ∙ twice (is_empty (channels_at devices n)))
-          where
-            twice : (b : Bool) → not (not b) ≡ b
-            twice true = refl
-            twice false = refl
+        channels : is_empty (channels_at devices n) ≡ (slice_index marks.channels.items n == 0)
+        channels = none_there (channels_at devices n) ∙ ap (λ (k : ℕ). k == 0) (sym (around.counts n within))
 
   -- ---- all pins
 
@@ -147,10 +130,10 @@ module _ (c : Circuit) (marks : NetMarks) (devices : List Device) (earlier : Lis
 
       free_at : (q : ℕ × WholePin) → Among (enumerate_from 0 pins) q
           → (is_plain_at c q.1.net.0 ≡ true) × ((not (mark_at marks.held.items q.1.net.0) ≡ true)
-          × (((not (mark_at marks.met.items q.1.net.0) && not (mark_at marks.taken.items q.1.net.0)) && not (meets_other pins q.1.net.0 q.0)) ≡ true))
+          × ((((slice_index marks.channels.items q.1.net.0 == 0) && not (mark_at marks.taken.items q.1.net.0)) && not (meets_other pins q.1.net.0 q.0)) ≡ true))
       free_at q m =
           let n = q.1.net.0 in
-          let gates = (not (mark_at marks.met.items n) && not (mark_at marks.taken.items n)) && not (meets_other pins n q.0) in
+          let gates = ((slice_index marks.channels.items n == 0) && not (mark_at marks.taken.items n)) && not (meets_other pins n q.0) in
           let both = and_parts (is_plain_at c n && not (mark_at marks.held.items n)) gates (all_at (free_pin c marks pins) (enumerate_from 0 pins) q free m) in
           let own = and_parts (is_plain_at c n) (not (mark_at marks.held.items n)) both.0 in
           (own.0, (own.1, both.1))
@@ -168,7 +151,7 @@ module _ (c : Circuit) (marks : NetMarks) (devices : List Device) (earlier : Lis
       each : (q : ℕ × WholePin) → Among (enumerate_from 0 pins) q → free_pin c marks pins q ≡ true
       each q m =
           let n = q.1.net.0 in
-          let gates = (not (mark_at marks.met.items n) && not (mark_at marks.taken.items n)) && not (meets_other pins n q.0) in
+          let gates = ((slice_index marks.channels.items n == 0) && not (mark_at marks.taken.items n)) && not (meets_other pins n q.0) in
           let own = map_among (output_at number) (enumerate_from 0 pins) q m in
           let plain = open_are.plain (output_at number q) own in
           let allowed = open_are.allowed (output_at number q) own in

@@ -64,25 +64,11 @@ one_place {X} marks n f (card ∷ cards) places devices =
     both true = refl
     both false = refl
 
-module _ (t : Top) (marks : Marks) where
+module _ (t : Top) where
   abbrev at_place : NumberedPlace → List Device
   at_place p = map (flat_device t p.at) (cell_at t.design p.at.cell).devices
 
-  left_in : (ps : List NumberedPlace)
-      → devices_left marks (flat_map (λ (p : NumberedPlace). replicate (card_count t.design p.at.cell) p.number) ps) (flat_map at_place ps)
-      ≡ flat_map at_place (filter (λ (p : NumberedPlace). not (is_left_at marks p.number)) ps)
-  left_in [] = refl
-  left_in (p ∷ ps) =
-      one_place marks p.number (flat_device t p.at) (cell_at t.design p.at.cell).devices (flat_map (λ (q : NumberedPlace). replicate (card_count t.design q.at.cell) q.number) ps) (flat_map at_place ps)
-      ∙ ap (λ (ds : List Device). cond (is_left_at marks p.number) [] (at_place p) ++ ds) (left_in ps) ∙ by_test (is_left_at marks p.number)
-    where
-      by_test : (b : Bool)
-          → cond b [] (at_place p) ++ flat_map at_place (filter (λ (q : NumberedPlace). not (is_left_at marks q.number)) ps)
-          ≡ flat_map at_place (cond (not b) (p ∷ filter (λ (q : NumberedPlace). not (is_left_at marks q.number)) ps) (filter (λ (q : NumberedPlace). not (is_left_at marks q.number)) ps))
-      by_test true = refl
-      by_test false = refl
-
-  all_devices : flat_devices t ≡ flat_map at_place (numbered_places t)
+  pub all_devices : flat_devices t ≡ flat_map at_place (numbered_places t)
   all_devices = numbered_devices 0 (all_places t)
     where
       numbered_devices : (n : ℕ) (flat : List FlatPlace)
@@ -90,6 +76,21 @@ module _ (t : Top) (marks : Marks) where
       numbered_devices n [] = refl
       numbered_devices n (at ∷ flat) =
           ap (λ (ds : List Device). map (flat_device t at) (cell_at t.design at.cell).devices ++ ds) (numbered_devices (n + 1) flat)
+
+module _ (t : Top) (marks : Marks) where
+  left_in : (ps : List NumberedPlace)
+      → devices_left marks (flat_map (λ (p : NumberedPlace). replicate (card_count t.design p.at.cell) p.number) ps) (flat_map (at_place t) ps)
+      ≡ flat_map (at_place t) (filter (λ (p : NumberedPlace). not (is_left_at marks p.number)) ps)
+  left_in [] = refl
+  left_in (p ∷ ps) =
+      one_place marks p.number (flat_device t p.at) (cell_at t.design p.at.cell).devices (flat_map (λ (q : NumberedPlace). replicate (card_count t.design q.at.cell) q.number) ps) (flat_map (at_place t) ps)
+      ∙ ap (λ (ds : List Device). cond (is_left_at marks p.number) [] (at_place t p) ++ ds) (left_in ps) ∙ by_test (is_left_at marks p.number)
+    where
+      by_test : (b : Bool)
+          → cond b [] (at_place t p) ++ flat_map (at_place t) (filter (λ (q : NumberedPlace). not (is_left_at marks q.number)) ps)
+          ≡ flat_map (at_place t) (cond (not b) (p ∷ filter (λ (q : NumberedPlace). not (is_left_at marks q.number)) ps) (filter (λ (q : NumberedPlace). not (is_left_at marks q.number)) ps))
+      by_test true = refl
+      by_test false = refl
 
 -- the marks say which places are left out
 left_is : (cut : Cut) (marks : Marks) → AreMarks cut marks → (p : NumberedPlace) → Among (numbered_places cut.top) p → is_left_at marks p.number ≡ is_left_out cut p
@@ -102,8 +103,8 @@ left_is cut marks are p m =
 pub devices_are : (cut : Cut) (marks : Marks) (places : List ℕ) (devices : List Device) → AreMarks cut marks → places ≡ device_places cut.top → devices ≡ flat_devices cut.top
     → devices_left marks places devices ≡ checked_devices cut
 devices_are cut marks places devices are owners all =
-    ap₂ (devices_left marks) owners (all ∙ all_devices cut.top marks) ∙ left_in cut.top marks (numbered_places cut.top)
-    ∙ ap (flat_map (at_place cut.top marks))
+    ap₂ (devices_left marks) owners (all ∙ all_devices cut.top) ∙ left_in cut.top marks (numbered_places cut.top)
+    ∙ ap (flat_map (at_place cut.top))
     (filter_among_same (λ (p : NumberedPlace). not (is_left_at marks p.number)) (λ (p : NumberedPlace). not (is_left_out cut p)) (numbered_places cut.top)
     (λ p m. ap not (left_is cut marks are p m)))
 

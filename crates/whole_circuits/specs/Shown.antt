@@ -1,5 +1,5 @@
 -- What is left of a flat circuit where some of its instances are whole, by marks at its places.
-use Rattle.std.specs.Prelude.{◌≡◌, ℕ, ◌+◌, Bool, cond, ◌||◌, List, [], ◌∷◌, ◌++◌, flat_map, length, replicate}
+use Rattle.std.specs.Prelude.{◌≡◌, ℕ, ◌+◌, Bool, cond, ◌||◌, List, [], ◌∷◌, ◌++◌, flat_map, length, replicate, take}
 use Rattle.net_places.specs.declared.places.Place.{Place}
 use Rattle.whole_circuits.specs.Insides.{AreInsideMarks, AreWholeMarks}
 use Rattle.whole_circuits.specs.declared.marks.Marks.{Marks}
@@ -27,9 +27,17 @@ is_left_at marks n = mark_at marks.whole.items n || mark_at marks.inside.items n
 abbrev pub card_count : Design → ℕ → ℕ
 card_count design cell = length (cell_at design cell).devices
 
--- for each device of the flat circuit the number of its place
+-- for each device of some places the number of its place
+abbrev pub own_places : Top → List NumberedPlace → List ℕ
+own_places t places = flat_map (λ (p : NumberedPlace). replicate (card_count t.design p.at.cell) p.number) places
+
+-- for each device of the flat circuit
 abbrev pub device_places : Top → List ℕ
-device_places t = flat_map (λ (p : NumberedPlace). replicate (card_count t.design p.at.cell) p.number) (numbered_places t)
+device_places t = own_places t (numbered_places t)
+
+-- how many devices stand at places before one
+abbrev pub devices_before : Top → ℕ → ℕ
+devices_before t n = length (own_places t (take n (numbered_places t)))
 
 -- the same by the places of a table
 abbrev pub places_of : Design → ℕ × Place → List ℕ

@@ -5,15 +5,16 @@ ghost use Rattle.whole_circuits.specs.Outputs.{AreAround, AreOpen, AreSoft, are_
 ghost use Rattle.vrt_model.specs.WholeInstances.{OutputAt};
 ghost use Rattle.vrt_model.specs.declared.circuit.Device.{Device as DeviceValue};
 
+use crate::counts::count_at;
 use known_nets::{is_marked, is_plain};
 use vrt_model::{Circuit, Net, WholePin};
 
-/// What stands at each net of the flat circuit where an instance would be whole: a mark for each net.
+/// What stands at each net of the flat circuit where an instance would be whole: a mark or a count for each net.
 pub struct NetMarks {
     /// The nets with holds.
     pub held: Vec<bool>,
-    /// The nets that channels meet which are not inside whole instances.
-    pub met: Vec<bool>,
+    /// How many channels that are not inside whole instances end at each net.
+    pub channels: Vec<usize>,
     /// The nets with outputs of the other whole instances.
     pub taken: Vec<bool>,
 }
@@ -23,7 +24,7 @@ impl Drop for NetMarks {
     fn drop(self) {
         let NetMarks {
             held: _held,
-            met: _met,
+            channels: _channels,
             taken: _taken,
         } = self;
     }
@@ -74,11 +75,11 @@ fn is_free_pin(
     let net = pin.net.0 as usize;
     let plain = is_plain(circuit, net);
     let held = is_marked(marks.held.as_slice(), net);
-    let met = is_marked(marks.met.as_slice(), net);
+    let unmet = count_at(marks.channels.as_slice(), net) == 0;
     let taken = is_marked(marks.taken.as_slice(), net);
     let other = meets_other(pins, pin.net, at);
     let own = both(plain, !held);
-    let alone = both(both(!met, !taken), !other);
+    let alone = both(both(unmet, !taken), !other);
     both(own, alone)
 }
 

@@ -2,7 +2,7 @@
 
 ghost use Rattle.std.specs.Prelude.{◌≡◌, ◌+◌, ◌++◌, ◌∷◌, [], IfOk, OnOk, replicate};
 ghost use Rattle.net_places.specs.Links.{IsUnrolled};
-ghost use Rattle.whole_circuits.specs.Shown.{card_count, device_places};
+ghost use Rattle.whole_circuits.specs.Shown.{card_count, device_places, devices_before};
 ghost use Rattle.vrt_model.specs.Unrolled.{Top};
 
 use net_places::Unrolled;
@@ -47,6 +47,23 @@ pub(crate) fn one_more(number: usize) -> Result<usize, NoMemory>
         Some(next) => Ok(next),
         None => Err(NoMemory),
     }
+}
+
+/// How many devices stand at places before one, by the places of the devices. It looks at some places alone, since they rise.
+pub fn devices_before(places: &[usize], place: usize) -> usize
+    ensures { (t : Top) → places.now ≡ device_places t → result ≡ devices_before t place }
+{
+    let mut low = 0;
+    let mut high = places.len();
+    'halves: while low < high {
+        let middle = low + (high - low) / 2;
+        if places[middle] < place {
+            low = middle + 1;
+        } else {
+            high = middle;
+        }
+    }
+    low
 }
 
 /// For each device of an unrolled cell the number of the place at which it stands.

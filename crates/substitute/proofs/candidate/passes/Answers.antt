@@ -1,27 +1,33 @@
 use Rattle.vrt_model.specs.Checked.{with_one}
+use Rattle.vrt_model.specs.CheckedParts.{checked_devices}
 use Rattle.vrt_model.specs.WholeInstances.{all_outputs}
-use Rattle.substitute.proofs.CandidateLaws.{decides, decides_open, is_tried, shut, tried_soundly}
+use Rattle.substitute.proofs.CandidateLaws.{decides, decides_open, is_around, shut, tried_soundly}
 use Rattle.substitute.proofs.candidate.passes.Goals as goal
 
 pub is_acyclic_with-requires-clause-tried : goal.is_acyclic_with-requires-clause-tried
 is_acyclic_with-requires-clause-tried c =
     let t = c.requires.candidate in
-    let is = t.6 in
-    let tried = is_tried _ t.0 t.1 t.2 t.3 t.4 t.5 _ _ _ _ is in
-    (with_one t.0 t.3, t.1, t.2, tried_soundly _ t.0 t.1 t.2 t.3 t.4 t.5 _ _ _ _ is ((c.in_ok-bare.ensures.tells (with_one t.0 t.3) (all_outputs t.0 t.1 t.2) t.4.number tried is.soft_pins).0 c.if-not-bare.false))
+    let is = t.6 in (
+      with_one t.0 t.3,
+      t.1,
+      t.2,
+      tried_soundly _ t.0 t.1 t.2 t.3 t.4 t.5 _ _ _ _ _ is
+          ((c.are_free-bare.ensures (checked_devices (with_one t.0 t.3)) (all_outputs t.0 t.1 t.2) t.4.number (is_around _ t.0 t.1 t.2 t.3 t.4 t.5 _ _ _ _ _ is) is.soft_pins).0 c.if-not-bare.false) c.in_ok-marks.marks
+          c.in_ok-marks.ensures,
+    )
 
-pub returns-then-not-bare-clause-right : goal.returns-then-not-bare-clause-right
-returns-then-not-bare-clause-right c cut blif facts i p m is =
-    shut _ cut blif facts i p m _ _ _ _ is c.in_ok-bare.bare c.if-not-bare.true
-    (c.in_ok-bare.ensures.tells (with_one cut i) (all_outputs cut blif facts) p.number (is_tried _ cut blif facts i p m _ _ _ _ is) is.soft_pins)
+pub returns-then-not-bare : goal.returns-then-not-bare
+returns-then-not-bare c cut blif facts i p m is =
+    shut _ cut blif facts i p m _ _ _ _ _ is c.are_free-bare.result c.if-not-bare.true
+    (c.are_free-bare.ensures (checked_devices (with_one cut i)) (all_outputs cut blif facts) p.number (is_around _ cut blif facts i p m _ _ _ _ _ is) is.soft_pins)
 
-pub returns-then-not-asked-clause-right : goal.returns-then-not-asked-clause-right
-returns-then-not-asked-clause-right c cut blif facts i p m is =
-    decides_open _ cut blif facts i p m _ _ _ _ is c.if-not-asked.true
-    ((c.in_ok-bare.ensures.tells (with_one cut i) (all_outputs cut blif facts) p.number (is_tried _ cut blif facts i p m _ _ _ _ is) is.soft_pins).0 c.if-not-bare.false)
+pub returns-then-not-asked : goal.returns-then-not-asked
+returns-then-not-asked c cut blif facts i p m is =
+    decides_open _ cut blif facts i p m _ _ _ _ _ is c.if-not-asked.true
+    ((c.are_free-bare.ensures (checked_devices (with_one cut i)) (all_outputs cut blif facts) p.number (is_around _ cut blif facts i p m _ _ _ _ _ is) is.soft_pins).0 c.if-not-bare.false)
 
-pub returns-clause-right : goal.returns-clause-right
-returns-clause-right c cut blif facts i p m is =
-    decides _ cut blif facts i p m _ _ _ _ is c.in_ok-free.free c.if-not-asked.false
-    ((c.in_ok-bare.ensures.tells (with_one cut i) (all_outputs cut blif facts) p.number (is_tried _ cut blif facts i p m _ _ _ _ is) is.soft_pins).0 c.if-not-bare.false)
-    (c.in_ok-free.ensures (with_one cut i) blif facts is.by)
+pub returns : goal.returns
+returns c cut blif facts i p m is =
+    decides _ cut blif facts i p m _ _ _ _ _ is c.in_ok-free.free c.if-not-asked.false
+    ((c.are_free-bare.ensures (checked_devices (with_one cut i)) (all_outputs cut blif facts) p.number (is_around _ cut blif facts i p m _ _ _ _ _ is) is.soft_pins).0 c.if-not-bare.false)
+    (c.in_ok-free.ensures (with_one cut i) blif facts (is.by c.in_ok-marks.marks c.in_ok-marks.ensures))

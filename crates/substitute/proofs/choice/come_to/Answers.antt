@@ -1,4 +1,4 @@
-use Rattle.std.proofs.Common.{◌≡◌, ℕ, ◌+◌, suc, List, Bool, arith, subst, sym}
+use Rattle.std.proofs.Common.{◌≡◌, ℕ, ◌+◌, suc, arith, subst, sym}
 use Rattle.std.proofs.lemmas.Result.{on_ok_weaker}
 use Rattle.net_places.specs.declared.whole.Unrolled.{Unrolled}
 use Rattle.whole_circuits.specs.Insides.{AreMarkedBefore, IsCutAt}

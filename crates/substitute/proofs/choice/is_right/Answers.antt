@@ -1,38 +1,60 @@
-use Rattle.std.proofs.Common.{Bool, List, ℕ, ◌≡◌, ◌||◌, sym, subst, ◌∙◌}
-use Rattle.std.specs.Prelude.{◌==◌}
-use Rattle.std.proofs.lemmas.Result.{IfOk-weaker}
-use Rattle.whole_circuits.specs.Insides.{IsCutAt}
-use Rattle.vrt_model.specs.Lists.{mark_at}
-use Rattle.substitute.proofs.UnderwayLaws.{model_of_trial, place_of_trial, trial_candidate}
+use Rattle.std.proofs.Common.{◌≡◌, ◌<◌, Bool, true, false, List, ℕ, cond, length, refl, subst, sym}
+use Rattle.std.specs.List.{slice_index}
+use Rattle.whole_circuits.specs.Outputs.{changed}
+use Rattle.vrt_model.specs.WholeInstances.{channels_at}
+use Rattle.vrt_model.specs.declared.circuit.Device.{Device}
+use Rattle.substitute.proofs.UnderwayLaws.{model_of_trial, place_of_trial, trial_candidate, trial_settled, trial_without}
 use Rattle.substitute.specs.Chosen.{cut_of}
 use Rattle.substitute.proofs.choice.is_right.Goals as goal
+
+pub passes-requires-clause-there : goal.passes-requires-clause-there
+passes-requires-clause-there c =
+    let s = c.requires.trial in
+    subst (λ (l : List Bool). c.args.at < length l) (sym c.as_slice.ensures.value) (subst (λ (n : ℕ). c.args.at < n) (sym s.6.is.has.chosen_are.each) c.requires.there)
 
 pub passes-requires-clause-candidate : goal.passes-requires-clause-candidate
 passes-requires-clause-candidate c =
     let s = c.requires.trial in
     let chosen = c.args.chosen.now in
-    let with = c.in_ok-with.with.items in
-    let more = subst (λ (l : List Bool). (n : ℕ) → mark_at with n ≡ (mark_at l n || c.args.at == n)) c.as_slice.ensures.value c.in_ok-with.ensures in (
+    let channels = chosen.nets.channels.items in
+    let less = c.count_channels.new.counts.items in
+    let gone = c.devices_gone-gone.ensures s.0 s.1 s.2 s.3 s.5 s.6.is.has.chosen_are.tables_are in
+    let without = trial_without c.args.asked s.0 s.1 s.2 c.args.tables s.3 chosen s.4 c.args.pins.now s.6 c.args.at s.5 less c.in_ok-count_channels.ensures.len
+    (subst (λ (ds : List Device). (n : ℕ) → n < length channels → slice_index less n ≡ changed false (slice_index channels n) (length (channels_at ds n))) gone
+    c.in_ok-count_channels.ensures.is) in (
       cut_of s.0 chosen.whole.items,
       s.1,
       s.2,
       s.3,
       place_of_trial c.args.asked s.0 s.1 s.2 c.args.tables s.3 chosen s.4 c.args.pins.now s.6 c.args.at s.5,
       model_of_trial c.args.asked s.0 s.1 s.2 c.args.tables s.3 chosen s.4 c.args.pins.now s.6 c.args.at s.5,
-      trial_candidate c.args.asked s.0 s.1 s.2 c.args.tables s.3 chosen s.4 c.args.pins.now s.6 c.args.at s.5 with more c.in_ok-marks.marks
-          (c.in_ok-marks.ensures.same ∙ c.as_slice-2.ensures.value)
-          (λ cut is. c.in_ok-marks.ensures.are cut (subst (IsCutAt cut c.args.tables.unrolled.now) (sym c.as_slice-2.ensures.value) is)),
+      trial_candidate c.args.asked s.0 s.1 s.2 c.args.tables s.3 chosen s.4 c.args.pins.now s.6 c.args.at s.5 _ _ c.as_slice.ensures.value refl refl without,
     )
 
 pub returns-clause-right : goal.returns-clause-right
-returns-clause-right c =
+returns-clause-right c t blif facts i own e trial =
     let chosen = c.args.chosen.now in
-    let with = c.in_ok-with.with.items in
-    let more = subst (λ (l : List Bool). (n : ℕ) → mark_at with n ≡ (mark_at l n || c.args.at == n)) c.as_slice.ensures.value c.in_ok-with.ensures in
-    IfOk-weaker c.passes.result _ _
-    (λ right gives t blif facts i own e trial.
-    gives (cut_of t chosen.whole.items) blif facts i (place_of_trial c.args.asked t blif facts c.args.tables i chosen own c.args.pins.now trial c.args.at e)
+    let channels = chosen.nets.channels.items in
+    let less = c.count_channels.new.counts.items in
+    let gone = c.devices_gone-gone.ensures t blif facts i e trial.is.has.chosen_are.tables_are in
+    let without = trial_without c.args.asked t blif facts c.args.tables i chosen own c.args.pins.now trial c.args.at e less c.in_ok-count_channels.ensures.len
+    (subst (λ (ds : List Device). (n : ℕ) → n < length channels → slice_index less n ≡ changed false (slice_index channels n) (length (channels_at ds n))) gone
+    c.in_ok-count_channels.ensures.is) in
+    c.in_ok-right.ensures (cut_of t chosen.whole.items) blif facts i (place_of_trial c.args.asked t blif facts c.args.tables i chosen own c.args.pins.now trial c.args.at e)
     (model_of_trial c.args.asked t blif facts c.args.tables i chosen own c.args.pins.now trial c.args.at e)
-    (trial_candidate c.args.asked t blif facts c.args.tables i chosen own c.args.pins.now trial c.args.at e with more c.in_ok-marks.marks
-    (c.in_ok-marks.ensures.same ∙ c.as_slice-2.ensures.value)
-    (λ cut is. c.in_ok-marks.ensures.are cut (subst (IsCutAt cut c.args.tables.unrolled.now) (sym c.as_slice-2.ensures.value) is)))) c.passes.ensures.right
+    (trial_candidate c.args.asked t blif facts c.args.tables i chosen own c.args.pins.now trial c.args.at e _ _ c.as_slice.ensures.value refl refl without)
+
+pub returns-clause-counts : goal.returns-clause-counts
+returns-clause-counts c t blif facts i own e trial =
+    let chosen = c.args.chosen.now in
+    let channels = chosen.nets.channels.items in
+    let less = c.count_channels.new.counts.items in
+    let new = c.settle.new.channels.items in
+    let right = c.in_ok-right.right in
+    let gone = c.devices_gone-gone.ensures t blif facts i e trial.is.has.chosen_are.tables_are in
+    let without = trial_without c.args.asked t blif facts c.args.tables i chosen own c.args.pins.now trial c.args.at e less c.in_ok-count_channels.ensures.len
+    (subst (λ (ds : List Device). (n : ℕ) → n < length channels → slice_index less n ≡ changed false (slice_index channels n) (length (channels_at ds n))) gone
+    c.in_ok-count_channels.ensures.is) in
+    trial_settled c.args.asked t blif facts c.args.tables i chosen own c.args.pins.now trial c.args.at e right less new without c.in_ok-settle.ensures.len
+    (subst (λ (ds : List Device). (n : ℕ) → n < length less → slice_index new n ≡ cond right (slice_index less n) (changed true (slice_index less n) (length (channels_at ds n)))) gone
+    c.in_ok-settle.ensures.is)

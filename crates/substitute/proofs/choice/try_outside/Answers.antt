@@ -1,11 +1,12 @@
-use Rattle.std.proofs.Common.{All, Bool, Global, ℕ, List, Vec, suc, ◌<◌, ◌||◌, ap, length, subst, sym, ◌∙◌}
+use Rattle.std.proofs.Common.{All, Bool, true, Global, ℕ, List, Vec, suc, ◌<◌, ◌||◌, ap, length, subst, sym, ◌∙◌}
 use Rattle.std.specs.Prelude.{◌==◌}
 use Rattle.vrt_model.specs.Lists.{At, mark_at}
 use Rattle.vrt_model.specs.declared.whole.WholePin.{WholePin}
 use Rattle.substitute.proofs.UnderwayLaws.{left_out, next_trial, same_chosen, trial_chosen, trial_within}
 use Rattle.substitute.specs.Chosen.{IsRightly, cut_of}
+use Rattle.substitute.specs.Ranges.{with_chosen}
 use Rattle.substitute.specs.Taken.{has_pin}
-use Rattle.substitute.specs.Underway.{AreChosen}
+use Rattle.substitute.specs.Underway.{AreChosen, AreCountsOf}
 use Rattle.substitute.specs.declared.choice.Chosen.{Chosen}
 use Rattle.substitute.proofs.choice.try_outside.Goals as goal
 use Rattle.substitute.proofs.choice.try_outside.Goals.{else-right, then-right}
@@ -34,6 +35,7 @@ returns c t blif facts i e out =
     let trial = next_trial c.args.asked t blif facts c.args.tables i chosen c.args.own.now out c.place_at.result.now c.as_slice.result.now c.as_slice-nets.result.now c.in_ok-pins.pins
     list (subst (λ (n : ℕ). At c.args.tables.unrolled.now.places n c.place_at.result.now) e c.place_at.ensures) c.as_slice.ensures.value c.as_slice-nets.ensures c.as_slice-2.ensures c.in_ok-pins.ensures in
     let told = c.in_ok-right.ensures.right t blif facts i c.args.own.now e trial in
+    let counted = c.in_ok-right.ensures.counts t blif facts i c.args.own.now e trial in
     let same = c.in_ok-right.ensures in
     elim c.if-right.branch [
       | then-right w ↦
@@ -41,15 +43,18 @@ returns c t blif facts i e out =
           let new = w.choose.new.chosen in
           subst (λ (x : Chosen). AreChosen c.args.asked t blif facts c.args.tables (suc i) x) (sym w.chosen-is)
           (trial_chosen c.args.asked t blif facts c.args.tables i chosen c.args.own.now list trial c.args.at e new.whole.items
-          (λ n. w.choose.ensures.whole n ∙ ap (λ (v : Vec Bool Global). mark_at v.items n || c.args.at == n) same.whole) new.inside.items new.nets.held.items new.nets.taken.items
+          (λ n. w.choose.ensures.whole n ∙ ap (λ (v : Vec Bool Global). mark_at v.items n || c.args.at == n) same.whole) new.inside.items new.nets.held.items new.nets.taken.items new.nets.channels.items
           (w.choose.ensures.each ∙ ap (λ (v : Vec Bool Global). length v.items) same.whole) right (ap (λ (v : Vec Bool Global). v.items) (w.choose.ensures.inside ∙ same.inside))
           (ap (λ (v : Vec Bool Global). v.items) (w.choose.ensures.held ∙ same.held))
           (w.choose.ensures.room ∙ ap (λ (v : Vec Bool Global). length v.items) same.taken)
           (λ n. w.choose.ensures.taken n ∙ ap (λ (v : Vec Bool Global). mark_at v.items n || has_pin n w.as_slice-then-right.result.now) same.taken
-          ∙ ap (λ (ps : List WholePin). mark_at chosen.nets.taken.items n || has_pin n ps) (w.as_slice-then-right.ensures ∙ sym c.as_slice-2.ensures)))
+          ∙ ap (λ (ps : List WholePin). mark_at chosen.nets.taken.items n || has_pin n ps) (w.as_slice-then-right.ensures ∙ sym c.as_slice-2.ensures))
+          (subst (λ (v : Vec ℕ Global). AreCountsOf (with_chosen true (cut_of t chosen.whole.items) i) (length c.args.tables.flat.now.nets) v.items) (sym w.choose.ensures.channels)
+          (subst (λ (b : Bool). AreCountsOf (with_chosen b (cut_of t chosen.whole.items) i) (length c.args.tables.flat.now.nets) c.is_right.new.chosen.nets.channels.items) w.if-right.true counted)))
       | else-right w ↦
           let right = subst (λ (b : Bool). IsRightly c.args.asked (cut_of t chosen.whole.items) blif facts i b) w.if-right.false told in
           subst (λ (x : Chosen). AreChosen c.args.asked t blif facts c.args.tables (suc i) x) (sym w.chosen-is)
           (same_chosen c.args.asked t blif facts c.args.tables (suc i) chosen c.is_right.new.chosen same.whole same.inside same.held same.taken
+          (subst (λ (b : Bool). AreCountsOf (with_chosen b (cut_of t chosen.whole.items) i) (length c.args.tables.flat.now.nets) c.is_right.new.chosen.nets.channels.items) w.if-right.false counted)
           (left_out c.args.asked t blif facts c.args.tables i chosen out.has.chosen_are right))
     ]
