@@ -3,6 +3,7 @@ pub mod BudgetLaws
 pub mod ChainLaws
 pub mod ChosenLaws
 pub mod EndsLaws
+pub mod EqualStates
 pub mod Example
 pub mod ExampleArcs
 pub mod ExampleCells

@@ -25,7 +25,14 @@ pub record IsSoftChoice (cut : Cut) (blif : Blif) (facts : List CellFacts) : Typ
   pub soft : AreSoft facts
   pub tried : IsChoice cut blif facts
 
--- the same where cycles are not looked at: instances each of which is allowed besides those before it
+-- The same where cycles are not looked at: instances each of which is allowed besides those before it. The facts may tell drives.
+pub record IsTrial (cut : Cut) (blif : Blif) (facts : List CellFacts) : Type 0 where
+  pub netlist : IsSoundNetlist cut.top
+  pub read : AreRead blif cut.top.rules
+  pub told : (cell : ℕ) (f : CellFacts) → At facts cell f → IsTrueOf cut.top.design blif cut.top.rules cell f
+  pub tried : AreAllowed cut blif facts
+
+-- and where they tell none
 pub record IsSoftTrial (cut : Cut) (blif : Blif) (facts : List CellFacts) : Type 0 where
   pub netlist : IsSoundNetlist cut.top
   pub read : AreRead blif cut.top.rules

@@ -6,9 +6,9 @@ use Rattle.formed_cells.specs.Formed.{IsFormed}
 use Rattle.known_nets.specs.Wired.{IsWired}
 use Rattle.placed_cells.specs.Above.{net_above}
 use Rattle.replaced_instances.specs.Steps.{IsStepAtGates, compared_at}
-use Rattle.substitution_laws.specs.Chosen.{AreSoft, IsSoftChoice, IsSoftTrial}
+use Rattle.substitution_laws.specs.Chosen.{IsSoftChoice, IsSoftTrial, IsTrial}
 use Rattle.vrt_model.specs.Checked.{IsCircuitWith, before, top_of, with_circuit}
-use Rattle.vrt_model.specs.Circuits.{IsCircuit}
+use Rattle.vrt_model.specs.Circuits.{IsCircuit, IsDrive}
 use Rattle.vrt_model.specs.Comparison.{Comparison, is_observed, phase_at}
 use Rattle.vrt_model.specs.Cut.{Cut, NumberedPlace, whole_places}
 use Rattle.vrt_model.specs.FlatCircuit.{flat_circuit_of}
@@ -16,7 +16,7 @@ use Rattle.vrt_model.specs.Lists.{Among}
 use Rattle.vrt_model.specs.Networks.{HasRanges}
 use Rattle.vrt_model.specs.PairedPorts.{Model, paired_model}
 use Rattle.vrt_model.specs.Unsupported.{IsSupported}
-use Rattle.vrt_model.specs.WholeInstances.{IsWholeAt}
+use Rattle.vrt_model.specs.WholeInstances.{IsWholeAt, OutputAt, outputs_of_place}
 use Rattle.vrt_model.specs.declared.blif.Blif.{Blif}
 use Rattle.vrt_model.specs.declared.circuit.Circuit.{Circuit}
 use Rattle.vrt_model.specs.declared.whole.CellFacts.{CellFacts}
@@ -39,14 +39,16 @@ WholesAreDetermined =
     → cut.top ≡ top_of k → IsSoftChoice cut blif facts → phase < length cut.top.rules.phases → IsCircuitWith (before cut n) blif facts c
     → AreDetermined c (phase_at cut.top.rules phase) (is_observed (with_circuit k c) phase)
 
--- a flat circuit that is well formed, of which instances are left whole: each of a cell that is well formed with its model, nothing is told of
--- how strongly their outputs drive, and no end of a hold names an instance inside one
+-- a flat circuit that is well formed, of which instances are left whole: each of a cell that is well formed with its model, the drives that are
+-- told of their outputs are in range, and no end of a hold names an instance inside one
 pub record IsFormedCut (cut : Cut) (blif : Blif) (facts : List CellFacts) : Type 0 where
   pub flat : IsCircuit (flat_circuit_of cut.top)
   pub cells :
       (p : NumberedPlace) → Among (whole_places cut) p
       → (m : ℕ) × (paired_model cut.top.design blif cut.top.rules p.at.cell ≡ Model m) × IsFormed (compared_at cut.top blif p m)
-  pub soft : AreSoft facts
+  pub drives :
+      (p : NumberedPlace) (o : OutputAt) → Among (whole_places cut) p → Among (outputs_of_place cut.top blif facts p) o
+      → IsDrive (flat_circuit_of cut.top) o.pin.drive
   pub ends : AreEndsShown cut
 
 -- The law: then the numbers, levels and sizes of the circuit are in range.
@@ -59,7 +61,13 @@ CircuitsHaveRanges =
     (cut : Cut) (blif : Blif) (facts : List CellFacts) (n : ℕ) (c : Circuit)
     → IsSoftChoice cut blif facts → IsCircuit (flat_circuit_of cut.top) → AreEndsShown (before cut n) → IsCircuitWith (before cut n) blif facts c → HasRanges c
 
--- The law: so are those of the circuit of instances that are tried, whose outputs are at plain nets.
+-- The law: so are those of the circuit of instances that are tried, whatever is told of drives, and their outputs are at plain nets.
+abbrev pub TrialsAreWired : Type 0
+TrialsAreWired =
+    (cut : Cut) (blif : Blif) (facts : List CellFacts) (c : Circuit)
+    → IsTrial cut blif facts → IsCircuit (flat_circuit_of cut.top) → IsCircuitWith cut blif facts c → IsWired c
+
+-- The law: so it is where no drives are told.
 abbrev pub TriedCircuitsAreWired : Type 0
 TriedCircuitsAreWired =
     (cut : Cut) (blif : Blif) (facts : List CellFacts) (c : Circuit)

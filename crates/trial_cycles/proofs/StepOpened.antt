@@ -33,7 +33,7 @@ use Rattle.trial_cycles.proofs.OpenedNets.{IsOpenedIn, driven_by_pin}
 use Rattle.replaced_instances.proofs.ChosenSteps.{chosen_step_is_left_whole, chosen_step_is_placed, exposed_drives_are_true}
 use Rattle.replaced_instances.proofs.StepLeft.{hidden_compared}
 use Rattle.trial_cycles.proofs.CellPorts.{one_port}
-use Rattle.trial_cycles.proofs.UnsettledOutputs.{outputs_are_unsettled}
+use Rattle.substitution_laws.proofs.EqualStates.{outputs_are_unsettled}
 use Rattle.vrt_model.specs.Comparison.{is_observed}
 use Rattle.vrt_model.specs.Facts.{IsAloneInside}
 use Rattle.vrt_model.specs.Reading.{kept}
