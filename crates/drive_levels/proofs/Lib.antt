@@ -3,3 +3,4 @@ pub mod LevelWork
 pub mod NetLevelLaws
 pub mod PartStrengths
 pub mod PhaseLevels
+pub mod PortLaws

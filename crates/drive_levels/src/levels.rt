@@ -57,11 +57,11 @@ pub fn net_levels(
     circuit_levels(store, circuit, kept, asked, care, gates, out, kept_levels)
 }
 
-/// The level of a net in a table.
-fn level_at(levels: &[Option<u8>], net: Net) -> Option<u8>
-    ensures { result ≡ level_at levels.now net.0 }
+/// The level at a place of a table, none past its end.
+pub(crate) fn level_at(levels: &[Option<u8>], place: usize) -> Option<u8>
+    ensures { result ≡ level_at levels.now place }
 {
-    match levels.get(net.0 as usize) {
+    match levels.get(place) {
         Some(level) => *level,
         None => None,
     }
@@ -75,7 +75,7 @@ fn level_if_same(level: u8, other: u8) -> Option<u8>
 }
 
 /// The level that both have.
-fn same_level(bare: Option<u8>, kept: Option<u8>) -> Option<u8>
+pub(crate) fn same_level(bare: Option<u8>, kept: Option<u8>) -> Option<u8>
     ensures { result ≡ same_level bare kept }
 {
     match (bare, kept) {
@@ -97,5 +97,8 @@ pub fn level_of(
     if !is_plain(circuit, net.0 as usize) {
         return Some(8);
     }
-    same_level(level_at(bare_levels, net), level_at(kept_levels, net))
+    same_level(
+        level_at(bare_levels, net.0 as usize),
+        level_at(kept_levels, net.0 as usize),
+    )
 }

@@ -3,5 +3,7 @@
 #![tactic(auto)]
 
 mod levels;
+mod ports;
 
 pub use levels::{level_of, net_levels};
+pub use ports::{asked_nets, drive_of, join_levels, port_levels};

@@ -1,6 +1,6 @@
 //! How many of some nets are in each part.
 
-ghost use Rattle.std.specs.Prelude.{◌≡◌, ◌+◌, ◌<◌, ℕ, All, IfOk, OnOk, length, replicate};
+ghost use Rattle.std.specs.Prelude.{◌≡◌, ◌+◌, ◌<◌, All, IfOk, OnOk, length, replicate};
 ghost use Rattle.channel_parts.specs.Labels.{AreBelow};
 ghost use Rattle.lone_outputs.specs.Owners.{AreCounts, CountsNet};
 ghost use Rattle.vrt_model.specs.declared.ids.Net.{Net as NetValue};

@@ -1,6 +1,6 @@
 //! Nets that are neither known nor in the part of another.
 
-ghost use Rattle.std.specs.Prelude.{◌≡◌, ◌<◌, ◌++◌, ◌∷◌, [], ℕ, All, IfOk, length, map, slice_index};
+ghost use Rattle.std.specs.Prelude.{◌≡◌, ◌<◌, All, IfOk, length, map};
 ghost use Rattle.channel_parts.specs.Labels.{AreBelow};
 ghost use Rattle.known_nets.specs.KnownTables.{IsKnownTable, known_at};
 ghost use Rattle.known_nets.specs.Wired.{IsWired};

@@ -5,7 +5,7 @@ ghost use Rattle.bdd_core.specs.Diagram.{IsWithin};
 ghost use Rattle.bdd_core.specs.Store.{IsLive, function_of};
 ghost use Rattle.bdd_ops.specs.Counting.{Counts, IsSpanWithin};
 ghost use Rattle.output_levels.specs.PartLevels.{HasLevelSpans, IsInPart, IsPartTold, IsToldIn, WritesIn, level_operations};
-ghost use Rattle.path_fixpoint.specs.Parts.{IsPart, IsPlace};
+ghost use Rattle.path_fixpoint.specs.Parts.{IsPart};
 ghost use Rattle.path_fixpoint.specs.Strengths.{net_words};
 ghost use Rattle.vrt_model.specs.Lists.{Among, At, mark_at};
 ghost use Rattle.vrt_model.specs.Networks.{HasRanges};
