@@ -17,7 +17,7 @@ use Rattle.replaced_instances.proofs.StepLeft.{hidden_compared, left_whole}
 use Rattle.replaced_instances.proofs.StepPlaced.{placed, ports, shows}
 use Rattle.replaced_instances.proofs.StepPorts.{may, no_holds, none, output_drive, output_plain, place_there, port_of_output, rising, tied, told}
 use Rattle.replaced_instances.specs.Shown.{ChosenStepHidesItsNets}
-use Rattle.replaced_instances.specs.Steps.{ChosenPortsArePlaced, ChosenStepIsLeftWhole, ChosenStepIsPlaced, ExposedDrivesAreTrue, IsChosenStep, compared_at, compared_at_step, drive_at, exposed_at, is_output_at, output_place}
+use Rattle.replaced_instances.specs.Steps.{ChosenPortsArePlaced, ChosenStepIsLeftWhole, ChosenStepIsPlaced, IsChosenStep, compared_at, compared_at_step, drive_at, exposed_at, is_output_at, output_place}
 use Rattle.vrt_model.proofs.Filtered.{filter_among}
 use Rattle.vrt_model.proofs.Lists.{one_at}
 use Rattle.vrt_model.proofs.Members.{among_any, any_among}
@@ -187,9 +187,6 @@ module _ (cut : Cut) (blif : Blif) (facts : List CellFacts) (i : ℕ) (p : Numbe
     }
 
 -- ---- the laws
-
-pub exposed_drives_are_true : ExposedDrivesAreTrue
-exposed_drives_are_true cut blif facts i p m n step e = exposed_true cut blif facts i p m step n e
 
 pub chosen_ports_are_placed : ChosenPortsArePlaced
 chosen_ports_are_placed cut blif facts i p m c step some_phase circuit =

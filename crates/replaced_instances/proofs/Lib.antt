@@ -1,3 +1,4 @@
+pub mod ChosenOutputs
 pub mod ChosenSteps
 pub mod EqualCells
 pub mod Exposures

@@ -170,6 +170,14 @@ module _ (rules : Rules) where
           absurd (none-some value (sym (named 0 x r refl refl (ap (λ (q : CellPort). is_net_role q.role) same ∙ own)) ∙ h))
       by_supply (Some value) h (suc k) f rest = rest next k f
 
+-- a port stands at its place
+pub port_place : (first : ℕ) (names : List (List ℕ)) (nets : List ℕ) (roles : List PortRole) (j : ℕ) (port : CellPort) → At (ports_from first names nets roles) j port → port.place ≡ first + j
+port_place first [] nets roles j port e = absurd (none-some port e)
+port_place first (x ∷ xs) [] roles j port e = absurd (none-some port e)
+port_place first (x ∷ xs) (n ∷ ns) [] j port e = absurd (none-some port e)
+port_place first (x ∷ xs) (n ∷ ns) (r ∷ rs) zero port e = let same : first ≡ port.place = ap (λ (q : CellPort). q.place) (same_Some _ port e) in omega (arith, same)
+port_place first (x ∷ xs) (n ∷ ns) (r ∷ rs) (suc j) port e = omega (arith, port_place (suc first) xs ns rs j port e)
+
 -- ---- pins
 
 -- an output pin has the drive that is told of the output at its place

@@ -11,7 +11,7 @@ use Rattle.vrt_model.specs.Checked.{IsCircuitWith, before, circuit_with, is_cell
 use Rattle.vrt_model.specs.CheckedParts.{checked_devices}
 use Rattle.vrt_model.specs.Comparison.{CellPort, Comparison, cell_at}
 use Rattle.vrt_model.specs.Cut.{Cut, NumberedPlace, is_inside_whole, numbered_places}
-use Rattle.vrt_model.specs.Facts.{IsTrueDrive, IsTrueOf, output_ports}
+use Rattle.vrt_model.specs.Facts.{IsTrueOf, output_ports}
 use Rattle.vrt_model.specs.Hierarchy.{IsOrdered}
 use Rattle.vrt_model.specs.Inputs.{IsDesign}
 use Rattle.vrt_model.specs.Known.{IsHeld, IsPlain, is_plain_at}
@@ -25,7 +25,6 @@ use Rattle.vrt_model.specs.WholeInstances.{OutputAt, all_outputs, drive_in, is_o
 use Rattle.vrt_model.specs.declared.blif.Blif.{Blif}
 use Rattle.vrt_model.specs.declared.circuit.Circuit.{Circuit}
 use Rattle.vrt_model.specs.declared.whole.CellFacts.{CellFacts}
-use Rattle.vrt_model.specs.declared.whole.Drive.TheVariants.{Level}
 
 -- ---- a step
 
@@ -104,14 +103,6 @@ exposed_at cut blif facts i p k n =
 -- the level of the drive that is told of the output at this net of the cell
 abbrev pub drive_at : List CellFacts → NumberedPlace → Comparison → ℕ → ℕ
 drive_at facts p k n = level_of_drive 0 (drive_in facts p.at.cell (output_place k n))
-
--- The law: what is told of an exposed output is so: its net in the cell always has the level of its drive, and is alone inside.
-abbrev pub ExposedDrivesAreTrue : Type 0
-ExposedDrivesAreTrue =
-    (cut : Cut) (blif : Blif) (facts : List CellFacts) (i : ℕ) (p : NumberedPlace) (m n : ℕ) → IsChosenStep cut blif facts i p m
-    → let k = compared_at cut.top blif p m in
-    exposed_at cut blif facts i p k n ≡ true
-    → (port : CellPort) × Among (output_ports k) port × (port.net ≡ n) × IsTrueDrive k port (Level (drive_at facts p k n))
 
 -- ---- the cell in the circuit before
 

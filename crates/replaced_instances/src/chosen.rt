@@ -1,12 +1,7 @@
 //! One further instance is left whole, whatever its outputs meet.
 
 ghost use Rattle.replaced_instances.specs.Shown.{ChosenStepHidesItsNets};
-ghost use Rattle.replaced_instances.specs.Steps.{ChosenPortsArePlaced, ChosenStepIsLeftWhole, ChosenStepIsPlaced, ExposedDrivesAreTrue};
-
-/// An exposed output has a level in its cell that is its drive, and is alone there, as it is told.
-pub fn exposed_drives_are_true()
-    ensures { ExposedDrivesAreTrue }
-{}
+ghost use Rattle.replaced_instances.specs.Steps.{ChosenPortsArePlaced, ChosenStepIsLeftWhole, ChosenStepIsPlaced};
 
 /// In the circuit before, the ports of its cell are as they have to be where it is to stand there: other devices and outputs are at
 /// exposed outputs alone, and not above their drives.

@@ -4,11 +4,15 @@
 #![tactic(auto)]
 
 mod chosen;
+mod exposed;
 mod steps;
 
 pub use chosen::{
     chosen_ports_are_placed, chosen_step_hides_its_nets, chosen_step_is_left_whole,
-    chosen_step_is_placed, exposed_drives_are_true,
+    chosen_step_is_placed,
+};
+pub use exposed::{
+    exposed_drives_are_true, exposed_outputs_are_apart, exposed_outputs_have_drives,
 };
 pub use steps::{
     ports_are_placed, step_has_left_instances, step_hides_its_nets, step_is_left_whole,

@@ -1,5 +1,0 @@
-use Rattle.replaced_instances.proofs.ChosenSteps.{exposed_drives_are_true}
-use Rattle.replaced_instances.proofs.chosen.exposed_drives_are_true.Goals as goal
-
-pub returns : goal.returns
-returns c = exposed_drives_are_true
