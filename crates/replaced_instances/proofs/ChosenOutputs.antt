@@ -27,13 +27,13 @@ use Rattle.vrt_model.specs.declared.whole.CellFacts.{CellFacts}
 use Rattle.vrt_model.specs.declared.whole.Drive.TheVariants.{Level}
 
 -- a part of the bare circuit lies in one of the kept circuit
-together_kept : (c : Circuit) (phase : Phase) (which : Bool) (n l : ℕ) → IsTogether c phase which n l → IsTogether c phase kept n l
+pub together_kept : (c : Circuit) (phase : Phase) (which : Bool) (n l : ℕ) → IsTogether c phase which n l → IsTogether c phase kept n l
 together_kept c phase which n l (itself plain) = itself plain
 together_kept c phase which n l (onward {l = b} d t on joins plain) =
     onward d (together_kept c phase which n b t) (among_devices kept c d (device_among which c d on.0).0 refl, on.1) joins plain
 
 -- ports of a comparison at one place are one
-same_port : (k : Comparison) (x y : CellPort) → Among (ports_of k) x → Among (ports_of k) y → x.place ≡ y.place → x ≡ y
+pub same_port : (k : Comparison) (x y : CellPort) → Among (ports_of k) x → Among (ports_of k) y → x.place ≡ y.place → x ≡ y
 same_port k x y a b same =
     let names = (cell_at k.design k.cell).ports in
     let nets = port_nets k.rules names in
