@@ -1,5 +1,5 @@
 -- Output ports that are alone in a phase: their nets are not known, and in their parts of the kept circuit is no other.
-use Rattle.std.specs.Prelude.{◌≡◌, ◌≢◌, ◌↔◌, ℕ, Bool, true, List, length, map}
+use Rattle.std.specs.Prelude.{◌≡◌, ◌≢◌, ◌↔◌, ◌<◌, ◌&&◌, ℕ, zero, suc, Bool, true, List, length, map}
 use Rattle.vrt_model.specs.Comparison.{CellPort, Comparison}
 use Rattle.vrt_model.specs.Facts.{output_ports}
 use Rattle.vrt_model.specs.Known.{IsTogether, IsUnknown}
@@ -22,3 +22,15 @@ pub record AreLone (c : Circuit) (phase : Phase) (nets : List ℕ) (lone : List 
 -- the nets are those of the output ports, in port order
 abbrev pub AreOutputNets : Comparison → List Net → Type 0
 AreOutputNets k nets = map (λ (n : Net). n.0) nets ≡ map (λ (p : CellPort). p.net) (output_ports k)
+
+-- ---- all phases
+
+-- the bit of a port at a place in so many phases after the first, and in the first
+abbrev pub lone_in_all : (ℕ → List Bool) → ℕ → ℕ → Bool
+lone_in_all lone zero j = mark_at (lone 0) j
+lone_in_all lone (suc phase) j = mark_at (lone (suc phase)) j && lone_in_all lone phase j
+
+-- one phase more: a mark stays where the phase has it too
+pub record AreKept (more old new : List Bool) : Type 0 where
+  pub len : length new ≡ length old
+  pub each : (j : ℕ) → j < length old → mark_at new j ≡ (mark_at more j && mark_at old j)

@@ -3,6 +3,8 @@
 #![tactic(auto)]
 
 mod counts;
+mod keep;
 mod lone;
 
+pub use keep::keep_lone;
 pub use lone::lone_outputs;
