@@ -5,21 +5,25 @@ use Rattle.std.proofs.lemmas.Bool.{cases_Bool, ltb-false, ltb-true}
 use Rattle.cell_inside.specs.Regions.{ArePinsPlain, AreRegions, IsGivenNet}
 use Rattle.constraints.proofs.NamedLaws.{breaks_same}
 use Rattle.firm_faults.proofs.RankOrder.{below_greatest, greatest_below, not_before, rank_at, stands_as, turn_low, turn_of}
+use Rattle.firm_faults.proofs.SettledLaws.{settled_responds}
 use Rattle.firm_faults.proofs.ShutRegions.{known_settled}
 use Rattle.firm_faults.specs.FirmGround.{FirstFaultIsFirm, IsFirmIn, IsFoundByRank, IsOrderedAt}
-use Rattle.firm_faults.specs.Settled.{IsBacked, IsBrokenAt, IsInstanceOfWhole, IsSettled, ShowsOwnBit, given, nets_named_at, within}
+use Rattle.firm_faults.specs.Settled.{IsBacked, IsBrokenAt, IsInstanceOfWhole, IsLinkedOutput, IsSettled, ShowsOwnBit, given, nets_named_at, within}
 use Rattle.known_nets.proofs.NetKinds.{given_or_plain}
 use Rattle.known_nets.proofs.WiredLaws.{pin_of_whole}
 use Rattle.vrt_model.proofs.Laws.{shows_no_float}
+use Rattle.vrt_model.proofs.Locality.{fixed_given}
+use Rattle.vrt_model.proofs.Ranked.{plain_not_given}
 use Rattle.vrt_model.specs.Assignment.{Assignment}
 use Rattle.vrt_model.specs.Comparison.{Comparison, cell_at, is_observed, phase_at}
 use Rattle.vrt_model.specs.Determined.{IsLinkedTo}
 use Rattle.vrt_model.specs.Faults.{Solves, Stands}
 use Rattle.vrt_model.specs.Held.{setting_of}
-use Rattle.vrt_model.specs.Known.{IsKnown, IsPlain, itself}
+use Rattle.vrt_model.specs.Known.{IsDriven, IsKnown, IsPlain, IsUnknown, fixed, itself, settled}
 use Rattle.vrt_model.specs.Lists.{Among, At}
 use Rattle.vrt_model.specs.Places.{Finding, IsFirstInPhase, comes_before, greatest_rank, is_named, named_nets, named_nets_from}
 use Rattle.vrt_model.specs.Reading.{Partial}
+use Rattle.vrt_model.specs.Response.{Fight as FightResponse}
 use Rattle.vrt_model.specs.Solution.{Agrees}
 use Rattle.vrt_model.specs.State.{IsState, Setting, State, network_of}
 use Rattle.vrt_model.specs.declared.circuit.Circuit.{Circuit}
@@ -207,6 +211,24 @@ module _ (k : Comparison) (originals : List FlatInstance) (f : Finding) (known :
     unbroken = λ w pin i m mp ins mi of broken. unbroken most w pin i le m mp ins mi of broken;
   }
 
+  -- an output that is linked to one at a region is plain, not known, and of a lower rank
+  output_below : (most m : ℕ) → IsLinkedOutput c phase (up_to c rank most) m → IsPlain c m × (rank m < most)
+  output_below most m l =
+      let w : Whole = l.0 in
+      let plain : IsPlain c l.3.net.0 = (ranked.wholes w l.4).plain l.3 l.7 in
+      let net = region_net c phase setting observed known rank ranked most l.2.net.0 l.6 in
+      let free : IsUnknown c phase l.3.net.0 = λ v is. driven_unknown l.3.net.0 v plain (w, l.3, l.4, l.7, refl) is in
+      let lt = ranked.ranking.above l.3.net.0 l.2.net.0 (inl (
+        inr (w, l.8.0, (l.4, l.8.1, l.8.2, ap (λ (n : Net). n.0) l.8.3, (l.2, subst (λ (i : ℕ). At w.outputs i l.2) (sym l.8.4) l.5, itself net.0))),
+        free,
+      )) in
+      let le = net.1 in
+      subst (λ (x : ℕ). IsPlain c x × (rank x < most)) l.9 (plain, omega (arith, lt, le))
+    where
+      driven_unknown : (x : ℕ) (v : Bool) → IsPlain c x → IsDriven c x → IsKnown c phase x v → ⊥
+      driven_unknown x v plain driven (fixed h) = plain_not_given c x plain (h.0, h.1, fixed_given phase h.0.kind v h.2)
+      driven_unknown x v plain driven (settled inside reading held drives shut ins reads gates shows) = (shut.plain x ins).2 driven
+
   rank_settled : (bound n : ℕ) → IsPlain c n → rank n < bound → rank n ≤ found_at → IsSettled k originals f.phase setting s n
   rank_settled zero n plain lt le = absurd (omega (arith, lt))
   rank_settled (suc bound) n plain lt le =
@@ -221,6 +243,18 @@ module _ (k : Comparison) (originals : List FlatInstance) (f : Finding) (known :
             let less = low.1 in
             rank_settled bound m net.0 (omega (arith, lt, under, less)) (omega (arith, le, under, less))
       ])
+      (λ m l fight.
+      let out = output_below (rank n) m l in
+      let less = out.1 in
+      none_ahead Fight m tt (
+        out.0,
+        settled_responds k originals f.phase setting s a ranked.ranges pins_plain state_is solves m FightResponse (rank_settled bound m out.0 (omega (arith, lt, less)) (omega (arith, le, less))) fight,
+      )
+      (inl (omega (arith, le, less))))
+      (λ m l.
+      let out = output_below (rank n) m l in
+      let less = out.1 in
+      rank_settled bound m out.0 (omega (arith, lt, less)) (omega (arith, le, less)))
 
   plain_settled : (n : ℕ) → IsPlain c n → rank n ≤ found_at → IsSettled k originals f.phase setting s n
   plain_settled n plain le = rank_settled (suc (rank n)) n plain (omega arith) le

@@ -1,7 +1,7 @@
 -- A shut set of a cell is a region of the circuit around it, where its gates have their bits.
-use Rattle.std.proofs.Common.{◌≡◌, ℕ, ◌&&◌, Bool, true, false, List, length, map, eqb, ap, subst, sym, refl, ◌∙◌, inl, inr}
+use Rattle.std.proofs.Common.{◌≡◌, ℕ, ◌&&◌, Bool, true, List, length, map, eqb, ap, subst, sym, refl, ◌∙◌, inl, inr}
 use Rattle.std.specs.List.{list_any, range_with_len}
-use Rattle.std.proofs.lemmas.Bool.{and_from, and_parts, eq-eqb, eqb-true, false≢true}
+use Rattle.std.proofs.lemmas.Bool.{and_from, and_parts, eq-eqb, eqb-true}
 use Rattle.std.proofs.lemmas.Option.{slice_get_within}
 use Rattle.cell_inside.proofs.Copies.{touched, touched_from}
 use Rattle.cell_inside.proofs.Images.{image_conducts, image_in}
@@ -50,31 +50,32 @@ pin_among c w pin m e =
     flat_map_among (λ (v : Whole). map (λ (p : WholePin). let one : OutputPin = record { whole = v; pin = p } in one) v.outputs) c.wholes w (record { whole = w; pin = pin }) m
     (e.0, map_at (λ (p : WholePin). let one : OutputPin = record { whole = w; pin = p } in one) w.outputs e.0 pin e.1)
 
-module _ (k : Comparison) (phase : ℕ) (setting : Setting) (cell : Circuit) (at : ℕ → ℕ) (drive : ℕ → ℕ) (placed : IsPlaced cell k.circuit at (λ n. false) drive) where
-  -- a net that a device touches is another than a plain one, unless it is the same
-  pub one_net : (m n : ℕ) (d : Device) → Among cell.devices d → Touches d m → IsPlain cell n → at m ≡ at n → m ≡ n
-  one_net m n d a t plain e =
+module _ (k : Comparison) (phase : ℕ) (setting : Setting) (cell : Circuit) (at : ℕ → ℕ) (exposed : ℕ → Bool) (drive : ℕ → ℕ) (placed : IsPlaced cell k.circuit at exposed drive) where
+  -- a net that a device touches is another than a plain one that is not exposed, unless it is the same
+  pub one_net : (m n : ℕ) (d : Device) → Among cell.devices d → Touches d m → IsPlain cell n → (exposed n ≡ true → ⊥) → at m ≡ at n → m ≡ n
+  one_net m n d a t plain own e =
       elim (placed.channels d m a t) [
-        | inl also ↦ elim (placed.apart m n also plain e) [ inl one ↦ one | inr both ↦ absurd (false≢true both.0) ]
+        | inl also ↦ elim (placed.apart m n also plain e) [ inl one ↦ one | inr both ↦ absurd (own both.1) ]
         | inr supply ↦
             let up = placed.supplies m supply.0 supply.1 in
             absurd (plain_not_given k.circuit (at m) up.0 (subst (IsPlain k.circuit) (sym e) (placed.plain n plain)) up.1 (supply_given k.circuit (at m) supply.0 up))
       ]
 
-  -- a device at a plain net of the cell is one of the cell
-  pub own_device : (e : Device) (m : ℕ) → Among (devices_of true k.circuit) e → IsPlain cell m → Touches e (at m)
+  -- a device at a plain net of the cell that is not exposed is one of the cell
+  pub own_device : (e : Device) (m : ℕ) → Among (devices_of true k.circuit) e → IsPlain cell m → (exposed m ≡ true → ⊥) → Touches e (at m)
       → (d : Device) × Among (devices_of true cell) d × IsImage at d e
-  own_device e m a plain t =
+  own_device e m a plain own_net t =
       let listed = device_among true k.circuit e a in
       elim (placed.others e m listed.0 plain t) [
         | inl own ↦ (own.0, among_devices true cell own.0 own.1 (sym (image_in true at own.0 e own.2) ∙ listed.1), own.2)
-        | inr other ↦ absurd (false≢true other.0)
+        | inr other ↦ absurd (own_net other.0)
       ]
 
-  no_pin : (w : Whole) (pin : WholePin) (m : ℕ) → Among k.circuit.wholes w → Among w.outputs pin → IsPlain cell m → pin.net.0 ≡ at m → ⊥
-  no_pin w pin m a e plain is = false≢true (placed.pins (record { whole = w; pin = pin }) m (pin_among k.circuit w pin a e) plain is).0
+  no_pin : (w : Whole) (pin : WholePin) (m : ℕ) → Among k.circuit.wholes w → Among w.outputs pin → IsPlain cell m → (exposed m ≡ true → ⊥) → pin.net.0 ≡ at m → ⊥
+  no_pin w pin m a e plain own is = own (placed.pins (record { whole = w; pin = pin }) m (pin_among k.circuit w pin a e) plain is).0
 
   module _ (originals : List FlatInstance) (s : State) (inside reading : ℕ → Bool) (shut : IsShut cell (phase_at k.rules phase) inside reading)
+      (hidden : (m : ℕ) → inside m ≡ true → exposed m ≡ true → ⊥)
       (same : (m l : ℕ) (d : Device) → inside m ≡ true → Among (devices_of true cell) d → Joins d m l → reading d.gate.0 ≡ s.reading (at d.gate.0)) where
     abbrev region : ℕ → Bool
     region = image cell at inside
@@ -94,15 +95,15 @@ module _ (k : Comparison) (phase : ℕ) (setting : Setting) (cell : Circuit) (at
     near e n l r a j =
         let from = of_image cell at inside n r in
         let plain = plain_in from.0 from.1 in
-        let own = own_device e from.0 a plain (subst (Touches e) (sym from.2) (touched_from e n l j)) in
+        let own = own_device e from.0 a plain (hidden from.0 from.1) (subst (Touches e) (sym from.2) (touched_from e n l j)) in
         let d : Device = own.0 in
         let listed = (device_among true cell d own.1).0 in
         elim j [
           | inl q ↦
-              let one = one_net d.left.0 from.0 d listed (inl refl) plain (sym own.2.left ∙ q.0 ∙ sym from.2) in
+              let one = one_net d.left.0 from.0 d listed (inl refl) plain (hidden from.0 from.1) (sym own.2.left ∙ q.0 ∙ sym from.2) in
               (d, own.1, own.2, (d.left.0, d.right.0, subst (λ (y : ℕ). inside y ≡ true) (sym one) from.1, inl (refl, refl), sym own.2.left ∙ q.0, sym own.2.right ∙ q.1))
           | inr q ↦
-              let one = one_net d.right.0 from.0 d listed (inr refl) plain (sym own.2.right ∙ q.1 ∙ sym from.2) in
+              let one = one_net d.right.0 from.0 d listed (inr refl) plain (hidden from.0 from.1) (sym own.2.right ∙ q.1 ∙ sym from.2) in
               (d, own.1, own.2, (d.right.0, d.left.0, subst (λ (y : ℕ). inside y ≡ true) (sym one) from.1, inr (refl, refl), sym own.2.right ∙ q.1, sym own.2.left ∙ q.0))
         ]
 
@@ -128,11 +129,11 @@ module _ (k : Comparison) (phase : ℕ) (setting : Setting) (cell : Circuit) (at
           ];
       pins = λ t u it iu ht hu j out e r.
           let from = of_image cell at inside out.pin.net.0 r in
-          absurd (false≢true (placed.pins out from.0 (j, e) (plain_in from.0 from.1) (sym from.2)).0);
+          absurd (hidden from.0 from.1 (placed.pins out from.0 (j, e) (plain_in from.0 from.1) (sym from.2)).0);
     }
 
     not_driven : (w : Whole) (pin : WholePin) → Among k.circuit.wholes w → Among w.outputs pin → region pin.net.0 ≡ true → ⊥
-    not_driven w pin m e r = let from = of_image cell at inside pin.net.0 r in no_pin w pin from.0 m e (plain_in from.0 from.1) (sym from.2)
+    not_driven w pin m e r = let from = of_image cell at inside pin.net.0 r in no_pin w pin from.0 m e (plain_in from.0 from.1) (hidden from.0 from.1) (sym from.2)
 
     inner_backed : IsBacked k originals phase s region base
     inner_backed = record {
@@ -148,6 +149,7 @@ module _ (k : Comparison) (phase : ℕ) (setting : Setting) (cell : Circuit) (at
         → (n : ℕ) → inside n ≡ true → IsSettled k originals phase setting s (at n)
     inner_settled gates n ins =
         within region base inner_region inner_backed (in_image cell at inside n (at n) (plain_in n ins) ins refl) (λ m b. (ready m b).0) (λ m b. (ready m b).1)
+        (λ m l f. not_driven l.0 l.2 l.4 (l.1, l.5) l.6) (λ m l. absurd (not_driven l.0 l.2 l.4 (l.1, l.5) l.6))
       where
         ready : (m : ℕ) → base m ≡ true → ShowsOwnBit k phase setting s m × IsSettled k originals phase setting s m
         ready m b =

@@ -1,10 +1,16 @@
+pub mod CellParts
 pub mod FirstFirm
 pub mod InnerRegions
 pub mod InnerSettled
+pub mod JointRegions
+pub mod LocalParts
 pub mod RankOrder
+pub mod RegionDown
+pub mod Restricted
 pub mod SamePlaces
 pub mod SettledLaws
 pub mod ShutRegions
+pub mod StepBits
 pub mod StepLaws
 pub mod StepPartLaws
 pub mod StepStates

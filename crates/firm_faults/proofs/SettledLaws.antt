@@ -33,7 +33,7 @@ module _ (k : Comparison) (originals : List FlatInstance) (phase : ℕ) (setting
 
   pub settled_responds : (n : ℕ) (r : Response) → IsSettled k originals phase setting s n → IsResponse (network_of k.circuit true setting.held s) n r → Responds k phase setting a true n r
   settled_responds n r (given g) h t it agrees = given_responds t it n r g h
-  settled_responds n r (within region base p backed ins shows below) h t it agrees =
+  settled_responds n r (within region base p backed ins shows below calm linked) h t it agrees =
       region_is_local k.circuit (phase_at k.rules phase) setting region base s.reading s t ranges pins_plain p is it (λ m b. refl)
       (λ m b. agrees m (s.reading m) (shows m b).0 ((solves m (s.reading m) (shows m b).0).1 (settled_responds m (Shows (s.reading m)) (below m b) (shows m b).1)))
       n r ins h

@@ -3,7 +3,7 @@ use Rattle.std.proofs.Common.{◌≡◌, ℕ, ◌&&◌, ◌||◌, Bool, true, Li
 use Rattle.std.specs.List.{list_any}
 use Rattle.std.proofs.lemmas.Bool.{and_from, and_parts, eq-eqb, eqb-true, or_cases, or_left, or_right}
 use Rattle.cell_inside.specs.Regions.{IsRegion}
-use Rattle.firm_faults.specs.Settled.{IsBacked, IsSettled, ShowsOwnBit, given, within}
+use Rattle.firm_faults.specs.Settled.{IsBacked, IsLinkedOutput, IsSettled, ShowsOwnBit, given, within}
 use Rattle.known_nets.proofs.WiredLaws.{pin_of_whole}
 use Rattle.vrt_model.proofs.Laws.{turned}
 use Rattle.vrt_model.proofs.Locality.{fixed_given}
@@ -94,7 +94,11 @@ module _ (k : Comparison) (originals : List FlatInstance) (phase : ℕ) (setting
         (λ m b.
         let d = gate_of k.circuit inside m b in
         subst (IsSettled k originals phase setting s) d.2 (known_settled d.0.gate.0 (reading d.0.gate.0) (gates d.3.0 d.3.1 d.0 d.3.2 d.1 d.3.3)))
+        (λ m l f. no_output m shut l) (λ m l. absurd (no_output m shut l))
       where
+        no_output : (m : ℕ) → IsShut k.circuit (phase_at k.rules phase) inside reading → IsLinkedOutput k.circuit (phase_at k.rules phase) inside m → ⊥
+        no_output m is l = not_driven k.circuit (phase_at k.rules phase) inside reading is l.0 l.2 l.4 (l.1, l.5) l.6
+
         gate_has : (m : ℕ) → gates_at k.circuit inside m ≡ true → (s.reading m ≡ reading m) × ShowsOwnBit k phase setting s m
         gate_has m b =
             let d = gate_of k.circuit inside m b in

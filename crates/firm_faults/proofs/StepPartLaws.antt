@@ -1,5 +1,5 @@
 -- The premises of a step down hold where an instance is left whole over the same nets.
-use Rattle.std.proofs.Common.{◌≡◌, ℕ, Bool, true, false, subst, sym, refl, ◌∙◌, inl, inr}
+use Rattle.std.proofs.Common.{◌≡◌, ℕ, Bool, true, subst, sym, refl, ◌∙◌, inl, inr}
 use Rattle.firm_faults.specs.StepParts.{IsReplacedOver, ReplacedInstancesStepDown}
 use Rattle.vrt_model.proofs.Filtered.{device_among}
 use Rattle.vrt_model.specs.Checked.{with_circuit}
@@ -9,9 +9,9 @@ use Rattle.whole_solutions.proofs.ObservedCases.{gate_observed, observed_for}
 use Rattle.whole_solutions.proofs.ObservedLaws.{whole_observes_no_more}
 
 -- each net that is observed with the cell whole remains
-observed_remain : (k q : Comparison) (phase : ℕ) (whole_circuit : Circuit) (at place fresh : ℕ → ℕ) (remaining compared : ℕ → Bool) (drive : ℕ → ℕ)
-    → IsReplacedOver k q phase whole_circuit at place fresh remaining compared drive → (n : ℕ) → is_observed (with_circuit k whole_circuit) phase n ≡ true → remaining n ≡ true
-observed_remain k q phase whole_circuit at place fresh remaining compared drive p n seen =
+observed_remain : (k q : Comparison) (phase : ℕ) (whole_circuit : Circuit) (at place fresh : ℕ → ℕ) (remaining compared exposed : ℕ → Bool) (drive : ℕ → ℕ)
+    → IsReplacedOver k q phase whole_circuit at place fresh remaining compared exposed drive → (n : ℕ) → is_observed (with_circuit k whole_circuit) phase n ≡ true → remaining n ≡ true
+observed_remain k q phase whole_circuit at place fresh remaining compared exposed drive p n seen =
     elim (observed_for (with_circuit k whole_circuit) phase n seen) [
       | inl gate ↦ (let back = p.whole.devices_back gate.0 gate.1 in remains back.0.gate.0 (sym back.2.image.gate ∙ gate.2) back.2.gate)
       | inr other ↦ elim other [
@@ -30,7 +30,7 @@ observed_remain k q phase whole_circuit at place fresh remaining compared drive 
     remains m e = subst (λ (y : ℕ). remaining y ≡ true) e
 
 pub replaced_instances_step_down : ReplacedInstancesStepDown
-replaced_instances_step_down k q phase setting whole_circuit at place fresh remaining compared drive x i p wholes one = record {
+replaced_instances_step_down k q phase setting whole_circuit at place fresh remaining compared exposed drive x i p wholes one = record {
   ranges = p.ranges;
   whole_ranges = p.whole_ranges;
   pins_plain = p.pins_plain;
@@ -40,14 +40,17 @@ replaced_instances_step_down k q phase setting whole_circuit at place fresh rema
   wholes = wholes;
   hidden = p.hides.hidden;
   outputs = λ m plain rem. (p.hides.outputs m plain rem, one.outputs m plain rem);
+  unknown = p.unknown;
+  alone = p.alone;
   seen = λ n seen. (
-    observed_remain k q phase whole_circuit at place fresh remaining compared drive p n seen,
-    whole_observes_no_more k q phase whole_circuit at place fresh remaining compared (λ m. false) drive p.design p.rules p.output_ports p.placed p.whole p.instances n seen,
+    observed_remain k q phase whole_circuit at place fresh remaining compared exposed drive p n seen,
+    whole_observes_no_more k q phase whole_circuit at place fresh remaining compared exposed drive p.design p.rules p.output_ports p.placed p.whole p.instances n seen,
   );
   gates = λ d m. gate_observed k phase d.gate.0 (d, (device_among true k.circuit d m).0, refl);
   instances = p.instances.instances_back;
   instance = one.instance;
   links = one.links;
+  output_links = one.output_links;
   clocks = one.clocks;
   inner = one.inner;
 }

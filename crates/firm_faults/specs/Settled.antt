@@ -8,10 +8,11 @@ use Rattle.vrt_model.specs.Lists.{Among, At}
 use Rattle.vrt_model.specs.Networks.{HasRanges}
 use Rattle.vrt_model.specs.Places.{is_named, named_nets_from}
 use Rattle.vrt_model.specs.Reading.{Partial, bare}
-use Rattle.vrt_model.specs.Response.{IsResponse, Response, Shows}
+use Rattle.vrt_model.specs.Response.{Fight, IsResponse, Response, Shows}
 use Rattle.vrt_model.specs.State.{IsState, Setting, State, network_of}
 use Rattle.vrt_model.specs.declared.circuit.Circuit.{Circuit}
 use Rattle.vrt_model.specs.declared.circuit.FlatInstance.{FlatInstance}
+use Rattle.vrt_model.specs.declared.rules.Phase.{Phase}
 use Rattle.vrt_model.specs.declared.whole.Whole.{Whole}
 use Rattle.vrt_model.specs.declared.whole.WholePin.{WholePin}
 
@@ -52,7 +53,14 @@ abbrev pub ShowsOwnBit : Comparison → ℕ → Setting → State → ℕ → Ty
 ShowsOwnBit k phase setting s n =
     (is_observed k phase n ≡ true) × IsResponse (network_of k.circuit bare setting.held s) n (Shows (s.reading n))
 
--- a net is settled where it is given, or in a region, each net of whose base shows its own bit and is settled
+-- the net of an output of a whole instance that is linked to one of its outputs at the region
+abbrev pub IsLinkedOutput : Circuit → Phase → (ℕ → Bool) → ℕ → Type 0
+IsLinkedOutput c phase region n =
+    (w : Whole) × (at : ℕ) × (pin : WholePin) × (from : WholePin) × Among c.wholes w × At w.outputs at pin × (region pin.net.0 ≡ true)
+    × Among w.outputs from × IsLinkedTo phase w from at × (from.net.0 ≡ n)
+
+-- A net is settled where it is given, or in a region, each net of whose base shows its own bit and is settled, and where each output that is
+-- linked to one at the region is settled too and does not fight. Such an output need not be observed, so it shows some bit and not its own.
 pub data IsSettled (k : Comparison) (originals : List FlatInstance) (phase : ℕ) (setting : Setting) (s : State) : ℕ → Type 0 where
   given : {n : ℕ} → IsGivenNet k.circuit n → IsSettled k originals phase setting s n
   within :
@@ -62,6 +70,8 @@ pub data IsSettled (k : Comparison) (originals : List FlatInstance) (phase : ℕ
       → region n ≡ true
       → ((m : ℕ) → base m ≡ true → ShowsOwnBit k phase setting s m)
       → ((m : ℕ) → base m ≡ true → IsSettled k originals phase setting s m)
+      → ((m : ℕ) → IsLinkedOutput k.circuit (phase_at k.rules phase) region m → ¬ IsResponse (network_of k.circuit bare setting.held s) m Fight)
+      → ((m : ℕ) → IsLinkedOutput k.circuit (phase_at k.rules phase) region m → IsSettled k originals phase setting s m)
       → IsSettled k originals phase setting s n
 
 -- The law: with each solution a settled net always responds as in the state, be it by a bit, a fight or a float.

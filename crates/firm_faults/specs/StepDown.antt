@@ -1,6 +1,6 @@
--- A circuit with a cell in it, and the circuit in which this instance is left whole: what the law of firm ground asks of the two where the
--- outputs of the instance meet gates alone. Nets keep their numbers.
-use Rattle.std.specs.Prelude.{◌≡◌, ◌⊎◌, ◌↔◌, ℕ, Bool, true, false, List}
+-- A circuit with a cell in it, and the circuit in which this instance is left whole: what the law of firm ground asks of the two. An output
+-- of the instance that meets more than gates is exposed. Nets keep their numbers.
+use Rattle.std.specs.Prelude.{◌≡◌, ◌≢◌, ◌⊎◌, ◌↔◌, ℕ, Bool, true, false, List}
 use Rattle.cell_inside.specs.LeftWhole.{IsLeftWhole}
 use Rattle.cell_inside.specs.Placed.{IsPlaced}
 use Rattle.cell_inside.specs.Regions.{ArePinsPlain, IsGivenNet}
@@ -10,12 +10,12 @@ use Rattle.vrt_model.specs.Assignment.{Assignment, IsAssignment}
 use Rattle.vrt_model.specs.Checked.{with_circuit}
 use Rattle.vrt_model.specs.Comparison.{Comparison, is_observed, phase_at}
 use Rattle.vrt_model.specs.Determined.{IsLinkedTo}
-use Rattle.vrt_model.specs.Known.{HasArc, IsKnown, IsPlain, IsRanking, IsTogether}
+use Rattle.vrt_model.specs.Known.{HasArc, IsKnown, IsPlain, IsRanking, IsTogether, IsUnknown}
 use Rattle.vrt_model.specs.Lists.{Among, At}
 use Rattle.vrt_model.specs.Networks.{HasRanges}
 use Rattle.vrt_model.specs.Path.{level_of_drive}
-use Rattle.vrt_model.specs.Reading.{IsReading, bare, devices_of}
-use Rattle.vrt_model.specs.Response.{IsResponse, Shows}
+use Rattle.vrt_model.specs.Reading.{IsReading, bare, devices_of, kept}
+use Rattle.vrt_model.specs.Response.{IsResponse, IsStrength, Shows}
 use Rattle.vrt_model.specs.State.{IsState, OutputPin, Setting, State, network_of, output_pins, surroundings_of_whole}
 use Rattle.vrt_model.specs.WholeInstances.{IsChain}
 use Rattle.vrt_model.specs.declared.circuit.Circuit.{Circuit}
@@ -71,34 +71,48 @@ pub record IsCellRanked (cell : Circuit) (phase : Phase) (observed known : ℕ �
   pub parts : (n m : ℕ) → (together n m ≡ true) ↔ IsTogether cell phase bare n m
   pub ranking : IsRanking cell phase rank
 
--- a solution of the cell at the bits that a state gives its inputs and clocks: each observed net shows its bit, and so the model drives the outputs
-pub record IsInnerSolution (cell whole_circuit : Circuit) (phase : Phase) (observed : ℕ → Bool) (at : ℕ → ℕ) (x : Whole) (r : State) (bits : ℕ → Bool) : Type 0 where
+-- A solution of the cell at the bits that a state gives its inputs and clocks: each observed net shows its bit, and so the model drives the
+-- outputs; an exposed output has the strength of its drive.
+pub record IsInnerSolution (cell whole_circuit : Circuit) (phase : Phase) (observed exposed : ℕ → Bool) (at fresh drive : ℕ → ℕ) (x : Whole) (r : State) (bits : ℕ → Bool) : Type 0 where
   pub reads : IsReading cell phase bits bits
   pub given : (n : ℕ) → IsGivenNet cell n → bits n ≡ r.reading (at n)
   pub known : (n : ℕ) (v : Bool) → observed n ≡ true → IsKnown cell phase n v → bits n ≡ v
   pub shows :
       (n : ℕ) → IsPlain cell n → observed n ≡ true
       → IsResponse (network_of cell bare (λ place. false) (record { reading = bits; driven = λ place. false })) n (Shows (bits n))
-  pub drives : (j n : ℕ) (pin : OutputPin) → At (output_pins whole_circuit) j pin → pin.whole ≡ x → IsPlain cell n → pin.pin.net.0 ≡ at n → r.driven j ≡ bits n
+  pub drives :
+      (n : ℕ) (pin : OutputPin) → At (output_pins whole_circuit) (fresh n) pin → pin.whole ≡ x → IsPlain cell n → pin.pin.net.0 ≡ at n
+      → r.driven (fresh n) ≡ bits n
+  pub strengths :
+      (n : ℕ) (which : Bool) → exposed n ≡ true
+      → IsStrength (network_of cell which (λ place. false) (record { reading = bits; driven = λ place. false })) n (drive n)
 
 -- ---- the step
 
--- The circuit of k has a cell in it, which meets gates alone outside; in the other circuit it is whole, as x, the instance i.
-pub record IsStepDown (k : Comparison) (phase : ℕ) (setting : Setting) (cell whole_circuit : Circuit) (at place fresh : ℕ → ℕ) (remaining compared cell_observed : ℕ → Bool) (drive : ℕ → ℕ)
-    (x : Whole) (i : FlatInstance) : Type 0 where
+-- the pin at a place of x is that of a net of the cell
+abbrev pub IsPinOf : Circuit → (ℕ → ℕ) → Whole → ℕ → ℕ → WholePin → Type 0
+IsPinOf whole_circuit fresh x n at pin = At x.outputs at pin × At (output_pins whole_circuit) (fresh n) (record { whole = x; pin = pin })
+
+-- The circuit of k has a cell in it; in the other circuit it is whole, as x, the instance i.
+pub record IsStepDown (k : Comparison) (phase : ℕ) (setting : Setting) (cell whole_circuit : Circuit) (at place fresh : ℕ → ℕ) (remaining compared cell_observed exposed : ℕ → Bool)
+    (drive : ℕ → ℕ) (x : Whole) (i : FlatInstance) : Type 0 where
   pub ranges : HasRanges k.circuit
   pub whole_ranges : HasRanges whole_circuit
   pub pins_plain : ArePinsPlain whole_circuit
   pub nets : whole_circuit.nets ≡ k.circuit.nets
-  pub placed : IsPlaced cell k.circuit at (λ n. false) drive
-  pub whole : IsLeftWhole cell k.circuit whole_circuit at (λ n. n) place fresh remaining compared (λ n. false) drive
+  pub placed : IsPlaced cell k.circuit at exposed drive
+  pub whole : IsLeftWhole cell k.circuit whole_circuit at (λ n. n) place fresh remaining compared exposed drive
   pub wholes : HasOneMoreWhole (phase_at k.rules phase) k.circuit whole_circuit place x
-  -- what is hidden is inside; where it remains it is an observed output of the cell, which x drives softly
+  -- what is hidden is inside; where a net of the cell remains it is an observed output, which x drives, softly if it is not exposed
   pub hidden : (n : ℕ) → compared n ≡ false → (m : ℕ) × (n ≡ at m) × IsPlain cell m
   pub outputs :
       (m : ℕ) → IsPlain cell m → remaining (at m) ≡ true
       → (cell_observed m ≡ true)
-      × ((j : ℕ) × (pin : OutputPin) × At (output_pins whole_circuit) j pin × (pin.whole ≡ x) × (pin.pin.net.0 ≡ at m) × (level_of_drive 8 pin.pin.drive ≡ 8))
+      × ((pin : OutputPin) × At (output_pins whole_circuit) (fresh m) pin × (pin.whole ≡ x) × (pin.pin.net.0 ≡ at m) × (exposed m ≡ false → level_of_drive 8 pin.pin.drive ≡ 8))
+  -- an exposed output is not known in the cell, and no other output is in its part of the kept cell
+  pub unknown : (m : ℕ) → exposed m ≡ true → IsUnknown cell (phase_at k.rules phase) m
+  pub alone :
+      (m n : ℕ) → exposed m ≡ true → IsPlain cell n → remaining (at n) ≡ true → IsTogether cell (phase_at k.rules phase) kept m n → at m ≡ at n
   -- what is observed with the cell whole remains, and is observed with it in the circuit, where all gates are
   pub seen : (n : ℕ) → is_observed (with_circuit k whole_circuit) phase n ≡ true → (remaining n ≡ true) × (is_observed k phase n ≡ true)
   pub gates : (d : Device) → Among (devices_of bare k.circuit) d → is_observed k phase d.gate.0 ≡ true
@@ -107,14 +121,19 @@ pub record IsStepDown (k : Comparison) (phase : ℕ) (setting : Setting) (cell w
   pub instance : Among whole_circuit.instances i
   -- each input from which a chain of arcs leads to an output inside is observed and linked to it, and the clock ports are named
   pub links :
-      (j m n : ℕ) (pin : WholePin) (net : FlatNet) → At x.outputs j pin → IsPlain cell m → pin.net.0 ≡ at m → At cell.nets n net → net.kind ≡ Input
+      (j m n : ℕ) (pin : WholePin) (net : FlatNet) → IsPinOf whole_circuit fresh x m j pin → IsPlain cell m → pin.net.0 ≡ at m → At cell.nets n net → net.kind ≡ Input
       → IsChain (HasArc cell (phase_at k.rules phase)) n m
       → (input : WholePin) × Among x.inputs input × (input.net.0 ≡ at n) × IsLinkedTo (phase_at k.rules phase) x input j × (input.observed ≡ true)
+  -- and so is each other exposed output from a net of whose part inside one does
+  pub output_links :
+      (j m l n : ℕ) (pin : WholePin) → IsPinOf whole_circuit fresh x m j pin → IsPlain cell m → pin.net.0 ≡ at m → exposed l ≡ true → l ≢ m
+      → IsTogether cell (phase_at k.rules phase) bare l n → IsChain (HasArc cell (phase_at k.rules phase)) n m
+      → (from : WholePin) × Among x.outputs from × (from.net.0 ≡ at l) × IsLinkedTo (phase_at k.rules phase) x from j
   pub clocks : (n : ℕ) (net : FlatNet) (clock : ClockRef) → At cell.nets n net → net.kind ≡ Clock clock → Among (nets_named_at k phase i) (at n)
   -- in each state a constraint of the instance is broken, or the cell has a solution at its bits
   pub inner :
       (r : State) → IsState whole_circuit (phase_at k.rules phase) setting.inputs r
-      → IsBrokenAt k phase r.reading i ⊎ ((bits : ℕ → Bool) × IsInnerSolution cell whole_circuit (phase_at k.rules phase) cell_observed at x r bits)
+      → IsBrokenAt k phase r.reading i ⊎ ((bits : ℕ → Bool) × IsInnerSolution cell whole_circuit (phase_at k.rules phase) cell_observed exposed at fresh drive x r bits)
 
 -- the place of a fault in the one circuit and in the other: a net keeps its number, and an instance may stand elsewhere in the list
 abbrev pub IsSamePlaceIn : Circuit → Circuit → FaultKind → ℕ → ℕ → Type 0
@@ -131,9 +150,9 @@ IsSamePlaceIn c d Enter at there = at ≡ there
 -- The law: what is on firm ground with the cell whole is on firm ground with the cell in the circuit.
 abbrev pub FirmGroundGoesDown : Type 0
 FirmGroundGoesDown =
-    (k : Comparison) (phase : ℕ) (setting : Setting) (cell whole_circuit : Circuit) (at place fresh : ℕ → ℕ) (remaining compared cell_observed known : ℕ → Bool)
+    (k : Comparison) (phase : ℕ) (setting : Setting) (cell whole_circuit : Circuit) (at place fresh : ℕ → ℕ) (remaining compared cell_observed exposed known : ℕ → Bool)
     (together : ℕ → ℕ → Bool) (drive rank : ℕ → ℕ) (x : Whole) (i : FlatInstance) (originals whole_originals : List FlatInstance) (kind : FaultKind) (n : ℕ)
-    → IsStepDown k phase setting cell whole_circuit at place fresh remaining compared cell_observed drive x i
+    → IsStepDown k phase setting cell whole_circuit at place fresh remaining compared cell_observed exposed drive x i
     → HasOneMoreOriginal (phase_at k.rules phase) k.circuit whole_circuit originals whole_originals x i
     → IsCellRanked cell (phase_at k.rules phase) cell_observed known together rank
     → IsOnFirmGround (with_circuit k whole_circuit) whole_originals phase setting kind n

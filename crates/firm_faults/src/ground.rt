@@ -4,7 +4,7 @@ ghost use Rattle.firm_faults.specs.FirmGround.{FirmGroundStands, FirstFaultIsFir
 ghost use Rattle.firm_faults.specs.Settled.{SettledNetsStand};
 
 /// A net that is settled in a state always responds as in it, with each solution: it is given, or in a region whose base is settled
-/// and shows its own bits.
+/// and shows its own bits, where the other outputs of a whole instance that are linked to one there do not fight.
 pub fn settled_nets_stand()
     ensures { SettledNetsStand }
 {}

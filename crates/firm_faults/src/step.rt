@@ -3,8 +3,8 @@
 ghost use Rattle.firm_faults.specs.StepDown.{FirmGroundGoesDown};
 ghost use Rattle.firm_faults.specs.StepParts.{ReplacedInstancesStepDown};
 
-/// What is on firm ground with a cell whole is on firm ground with the cell in the circuit, where its outputs meet gates alone: a net keeps
-/// its number, and an instance is the same one.
+/// What is on firm ground with a cell whole is on firm ground with the cell in the circuit, also where its outputs meet more than gates: a net
+/// keeps its number, and an instance is the same one.
 pub fn firm_ground_goes_down()
     ensures { FirmGroundGoesDown }
 {}

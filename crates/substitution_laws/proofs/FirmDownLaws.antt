@@ -1,5 +1,5 @@
 -- Firm ground goes down the chain to the flat circuit.
-use Rattle.std.proofs.Common.{◌≡◌, ◌↔◌, ℕ, zero, suc, ◌<◌, not, Bool, true, List, [], length, map, refl, ap, sym, ◌∙◌, subst, arith, inl, inr}
+use Rattle.std.proofs.Common.{◌≡◌, ◌↔◌, ℕ, zero, suc, ◌<◌, not, Bool, true, false, List, [], length, map, refl, ap, sym, ◌∙◌, subst, arith, inl, inr}
 use Rattle.std.proofs.lemmas.Bool.{cases_Bool}
 use Rattle.checked_chain.proofs.AcyclicLaws.{no_place}
 use Rattle.checked_chain.proofs.EndLaws.{chain_begins_flat}
@@ -78,7 +78,7 @@ module _ (k : Comparison) (cut : Cut) (blif : Blif) (facts : List CellFacts) (c 
         let down = steps_go_down k cut blif facts i p m depth front back d e phase setting lt s in
         let ranked = subst (λ (u : Top). IsCellRanked q.circuit (phase_at u.rules phase) (is_observed q phase) known.0 together.0 rank_is.0) s.first.top rank_is.1 in
         firm_ground_goes_down (with_circuit k d) phase setting q.circuit e (net_above t p.at) (λ j. j) (fresh_place (before cut i) blif facts q) (is_outside_at t depth p.at)
-        (λ l. not (is_inside_at q.circuit (net_above t p.at) l)) (is_observed q phase) known.0 together.0 (λ l. 0) rank_is.0 down.0 (flat_instance p.at) (whole_instances (before cut i)) (whole_instances (before cut (suc i)))
+        (λ l. not (is_inside_at q.circuit (net_above t p.at) l)) (is_observed q phase) (λ l. false) known.0 together.0 (λ l. 0) rank_is.0 down.0 (flat_instance p.at) (whole_instances (before cut i)) (whole_instances (before cut (suc i)))
         kind n down.1 down.2 ranked ground
 
   pub down_at : (n : ℕ) (d : Circuit) (l : ℕ) → n < length (all_places t) → IsCircuitWith (before cut n) blif facts d → IsOnFirmGround (with_circuit k d) (whole_instances (before cut n)) phase setting kind l

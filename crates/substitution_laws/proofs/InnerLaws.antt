@@ -1,7 +1,7 @@
 -- In each state of a circuit in which an instance is whole a constraint of it is broken, or its cell has a solution at its bits.
 use Rattle.std.proofs.Common.{◌≡◌, ◌⊎◌, ℕ, Bool, true, false, cond, List, Option, Some, refl, ap, sym, ◌∙◌, subst, inl, inr}
 use Rattle.std.specs.Prelude.{option_map, unwrap_or}
-use Rattle.std.proofs.lemmas.Bool.{cond-false, cond-true}
+use Rattle.std.proofs.lemmas.Bool.{cond-false, cond-true, false≢true}
 use Rattle.std.proofs.lemmas.Option.{none-some, same_Some}
 use Rattle.cell_inside.specs.Regions.{ArePinsPlain}
 use Rattle.firm_faults.specs.Settled.{IsBrokenAt}
@@ -147,20 +147,21 @@ module _ (k q : Comparison) (phase : ℕ) (whole_circuit : Circuit) (at place fr
       let there : b n ≡ Some (r.driven j) = subst (λ (m : ℕ). b m ≡ Some (g.0.signal out.pin.signal)) stands.1.3 signal ∙ ap (λ (v : Bool). Some v) g.2 in
       sym (inner_plain n plain ∙ ap (λ (o : Option Bool). unwrap_or o false) there)
 
-  pub inner_solution : (x : Whole) → IsInnerSolution q.circuit whole_circuit now (is_observed q phase) at x r inner
+  pub inner_solution : (x : Whole) → IsInnerSolution q.circuit whole_circuit now (is_observed q phase) no_net at fresh drive x r inner
   inner_solution x = record {
     reads = λ n net here. itself_given now own.inputs inner net.kind n (inner n) refl (inner_reads n net here);
     given = λ n g. inner_given n g.0 g.1 g.2;
     known = known_bit;
     shows = λ n plain seen. shows n seen;
-    drives = λ j n out e own_pin plain net. pin_bit x j n out e plain net;
+    drives = λ n out e own_pin plain net. pin_bit x (fresh n) n out e plain net;
+    strengths = λ n which e. absurd (false≢true e);
   }
 
 -- in each state a constraint is broken, or there is such a solution
 pub inner_or_broken : (k q : Comparison) (phase : ℕ) (whole_circuit : Circuit) (at place fresh : ℕ → ℕ) (remaining compared : ℕ → Bool) (drive : ℕ → ℕ)
     → (one : IsOneMoreWhole k q phase whole_circuit at place fresh remaining compared no_net drive) → (setting : Setting) (x : Whole) (r : State)
     → IsState whole_circuit (phase_at k.rules phase) setting.inputs r
-    → IsBrokenAt k phase r.reading one.instance.0 ⊎ ((bits : ℕ → Bool) × IsInnerSolution q.circuit whole_circuit (phase_at k.rules phase) (is_observed q phase) at x r bits)
+    → IsBrokenAt k phase r.reading one.instance.0 ⊎ ((bits : ℕ → Bool) × IsInnerSolution q.circuit whole_circuit (phase_at k.rules phase) (is_observed q phase) no_net at fresh drive x r bits)
 inner_or_broken k q phase whole_circuit at place fresh remaining compared drive one setting x r is =
     elim (broken_told k.design k.rules phase (all_bits r.reading) one.instance.0) [
       | inl broken ↦ inl broken
@@ -168,7 +169,7 @@ inner_or_broken k q phase whole_circuit at place fresh remaining compared drive 
           let v = valuation_of k q phase whole_circuit at place fresh remaining compared no_net drive one setting.inputs (all_bits r.reading) r.reading (record { reads = is.reading; seen = λ n seen. refl; met = met }) in
           inr (
             inner k q phase whole_circuit at place fresh remaining compared drive one setting r is v.0 v.1 v.2,
-            subst (λ (rules : Rules). IsInnerSolution q.circuit whole_circuit (phase_at rules phase) (is_observed q phase) at x r (inner k q phase whole_circuit at place fresh remaining compared drive one setting r is v.0 v.1 v.2)) one.rules
+            subst (λ (rules : Rules). IsInnerSolution q.circuit whole_circuit (phase_at rules phase) (is_observed q phase) no_net at fresh drive x r (inner k q phase whole_circuit at place fresh remaining compared drive one setting r is v.0 v.1 v.2)) one.rules
                 (inner_solution k q phase whole_circuit at place fresh remaining compared drive one setting r is v.0 v.1 v.2 x),
           )
     ]

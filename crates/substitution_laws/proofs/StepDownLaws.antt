@@ -2,7 +2,7 @@
 use Rattle.std.proofs.Common.{◌≡◌, ◌⊎◌, ℕ, zero, suc, ◌<◌, ◌||◌, not, Bool, true, false, cond, List, [], ◌∷◌, length, Some, ap, sym, ◌∙◌, subst, inl, inr}
 use Rattle.std.specs.Prelude.{is_some}
 use Rattle.std.specs.List.{list_any}
-use Rattle.std.proofs.lemmas.Bool.{or_right}
+use Rattle.std.proofs.lemmas.Bool.{false≢true, or_right}
 use Rattle.std.proofs.lemmas.Option.{none-some, same_Some}
 use Rattle.firm_faults.proofs.StepPartLaws.{replaced_instances_step_down}
 use Rattle.firm_faults.specs.Settled.{IsBrokenAt}
@@ -39,7 +39,7 @@ use Rattle.vrt_model.specs.Lists.{Among, At, has_name}
 use Rattle.vrt_model.specs.Path.{level_of_drive}
 use Rattle.vrt_model.specs.Places.{named_nets_from}
 use Rattle.vrt_model.specs.Reading.{bare}
-use Rattle.vrt_model.specs.State.{Setting}
+use Rattle.vrt_model.specs.State.{OutputPin, Setting, output_pins}
 use Rattle.vrt_model.specs.Unrolled.{Place, Top}
 use Rattle.vrt_model.specs.WholeInstances.{IsChain, IsWholeAt, Pin, pins_of}
 use Rattle.vrt_model.specs.declared.blif.Blif.{Blif}
@@ -153,7 +153,7 @@ module _ (k : Comparison) (cut : Cut) (blif : Blif) (facts : List CellFacts) (i 
 
   -- ---- the step
 
-  pub replaced_over : IsReplacedOver (with_circuit k c) q phase whole_circuit at (λ j. j) (fresh_place (before cut i) blif facts q) (is_outside_at t depth p.at) (λ n. not (is_inside_at q.circuit at n)) (λ n. 0)
+  pub replaced_over : IsReplacedOver (with_circuit k c) q phase whole_circuit at (λ j. j) (fresh_place (before cut i) blif facts q) (is_outside_at t depth p.at) (λ n. not (is_inside_at q.circuit at n)) (λ n. false) (λ n. 0)
   replaced_over = record {
     design = one.design;
     rules = one.rules;
@@ -166,21 +166,37 @@ module _ (k : Comparison) (cut : Cut) (blif : Blif) (facts : List CellFacts) (i 
     whole = one.whole;
     instances = one.instances;
     hides = one.hides;
+    unknown = λ n e. absurd (false≢true e);
+    alone = λ n l e. absurd (false≢true e);
   }
 
-  pub stands_for : (setting : Setting) → StandsForInstance (with_circuit k c) q phase setting whole_circuit at (is_outside_at t depth p.at) own (flat_instance p.at)
+  -- the pin of a net of the cell stands at the fresh place
+  pin_at_fresh : (l : ℕ) → IsPlain q.circuit l → is_outside_at t depth p.at (at l) ≡ true
+      → (pin : OutputPin) × At (output_pins whole_circuit) (fresh_place (before cut i) blif facts q l) pin × (pin.whole ≡ own) × (pin.pin.net.0 ≡ at l) × (level_of_drive 8 pin.pin.drive ≡ 8)
+  pin_at_fresh l plain stays =
+      let pin = pin_there cut blif facts i p m depth front back c whole_circuit h.step phase l plain stays in
+      let place : pin.0 ≡ fresh_place (before cut i) blif facts q l =
+      elim (one.whole.pins_back pin.0 pin.1 pin.2) [
+        | inl old ↦ absurd (false≢true (one.placed.pins old.1 l (old.0, old.2) plain (sym old.4.net ∙ pin.4)).0)
+        | inr new ↦ elim (one.placed.apart new.0 l new.2.plain plain (sym new.2.net ∙ pin.4)) [
+          | inl same ↦ sym new.1 ∙ ap (fresh_place (before cut i) blif facts q) same
+          | inr both ↦ absurd (false≢true both.0)
+        ]
+      ] in
+      (pin.1, subst (λ (j : ℕ). At (output_pins whole_circuit) j pin.1) place pin.2, pin.3, pin.4, ap (λ (d : Drive). level_of_drive 8 d) pin.5)
+
+  pub stands_for : (setting : Setting) → StandsForInstance (with_circuit k c) q phase setting whole_circuit at (fresh_place (before cut i) blif facts q) (is_outside_at t depth p.at) (λ n. false) (λ n. 0) own (flat_instance p.at)
   stands_for setting = record {
     instance = subst (λ (y : FlatInstance). Among whole_circuit.instances y) (instance_is k cut blif facts i p m depth front back c whole_circuit h phase lt) one.instance.1;
-    outputs = λ l plain stays.
-        let pin = pin_there cut blif facts i p m depth front back c whole_circuit h.step phase l plain stays in
-        (pin.0, pin.1, pin.2, pin.3, pin.4, ap (λ (d : Drive). level_of_drive 8 d) pin.5);
+    outputs = λ l plain stays. let pin = pin_at_fresh l plain stays in (pin.0, pin.1, pin.2, pin.3, λ none. pin.4);
+    output_links = λ j l y n pin here plain is e. absurd (false≢true e);
     links = λ j l n pin net here plain is there kind chain.
         let now = ap (λ (u : Top). phase_at u.rules phase) same in
-        let input = linked j l n pin net here plain is there kind (subst (λ (f : Phase). IsChain (HasArc q.circuit f) n l) (sym now) chain) in
+        let input = linked j l n pin net here.0 plain is there kind (subst (λ (f : Phase). IsChain (HasArc q.circuit f) n l) (sym now) chain) in
         (input.0, input.1, input.2, subst (λ (f : Phase). IsLinkedTo f own input.0 j) now input.3, input.4);
     clocks = λ n net clock here kind. subst (λ (u : Top). Among (named_by u) (at n)) same (clock_named n net clock here kind);
     inner = λ r is.
-        subst (λ (y : FlatInstance). IsBrokenAt (with_circuit k c) phase r.reading y ⊎ ((bits : ℕ → Bool) × IsInnerSolution q.circuit whole_circuit (phase_at k.rules phase) (is_observed q phase) at own r bits))
+        subst (λ (y : FlatInstance). IsBrokenAt (with_circuit k c) phase r.reading y ⊎ ((bits : ℕ → Bool) × IsInnerSolution q.circuit whole_circuit (phase_at k.rules phase) (is_observed q phase) (λ n. false) at (fresh_place (before cut i) blif facts q) (λ n. 0) own r bits))
         (instance_is k cut blif facts i p m depth front back c whole_circuit h phase lt)
         (inner_or_broken (with_circuit k c) q phase whole_circuit at (λ j. j) (fresh_place (before cut i) blif facts q) (is_outside_at t depth p.at) (λ n. not (is_inside_at q.circuit at n)) (λ n. 0) one setting own r is);
   }
@@ -191,7 +207,7 @@ steps_go_down k cut blif facts i p m depth front back c whole_circuit phase sett
     let own = x cut blif facts i p m depth front back c whole_circuit h.step phase in (
       own,
       replaced_instances_step_down (with_circuit k c) q phase setting whole_circuit (net_above cut.top p.at) (λ j. j) (fresh_place (before cut i) blif facts q) (is_outside_at cut.top depth p.at)
-          (λ n. not (is_inside_at q.circuit (net_above cut.top p.at) n)) (λ n. 0) own (flat_instance p.at)
+          (λ n. not (is_inside_at q.circuit (net_above cut.top p.at) n)) (λ n. false) (λ n. 0) own (flat_instance p.at)
           (replaced_over k cut blif facts i p m depth front back c whole_circuit h phase lt)
           (subst (λ (u : Top). HasOneMoreWhole (phase_at u.rules phase) c whole_circuit (λ j. j) own) h.first.top (has_one_more cut blif facts i p m depth front back c whole_circuit h.step phase k h.first.top lt))
           (stands_for k cut blif facts i p m depth front back c whole_circuit h phase lt setting),

@@ -1,5 +1,5 @@
 -- One step of the chain, as the law of firm ground asks.
-use Rattle.std.specs.Prelude.{ℕ, suc, ◌<◌, not, List, length, map}
+use Rattle.std.specs.Prelude.{ℕ, suc, ◌<◌, false, not, List, length, map}
 use Rattle.firm_faults.specs.StepDown.{HasOneMoreOriginal, IsStepDown}
 use Rattle.placed_cells.specs.Above.{net_above}
 use Rattle.replaced_instances.specs.Steps.{compared_at, fresh_place, is_inside_at, is_outside_at}
@@ -29,5 +29,5 @@ StepsGoDown =
     → let q = compared_at cut.top blif p m in
     (x : Whole)
     × IsStepDown (with_circuit k c) phase setting q.circuit whole_circuit (net_above cut.top p.at) (λ j. j) (fresh_place (before cut i) blif facts q)
-    (is_outside_at cut.top depth p.at) (λ n. not (is_inside_at q.circuit (net_above cut.top p.at) n)) (is_observed q phase) (λ n. 0) x (flat_instance p.at)
+    (is_outside_at cut.top depth p.at) (λ n. not (is_inside_at q.circuit (net_above cut.top p.at) n)) (is_observed q phase) (λ n. false) (λ n. 0) x (flat_instance p.at)
     × HasOneMoreOriginal (phase_at k.rules phase) c whole_circuit (whole_instances (before cut i)) (whole_instances (before cut (suc i))) x (flat_instance p.at)
