@@ -110,7 +110,7 @@ module _ (cut : Cut) (blif : Blif) (facts : List CellFacts) (i : ℕ) (p : Numbe
 
   -- ---- what is told of it
 
-  told_drive : (j : ℕ) (port : CellPort) (level : ℕ) → At (output_ports k) j port → drive_in facts p.at.cell j ≡ Level level → IsTrueDrive k port (Level level)
+  pub told_drive : (j : ℕ) (port : CellPort) (level : ℕ) → At (output_ports k) j port → drive_in facts p.at.cell j ≡ Level level → IsTrueDrive k port (Level level)
   told_drive j port level at e = by_facts (slice_get facts p.at.cell) refl e
     where
       by_drive : (f : CellFacts) (x : Option Drive) → At facts p.at.cell f → slice_get f.drives j ≡ x → unwrap_or x Soft ≡ Level level → IsTrueDrive k port (Level level)
