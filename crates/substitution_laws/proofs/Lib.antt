@@ -1,7 +1,9 @@
+pub mod AgreementLaws
 pub mod BrokenTold
 pub mod BudgetLaws
 pub mod ChainLaws
 pub mod ChosenLaws
+pub mod DriveRanges
 pub mod EndsLaws
 pub mod Example
 pub mod ExampleArcs

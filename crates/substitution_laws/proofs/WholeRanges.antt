@@ -10,10 +10,11 @@ use Rattle.checked_chain.specs.Holds.{IsEndShown}
 use Rattle.placed_cells.proofs.ListLaws.{zip_right}
 use Rattle.replaced_instances.proofs.StepInstances.{front_of}
 use Rattle.replaced_instances.specs.Steps.{compared_at}
-use Rattle.substitution_laws.proofs.ChosenLaws.{chosen_steps_are_at_gates, output_soft, tried_steps_are_at_gates}
+use Rattle.substitution_laws.proofs.ChosenLaws.{chosen_instances_are_steps, tried_instances_are_steps}
+use Rattle.substitution_laws.proofs.DriveRanges.{told_in_range}
 use Rattle.substitution_laws.proofs.EndsLaws.{tried_ends_are_shown}
 use Rattle.substitution_laws.proofs.WholeCells.{whole_chosen}
-use Rattle.substitution_laws.specs.Chosen.{IsSoftTrial}
+use Rattle.substitution_laws.specs.Chosen.{IsTrialByFacts}
 use Rattle.formed_cells.proofs.FormedLaws.{supported_cells_are_formed}
 use Rattle.replaced_instances.proofs.StepPlaced.{plain_with}
 use Rattle.formed_cells.specs.Formed.{IsFormed}
@@ -48,15 +49,17 @@ use Rattle.vrt_model.specs.declared.ids.Net.{Net}
 use Rattle.vrt_model.specs.declared.pairing.ClockedSignal.{ClockedSignal}
 use Rattle.vrt_model.specs.declared.whole.CellFacts.{CellFacts}
 use Rattle.vrt_model.specs.declared.whole.Drive.{Drive}
-use Rattle.vrt_model.specs.declared.whole.Drive.TheVariants.{Soft}
+use Rattle.vrt_model.specs.declared.whole.Drive.TheVariants.{Soft, Level}
 use Rattle.vrt_model.specs.declared.whole.Link.{Link}
 use Rattle.vrt_model.specs.declared.whole.Whole.{Whole}
 use Rattle.vrt_model.specs.declared.whole.WholePin.{WholePin}
 use Rattle.whole_ranks.proofs.PlaceLaws.{input_pin_of, made, made_is, output_pin}
 
-soft_settled : (b : Bool) (d : Drive) → d ≡ Soft → cond b Soft d ≡ Soft
-soft_settled true d e = refl
-soft_settled false d e = e
+-- a drive in range is so in each circuit, and so is it where it is settled
+settled_in_range : (b : Bool) (c flat : Circuit) (d : Drive) → IsDrive flat d → IsDrive c (cond b Soft d)
+settled_in_range true c flat d is = tt
+settled_in_range false c flat Soft is = tt
+settled_in_range false c flat (Level level) is = is
 
 -- a device that is shown is one of the flat circuit
 pub device_flat : (cut : Cut) (d : Device) → Among (checked_devices cut) d → Among (flat_devices cut.top) d
@@ -133,7 +136,7 @@ drive_in_range c d e = subst (IsDrive c) (sym e) tt
 
 module _ (cut : Cut) (blif : Blif) (facts : List CellFacts) (c : Circuit) (h : IsFormedCut cut blif facts) (circuit : IsCircuitWith cut blif facts c)
     (i : ℕ) (p : NumberedPlace) (place : At (all_places cut.top) (suc i) p.at) (m : ℕ) (paired : paired_model cut.top.design blif cut.top.rules p.at.cell ≡ Model m)
-    (formed : IsFormed (compared_at cut.top blif p m)) (w : Whole) (on : Among c.wholes w) (whole : IsWholeAt cut blif facts p w) where
+    (listed : Among (whole_places cut) p) (formed : IsFormed (compared_at cut.top blif p m)) (w : Whole) (on : Among c.wholes w) (whole : IsWholeAt cut blif facts p w) where
   abbrev q : Comparison
   q = compared_at cut.top blif p m
 
@@ -175,10 +178,10 @@ module _ (cut : Cut) (blif : Blif) (facts : List CellFacts) (c : Circuit) (h : I
       let from = output_pin cut blif facts p m w paired whole pin there in
       let settled : OutputAt → WholePin = λ o. settled_drive devices outputs o in
       let o = among_map settled (outputs_of_place cut.top blif facts p) pin (subst (λ (pins : List WholePin). Among pins pin) (sym (ap (λ (x : Whole). x.outputs) made_whole)) there) in
-      let soft = soft_settled (meets_gates_only devices outputs o.0) o.0.pin.drive (output_soft facts h.soft cut.top blif p o.0 o.1) in (
+      let range = settled_in_range (meets_gates_only devices outputs o.0) c (flat_circuit_of cut.top) o.0.pin.drive (h.drives p o.0 listed o.1) in (
         subst (IsNet c) from.3 (pin_net from.0 from.1),
         output_below_it from.0 pin.signal from.1 from.2,
-        drive_in_range c pin.drive (ap (λ (x : WholePin). x.drive) (sym o.2) ∙ soft),
+        subst (λ (x : WholePin). IsDrive c x.drive) o.2 range,
       )
 
   link_in_range : (link : Link) → Among w.links link → IsNet c link.from × (link.output < length w.outputs)
@@ -226,25 +229,28 @@ cuts_have_ranges cut blif facts c h circuit = record {
         → (n : ℕ) → At (all_places cut.top) n p.at → is_whole cut.choice n ≡ true → IsWhole c w
     by_place w on p listed whole zero place e = absurd (false≢true e)
     by_place w on p listed whole (suc i) place e =
-        let cell = h.cells p listed in whole_in_range cut blif facts c h circuit i p place cell.0 cell.1 cell.2 w on whole
+        let cell = h.cells p listed in whole_in_range cut blif facts c h circuit i p place cell.0 cell.1 listed cell.2 w on whole
 
-pub circuits_have_ranges : CircuitsHaveRanges
+pub circuits_have_ranges : {all_soft : Bool} → CircuitsHaveRanges all_soft
 circuits_have_ranges cut blif facts n c h flat ends circuit =
     cuts_have_ranges (before cut n) blif facts c
     (record {
       flat = flat;
       cells = λ p on.
           (let is = whole_chosen cut n p on in
-          let step = chosen_steps_are_at_gates cut blif facts is.0 p h is.1.place is.1.chosen in
+          let step = chosen_instances_are_steps cut blif facts is.0 p h is.1.place is.1.chosen in
           (step.0, step.1.paired, formed_cell cut blif facts p.at.cell step.0 h step.2));
-      soft = h.soft;
+      drives = λ p o on there.
+          (let is = whole_chosen cut n p on in
+          let step = chosen_instances_are_steps cut blif facts is.0 p h is.1.place is.1.chosen in
+          told_in_range cut blif facts is.0 p step.0 step.1 (formed_cell cut blif facts p.at.cell step.0 h step.2) h.read.valid.some_phase (flat_circuit_of cut.top) o there);
       ends = ends;
     })
     circuit
 
 -- ---- instances that are tried
 
-module _ (cut : Cut) (blif : Blif) (facts : List CellFacts) (c : Circuit) (h : IsSoftTrial cut blif facts) (circuit : IsCircuitWith cut blif facts c) where
+module _ {all_soft : Bool} (cut : Cut) (blif : Blif) (facts : List CellFacts) (c : Circuit) (h : IsTrialByFacts all_soft cut blif facts) (circuit : IsCircuitWith cut blif facts c) where
   -- a place that is left whole is that of a chosen instance
   chosen_place : (p : NumberedPlace) → Among (whole_places cut) p → (i : ℕ) × At (numbered_places cut.top) (suc i) p × (cut.choice i ≡ true)
   chosen_place p on =
@@ -260,9 +266,12 @@ module _ (cut : Cut) (blif : Blif) (facts : List CellFacts) (c : Circuit) (h : I
     flat = flat;
     cells = λ p on.
         (let is = chosen_place p on in
-        let step = tried_steps_are_at_gates cut blif facts is.0 p h is.1 is.2 in
+        let step = tried_instances_are_steps cut blif facts is.0 p h is.1 is.2 in
         (step.0, step.1.paired, supported_cells_are_formed cut.top.design blif cut.top.rules p.at.cell step.0 h.read step.2));
-    soft = h.soft;
+    drives = λ p o on there.
+        (let is = chosen_place p on in
+        let step = tried_instances_are_steps cut blif facts is.0 p h is.1 is.2 in
+        told_in_range cut blif facts is.0 p step.0 step.1 (supported_cells_are_formed cut.top.design blif cut.top.rules p.at.cell step.0 h.read step.2) h.read.valid.some_phase (flat_circuit_of cut.top) o there);
     ends = tried_ends_are_shown cut blif facts h;
   }
 
@@ -271,7 +280,7 @@ module _ (cut : Cut) (blif : Blif) (facts : List CellFacts) (c : Circuit) (h : I
   plain_outputs w pin on there =
       let from = zip_right (IsWholeAt cut blif facts) (whole_places cut) c.wholes w circuit.wholes on in
       let is = chosen_place from.0 from.1 in
-      let step = tried_steps_are_at_gates cut blif facts is.0 from.0 h is.1 is.2 in
+      let step = tried_instances_are_steps cut blif facts is.0 from.0 h is.1 is.2 in
       let settled : OutputAt → WholePin = λ o. settled_drive (checked_devices cut) (all_outputs cut blif facts) o in
       let same = made_is cut blif facts from.0 step.0 w step.1.paired from.2 in
       let o = among_map settled (outputs_of_place cut.top blif facts from.0) pin (subst (λ (pins : List WholePin). Among pins pin) (sym (ap (λ (x : Whole). x.outputs) same)) there) in
@@ -279,7 +288,7 @@ module _ (cut : Cut) (blif : Blif) (facts : List CellFacts) (c : Circuit) (h : I
       let plain = plain_with cut (with_one (before cut is.0) is.0) blif facts c circuit refl o.0.pin.net.0 (may.1.plain o.0 o.1).0 in
       subst (λ (x : WholePin). IsPlain c x.net.0) o.2 plain
 
-pub tried_circuits_are_wired : TriedCircuitsAreWired
+pub tried_circuits_are_wired : {all_soft : Bool} → TriedCircuitsAreWired all_soft
 tried_circuits_are_wired cut blif facts c h flat circuit = record {
   ranges = cuts_have_ranges cut blif facts c (formed_cut cut blif facts c h circuit flat) circuit;
   outputs = plain_outputs cut blif facts c h circuit;
