@@ -108,7 +108,7 @@ module _ (k : Comparison) (cut : Cut) (blif : Blif) (facts : List CellFacts) (c 
           let p = s.0 in
           let m = s.1 in
           let is = s.5.step in
-          let step = is.at_gates in
+          let step = is.chosen in
           let outs = outputs_of_place t blif facts p in
           subst AreApart (sym (outputs_behind cut i p step.place chosen blif facts))
           (together_apart (all_outputs (before cut i) blif facts) outs rest

@@ -173,32 +173,37 @@ module _ (k q : Comparison) (phase : ℕ) (whole_circuit : Circuit) (at place fr
       subst (λ (d : Design). BreaksConstraint d q.rules phase (all_bits (λ m. s.reading (at m))) j) (sym one.design)
       (subst (λ (rules : Rules). BreaksConstraint k.design rules phase (all_bits (λ m. s.reading (at m))) j) (sym one.rules) h)
 
+  -- ---- down: no fight
+
+  calm : (which : Bool) → ((n : ℕ) → IsPlain whole_circuit n → ¬ IsResponse (whole which) n FightResponse) → IsCalm which
+  calm which none m e = none (at m) (plain_there k q phase whole_circuit at place fresh remaining compared exposed drive one (at m) (one.placed.plain m (one.placed.exposed_plain m e)))
+
+  -- where no net fights with the instance whole none does in the circuit, since none does in the cell
+  no_fight_below : (bare : Bool) (kind : FaultKind) → ((n : ℕ) → IsPlain whole_circuit n → ¬ IsResponse (whole bare) n FightResponse)
+      → ((n : ℕ) → IsPlain q.circuit n → IsResponse (own bare) n FightResponse → Stands q phase (setting_of q phase bits) (all_bits (λ m. s.reading (at m))) equal.assignment.0 kind n)
+      → (n : ℕ) → IsPlain k.circuit n → IsResponse (above bare) n FightResponse → ⊥
+  no_fight_below bare kind none within n p h =
+      elim (cases_Bool (compared n)) [
+        | inl t ↦ none n (plain_there k q phase whole_circuit at place fresh remaining compared exposed drive one n p) ((out bare n FightResponse t).0 h)
+        | inr f ↦
+            let hidden = one.hides.hidden n f in
+            own_faultless kind hidden.0 (within hidden.0 hidden.2 ((inside bare (calm bare none) hidden.0 FightResponse hidden.2).1 (subst (λ (x : ℕ). IsResponse (above bare) x FightResponse) hidden.1 h)))
+      ]
+
+  pub calm_below : ((n : ℕ) → IsPlain whole_circuit n → ¬ Responds there phase setting (all_bits r.reading) bare n FightResponse)
+      → (n : ℕ) → IsPlain k.circuit n → ¬ Responds k phase setting (all_bits s.reading) bare n FightResponse
+  calm_below none n p h =
+      no_fight_below bare Fight (λ m pm f. none m pm ((always there phase setting r alike.whole_state one.whole_determined bare m FightResponse).1 f)) (λ m pm f. (pm, always_own bare m FightResponse f)) n p
+      (always_above bare n FightResponse h)
+
   -- ---- down: nothing is wrong with the instance whole
 
   module _ (g : Assignment) (fine : IsFaultless there phase setting (all_bits r.reading) g) where
-    calm : (bare : Bool) → IsCalm bare
-    calm true m e h =
-        fine Fight (at m) (
-          plain_there k q phase whole_circuit at place fresh remaining compared exposed drive one (at m) (one.placed.plain m (one.placed.exposed_plain m e)),
-          (always there phase setting r alike.whole_state one.whole_determined true (at m) FightResponse).1 h,
-        )
-    calm false m e h =
-        fine FightKept (at m) (
-          plain_there k q phase whole_circuit at place fresh remaining compared exposed drive one (at m) (one.placed.plain m (one.placed.exposed_plain m e)),
-          (always there phase setting r alike.whole_state one.whole_determined false (at m) FightResponse).1 h,
-        )
+    none_fights : (n : ℕ) → IsPlain whole_circuit n → ¬ IsResponse (whole bare) n FightResponse
+    none_fights n p h = fine Fight n (p, (always there phase setting r alike.whole_state one.whole_determined bare n FightResponse).1 h)
 
-    no_fight_below : (bare : Bool) (kind : FaultKind)
-        → ((n : ℕ) → IsPlain whole_circuit n → IsResponse (whole bare) n FightResponse → Stands there phase setting (all_bits r.reading) g kind n)
-        → ((n : ℕ) → IsPlain q.circuit n → IsResponse (own bare) n FightResponse → Stands q phase (setting_of q phase bits) (all_bits (λ m. s.reading (at m))) equal.assignment.0 kind n)
-        → (n : ℕ) → IsPlain k.circuit n → IsResponse (above bare) n FightResponse → ⊥
-    no_fight_below bare kind up within n p h =
-        elim (cases_Bool (compared n)) [
-          | inl t ↦ fine kind n (up n (plain_there k q phase whole_circuit at place fresh remaining compared exposed drive one n p) ((out bare n FightResponse t).0 h))
-          | inr f ↦
-              let hidden = one.hides.hidden n f in
-              own_faultless kind hidden.0 (within hidden.0 hidden.2 ((inside bare (calm bare) hidden.0 FightResponse hidden.2).1 (subst (λ (x : ℕ). IsResponse (above bare) x FightResponse) hidden.1 h)))
-        ]
+    none_fights_kept : (n : ℕ) → IsPlain whole_circuit n → ¬ IsResponse (whole kept) n FightResponse
+    none_fights_kept n p h = fine FightKept n (p, (always there phase setting r alike.whole_state one.whole_determined kept n FightResponse).1 h)
 
     unsettled_below : (n : ℕ) → ¬ Stands k phase setting (all_bits s.reading) g Unsettled n
     unsettled_below n (o, never) =
@@ -219,7 +224,7 @@ module _ (k q : Comparison) (phase : ℕ) (whole_circuit : Circuit) (at place fr
           | inr (m, net, p, seen) ↦ own_faultless Unsettled m (
             seen,
             never_there q phase (setting_of q phase bits) own_bits_here own_is own_pins m
-                (λ shows. here (subst (λ (x : ℕ). IsResponse (above false) x (Shows (s.reading x))) (sym net) ((inside false (calm false) m (Shows (s.reading (at m))) p).0 shows))),
+                (λ shows. here (subst (λ (x : ℕ). IsResponse (above false) x (Shows (s.reading x))) (sym net) ((inside false (calm false none_fights_kept) m (Shows (s.reading (at m))) p).0 shows))),
           )
         ]
 
@@ -241,10 +246,8 @@ module _ (k q : Comparison) (phase : ℕ) (whole_circuit : Circuit) (at place fr
         ]
 
     faultless_below : IsFaultless k phase setting (all_bits s.reading) g
-    faultless_below Fight n h =
-        no_fight_below bare Fight (λ m p f. (p, (always there phase setting r alike.whole_state one.whole_determined bare m FightResponse).1 f)) (λ m p f. (p, always_own bare m FightResponse f)) n h.0 (always_above bare n FightResponse h.1)
-    faultless_below FightKept n h =
-        no_fight_below kept FightKept (λ m p f. (p, (always there phase setting r alike.whole_state one.whole_determined kept m FightResponse).1 f)) (λ m p f. (p, always_own kept m FightResponse f)) n h.0 (always_above kept n FightResponse h.1)
+    faultless_below Fight n h = no_fight_below bare Fight none_fights (λ m p f. (p, always_own bare m FightResponse f)) n h.0 (always_above bare n FightResponse h.1)
+    faultless_below FightKept n h = no_fight_below kept FightKept none_fights_kept (λ m p f. (p, always_own kept m FightResponse f)) n h.0 (always_above kept n FightResponse h.1)
     faultless_below Float n h = float_above n h.0 (always_above bare n FloatResponse h.1)
     faultless_below Unsettled n h = unsettled_below n h
     faultless_below Constraint n h = constraint_below n h

@@ -49,30 +49,30 @@ module _ (cut : Cut) (blif : Blif) (facts : List CellFacts) (i : ℕ) (p : Numbe
   abbrev exposed : ℕ → Bool
   exposed n = exposed_at cut blif facts i p (compared_at cut.top blif p m) n
 
-  -- two that are together inside are one
-  pub one_part : (phase a b : ℕ) (which : Bool) → phase < length cut.top.rules.phases → exposed a ≡ true → exposed b ≡ true → IsTogether k.circuit (phase_at k.rules phase) which a b → a ≡ b
-  one_part phase a b which lt one other together =
-      elim (cases_Bool (y.0.place == x.0.place)) [
-        | inl e ↦ sym x.2 ∙ ap (λ (q : CellPort). q.net) (same_port k x.0 y.0 (port_there x.0 x.1) (port_there y.0 y.1) (sym (eqb-true y.0.place x.0.place e))) ∙ y.2
-        | inr e ↦ absurd (told_of_x.1.alone phase y.0 lt y.1 (λ same. false≢true (sym e ∙ eq-eqb y.0.place x.0.place same)) kept_together)
+  port_there : (port : CellPort) → Among (output_ports k) port → Among (ports_of k) port
+  port_there port on = (filter_among (λ (q : CellPort). is_some (output_signal q.role)) (ports_of k) port on).0
+
+  -- an output that is together with one inside is that one
+  pub only_port : (phase a : ℕ) (port : CellPort) → phase < length cut.top.rules.phases → exposed a ≡ true → Among (output_ports k) port → IsTogether k.circuit (phase_at k.rules phase) kept a port.net
+      → a ≡ port.net
+  only_port phase a port lt one on together =
+      elim (cases_Bool (port.place == x.0.place)) [
+        | inl e ↦ sym x.2 ∙ ap (λ (q : CellPort). q.net) (same_port k x.0 port (port_there x.0 x.1) (port_there port on) (sym (eqb-true port.place x.0.place e)))
+        | inr e ↦ absurd (told_of_x.1.alone phase port lt on (λ same. false≢true (sym e ∙ eq-eqb port.place x.0.place same))
+            (subst (λ (n : ℕ). IsTogether k.circuit (phase_at k.rules phase) kept n port.net) (sym x.2) together))
       ]
     where
       x : (port : CellPort) × Among (output_ports k) port × (port.net ≡ a) × IsTrueDrive k port (Level (drive_at facts p k a))
       x = exposed_true cut blif facts i p m step a one
 
-      y : (port : CellPort) × Among (output_ports k) port × (port.net ≡ b) × IsTrueDrive k port (Level (drive_at facts p k b))
-      y = exposed_true cut blif facts i p m step b other
-
       told_of_x : HasLevel k x.0.net (drive_at facts p k a) × IsAloneInside k x.0
       told_of_x = x.3
 
-      port_there : (port : CellPort) → Among (output_ports k) port → Among (ports_of k) port
-      port_there port on = (filter_among (λ (q : CellPort). is_some (output_signal q.role)) (ports_of k) port on).0
-
-      kept_together : IsTogether k.circuit (phase_at k.rules phase) kept x.0.net y.0.net
-      kept_together =
-          subst (λ (n : ℕ). IsTogether k.circuit (phase_at k.rules phase) kept n y.0.net) (sym x.2)
-          (subst (λ (n : ℕ). IsTogether k.circuit (phase_at k.rules phase) kept a n) (sym y.2) (together_kept k.circuit (phase_at k.rules phase) which a b together))
+  -- two that are exposed and together inside are one
+  pub one_part : (phase a b : ℕ) (which : Bool) → phase < length cut.top.rules.phases → exposed a ≡ true → exposed b ≡ true → IsTogether k.circuit (phase_at k.rules phase) which a b → a ≡ b
+  one_part phase a b which lt one other together =
+      let y = exposed_true cut blif facts i p m step b other in
+      only_port phase a y.0 lt one y.1 (subst (λ (n : ℕ). IsTogether k.circuit (phase_at k.rules phase) kept a n) (sym y.2) (together_kept k.circuit (phase_at k.rules phase) which a b together)) ∙ y.2
 
 -- ---- the laws
 

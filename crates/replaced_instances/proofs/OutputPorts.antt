@@ -1,5 +1,5 @@
 -- The output ports of a cell: their nets rise, each plain net at the ports is that of one, and the output pins of an instance follow them.
-use Rattle.std.proofs.Common.{◌≡◌, ◌≤◌, ◌+◌, ◌∷◌, [], ℕ, zero, suc, cond, List, Bool, true, false, map, length, Option, Some, None, refl, ap, sym, ◌∙◌, arith}
+use Rattle.std.proofs.Common.{◌≡◌, ◌≤◌, ◌+◌, ◌∷◌, [], ℕ, zero, suc, cond, List, Bool, true, false, map, length, Option, Some, None, refl, ap, ap₂, sym, ◌∙◌, arith}
 use Rattle.std.specs.Prelude.{drop, filter, is_some, nat_lt, slice_get}
 use Rattle.std.proofs.lemmas.Bool.Decides.{nat_tests}
 use Rattle.std.proofs.lemmas.Option.{none-some, same_Some}
@@ -220,3 +220,20 @@ module _ (at : ℕ → ℕ) where
           ≡ map (λ (port : CellPort). at port.net) (cond (is_some o) (x ∷ filter is_out xs) (filter is_out xs))
       by_role None rest = rest j
       by_role (Some s) rest = ap (λ (nets : List ℕ). at x.net ∷ nets) (rest (suc j))
+
+  -- and have their signals
+  pub driven_signals : (facts : List CellFacts) (cell j : ℕ) (ports : List CellPort)
+      → map (λ (w : WholePin). Some w.signal) (driven_pins_from facts cell j (map pin_at ports)) ≡ map (λ (port : CellPort). output_signal port.role) (filter is_out ports)
+  driven_signals facts cell j [] = refl
+  driven_signals facts cell j (x ∷ xs) = by_role (output_signal x.role) refl (λ k. driven_signals facts cell k xs)
+    where
+      by_role : (o : Option ℕ) → output_signal x.role ≡ o
+          → ((k : ℕ) → map (λ (w : WholePin). Some w.signal) (driven_pins_from facts cell k (map pin_at xs)) ≡ map (λ (port : CellPort). output_signal port.role) (filter is_out xs))
+          → map (λ (w : WholePin). Some w.signal)
+          (elim o [
+            | None ↦ driven_pins_from facts cell j (map pin_at xs)
+            | Some s ↦ record { net = net_id (at x.net); signal = s; drive = drive_in facts cell j; observed = false } ∷ driven_pins_from facts cell (suc j) (map pin_at xs)
+          ])
+          ≡ map (λ (port : CellPort). output_signal port.role) (cond (is_some o) (x ∷ filter is_out xs) (filter is_out xs))
+      by_role None e rest = rest j
+      by_role (Some s) e rest = ap₂ (λ (one : Option ℕ) (others : List (Option ℕ)). one ∷ others) (sym e) (rest (suc j))

@@ -14,7 +14,7 @@ use Rattle.placed_cells.proofs.RowLaws.{port_count}
 use Rattle.placed_cells.proofs.TieLaws.{instances_are_tied}
 use Rattle.placed_cells.specs.Above.{IsTied, net_above, place_alone}
 use Rattle.replaced_instances.proofs.Exposures.{no_channel_at, no_other_at, other_at}
-use Rattle.replaced_instances.proofs.OutputPorts.{IsRising, NamedNets, driven_drive, driven_nets, flat_of_port, is_net_role, out_is_net, outputs_rise, pin_at, pins_are, port_of_flat}
+use Rattle.replaced_instances.proofs.OutputPorts.{IsRising, NamedNets, driven_drive, driven_nets, driven_signals, flat_of_port, is_net_role, out_is_net, outputs_rise, pin_at, pins_are, port_of_flat}
 use Rattle.replaced_instances.specs.Steps.{IsAllowedInstance, IsStep, IsStepAtGates, compared_at}
 use Rattle.vrt_model.proofs.Filtered.{among_kept, filter_among}
 use Rattle.vrt_model.proofs.Lists.{at_front, at_map, at_there, map_at, one_at}
@@ -194,6 +194,24 @@ module _ {at_gates : Bool} (cut : Cut) (blif : Blif) (facts : List CellFacts) (i
       let there = map_at make (enumerate_from 0 pins) j (0 + j, pin.0) (enumerated_at 0 pins j pin.0 pin.1) in
       let number : 0 + j ≡ j = omega arith in
       (make (0 + j, pin.0), subst (λ (os : List OutputAt). At os j (make (0 + j, pin.0))) (sym outs_are) there, pin.2, number)
+
+  signals_are : map (λ (w : WholePin). Some w.signal) (driven_pins facts k p.at) ≡ map (λ (port : CellPort). output_signal port.role) (output_ports k)
+  signals_are =
+      ap (λ (pins : List Pin). map (λ (w : WholePin). Some w.signal) (driven_pins_from facts p.at.cell 0 pins)) pins_shifted
+      ∙ driven_signals at facts p.at.cell 0 (ports_of k)
+
+  -- it has the signal of its port
+  pub signal_of_output : (j : ℕ) (o : OutputAt) (port : CellPort) → At outs j o → At (output_ports k) j port → output_signal port.role ≡ Some o.pin.signal
+  signal_of_output j o port e there =
+      let pins = driven_pins facts k p.at in
+      let make : ℕ × WholePin → OutputAt = λ q. record { instance = p.number; output = q.0; pin = q.1 } in
+      let from = at_map make (enumerate_from 0 pins) j o (subst (λ (os : List OutputAt). At os j o) outs_are e) in
+      let here = at_enumerated 0 pins j from.0 from.1 in
+      let signal = map_at (λ (w : WholePin). Some w.signal) pins j from.0.1 here.1 in
+      let own = map_at (λ (x : CellPort). output_signal x.role) (output_ports k) j port there in
+      let signals = map (λ (x : CellPort). output_signal x.role) (output_ports k) in
+      one_at signals j (output_signal port.role) (Some from.0.1.signal) own (subst (λ (ss : List (Option ℕ)). At ss j (Some from.0.1.signal)) signals_are signal)
+      ∙ ap (λ (x : OutputAt). Some x.pin.signal) from.2
 
   -- ---- the nets of the ports
 

@@ -1,33 +1,25 @@
--- Along the chain from the flat circuit to the checked one nothing is wrong in the one exactly where nothing is wrong in the other.
+-- The circuits of the chain from the flat circuit to the checked one: each has one solution, and each instance that is chosen is a step.
 use Rattle.std.proofs.Common.{◌≡◌, ℕ, zero, suc, ◌<◌, Bool, true, not, List, length, ◌+◌, refl, ap, ap₂, sym, ◌∙◌, subst, arith, inl, inr}
 use Rattle.std.specs.Prelude.{All, drop, filter}
 use Rattle.std.specs.List.{enumerate_from}
-use Rattle.std.proofs.lemmas.Bool.{cases_Bool}
 use Rattle.std.proofs.lemmas.Option.{slice_get_within}
-use Rattle.checked_chain.proofs.EndLaws.{chain_begins_flat, chain_ends_checked}
+use Rattle.checked_chain.proofs.EndLaws.{chain_ends_checked}
 use Rattle.checked_chain.proofs.LinkLaws.{circuits_are_acyclic}
-use Rattle.checked_chain.proofs.StepLaws.{none_more_is_same}
-use Rattle.checked_chain.proofs.ThereLaws.{chain_is_there}
 use Rattle.checked_chain.specs.Arcs.{AreOutputsApart, AreWholeOutputsApart}
 use Rattle.checked_chain.specs.Holds.{IsOfChain}
-use Rattle.channel_parts.specs.OneSolution.{HasOneSolution}
+use Rattle.channel_parts.specs.OneSolution.{AreDetermined, AreObserved, HasOneSolution}
 use Rattle.placed_cells.proofs.SplitLaws.{places_in_stand_together}
-use Rattle.placed_cells.specs.Above.{net_above}
-use Rattle.replaced_cells.proofs.AgreementLaws.{agreement_is_transitive, one_more_whole_agrees}
-use Rattle.replaced_cells.proofs.ChainLaws.{chain_keeps_valuations}
-use Rattle.replaced_cells.specs.Agreement.{AgreesWith, IsAlwaysSolved}
+use Rattle.replaced_cells.specs.Agreement.{IsAlwaysSolved}
 use Rattle.replaced_instances.proofs.StepPlaces.{first_in}
 use Rattle.replaced_instances.proofs.StepPorts.{enumerated_at, place_there}
-use Rattle.replaced_instances.specs.Steps.{compared_at, fresh_place, is_inside_at, is_outside_at}
-use Rattle.substitution_laws.proofs.ChosenLaws.{chosen_steps_are_at_gates}
+use Rattle.substitution_laws.proofs.ChosenLaws.{chosen_instances_are_steps}
 use Rattle.substitution_laws.proofs.EndsLaws.{chosen_ends_are_shown}
 use Rattle.substitution_laws.proofs.FormedCells.{formed_cell}
-use Rattle.substitution_laws.proofs.OneMoreLaws.{one_more}
 use Rattle.substitution_laws.proofs.SeenNets.{HasPortsWithin, port_range, seen_within}
 use Rattle.substitution_laws.proofs.ToldLaws.{ends_before}
 use Rattle.substitution_laws.proofs.WholeCells.{whole_chosen, wholes_are_determined}
 use Rattle.substitution_laws.proofs.WholeRanges.{circuits_have_ranges}
-use Rattle.substitution_laws.specs.Agreement.{ChainIsAlwaysSolved, CheckedCircuitsAgree, IsCheckedSoftly}
+use Rattle.substitution_laws.specs.Agreement.{ChainIsAlwaysSolved, IsCheckedByFacts}
 use Rattle.substitution_laws.specs.Steps.{IsStepOf}
 use Rattle.vrt_model.proofs.Filtered.{device_among, filter_among}
 use Rattle.vrt_model.proofs.Lists.{at_there, map_among, map_at}
@@ -39,10 +31,12 @@ use Rattle.vrt_model.specs.Cut.{Cut, NumberedPlace, is_inside_whole, numbered_pl
 use Rattle.vrt_model.specs.FlatCircuit.{flat_circuit_of, flat_instance, flat_instances, flat_nets}
 use Rattle.vrt_model.specs.Groups.{groups_of}
 use Rattle.vrt_model.specs.Held.{setting_of}
+use Rattle.vrt_model.specs.Known.{HasArc}
 use Rattle.vrt_model.specs.Lists.{Among, At}
+use Rattle.vrt_model.specs.Networks.{HasRanges}
 use Rattle.vrt_model.specs.PairedPorts.{Paired, Model, Skipped, Missing}
 use Rattle.vrt_model.specs.Unrolled.{Place, Top, all_places, deepest, places_in, top_place}
-use Rattle.vrt_model.specs.Unsupported.{comparison_of}
+use Rattle.vrt_model.specs.Unsupported.{IsAcyclic, comparison_of}
 use Rattle.vrt_model.specs.declared.blif.Blif.{Blif}
 use Rattle.vrt_model.specs.declared.circuit.Circuit.{Circuit}
 use Rattle.vrt_model.specs.declared.circuit.FlatInstance.{FlatInstance}
@@ -69,7 +63,7 @@ listed_at t j r e =
     let number : 0 + j ≡ j = omega arith in
     subst (λ (x : ℕ). At (numbered_places t) j (record { number = x; at = r })) number (map_at make (enumerate_from 0 (all_places t)) j (0 + j, r) (enumerated_at 0 (all_places t) j r e))
 
-module _ (k : Comparison) (cut : Cut) (blif : Blif) (facts : List CellFacts) (c : Circuit) (h : IsCheckedSoftly k cut blif facts c) where
+module _ {all_soft : Bool} (k : Comparison) (cut : Cut) (blif : Blif) (facts : List CellFacts) (c : Circuit) (h : IsCheckedByFacts all_soft k cut blif facts c) where
   abbrev t : Top
   t = cut.top
 
@@ -95,22 +89,33 @@ module _ (k : Comparison) (cut : Cut) (blif : Blif) (facts : List CellFacts) (c 
     pub outputs_apart : AreWholeOutputsApart (before cut n) blif
     outputs_apart p m on paired =
         let is = whole_chosen cut n p on in
-        let step = chosen_steps_are_at_gates cut blif facts is.0 p h.choice is.1.place is.1.chosen in
+        let step = chosen_instances_are_steps cut blif facts is.0 p h.choice is.1.place is.1.chosen in
         let model : Paired → ℕ = λ x. elim x [ Model j ↦ j | Skipped ↦ 0 | Missing ↦ 0 ] in
         let same : step.0 ≡ m = ap model (sym step.1.paired ∙ paired) in
         subst (λ (j : ℕ). AreOutputsApart (comparison_of t.design blif t.rules p.at.cell j)) same (formed_cell cut blif facts p.at.cell step.0 h.choice step.2).signals.one_port
 
+    pub ranges_at : HasRanges d
+    ranges_at = circuits_have_ranges cut blif facts n d h.choice h.formed (ends_before cut n (chosen_ends_are_shown cut blif facts h.choice)) circuit
+
+    -- in each phase
+    module _ (phase : ℕ) (lt : phase < length t.rules.phases) where
+      pub nets_observed : AreObserved d (is_observed (with_circuit k d) phase)
+      nets_observed = record {
+        gates = λ e on. gate_observed (with_circuit k d) phase e.gate.0 (e, (device_among true d e on).0, refl);
+        nets = λ m seen. seen_within (with_circuit k d) phase m ranges_at ports_within seen;
+      }
+
+      pub determined_at : AreDetermined d (phase_at t.rules phase) (is_observed (with_circuit k d) phase)
+      determined_at = wholes_are_determined k cut blif facts phase n d h.top h.choice lt circuit
+
+      pub acyclic_at : n < length (all_places t) → IsAcyclic (HasArc d (phase_at t.rules phase))
+      acyclic_at low = circuits_are_acyclic cut blif facts d n phase h.choice.read.valid outputs_apart h.choice.tried circuit lt low (h.acyclic phase lt)
+
     solved_at : n < length (all_places t) → (phase : ℕ) (bits : List Bool) → phase < length t.rules.phases
         → HasOneSolution d (phase_at t.rules phase) (is_observed (with_circuit k d) phase) (setting_of (with_circuit k d) phase bits)
     solved_at low phase bits lt =
-        let ranges = circuits_have_ranges cut blif facts n d h.choice h.formed (ends_before cut n (chosen_ends_are_shown cut blif facts h.choice)) circuit in
-        acyclic_nets_have_one_solution d (phase_at t.rules phase) (is_observed (with_circuit k d) phase) (setting_of (with_circuit k d) phase bits) ranges
-        (record {
-          gates = λ e on. gate_observed (with_circuit k d) phase e.gate.0 (e, (device_among true d e on).0, refl);
-          nets = λ m seen. seen_within (with_circuit k d) phase m ranges ports_within seen;
-        })
-        (wholes_are_determined k cut blif facts phase n d h.top h.choice lt circuit)
-        (circuits_are_acyclic cut blif facts d n phase h.choice.read.valid outputs_apart h.choice.tried circuit lt low (h.acyclic phase lt))
+        acyclic_nets_have_one_solution d (phase_at t.rules phase) (is_observed (with_circuit k d) phase) (setting_of (with_circuit k d) phase bits) ranges_at (nets_observed phase lt) (determined_at phase lt)
+        (acyclic_at phase lt low)
 
     pub always_solved : n < length (all_places t) → IsAlwaysSolved (with_circuit k d)
     always_solved low phase bits lt =
@@ -119,18 +124,12 @@ module _ (k : Comparison) (cut : Cut) (blif : Blif) (facts : List CellFacts) (c 
 
   -- ---- the chain
 
-  same_agrees : AgreesWith k k
-  same_agrees = record { meets = λ phase bits. (λ m. m, λ m. m); agree = λ phase bits lt met. (λ fine. fine, λ fine. fine) }
-
   -- the comparison over its own circuit
   pub is_itself : (d : Circuit) → d ≡ k.circuit → k ≡ with_circuit k d
   is_itself d same = ap₂ (λ (x : Circuit) (gs : List Group). let one : Comparison = record k { circuit = x; groups = gs } in one) (sym same) own
     where
       own : k.groups ≡ groups_of d k.model
       own = h.groups ∙ ap (λ (x : Circuit). groups_of x k.model) (sym same)
-
-  itself : (d : Circuit) → d ≡ k.circuit → AgreesWith k (with_circuit k d)
-  itself d same = subst (λ (x : Comparison). AgreesWith k x) (is_itself d same) same_agrees
 
   -- the place of an instance
   place_of_instance : (i : ℕ) → suc i < length (all_places t) → (p : NumberedPlace) × At (numbered_places t) (suc i) p
@@ -141,10 +140,10 @@ module _ (k : Comparison) (cut : Cut) (blif : Blif) (facts : List CellFacts) (c 
 
   -- the step at an instance that is chosen
   pub step_at : (i : ℕ) (d e : Circuit) → suc i < length (all_places t) → cut.choice i ≡ true → IsCircuitWith (before cut i) blif facts d → IsCircuitWith (before cut (suc i)) blif facts e
-      → (p : NumberedPlace) × (m : ℕ) × (depth : ℕ) × (front : List Place) × (back : List Place) × IsStepOf k cut blif facts i p m depth front back d e
+      → (p : NumberedPlace) × (m : ℕ) × (depth : ℕ) × (front : List Place) × (back : List Place) × IsStepOf all_soft k cut blif facts i p m depth front back d e
   step_at i d e low chosen before_it after =
       let p = place_of_instance i low in
-      let step = chosen_steps_are_at_gates cut blif facts i p.0 h.choice p.1 chosen in
+      let step = chosen_instances_are_steps cut blif facts i p.0 h.choice p.1 chosen in
       let split = places_in_stand_together t (suc i) p.0.at (place_there cut blif facts i p.0 step.0 step.1) in (
         p.0,
         step.0,
@@ -152,34 +151,12 @@ module _ (k : Comparison) (cut : Cut) (blif : Blif) (facts : List CellFacts) (c 
         split.1,
         split.2,
         record {
-          step = record { choice = h.choice; at_gates = step.1; supported = step.2; split = split.3; circuit = before_it; whole = after };
+          step = record { choice = h.choice; chosen = step.1; supported = step.2; split = split.3; circuit = before_it; whole = after };
           flat = h.formed;
           first = of_chain i d before_it;
           next = of_chain (suc i) e after;
         },
       )
-
-  step_agrees : (i : ℕ) (d e : Circuit) → suc i < length (all_places t) → cut.choice i ≡ true → IsCircuitWith (before cut i) blif facts d → IsCircuitWith (before cut (suc i)) blif facts e
-      → AgreesWith (with_circuit k d) (with_circuit k e)
-  step_agrees i d e low chosen before_it after =
-      let s = step_at i d e low chosen before_it after in
-      let p = s.0 in
-      let q = compared_at t blif p s.1 in
-      one_more_whole_agrees (with_circuit k d) q e (net_above t p.at) (λ j. j) (fresh_place (before cut i) blif facts q) (is_outside_at t s.2 p.at)
-      (λ n. not (is_inside_at q.circuit (net_above t p.at) n)) (λ n. 0)
-      (λ phase lt. one_more k cut blif facts i p s.1 s.2 s.3 s.4 d e s.5 phase (subst (λ (u : Top). phase < length u.rules.phases) (sym h.top) lt))
-      (always_solved i d before_it (omega (arith, low))) (always_solved (suc i) e after low)
-      (chain_keeps_valuations k blif facts (before cut i) (before cut (suc i)) d e (of_chain i d before_it) (of_chain (suc i) e after)).1
-
-  pub agrees_at : (n : ℕ) (d : Circuit) → n < length (all_places t) → IsCircuitWith (before cut n) blif facts d → AgreesWith k (with_circuit k d)
-  agrees_at zero d low circuit = itself d ((chain_begins_flat cut blif facts d).0 circuit ∙ sym h.flat)
-  agrees_at (suc i) d low circuit =
-      elim (cases_Bool (cut.choice i)) [
-        | inr not_chosen ↦ agrees_at i d (omega (arith, low)) (subst (λ (x : Cut). IsCircuitWith x blif facts d) (none_more_is_same cut i not_chosen) circuit)
-        | inl chosen ↦
-            let there = chain_is_there cut blif facts c i h.circuit in
-            agreement_is_transitive k there.0 d (agrees_at i there.0 (omega (arith, low)) there.1) (step_agrees i there.0 d low chosen there.1 circuit)
-      ]
 
   -- behind the last instance it is the checked circuit
   pub at_last : (n : ℕ) × (n < length (all_places t)) × IsCircuitWith (before cut n) blif facts c
@@ -192,8 +169,5 @@ module _ (k : Comparison) (cut : Cut) (blif : Blif) (facts : List CellFacts) (c 
       by_count zero lt = absurd (omega (arith, lt))
       by_count (suc n) lt = (n, refl)
 
-pub chain_is_always_solved : ChainIsAlwaysSolved
+pub chain_is_always_solved : {all_soft : Bool} → ChainIsAlwaysSolved all_soft
 chain_is_always_solved k cut blif facts c n d h low circuit = always_solved k cut blif facts c h n d circuit low
-
-pub checked_circuits_agree : CheckedCircuitsAgree
-checked_circuits_agree k cut blif facts c h = (let last = at_last k cut blif facts c h in agrees_at k cut blif facts c h last.0 c last.1 last.2)

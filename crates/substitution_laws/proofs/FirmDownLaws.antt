@@ -11,13 +11,13 @@ use Rattle.firm_faults.specs.FirmGround.{IsFoundByRank, IsOnFirmGround}
 use Rattle.firm_faults.specs.StepDown.{IsCellRanked, IsSamePlaceIn}
 use Rattle.known_nets.specs.Wired.{IsWired}
 use Rattle.placed_cells.specs.Above.{net_above}
-use Rattle.replaced_instances.specs.Steps.{compared_at, fresh_place, is_inside_at, is_outside_at}
+use Rattle.replaced_instances.specs.Steps.{compared_at, compared_at_step, drive_at, exposed_at, fresh_place, is_outside_at}
 use Rattle.substitution_laws.proofs.ChainLaws.{is_itself, step_at}
 use Rattle.substitution_laws.proofs.FormedCells.{formed_cell}
 use Rattle.substitution_laws.proofs.LogicCells.{logic_cell}
 use Rattle.substitution_laws.proofs.StepDownLaws.{steps_go_down}
 use Rattle.substitution_laws.proofs.ToldLaws.{cell_wired}
-use Rattle.substitution_laws.specs.Agreement.{IsCheckedSoftly}
+use Rattle.substitution_laws.specs.Agreement.{IsCheckedByFacts}
 use Rattle.substitution_laws.specs.FirmDown.{FirmGroundReachesFlat}
 use Rattle.substitution_laws.specs.StepDowns.{whole_instances}
 use Rattle.substitution_laws.specs.Steps.{IsStepOf}
@@ -39,13 +39,13 @@ use Rattle.vrt_model.specs.declared.whole.CellFacts.{CellFacts}
 use Rattle.whole_ranks.proofs.RankLaws.{acyclic_nets_have_ranks}
 use Rattle.whole_solutions.proofs.ObservedCases.{gate_observed}
 
-module _ (k : Comparison) (cut : Cut) (blif : Blif) (facts : List CellFacts) (c : Circuit) (h : IsCheckedSoftly k cut blif facts c)
+module _ {all_soft : Bool} (k : Comparison) (cut : Cut) (blif : Blif) (facts : List CellFacts) (c : Circuit) (h : IsCheckedByFacts all_soft k cut blif facts c)
     (phase : ℕ) (lt : phase < length cut.top.rules.phases) (setting : Setting) (kind : FaultKind) (ok : IsFoundByRank kind) where
   abbrev t : Top
   t = cut.top
 
   -- the cell of a step has ranks
-  module _ (i : ℕ) (p : NumberedPlace) (m depth : ℕ) (front back : List Place) (d e : Circuit) (s : IsStepOf k cut blif facts i p m depth front back d e) where
+  module _ (i : ℕ) (p : NumberedPlace) (m depth : ℕ) (front back : List Place) (d e : Circuit) (s : IsStepOf all_soft k cut blif facts i p m depth front back d e) where
     abbrev q : Comparison
     q = compared_at t blif p m
 
@@ -60,7 +60,7 @@ module _ (k : Comparison) (cut : Cut) (blif : Blif) (facts : List CellFacts) (c 
 
     rank_is : (rank : ℕ → ℕ) × IsCellRanked q.circuit (phase_at t.rules phase) (is_observed q phase) known.0 together.0 rank
     rank_is =
-        let cell = logic_cell cut blif facts i p m s.step.at_gates s.step.supported (formed_cell cut blif facts p.at.cell m s.step.choice s.step.supported) phase lt in
+        let cell = logic_cell cut blif facts i p m s.step.chosen s.step.supported (formed_cell cut blif facts p.at.cell m s.step.choice s.step.supported) phase lt in
         let ranks = acyclic_nets_have_ranks q.circuit (phase_at t.rules phase) wired (s.step.supported.acyclic phase lt).0 in (
           ranks.0,
           record {
@@ -72,13 +72,13 @@ module _ (k : Comparison) (cut : Cut) (blif : Blif) (facts : List CellFacts) (c 
           },
         )
 
-    step_down : (n : ℕ) → IsOnFirmGround (with_circuit k e) (whole_instances (before cut (suc i))) phase setting kind n
+    pub step_down : (n : ℕ) → IsOnFirmGround (with_circuit k e) (whole_instances (before cut (suc i))) phase setting kind n
         → (l : ℕ) × IsSamePlaceIn e d kind n l × IsOnFirmGround (with_circuit k d) (whole_instances (before cut i)) phase setting kind l
     step_down n ground =
         let down = steps_go_down k cut blif facts i p m depth front back d e phase setting lt s in
         let ranked = subst (λ (u : Top). IsCellRanked q.circuit (phase_at u.rules phase) (is_observed q phase) known.0 together.0 rank_is.0) s.first.top rank_is.1 in
         firm_ground_goes_down (with_circuit k d) phase setting q.circuit e (net_above t p.at) (λ j. j) (fresh_place (before cut i) blif facts q) (is_outside_at t depth p.at)
-        (λ l. not (is_inside_at q.circuit (net_above t p.at) l)) (is_observed q phase) (λ l. false) known.0 together.0 (λ l. 0) rank_is.0 down.0 (flat_instance p.at) (whole_instances (before cut i)) (whole_instances (before cut (suc i)))
+        (compared_at_step cut blif facts i p q) (is_observed q phase) (exposed_at cut blif facts i p q) known.0 together.0 (drive_at facts p q) rank_is.0 down.0 (flat_instance p.at) (whole_instances (before cut i)) (whole_instances (before cut (suc i)))
         kind n down.1 down.2 ranked ground
 
   pub down_at : (n : ℕ) (d : Circuit) (l : ℕ) → n < length (all_places t) → IsCircuitWith (before cut n) blif facts d → IsOnFirmGround (with_circuit k d) (whole_instances (before cut n)) phase setting kind l
@@ -101,5 +101,5 @@ module _ (k : Comparison) (cut : Cut) (blif : Blif) (facts : List CellFacts) (c 
             (rest.0, same_on d there.0 k.circuit kind l one.0 rest.0 ok one.1 rest.1, rest.2)
       ]
 
-pub firm_ground_reaches_flat : FirmGroundReachesFlat
+pub firm_ground_reaches_flat : {all_soft : Bool} → FirmGroundReachesFlat all_soft
 firm_ground_reaches_flat k cut blif facts c n d phase setting kind at h low circuit lt ok ground = down_at k cut blif facts c h phase lt setting kind ok n d at low circuit ground

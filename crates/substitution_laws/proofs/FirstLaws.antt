@@ -15,8 +15,8 @@ use Rattle.replaced_cells.specs.Agreement.{IsAlwaysSolved}
 use Rattle.substitution_laws.proofs.ChainLaws.{always_solved, at_last, is_itself, some_place}
 use Rattle.substitution_laws.proofs.EndsLaws.{chosen_ends_are_shown}
 use Rattle.substitution_laws.proofs.FirmDownLaws.{firm_ground_reaches_flat}
-use Rattle.substitution_laws.proofs.OrderedLaws.{checked_circuit_is_ordered}
-use Rattle.substitution_laws.specs.Agreement.{IsCheckedSoftly}
+use Rattle.substitution_laws.proofs.OrderedLaws.{chain_circuits_are_ordered}
+use Rattle.substitution_laws.specs.Agreement.{IsCheckedByFacts}
 use Rattle.substitution_laws.specs.FirstFaults.{FirstFaultsStandBelow}
 use Rattle.substitution_laws.specs.StepDowns.{whole_instances}
 use Rattle.vrt_model.proofs.Lists.{one_at}
@@ -59,7 +59,7 @@ printed_bare k j phase one other a b g e Next at there circuit wanted ok h = abs
 printed_bare k j phase one other a b g e Apart at there circuit wanted ok h = absurd ok
 printed_bare k j phase one other a b g e Enter at there circuit wanted ok h = absurd ok
 
-module _ (k : Comparison) (cut : Cut) (blif : Blif) (facts : List CellFacts) (c : Circuit) (h : IsCheckedSoftly k cut blif facts c) where
+module _ {all_soft : Bool} (k : Comparison) (cut : Cut) (blif : Blif) (facts : List CellFacts) (c : Circuit) (h : IsCheckedByFacts all_soft k cut blif facts c) where
   abbrev t : Top
   t = cut.top
 
@@ -127,7 +127,7 @@ module _ (k : Comparison) (cut : Cut) (blif : Blif) (facts : List CellFacts) (c 
 
     firm : IsOnFirmGround (with_circuit k c) (whole_instances (before cut last.0)) f.phase setting f.kind f.at
     firm =
-        let ordered = checked_circuit_is_ordered k cut blif facts c last.0 f.phase (setting_of (with_circuit k c) f.phase f.bits) h last.2 lt in
+        let ordered = chain_circuits_are_ordered k cut blif facts c last.0 c f.phase (setting_of (with_circuit k c) f.phase f.bits) h last.2 lt in
         subst (λ (s : Setting). IsOnFirmGround (with_circuit k c) (whole_instances (before cut last.0)) f.phase s f.kind f.at) same_setting
         (first_fault_is_firm (with_circuit k c) (whole_instances (before cut last.0)) f ordered.0 ordered.1 first.in_phase ok)
 
@@ -162,5 +162,5 @@ module _ (k : Comparison) (cut : Cut) (blif : Blif) (facts : List CellFacts) (c 
     pub stands_below : (flat : Finding) × Describes k fault flat × IsFinding k flat × IsSamePlace cut fault.kind flat.at f.at
     stands_below = (flat, flat_described, flat_found, subst (λ (kind : FaultKind). IsSamePlace cut kind down.0 f.at) (sym describes.kind) down.1)
 
-pub first_faults_stand_below : FirstFaultsStandBelow
+pub first_faults_stand_below : {all_soft : Bool} → FirstFaultsStandBelow all_soft
 first_faults_stand_below k cut blif facts c fault f h ok describes first = stands_below k cut blif facts c h fault f ok describes first

@@ -16,36 +16,35 @@ use Rattle.replaced_cells.proofs.BrokenLaws.{breaks_constrained, breaks_there, p
 use Rattle.replaced_cells.proofs.GoesDown.{bits_go_down}
 use Rattle.replaced_cells.proofs.ObservedFaults.{observed_bits_show_faults}
 use Rattle.replaced_cells.proofs.PrintedLaws.{apart_printed, differs_printed, enter_printed, next_printed, printed_below}
-use Rattle.replaced_cells.proofs.SharedFaults.{bit_same, faults_stand_below}
+use Rattle.replaced_cells.proofs.SharedFaults.{bit_same, calm_below, faults_stand_below}
+use Rattle.replaced_cells.proofs.SolvedAlike.{plain_there}
 use Rattle.replaced_cells.specs.Agreement.{HaveSameBits}
 use Rattle.replaced_cells.specs.Faults.{IsSameIn}
-use Rattle.replaced_cells.specs.OneMoreWhole.{IsOneMoreWhole, all_bits, no_net}
-use Rattle.replaced_instances.specs.Steps.{compared_at, fresh_place, is_inside_at, is_outside_at}
-use Rattle.substitution_laws.proofs.ToldLaws.{ends_before}
-use Rattle.substitution_laws.proofs.ChainLaws.{always_solved, at_last, is_itself, of_chain, ports_within, step_at}
-use Rattle.substitution_laws.proofs.ChosenLaws.{chosen_steps_are_at_gates}
+use Rattle.replaced_cells.specs.OneMoreWhole.{IsOneMoreWhole, all_bits}
+use Rattle.replaced_instances.specs.Steps.{compared_at, compared_at_step, drive_at, exposed_at, fresh_place, is_outside_at}
+use Rattle.substitution_laws.proofs.ChainLaws.{always_solved, at_last, determined_at, is_itself, nets_observed, of_chain, ranges_at, step_at}
+use Rattle.substitution_laws.proofs.ChosenLaws.{chosen_instances_are_steps}
 use Rattle.substitution_laws.proofs.EndsLaws.{chosen_ends_are_shown}
 use Rattle.substitution_laws.proofs.FirstLaws.{flat_solved}
 use Rattle.substitution_laws.proofs.OneMoreLaws.{instance_is, one_more}
 use Rattle.substitution_laws.proofs.PrintedBits.{printed_same}
-use Rattle.substitution_laws.proofs.SeenNets.{seen_within}
-use Rattle.substitution_laws.proofs.WholeCells.{IsChosenAt, shown, wholes_are_determined}
-use Rattle.substitution_laws.proofs.WholeRanges.{circuits_have_ranges}
-use Rattle.substitution_laws.specs.Agreement.{IsCheckedSoftly}
+use Rattle.substitution_laws.proofs.WholeCells.{IsChosenAt, shown}
+use Rattle.substitution_laws.specs.Agreement.{IsCheckedByFacts}
 use Rattle.substitution_laws.specs.LaterFaults.{IsFoundLater, LaterFaultsStandBelow}
 use Rattle.substitution_laws.specs.Steps.{IsStepOf}
-use Rattle.vrt_model.proofs.Filtered.{device_among}
 use Rattle.vrt_model.specs.Assignment.{Assignment}
 use Rattle.vrt_model.specs.Checked.{IsCircuitWith, before, with_circuit}
 use Rattle.vrt_model.specs.CheckedVerdicts.{IsSamePlace}
 use Rattle.vrt_model.specs.Comparison.{Comparison, is_observed, phase_at}
 use Rattle.vrt_model.specs.Cut.{Cut, NumberedPlace}
-use Rattle.vrt_model.specs.Faults.{Assigns, BreaksConstraint, IsPrintedWith, Solves, Stands}
+use Rattle.vrt_model.specs.Faults.{Assigns, BreaksConstraint, IsPrintedWith, Responds, Solves, Stands}
 use Rattle.vrt_model.specs.FlatCircuit.{flat_instance}
 use Rattle.vrt_model.specs.Held.{setting_of}
+use Rattle.vrt_model.specs.Known.{IsPlain}
 use Rattle.vrt_model.specs.Lists.{Among}
 use Rattle.vrt_model.specs.Places.{Finding, IsFinding, IsFirst, comes_before, greatest_rank, named_nets, standing}
-use Rattle.vrt_model.specs.Reading.{Partial}
+use Rattle.vrt_model.specs.Reading.{Partial, bare}
+use Rattle.vrt_model.specs.Response.{Fight as FightResponse}
 use Rattle.vrt_model.specs.Solution.{SameObserved}
 use Rattle.vrt_model.specs.State.{Setting}
 use Rattle.vrt_model.specs.Unrolled.{Place, Top, all_places}
@@ -59,7 +58,7 @@ use Rattle.vrt_model.specs.declared.verdict.FaultKind.TheVariants.{Fight, FightK
 use Rattle.vrt_model.specs.declared.whole.CellFacts.{CellFacts}
 use Rattle.whole_ranks.proofs.DefinedLaws.{solutions_are_defined}
 use Rattle.channel_parts.specs.OneSolution.{AreDetermined}
-use Rattle.whole_solutions.proofs.ObservedCases.{gate_observed, instance_observed}
+use Rattle.whole_solutions.proofs.ObservedCases.{instance_observed}
 
 -- ---- the order of stages
 
@@ -152,7 +151,7 @@ module _ (k : Comparison) (f : Finding) (first : IsFirst k f) (later : IsFoundLa
 
 -- ---- along the chain
 
-module _ (k : Comparison) (cut : Cut) (blif : Blif) (facts : List CellFacts) (c : Circuit) (h : IsCheckedSoftly k cut blif facts c)
+module _ {all_soft : Bool} (k : Comparison) (cut : Cut) (blif : Blif) (facts : List CellFacts) (c : Circuit) (h : IsCheckedByFacts all_soft k cut blif facts c)
     (phase : ℕ) (vals : List Bool) (lt : phase < length k.rules.phases) (g : Assignment) (kind : FaultKind) (later : IsFoundLater kind) (at : ℕ) (value wanted : Option Bool) where
   abbrev t : Top
   t = cut.top
@@ -160,11 +159,13 @@ module _ (k : Comparison) (cut : Cut) (blif : Blif) (facts : List CellFacts) (c 
   abbrev setting : Setting
   setting = setting_of k phase vals
 
-  -- a fault of a circuit with a solution that has all bits, and breaks no constraint of an instance that is chosen, with its printed values
+  -- a fault of a circuit with a solution that has all bits, with which no net fights in the bare circuit and no constraint of an instance
+  -- that is chosen is broken, with its printed values
   record IsThere (d : Circuit) : Type 0 where
     bits : Partial
     solves : Solves (with_circuit k d) phase setting bits
     defined : (n : ℕ) → is_observed (with_circuit k d) phase n ≡ true → IsSome (bits n)
+    calm : (n : ℕ) → IsPlain d n → ¬ Responds (with_circuit k d) phase setting bits bare n FightResponse
     unbroken : (j : ℕ) (p : NumberedPlace) → IsChosenAt cut j p → ¬ BreaksConstraint k.design k.rules phase bits (flat_instance p.at)
     stands : Stands (with_circuit k d) phase setting bits g kind at
     printed : (e : Assignment) → Assigns k phase setting e → IsPrintedWith (with_circuit k d) phase setting bits e kind at value wanted
@@ -177,7 +178,7 @@ module _ (k : Comparison) (cut : Cut) (blif : Blif) (facts : List CellFacts) (c 
 
   module _ (i : ℕ) (d e : Circuit) (low : suc i < length (all_places t)) (chosen : cut.choice i ≡ true) (circuit : IsCircuitWith (before cut i) blif facts d) (after : IsCircuitWith (before cut (suc i)) blif facts e)
       (there : IsThere e) where
-    abbrev step : (p : NumberedPlace) × (m : ℕ) × (depth : ℕ) × (front : List Place) × (back : List Place) × IsStepOf k cut blif facts i p m depth front back d e
+    abbrev step : (p : NumberedPlace) × (m : ℕ) × (depth : ℕ) × (front : List Place) × (back : List Place) × IsStepOf all_soft k cut blif facts i p m depth front back d e
     step = step_at k cut blif facts c h i d e low chosen circuit after
 
     abbrev p : NumberedPlace
@@ -192,7 +193,7 @@ module _ (k : Comparison) (cut : Cut) (blif : Blif) (facts : List CellFacts) (c 
     lt_here : phase < length t.rules.phases
     lt_here = subst (λ (u : Top). phase < length u.rules.phases) (sym h.top) lt
 
-    one : IsOneMoreWhole (with_circuit k d) q phase e above (λ j. j) (fresh_place (before cut i) blif facts q) (is_outside_at t step.2 p.at) (λ n. not (is_inside_at q.circuit above n)) no_net (λ n. 0)
+    one : IsOneMoreWhole (with_circuit k d) q phase e above (λ j. j) (fresh_place (before cut i) blif facts q) (is_outside_at t step.2 p.at) (compared_at_step cut blif facts i p q) (exposed_at cut blif facts i p q) (drive_at facts p q)
     one = one_more k cut blif facts i p step.1 step.2 step.3 step.4 d e step.5 phase lt_here
 
     own_unbroken : ¬ BreaksConstraint k.design k.rules phase there.bits one.instance.0
@@ -200,12 +201,12 @@ module _ (k : Comparison) (cut : Cut) (blif : Blif) (facts : List CellFacts) (c 
     own_unbroken =
         subst (λ (y : FlatInstance). ¬ BreaksConstraint k.design k.rules phase there.bits y)
         (sym (instance_is k cut blif facts i p step.1 step.2 step.3 step.4 d e step.5 phase lt_here))
-        (there.unbroken i p (record { place = step.5.step.at_gates.place; chosen = chosen }))
+        (there.unbroken i p (record { place = step.5.step.chosen.place; chosen = chosen }))
 
     down : HaveSameBits (with_circuit k d) q phase e above (λ j. j) (fresh_place (before cut i) blif facts q) (is_outside_at t step.2 p.at) setting
     down =
-        bits_go_down (with_circuit k d) q phase e above (λ j. j) (fresh_place (before cut i) blif facts q) (is_outside_at t step.2 p.at) (λ n. not (is_inside_at q.circuit above n)) no_net (λ n. 0) setting there.bits one
-        there.solves there.defined (λ n e. absurd (false≢true e)) own_unbroken
+        bits_go_down (with_circuit k d) q phase e above (λ j. j) (fresh_place (before cut i) blif facts q) (is_outside_at t step.2 p.at) (compared_at_step cut blif facts i p q) (exposed_at cut blif facts i p q) (drive_at facts p q) setting there.bits one
+        there.solves there.defined (λ n is. there.calm (above n) (plain_there (with_circuit k d) q phase e above (λ j. j) (fresh_place (before cut i) blif facts q) (is_outside_at t step.2 p.at) (compared_at_step cut blif facts i p q) (exposed_at cut blif facts i p q) (drive_at facts p q) one (above n) (one.placed.plain n (one.placed.exposed_plain n is)))) own_unbroken
 
     abbrev below : Partial
     below = all_bits down.0.reading
@@ -218,15 +219,26 @@ module _ (k : Comparison) (cut : Cut) (blif : Blif) (facts : List CellFacts) (c 
         let unique = one_solution (suc i) e low after in
         sym (unique.only there.bits there.solves n seen) ∙ unique.only whole down.3.whole_solves n seen
 
+    -- nothing fights by the bits of the state, and so nothing does in the circuit
+    calm_there : (n : ℕ) → IsPlain e n → ¬ Responds (with_circuit k e) phase setting whole bare n FightResponse
+    calm_there n plain fights =
+        there.calm n plain
+        (observed_bits_show_faults (with_circuit k e) phase setting whole there.bits g Fight n (λ m seen. sym (same_there m seen)) (plain, fights)).1
+
+    calm_here : (n : ℕ) → IsPlain d n → ¬ Responds (with_circuit k d) phase setting below bare n FightResponse
+    calm_here =
+        calm_below (with_circuit k d) q phase e above (λ j. j) (fresh_place (before cut i) blif facts q) (is_outside_at t step.2 p.at) (compared_at_step cut blif facts i p q) (exposed_at cut blif facts i p q) (drive_at facts p q)
+        setting down.0 down.1 down.2 one down.3 calm_there
+
     kept_bit : (n : ℕ) → is_outside_at t step.2 p.at n ≡ true → whole n ≡ below n
     kept_bit n stays =
-        bit_same (with_circuit k d) q phase e above (λ j. j) (fresh_place (before cut i) blif facts q) (is_outside_at t step.2 p.at) (λ n. not (is_inside_at q.circuit above n)) no_net (λ n. 0) setting down.0 down.1 down.2 one
+        bit_same (with_circuit k d) q phase e above (λ j. j) (fresh_place (before cut i) blif facts q) (is_outside_at t step.2 p.at) (compared_at_step cut blif facts i p q) (exposed_at cut blif facts i p q) (drive_at facts p q) setting down.0 down.1 down.2 one
         down.3 n stays
 
     unbroken_below : (j : ℕ) (o : NumberedPlace) → IsChosenAt cut j o → ¬ BreaksConstraint k.design k.rules phase below (flat_instance o.at)
     unbroken_below j o is broken =
         let y = flat_instance o.at in
-        let other = chosen_steps_are_at_gates cut blif facts j o h.choice is.place is.chosen in
+        let other = chosen_instances_are_steps cut blif facts j o h.choice is.place is.chosen in
         let on : Among e.instances y = subst (λ (ys : List FlatInstance). Among ys y) (sym after.instances) (shown cut blif facts h.choice j o other.0 other.1 other.2 (suc i)) in
         let at_whole = breaks_there k.design k.rules phase below whole y y refl (ports_same y below whole (λ net there_on. sym (kept_bit net.0 (one.hides.instance_ports y net on there_on)))) broken in
         let constrained = breaks_constrained k.design k.rules phase whole y at_whole in
@@ -238,7 +250,7 @@ module _ (k : Comparison) (cut : Cut) (blif : Blif) (facts : List CellFacts) (c 
     stands_below =
         let st = observed_bits_show_faults (with_circuit k e) phase setting there.bits whole g kind at same_there there.stands in
         let found =
-        faults_stand_below (with_circuit k d) q phase e above (λ j. j) (fresh_place (before cut i) blif facts q) (is_outside_at t step.2 p.at) (λ n. not (is_inside_at q.circuit above n)) no_net (λ n. 0) setting down.0 down.1
+        faults_stand_below (with_circuit k d) q phase e above (λ j. j) (fresh_place (before cut i) blif facts q) (is_outside_at t step.2 p.at) (compared_at_step cut blif facts i p q) (exposed_at cut blif facts i p q) (drive_at facts p q) setting down.0 down.1
         down.2 g one down.3 kind at st in
         subst (λ (n : ℕ). Stands (with_circuit k d) phase setting below g kind n) (kept_place d e kind found.0 at later found.1) found.2
 
@@ -250,19 +262,19 @@ module _ (k : Comparison) (cut : Cut) (blif : Blif) (facts : List CellFacts) (c 
     printed_down x FightKept ok st (inl no_value) = absurd no_value.1
     printed_down x FightKept ok st (inr (none, c, w)) = inr (λ n v want. want, c, w)
     printed_down x Unsettled ok st p_there =
-        printed_below (with_circuit k d) q phase e above (λ j. j) (fresh_place (before cut i) blif facts q) (is_outside_at t step.2 p.at) (λ n. not (is_inside_at q.circuit above n)) no_net (λ n. 0) setting down.0 down.1 down.2
+        printed_below (with_circuit k d) q phase e above (λ j. j) (fresh_place (before cut i) blif facts q) (is_outside_at t step.2 p.at) (compared_at_step cut blif facts i p q) (exposed_at cut blif facts i p q) (drive_at facts p q) setting down.0 down.1 down.2
         one down.3 x Unsettled at at value wanted refl st p_there
     printed_down x Differs ok st p_there =
-        differs_printed (with_circuit k d) q phase e above (λ j. j) (fresh_place (before cut i) blif facts q) (is_outside_at t step.2 p.at) (λ n. not (is_inside_at q.circuit above n)) no_net (λ n. 0) setting down.0 down.1 down.2
+        differs_printed (with_circuit k d) q phase e above (λ j. j) (fresh_place (before cut i) blif facts q) (is_outside_at t step.2 p.at) (compared_at_step cut blif facts i p q) (exposed_at cut blif facts i p q) (drive_at facts p q) setting down.0 down.1 down.2
         one down.3 x at value wanted p_there
     printed_down x Next ok st p_there =
-        next_printed (with_circuit k d) q phase e above (λ j. j) (fresh_place (before cut i) blif facts q) (is_outside_at t step.2 p.at) (λ n. not (is_inside_at q.circuit above n)) no_net (λ n. 0) setting down.0 down.1 down.2 one
+        next_printed (with_circuit k d) q phase e above (λ j. j) (fresh_place (before cut i) blif facts q) (is_outside_at t step.2 p.at) (compared_at_step cut blif facts i p q) (exposed_at cut blif facts i p q) (drive_at facts p q) setting down.0 down.1 down.2 one
         down.3 x at value wanted p_there
     printed_down x Apart ok st p_there =
-        apart_printed (with_circuit k d) q phase e above (λ j. j) (fresh_place (before cut i) blif facts q) (is_outside_at t step.2 p.at) (λ n. not (is_inside_at q.circuit above n)) no_net (λ n. 0) setting down.0 down.1 down.2
+        apart_printed (with_circuit k d) q phase e above (λ j. j) (fresh_place (before cut i) blif facts q) (is_outside_at t step.2 p.at) (compared_at_step cut blif facts i p q) (exposed_at cut blif facts i p q) (drive_at facts p q) setting down.0 down.1 down.2
         one down.3 x at value wanted p_there
     printed_down x Enter ok st p_there =
-        enter_printed (with_circuit k d) q phase e above (λ j. j) (fresh_place (before cut i) blif facts q) (is_outside_at t step.2 p.at) (λ n. not (is_inside_at q.circuit above n)) no_net (λ n. 0) setting down.0 down.1 down.2
+        enter_printed (with_circuit k d) q phase e above (λ j. j) (fresh_place (before cut i) blif facts q) (is_outside_at t step.2 p.at) (compared_at_step cut blif facts i p q) (exposed_at cut blif facts i p q) (drive_at facts p q) setting down.0 down.1 down.2
         one down.3 x at value wanted p_there
 
     printed_below_it : (x : Assignment) → Assigns k phase setting x → IsPrintedWith (with_circuit k d) phase setting below x kind at value wanted
@@ -271,7 +283,7 @@ module _ (k : Comparison) (cut : Cut) (blif : Blif) (facts : List CellFacts) (c 
         (printed_same (with_circuit k e) phase setting there.bits whole same_there g x kind at value wanted later there.stands (there.printed x assigns))
 
     there_below : IsThere d
-    there_below = record { bits = below; solves = down.3.solves; defined = λ n seen. refl; unbroken = unbroken_below; stands = stands_below; printed = printed_below_it }
+    there_below = record { bits = below; solves = down.3.solves; defined = λ n seen. refl; calm = calm_here; unbroken = unbroken_below; stands = stands_below; printed = printed_below_it }
 
   abbrev IsThereFlat : Comparison → Type 0
   IsThereFlat x =
@@ -290,7 +302,7 @@ module _ (k : Comparison) (cut : Cut) (blif : Blif) (facts : List CellFacts) (c 
 
 -- ---- the first fault
 
-module _ (k : Comparison) (cut : Cut) (blif : Blif) (facts : List CellFacts) (c : Circuit) (f : Finding) (h : IsCheckedSoftly k cut blif facts c) (later : IsFoundLater f.kind)
+module _ {all_soft : Bool} (k : Comparison) (cut : Cut) (blif : Blif) (facts : List CellFacts) (c : Circuit) (f : Finding) (h : IsCheckedByFacts all_soft k cut blif facts c) (later : IsFoundLater f.kind)
     (first : IsFirst (with_circuit k c) f) where
   abbrev last_found : IsFinding (with_circuit k c) f
   last_found = first.in_phase.found
@@ -310,23 +322,18 @@ module _ (k : Comparison) (cut : Cut) (blif : Blif) (facts : List CellFacts) (c 
   all_defined : (n : ℕ) → is_observed (with_circuit k c) f.phase n ≡ true → IsSome (last_found.stands.0 n)
   all_defined n seen =
       let lt = subst (λ (u : Top). f.phase < length u.rules.phases) (sym h.top) last_found.phase in
-      let ranges = circuits_have_ranges cut blif facts last.0 c h.choice h.formed (ends_before cut last.0 (chosen_ends_are_shown cut blif facts h.choice)) last.2 in
-      let determined = subst (λ (u : Top). AreDetermined c (phase_at u.rules f.phase) (is_observed (with_circuit k c) f.phase)) h.top (wholes_are_determined k cut blif facts f.phase last.0 c h.top h.choice lt last.2) in
+      let determined = subst (λ (u : Top). AreDetermined c (phase_at u.rules f.phase) (is_observed (with_circuit k c) f.phase)) h.top (determined_at k cut blif facts c h last.0 c last.2 f.phase lt) in
       let order = first.in_phase.first in
       let bit =
-      solutions_are_defined c (phase_at k.rules f.phase) (is_observed (with_circuit k c) f.phase) (setting_of (with_circuit k c) f.phase f.bits) order.0 last_found.stands.0 ranges
-      (record {
-        gates = λ d on. gate_observed (with_circuit k c) f.phase d.gate.0 (d, (device_among true c d on).0, refl);
-        nets = λ m s. seen_within (with_circuit k c) f.phase m ranges (ports_within k cut blif facts c h last.0 c last.2) s;
-      })
-      determined order.2.ranking last_found.stands.2
+      solutions_are_defined c (phase_at k.rules f.phase) (is_observed (with_circuit k c) f.phase) (setting_of (with_circuit k c) f.phase f.bits) order.0 last_found.stands.0 (ranges_at k cut blif facts c h last.0 c last.2)
+      (nets_observed k cut blif facts c h last.0 c last.2 f.phase lt) determined order.2.ranking last_found.stands.2
       (λ m plain fights. none_of Fight m tt (plain, fights))
       (λ m s floats. none_of Float m tt (s, floats)) n seen in
       subst IsSome (sym bit.1) refl
 
   all_unbroken : (j : ℕ) (p : NumberedPlace) → IsChosenAt cut j p → ¬ BreaksConstraint k.design k.rules f.phase last_found.stands.0 (flat_instance p.at)
   all_unbroken j p is broken =
-      let other = chosen_steps_are_at_gates cut blif facts j p h.choice is.place is.chosen in
+      let other = chosen_instances_are_steps cut blif facts j p h.choice is.place is.chosen in
       let on : Among c.instances (flat_instance p.at) = subst (λ (ys : List FlatInstance). Among ys (flat_instance p.at)) (sym last.2.instances) (shown cut blif facts h.choice j p other.0 other.1 other.2 last.0) in
       none_of Constraint on.0 tt (flat_instance p.at, on.1, broken)
 
@@ -342,6 +349,7 @@ module _ (k : Comparison) (cut : Cut) (blif : Blif) (facts : List CellFacts) (c 
           bits = last_found.stands.0;
           solves = subst (λ (s : Setting). Solves (with_circuit k c) f.phase s last_found.stands.0) same_setting last_found.stands.2;
           defined = all_defined;
+          calm = λ n plain fights. none_of Fight n tt (plain, subst (λ (s : Setting). Responds (with_circuit k c) f.phase s last_found.stands.0 bare n FightResponse) (sym same_setting) fights);
           unbroken = all_unbroken;
           stands = subst (λ (s : Setting). Stands (with_circuit k c) f.phase s last_found.stands.0 g f.kind f.at) same_setting last_found.stands.4;
           printed = λ e assigns.
@@ -374,5 +382,5 @@ module _ (k : Comparison) (cut : Cut) (blif : Blif) (facts : List CellFacts) (c 
     pub later_stands : (flat : Finding) × Describes k fault flat × IsFinding k flat × IsSamePlace cut fault.kind flat.at f.at
     later_stands = (f, later_described, later_found, subst (λ (x : FaultKind). IsSamePlace cut x f.at f.at) (sym describes.kind) place)
 
-pub later_faults_stand_below : LaterFaultsStandBelow
+pub later_faults_stand_below : {all_soft : Bool} → LaterFaultsStandBelow all_soft
 later_faults_stand_below k cut blif facts c fault f h later describes first = later_stands k cut blif facts c f h later first fault describes

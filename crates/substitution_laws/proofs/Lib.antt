@@ -1,9 +1,10 @@
+pub mod AgreementLaws
 pub mod BrokenTold
 pub mod BudgetLaws
 pub mod ChainLaws
 pub mod ChosenLaws
+pub mod DriveRanges
 pub mod EndsLaws
-pub mod EqualStates
 pub mod Example
 pub mod ExampleArcs
 pub mod ExampleCells

@@ -12,7 +12,7 @@ use Rattle.replaced_instances.proofs.OutputPorts.{is_net_role}
 use Rattle.replaced_instances.proofs.StepHides.{port_observed}
 use Rattle.replaced_instances.proofs.StepInstances.{port_of_net}
 use Rattle.replaced_instances.proofs.StepPorts.{keeps_free, no_holds, place_there, port_listed, told}
-use Rattle.replaced_instances.specs.Steps.{IsStepAtGates, compared_at}
+use Rattle.replaced_instances.specs.Steps.{IsStep, compared_at}
 use Rattle.substitution_laws.specs.Chosen.{ChosenCellsAreLogic}
 use Rattle.formed_cells.specs.Formed.{IsFormed}
 use Rattle.substitution_laws.proofs.FormedCells.{formed_cell}
@@ -81,7 +81,7 @@ not_met (Output s) kind met = false≢true (ap is_input_kind kind)
 no_latch : (latches : List FlatLatch) (l : FlatLatch) → latches ≡ [] → Among latches l → ⊥
 no_latch latches l none on = none-some l (subst (λ (ls : List FlatLatch). At ls on.0 l) none on.1)
 
-module _ (cut : Cut) (blif : Blif) (facts : List CellFacts) (i : ℕ) (p : NumberedPlace) (m : ℕ) (step : IsStepAtGates cut blif facts i p m)
+module _ {all_soft : Bool} (cut : Cut) (blif : Blif) (facts : List CellFacts) (i : ℕ) (p : NumberedPlace) (m : ℕ) (step : IsStep all_soft cut blif facts i p m)
     (supported : IsSupported cut.top.design blif cut.top.rules p.at.cell m) (formed : IsFormed (compared_at cut.top blif p m)) where
   abbrev q : Comparison
   q = compared_at cut.top blif p m
@@ -182,5 +182,5 @@ module _ (cut : Cut) (blif : Blif) (facts : List CellFacts) (i : ℕ) (p : Numbe
         seen = seen phase lt;
       }
 
-pub chosen_cells_are_logic : ChosenCellsAreLogic
+pub chosen_cells_are_logic : {all_soft : Bool} → ChosenCellsAreLogic all_soft
 chosen_cells_are_logic cut blif facts i p m phase h step supported lt = logic_cell cut blif facts i p m step supported (formed_cell cut blif facts p.at.cell m h supported) phase lt

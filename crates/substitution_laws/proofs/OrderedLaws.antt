@@ -10,18 +10,18 @@ use Rattle.placed_cells.specs.Above.{net_above}
 use Rattle.replaced_cells.proofs.BrokenLaws.{assumes_constrain, clocks_constrain}
 use Rattle.replaced_instances.proofs.OutputPorts.{pin_at}
 use Rattle.replaced_instances.proofs.StepPorts.{pins_shifted}
-use Rattle.replaced_instances.specs.Steps.{IsStepAtGates, compared_at}
+use Rattle.replaced_instances.specs.Steps.{IsStep, compared_at}
 use Rattle.substitution_laws.proofs.ChainLaws.{ports_within}
 use Rattle.substitution_laws.proofs.ToldLaws.{chain_wired, ends_before}
-use Rattle.substitution_laws.proofs.ChosenLaws.{chosen_steps_are_at_gates}
+use Rattle.substitution_laws.proofs.ChosenLaws.{chosen_instances_are_steps}
 use Rattle.substitution_laws.proofs.EndsLaws.{chosen_ends_are_shown}
 use Rattle.substitution_laws.proofs.SeenNets.{seen_within}
 use Rattle.substitution_laws.proofs.OriginalLaws.{place_of_original}
 use Rattle.substitution_laws.proofs.WholeCells.{count_nets, ports_at, whole_chosen, wholes_are_determined}
 use Rattle.substitution_laws.proofs.WholeRanges.{circuits_have_ranges}
-use Rattle.substitution_laws.specs.Chosen.{IsSoftChoice}
-use Rattle.substitution_laws.specs.Agreement.{IsCheckedSoftly}
-use Rattle.substitution_laws.specs.FirstFaults.{CheckedCircuitIsOrdered}
+use Rattle.substitution_laws.specs.Chosen.{IsChoiceByFacts}
+use Rattle.substitution_laws.specs.Agreement.{IsCheckedByFacts}
+use Rattle.substitution_laws.specs.FirstFaults.{ChainCircuitsAreOrdered}
 use Rattle.substitution_laws.specs.StepDowns.{whole_instances}
 use Rattle.told_circuits.proofs.ToldLaws.{known_nets_have_test}
 use Rattle.vrt_model.proofs.Filtered.{device_among}
@@ -83,7 +83,7 @@ port_named first (x ∷ names) (n ∷ nets) (r ∷ roles) zero name a b e = (rec
 port_named first (x ∷ names) (n ∷ nets) (r ∷ roles) (suc j) name a b e = port_named (suc first) names nets roles j name (omega (arith, a)) (omega (arith, b)) e
 
 -- the net of an instance's port is where that of its cell is
-net_at_port : (cut : Cut) (blif : Blif) (facts : List CellFacts) (h : IsSoftChoice cut blif facts) (i : ℕ) (p : NumberedPlace) (m : ℕ) (step : IsStepAtGates cut blif facts i p m)
+net_at_port : {all_soft : Bool} → (cut : Cut) (blif : Blif) (facts : List CellFacts) (h : IsChoiceByFacts all_soft cut blif facts) (i : ℕ) (p : NumberedPlace) (m : ℕ) (step : IsStep all_soft cut blif facts i p m)
     → IsSupported cut.top.design blif cut.top.rules p.at.cell m → (j : ℕ) (port : CellPort) (net : Net) → At (ports_of (compared_at cut.top blif p m)) j port → At (flat_instance p.at).ports j net
     → net.0 ≡ net_above cut.top p.at port.net
 net_at_port cut blif facts h i p m step supported j port net e f =
@@ -93,9 +93,9 @@ net_at_port cut blif facts h i p m step supported j port net e f =
     let same = one_at (map above (ports_of q)) j tied.0 (above port) (subst (λ (ns : List ℕ). At ns j tied.0) (ports_at cut blif facts h i p m step supported) tied.1) (map_at above (ports_of q) j port e) in
     ap (λ (x : Net). x.0) (sym tied.2) ∙ same
 
--- ---- the checked circuit
+-- ---- a circuit of the chain
 
-module _ (k : Comparison) (cut : Cut) (blif : Blif) (facts : List CellFacts) (c : Circuit) (h : IsCheckedSoftly k cut blif facts c) (n : ℕ) (circuit : IsCircuitWith (before cut n) blif facts c) (phase : ℕ) (lt : phase < length cut.top.rules.phases) where
+module _ {all_soft : Bool} (k : Comparison) (cut : Cut) (blif : Blif) (facts : List CellFacts) (c : Circuit) (h : IsCheckedByFacts all_soft k cut blif facts c) (n : ℕ) (d : Circuit) (circuit : IsCircuitWith (before cut n) blif facts d) (phase : ℕ) (lt : phase < length cut.top.rules.phases) where
   abbrev t : Top
   t = cut.top
 
@@ -107,12 +107,12 @@ module _ (k : Comparison) (cut : Cut) (blif : Blif) (facts : List CellFacts) (c 
   named_by u y = named_nets_from (test_of u y) (cell_at u.design y.cell).ports y.ports
 
   -- a link that is marked leads from each to each output
-  linked : AreNamedNetsLinked (with_circuit k c) (whole_instances (before cut n)) phase
+  linked : AreNamedNetsLinked (with_circuit k d) (whole_instances (before cut n)) phase
   linked w y net j pin on there is named here =
-      let from = place_of_original (before cut n) blif facts c w y circuit is in
+      let from = place_of_original (before cut n) blif facts d w y circuit is in
       let p = from.0 in
       let chosen = whole_chosen cut n p from.1 in
-      let step = chosen_steps_are_at_gates cut blif facts chosen.0 p h.choice chosen.1.place chosen.1.chosen in
+      let step = chosen_instances_are_steps cut blif facts chosen.0 p h.choice chosen.1.place chosen.1.chosen in
       let q = compared_at t blif p step.0 in
       let at : ℕ → ℕ = λ x. net_above t p.at x in
       let cell = cell_at t.design p.at.cell in
@@ -130,7 +130,7 @@ module _ (k : Comparison) (cut : Cut) (blif : Blif) (facts : List CellFacts) (c 
       (link.0, link.1, link.2 ∙ now, ap (λ (z : Net). z.0) link.3 ∙ (sym above ∙ found.6), link.4, link.5 test)
 
   -- and each is observed
-  seen : (y : FlatInstance) (n : ℕ) → Among c.instances y → Among (nets_named_at (with_circuit k c) phase y) n → is_observed (with_circuit k c) phase n ≡ true
+  seen : (y : FlatInstance) (n : ℕ) → Among d.instances y → Among (nets_named_at (with_circuit k d) phase y) n → is_observed (with_circuit k d) phase n ≡ true
   seen y n on named =
       let name = (cell_at k.design y.cell).name in
       let found = named_from (test_of (top_of k) y) (cell_at k.design y.cell).ports y.ports n named in
@@ -139,34 +139,34 @@ module _ (k : Comparison) (cut : Cut) (blif : Blif) (facts : List CellFacts) (c 
         | inl assumes ↦ (let e = any_among (λ (e : Expr). has_name (names_in e) found.1) (assumed k.rules name phase) assumes in assumes_constrain k.rules name phase e.0 e.1)
         | inr clocks ↦ (let clock = some_of (clock_of_port k.rules name found.1) clocks in clocks_constrain k.rules name found.1 clock.0 clock.1)
       ] in
-      instance_observed (with_circuit k c) phase n (y, found.2, on, (found.0, found.4), found.6, constrained)
+      instance_observed (with_circuit k d) phase n (y, found.2, on, (found.0, found.4), found.6, constrained)
 
-  pub known : (test : ℕ → Bool) × ((net : ℕ) → (test net ≡ true) ↔ ((v : Bool) × IsKnown c (phase_at t.rules phase) net v))
-  known = known_nets_have_test c (phase_at t.rules phase) (chain_wired k cut blif facts c h n phase c circuit lt)
+  pub known : (test : ℕ → Bool) × ((net : ℕ) → (test net ≡ true) ↔ ((v : Bool) × IsKnown d (phase_at t.rules phase) net v))
+  known = known_nets_have_test d (phase_at t.rules phase) (chain_wired k cut blif facts c h n phase d circuit lt)
 
   module _ (setting : Setting) where
-    pub is_ordered : IsOrderedAt (with_circuit k c) (whole_instances (before cut n)) phase setting known.0
+    pub is_ordered : IsOrderedAt (with_circuit k d) (whole_instances (before cut n)) phase setting known.0
     is_ordered =
-        let ranges = circuits_have_ranges cut blif facts n c h.choice h.formed (ends_before cut n (chosen_ends_are_shown cut blif facts h.choice)) circuit in
-        let determined = subst (λ (u : Top). AreDetermined c (phase_at u.rules phase) (is_observed (with_circuit k c) phase)) h.top (wholes_are_determined k cut blif facts phase n c h.top h.choice lt circuit) in
+        let ranges = circuits_have_ranges cut blif facts n d h.choice h.formed (ends_before cut n (chosen_ends_are_shown cut blif facts h.choice)) circuit in
+        let determined = subst (λ (u : Top). AreDetermined d (phase_at u.rules phase) (is_observed (with_circuit k d) phase)) h.top (wholes_are_determined k cut blif facts phase n d h.top h.choice lt circuit) in
         record {
           ranked = λ rank ranking. record {
             ranges = ranges;
             wholes = determined;
-            gates = λ d on. gate_observed (with_circuit k c) phase d.gate.0 (d, (device_among true c d on).0, refl);
-            nets = λ net s. seen_within (with_circuit k c) phase net ranges (ports_within k cut blif facts c h n c circuit) s;
-            tested = subst (λ (u : Top). (net : ℕ) → (known.0 net ≡ true) ↔ ((v : Bool) × IsKnown c (phase_at u.rules phase) net v)) h.top known.1;
+            gates = λ e on. gate_observed (with_circuit k d) phase e.gate.0 (e, (device_among true d e on).0, refl);
+            nets = λ net s. seen_within (with_circuit k d) phase net ranges (ports_within k cut blif facts c h n d circuit) s;
+            tested = subst (λ (u : Top). (net : ℕ) → (known.0 net ≡ true) ↔ ((v : Bool) × IsKnown d (phase_at u.rules phase) net v)) h.top known.1;
             ranking = ranking;
           };
           known_bits = λ a solves net v s is.
-              known_nets_are_solved c (phase_at k.rules phase) (is_observed (with_circuit k c) phase) setting a ranges (λ w pin on there. (determined w on).plain pin there)
-              (λ d on. gate_observed (with_circuit k c) phase d.gate.0 (d, (device_among true c d on).0, refl)) solves net v is s;
+              known_nets_are_solved d (phase_at k.rules phase) (is_observed (with_circuit k d) phase) setting a ranges (λ w pin on there. (determined w on).plain pin there)
+              (λ e on. gate_observed (with_circuit k d) phase e.gate.0 (e, (device_among true d e on).0, refl)) solves net v is s;
           linked = linked;
           seen = seen;
         }
 
-pub checked_circuit_is_ordered : CheckedCircuitIsOrdered
-checked_circuit_is_ordered k cut blif facts c n phase setting h circuit lt = (
-  (known k cut blif facts c h n circuit phase lt).0,
-  is_ordered k cut blif facts c h n circuit phase lt setting,
+pub chain_circuits_are_ordered : {all_soft : Bool} → ChainCircuitsAreOrdered all_soft
+chain_circuits_are_ordered k cut blif facts c n d phase setting h circuit lt = (
+  (known k cut blif facts c h n d circuit phase lt).0,
+  is_ordered k cut blif facts c h n d circuit phase lt setting,
 )

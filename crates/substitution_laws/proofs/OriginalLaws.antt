@@ -1,13 +1,13 @@
 -- The instances for which the whole ones of a circuit stand, by their places in the unrolled netlist.
-use Rattle.std.proofs.Common.{◌≡◌, ℕ, suc, List, [], ◌∷◌, ◌++◌, map, length, ap, sym, ◌∙◌, subst}
+use Rattle.std.proofs.Common.{◌≡◌, ℕ, suc, Bool, List, [], ◌∷◌, ◌++◌, map, length, ap, sym, ◌∙◌, subst}
 use Rattle.firm_faults.specs.Settled.{IsInstanceOfWhole}
 use Rattle.firm_faults.specs.StepDown.{HasOneMoreOriginal}
 use Rattle.replaced_instances.proofs.StepInstances.{zip_at_right}
 use Rattle.replaced_instances.proofs.StepOutputs.{one_more_place}
-use Rattle.substitution_laws.proofs.ChosenLaws.{chosen_steps_are_at_gates}
+use Rattle.substitution_laws.proofs.ChosenLaws.{chosen_instances_are_steps}
 use Rattle.substitution_laws.proofs.WholeCells.{shown, whole_chosen}
 use Rattle.substitution_laws.proofs.WholePins.{whole_stays, x, x_last}
-use Rattle.substitution_laws.specs.Pins.{IsStep}
+use Rattle.substitution_laws.specs.Pins.{IsChainStep}
 use Rattle.substitution_laws.specs.StepDowns.{whole_instances}
 use Rattle.vrt_model.proofs.Lists.{at_front, at_last, at_map, map_at, one_at}
 use Rattle.vrt_model.specs.Checked.{IsCircuitWith, before}
@@ -35,8 +35,8 @@ place_of_original cut blif facts c w y circuit (j, here, is) =
     let original = at_map there_is (whole_places cut) j y is in
     (place.0, (j, place.1), place.2, ap there_is (one_at (whole_places cut) j place.0 original.0 place.1 original.1) ∙ original.2)
 
-module _ (cut : Cut) (blif : Blif) (facts : List CellFacts) (i : ℕ) (p : NumberedPlace) (m depth : ℕ) (front back : List Place) (c whole_circuit : Circuit)
-    (step : IsStep cut blif facts i p m depth front back c whole_circuit) (phase : ℕ) where
+module _ {all_soft : Bool} (cut : Cut) (blif : Blif) (facts : List CellFacts) (i : ℕ) (p : NumberedPlace) (m depth : ℕ) (front back : List Place) (c whole_circuit : Circuit)
+    (step : IsChainStep all_soft cut blif facts i p m depth front back c whole_circuit) (phase : ℕ) where
   abbrev olds : List NumberedPlace
   olds = whole_places (before cut i)
 
@@ -45,7 +45,7 @@ module _ (cut : Cut) (blif : Blif) (facts : List CellFacts) (i : ℕ) (p : Numbe
 
   -- those of the step before, and the one at its place
   news_are : news ≡ map there_is (olds ++ p ∷ [])
-  news_are = ap (map there_is) (one_more_place cut i p step.at_gates.place step.at_gates.chosen)
+  news_are = ap (map there_is) (one_more_place cut i p step.chosen.place step.chosen.chosen)
 
   own : At news (length olds) (flat_instance p.at)
   own = subst (λ (ys : List FlatInstance). At ys (length olds) (flat_instance p.at)) (sym news_are) (map_at there_is (olds ++ p ∷ []) (length olds) p (at_last olds p))
@@ -61,7 +61,7 @@ module _ (cut : Cut) (blif : Blif) (facts : List CellFacts) (i : ℕ) (p : Numbe
   left w y is =
       let o = place_of_original (before cut i) blif facts c w y step.circuit is in
       let chosen = whole_chosen cut i o.0 o.1 in
-      let other = chosen_steps_are_at_gates cut blif facts chosen.0 o.0 step.choice chosen.1.place chosen.1.chosen in
+      let other = chosen_instances_are_steps cut blif facts chosen.0 o.0 step.choice chosen.1.place chosen.1.chosen in
       subst (λ (z : FlatInstance). Among whole_circuit.instances z) o.3
       (subst (λ (ys : List FlatInstance). Among ys (flat_instance o.0.at)) (sym step.whole.instances) (shown cut blif facts step.choice chosen.0 o.0 other.0 other.1 other.2 (suc i)))
 

@@ -1,7 +1,7 @@
 -- A checked cell's model stands for it in the cells above.
-use Rattle.std.proofs.Common.{◌⊎◌, inl, inr}
+use Rattle.std.proofs.Common.{◌⊎◌, inl, inr, Bool}
 use Rattle.firm_faults.specs.FirmGround.{IsFoundByRank}
-use Rattle.substitution_laws.proofs.ChainLaws.{checked_circuits_agree}
+use Rattle.substitution_laws.proofs.AgreementLaws.{checked_circuits_agree}
 use Rattle.substitution_laws.proofs.FirstLaws.{first_faults_stand_below}
 use Rattle.substitution_laws.proofs.LaterLaws.{later_faults_stand_below}
 use Rattle.substitution_laws.specs.LaterFaults.{IsFoundLater}
@@ -21,7 +21,7 @@ when_found Next = inr tt
 when_found Apart = inr tt
 when_found Enter = inr tt
 
-pub substitution_holds : SubstitutionHolds
+pub substitution_holds : {all_soft : Bool} → SubstitutionHolds all_soft
 substitution_holds k cut blif facts c h = (
   checked_circuits_agree k cut blif facts c h,
   λ fault f describes first. elim (when_found f.kind) [

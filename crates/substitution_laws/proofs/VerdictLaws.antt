@@ -1,12 +1,12 @@
 -- Verdicts of the checked circuit are verdicts of the cell.
-use Rattle.std.proofs.Common.{ℕ, ◌<◌, List, [], length, ap, sym, subst, arith}
+use Rattle.std.proofs.Common.{ℕ, ◌<◌, Bool, List, [], length, ap, sym, subst, arith}
 use Rattle.checked_chain.proofs.SettingLaws.{settings_are_same}
 use Rattle.checked_chain.specs.Holds.{IsOfChain}
 use Rattle.replaced_cells.specs.Agreement.{AgreesWith}
 use Rattle.substitution_laws.proofs.BudgetLaws.{chain_needs_no_more}
 use Rattle.substitution_laws.proofs.EndsLaws.{chosen_ends_are_shown}
 use Rattle.substitution_laws.proofs.SubstitutionLaws.{substitution_holds}
-use Rattle.substitution_laws.specs.Agreement.{IsCheckedSoftly}
+use Rattle.substitution_laws.specs.Agreement.{IsCheckedByFacts}
 use Rattle.substitution_laws.specs.Substitution.{FirstStands}
 use Rattle.substitution_laws.specs.Verdicts.{CheckedVerdictsHold}
 use Rattle.vrt_model.specs.Checked.{with_circuit}
@@ -39,7 +39,7 @@ module _ (k j : Comparison) (agrees : AgreesWith k j) where
 
 -- ---- the checked circuit
 
-module _ (k : Comparison) (cut : Cut) (blif : Blif) (facts : List CellFacts) (c : Circuit) (budget : ℕ) (h : IsCheckedSoftly k cut blif facts c) where
+module _ {all_soft : Bool} (k : Comparison) (cut : Cut) (blif : Blif) (facts : List CellFacts) (c : Circuit) (budget : ℕ) (h : IsCheckedByFacts all_soft k cut blif facts c) where
   abbrev whole : AgreesWith k (with_circuit k c) × FirstStands k cut (with_circuit k c)
   whole = substitution_holds k cut blif facts c h
 
@@ -70,5 +70,5 @@ module _ (k : Comparison) (cut : Cut) (blif : Blif) (facts : List CellFacts) (c 
   by_verdict Skipped is = absurd is
   by_verdict (Unsupported why) is = absurd is
 
-pub checked_verdicts_hold : CheckedVerdictsHold
+pub checked_verdicts_hold : {all_soft : Bool} → CheckedVerdictsHold all_soft
 checked_verdicts_hold k cut blif facts c budget verdict h is = by_verdict k cut blif facts c budget h verdict is

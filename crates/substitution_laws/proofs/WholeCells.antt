@@ -17,11 +17,11 @@ use Rattle.replaced_cells.specs.OneMoreWhole.{all_bits}
 use Rattle.replaced_instances.proofs.StepHides.{inputs_at}
 use Rattle.replaced_instances.proofs.StepInstances.{front_of, pin_of_input}
 use Rattle.replaced_instances.proofs.StepPorts.{may, no_holds, place_there, tied}
-use Rattle.replaced_instances.specs.Steps.{IsStepAtGates, compared_at}
-use Rattle.substitution_laws.proofs.ChosenLaws.{chosen_steps_are_at_gates}
+use Rattle.replaced_instances.specs.Steps.{IsStep, compared_at}
+use Rattle.substitution_laws.proofs.ChosenLaws.{chosen_instances_are_steps}
 use Rattle.substitution_laws.proofs.FormedCells.{formed_cell}
 use Rattle.substitution_laws.proofs.LogicCells.{chosen_cells_are_logic, input_of, split}
-use Rattle.substitution_laws.specs.Chosen.{IsSoftChoice}
+use Rattle.substitution_laws.specs.Chosen.{IsChoiceByFacts}
 use Rattle.substitution_laws.specs.Wholes.{WholesAreDetermined, WholesStandForCells}
 use Rattle.vrt_model.proofs.Filtered.{among_kept, filter_among}
 use Rattle.vrt_model.proofs.Lists.{map_among}
@@ -139,7 +139,7 @@ whole_chosen cut n p on =
         let both = and_parts (cut.choice i) (nat_lt i n) (sym (ap (is_whole (before cut n).choice) is) ∙ whole) in
         (i, record { place = subst (λ (k : ℕ). At (numbered_places cut.top) k p) (sym at ∙ is) there; chosen = both.0 })
 
-module _ (cut : Cut) (blif : Blif) (facts : List CellFacts) (h : IsSoftChoice cut blif facts) (i : ℕ) (p : NumberedPlace) (m : ℕ) (step : IsStepAtGates cut blif facts i p m)
+module _ {all_soft : Bool} (cut : Cut) (blif : Blif) (facts : List CellFacts) (h : IsChoiceByFacts all_soft cut blif facts) (i : ℕ) (p : NumberedPlace) (m : ℕ) (step : IsStep all_soft cut blif facts i p m)
     (supported : IsSupported cut.top.design blif cut.top.rules p.at.cell m) where
   abbrev t : Top
   t = cut.top
@@ -239,19 +239,19 @@ module _ (cut : Cut) (blif : Blif) (facts : List CellFacts) (h : IsSoftChoice cu
       pub quiet : AreQuietInputs q phase seen at
       quiet x input e = (not_inside x input e, all_inputs q phase (no_holds cut blif facts i p m step) (given phase) (unconstrained x input e))
 
-pub wholes_stand_for_cells : WholesStandForCells
+pub wholes_stand_for_cells : {all_soft : Bool} → WholesStandForCells all_soft
 wholes_stand_for_cells k cut blif facts i p m phase n c w same h step supported lt circuit on whole =
     whole_places_stand_for_cells (before cut n) blif facts p m phase c (is_observed (with_circuit k c) phase) (net_above cut.top p.at) w step.paired whole lt
     (ports_at cut blif facts h i p m step supported)
     (plain_outputs cut blif facts h i p m step supported n c circuit w on whole)
     (quiet cut blif facts h i p m step supported n c circuit w on whole k same phase lt)
 
-pub wholes_are_determined : WholesAreDetermined
+pub wholes_are_determined : {all_soft : Bool} → WholesAreDetermined all_soft
 wholes_are_determined k cut blif facts phase n c same h lt circuit w on =
     let from = zip_right (IsWholeAt (before cut n) blif facts) (whole_places (before cut n)) c.wholes w circuit.wholes on in
     let p = from.0 in
     let is = whole_chosen cut n p from.1 in
-    let step = chosen_steps_are_at_gates cut blif facts is.0 p h is.1.place is.1.chosen in
+    let step = chosen_instances_are_steps cut blif facts is.0 p h is.1.place is.1.chosen in
     let q = compared_at cut.top blif p step.0 in
     whole_cells_are_determined q phase c (is_observed (with_circuit k c) phase) (net_above cut.top p.at) w
     (chosen_cells_are_logic cut blif facts is.0 p step.0 phase h step.1 step.2 lt)

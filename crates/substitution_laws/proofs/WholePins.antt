@@ -2,41 +2,42 @@
 use Rattle.std.proofs.Common.{◌≡◌, ◌⊎◌, ℕ, suc, ◌+◌, ◌<◌, Bool, true, false, List, [], ◌∷◌, ◌++◌, map, length, Some, cond, refl, ap, sym, ◌∙◌, subst, arith, append-nil, inl, inr}
 use Rattle.std.specs.Prelude.{flat_map, is_some}
 use Rattle.std.specs.List.{AllZip}
-use Rattle.std.proofs.lemmas.Bool.{false≢true}
 use Rattle.std.proofs.lemmas.Grind.{flat_map-append}
 use Rattle.std.proofs.lemmas.List.{length-map}
-use Rattle.std.proofs.lemmas.Option.{none-some}
+use Rattle.std.proofs.lemmas.Option.{none-some, slice_get_within}
 use Rattle.std.proofs.lemmas.Slice.Zip.{AllZip-long}
 use Rattle.cell_inside.specs.Placed.{IsPlaced}
 use Rattle.firm_faults.specs.StepDown.{HasOneMoreWhole, IsSameWhole}
 use Rattle.placed_cells.proofs.ListLaws.{zip_left}
 use Rattle.placed_cells.specs.Above.{net_above}
 use Rattle.replaced_cells.specs.OneMoreWhole.{HasCellPins, HasSameSignal}
-use Rattle.replaced_instances.proofs.OutputPorts.{pin_at}
-use Rattle.replaced_instances.proofs.PinOutputs.{output_pin}
+use Rattle.replaced_instances.proofs.ChosenSteps.{chosen_step_is_placed, exposed_true, exposure}
+use Rattle.replaced_instances.proofs.Exposures.{AreExposed, chosen_step}
+use Rattle.replaced_instances.proofs.OutputPorts.{count_below_port}
+use Rattle.replaced_instances.proofs.PinOutputs.{output_pin, pin_output, settled}
 use Rattle.replaced_instances.proofs.StepHides.{remaining_port}
 use Rattle.replaced_instances.proofs.StepInstances.{zip_at_left}
 use Rattle.replaced_instances.proofs.StepOutputs.{one_more_place, outputs_behind}
-use Rattle.replaced_instances.proofs.StepPlaced.{step_is_placed}
-use Rattle.replaced_instances.proofs.StepPorts.{output_plain, pins_shifted, plain_output}
-use Rattle.replaced_instances.specs.Steps.{compared_at, fresh_place, is_outside_at}
+use Rattle.replaced_instances.proofs.StepPorts.{output_plain, plain_output, port_of_output, rising, signal_of_output}
+use Rattle.replaced_instances.specs.Steps.{IsChosenStep, compared_at, drive_at, exposed_at, fresh_place, is_outside_at, output_place}
 use Rattle.substitution_laws.proofs.WholeCells.{whole_chosen, wholes_are_determined, wholes_stand_for_cells}
-use Rattle.substitution_laws.proofs.ChosenLaws.{chosen_steps_are_at_gates}
-use Rattle.substitution_laws.specs.Pins.{IsStep, StepHasCellPins, StepHasOneMoreWhole}
-use Rattle.vrt_model.proofs.Filtered.{among_kept}
+use Rattle.substitution_laws.proofs.ChosenLaws.{chosen_instances_are_steps}
+use Rattle.substitution_laws.specs.Pins.{IsChainStep, StepHasCellPins, StepHasOneMoreWhole}
+use Rattle.vrt_model.proofs.Filtered.{filter_among}
 use Rattle.vrt_model.proofs.Lists.{at_back, at_either, at_front, at_last, at_map, map_at, one_at}
-use Rattle.vrt_model.proofs.Members.{among_later, among_left, among_map, among_right}
+use Rattle.vrt_model.proofs.Members.{among_later, among_left, among_right}
 use Rattle.vrt_model.specs.Checked.{before, top_of, with_circuit}
 use Rattle.vrt_model.specs.CheckedParts.{checked_devices}
 use Rattle.vrt_model.specs.Comparison.{CellPort, Comparison, is_observed, output_signal, phase_at, ports_of}
 use Rattle.vrt_model.specs.Cut.{Cut, NumberedPlace, whole_places}
 use Rattle.vrt_model.specs.Determined.{IsLinkedTo}
+use Rattle.vrt_model.specs.Facts.{output_ports}
 use Rattle.vrt_model.specs.Known.{IsPlain}
 use Rattle.vrt_model.specs.Lists.{Among, At}
 use Rattle.vrt_model.specs.PairedPorts.{Model, paired_model}
 use Rattle.vrt_model.specs.State.{OutputPin, output_pins}
 use Rattle.vrt_model.specs.Unrolled.{Place, Top}
-use Rattle.vrt_model.specs.WholeInstances.{IsWholeAt, OutputAt, Pin, all_outputs, outputs_of_place, settled_drive}
+use Rattle.vrt_model.specs.WholeInstances.{IsWholeAt, OutputAt, all_outputs, outputs_of_place, settled_drive}
 use Rattle.vrt_model.specs.declared.blif.Blif.{Blif}
 use Rattle.vrt_model.specs.declared.circuit.Circuit.{Circuit}
 use Rattle.vrt_model.specs.declared.ids.Net.{Net}
@@ -45,7 +46,7 @@ use Rattle.vrt_model.specs.declared.whole.CellFacts.{CellFacts}
 use Rattle.vrt_model.specs.declared.whole.Drive.TheVariants.{Soft}
 use Rattle.vrt_model.specs.declared.whole.Whole.{Whole}
 use Rattle.vrt_model.specs.declared.whole.WholePin.{WholePin}
-use Rattle.whole_ranks.proofs.PlaceLaws.{made_is, output_pin as port_of_pin}
+use Rattle.whole_ranks.proofs.PlaceLaws.{made_is}
 use Rattle.whole_ranks.specs.WholeCells.{IsOutputAt, StandsFor}
 
 -- ---- one whole instance in two circuits
@@ -173,8 +174,8 @@ zip_both R S T (x ∷ xs) (y ∷ ys) (z ∷ zs) t h g =
 
 -- ---- a step
 
-module _ (cut : Cut) (blif : Blif) (facts : List CellFacts) (i : ℕ) (p : NumberedPlace) (m depth : ℕ) (front back : List Place) (c whole_circuit : Circuit)
-    (step : IsStep cut blif facts i p m depth front back c whole_circuit) (phase : ℕ) where
+module _ {all_soft : Bool} (cut : Cut) (blif : Blif) (facts : List CellFacts) (i : ℕ) (p : NumberedPlace) (m depth : ℕ) (front back : List Place) (c whole_circuit : Circuit)
+    (step : IsChainStep all_soft cut blif facts i p m depth front back c whole_circuit) (phase : ℕ) where
   abbrev t : Top
   t = cut.top
 
@@ -192,7 +193,7 @@ module _ (cut : Cut) (blif : Blif) (facts : List CellFacts) (i : ℕ) (p : Numbe
       × IsWholeAt (before cut (suc i)) blif facts p x
   split_wholes =
       zip_split (IsWholeAt (before cut (suc i)) blif facts) (whole_places (before cut i)) p whole_circuit.wholes
-      (subst (λ (ps : List NumberedPlace). AllZip (IsWholeAt (before cut (suc i)) blif facts) ps whole_circuit.wholes) (one_more_place cut i p step.at_gates.place step.at_gates.chosen) step.whole.wholes)
+      (subst (λ (ps : List NumberedPlace). AllZip (IsWholeAt (before cut (suc i)) blif facts) ps whole_circuit.wholes) (one_more_place cut i p step.chosen.place step.chosen.chosen) step.whole.wholes)
 
   abbrev olds : List Whole
   olds = split_wholes.0
@@ -210,7 +211,7 @@ module _ (cut : Cut) (blif : Blif) (facts : List CellFacts) (i : ℕ) (p : Numbe
   modelled : (a : ℕ) (o : NumberedPlace) → Among (whole_places (before cut a)) o → (j : ℕ) × (paired_model t.design blif t.rules o.at.cell ≡ Model j)
   modelled a o on =
       let is = whole_chosen cut a o on in
-      let there = chosen_steps_are_at_gates cut blif facts is.0 o step.choice is.1.place is.1.chosen in
+      let there = chosen_instances_are_steps cut blif facts is.0 o step.choice is.1.place is.1.chosen in
       (there.0, there.1.paired)
 
   again : (o : NumberedPlace) (w v : Whole) → Among (whole_places (before cut i)) o → IsWholeAt (before cut i) blif facts o w → IsWholeAt (before cut (suc i)) blif facts o v → IsWholeAgain now w v
@@ -260,52 +261,101 @@ module _ (cut : Cut) (blif : Blif) (facts : List CellFacts) (i : ℕ) (p : Numbe
 
   -- ---- the pins at nets of the cell
 
-  placed : IsPlaced q.circuit c at (λ n. false) (λ n. 0)
-  placed = step_is_placed cut blif facts i p m c (λ n. 0) step.at_gates step.circuit
+  abbrev earlier : List OutputAt
+  earlier = all_outputs (before cut i) blif facts
 
-  -- none was there before
-  pub no_old : (j n : ℕ) (out : OutputPin) → At (output_pins c) j out → IsPlain q.circuit n → out.pin.net.0 ≡ at n → ⊥
-  no_old j n out e plain same = false≢true (placed.pins out n (j, e) plain same).0
+  abbrev its_outputs : List OutputAt
+  its_outputs = outputs_of_place cut.top blif facts p
 
-  -- the port of an output pin of the instance
-  pub port_of : (pin : WholePin) (n : ℕ) → Among x.outputs pin → IsPlain q.circuit n → pin.net.0 ≡ at n → (j : ℕ) × (port : CellPort) × IsOutputAt q j port pin.signal × (port.net ≡ n)
-  port_of pin n on plain same =
-      let from = port_of_pin (before cut (suc i)) blif facts p m x step.at_gates.paired x_is pin on in
-      let port = among_map (pin_at at) (ports_of q) from.0 (subst (λ (pins : List Pin). Among pins from.0) (pins_shifted cut blif facts i p m step.at_gates) from.1) in
-      let signal : output_signal port.0.role ≡ Some pin.signal = ap (λ (y : Pin). output_signal y.port.role) port.2 ∙ from.2 in
-      let above : at port.0.net ≡ at n = ap (λ (y : Pin). y.net.0) port.2 ∙ (ap (λ (y : Net). y.0) from.3 ∙ same) in
-      let low = output_plain cut blif facts i p m step.at_gates port.0 (among_kept (λ (y : CellPort). is_some (output_signal y.role)) (ports_of q) port.0 port.1 (ap is_some signal)) in (
-        port.1.0,
+  abbrev fresh : ℕ → ℕ
+  fresh n = fresh_place (before cut i) blif facts (compared_at cut.top blif p m) n
+
+  abbrev exposed : ℕ → Bool
+  exposed n = exposed_at cut blif facts i p (compared_at cut.top blif p m) n
+
+  abbrev drive : ℕ → ℕ
+  drive n = drive_at facts p (compared_at cut.top blif p m) n
+
+  pub any_step : IsChosenStep cut blif facts i p m
+  any_step = chosen_step cut blif facts i p m step.chosen
+
+  pub some_phase : 0 < length cut.top.rules.phases
+  some_phase = step.choice.read.valid.some_phase
+
+  pub placed : IsPlaced q.circuit c at exposed drive
+  placed = chosen_step_is_placed cut blif facts i p m c any_step some_phase step.circuit
+
+  pub exposure_is : AreExposed cut blif facts i p m exposed drive
+  exposure_is = exposure cut blif facts i p m any_step some_phase depth front back step.split c step.circuit
+
+  -- one behind the pins that were there is the instance's
+  pub pin_behind : (l : ℕ) (pin : OutputPin) → At (output_pins whole_circuit) (length earlier + l) pin → (pin.whole ≡ x) × Among x.outputs pin.pin
+  pin_behind l pin e =
+      elim (pin_is (length earlier + l) pin e) [
+        | inl own ↦ own
+        | inr old ↦
+            let o = pin_output (before cut i) blif facts c step.circuit (length earlier + l) old.0 old.1 in
+            let low = slice_get_within earlier (length earlier + l) o.0 o.1 in
+            absurd (omega (arith, low))
+      ]
+
+  -- the place of an output among the outputs, by the net of its port
+  pub place_of_port : (j : ℕ) (port : CellPort) → At (output_ports q) j port → output_place q port.net ≡ j
+  place_of_port j port e = count_below_port 2 (output_ports q) j port (rising cut blif facts i p m step.chosen) e
+
+  -- the output whose pin stands at the place for a net of the cell
+  output_at_fresh : (n : ℕ) (pin : OutputPin) → At (output_pins whole_circuit) (fresh n) pin → (o : OutputAt) × At its_outputs (output_place q n) o × (settled (before cut (suc i)) blif facts o ≡ pin.pin)
+  output_at_fresh n pin e =
+      let o = pin_output (before cut (suc i)) blif facts whole_circuit step.whole (fresh n) pin e in
+      elim (at_either earlier its_outputs (fresh n) o.0 (subst (λ (os : List OutputAt). At os (fresh n) o.0) (outputs_behind cut i p step.chosen.place step.chosen.chosen blif facts) o.1)) [
+        | inl old ↦ (let low = slice_get_within earlier (fresh n) o.0 old in absurd (omega (arith, low)))
+        | inr new ↦
+            let sum = new.1 in
+            let place : new.0 ≡ output_place q n = omega (arith, sum) in
+            (o.0, subst (λ (j : ℕ). At its_outputs j o.0) place new.2, o.2)
+      ]
+
+  -- is that of the port at this net
+  pub port_of : (n : ℕ) (pin : OutputPin) → At (output_pins whole_circuit) (fresh n) pin → IsPlain q.circuit n → pin.pin.net.0 ≡ at n
+      → (j : ℕ) × (port : CellPort) × IsOutputAt q j port pin.pin.signal × (port.net ≡ n)
+  port_of n pin e plain net =
+      let o = output_at_fresh n pin e in
+      let port = port_of_output cut blif facts i p m step.chosen (output_place q n) o.0 o.1 in
+      let out = filter_among (λ (y : CellPort). is_some (output_signal y.role)) (ports_of q) port.0 (output_place q n, port.1) in
+      let signal = signal_of_output cut blif facts i p m step.chosen (output_place q n) o.0 port.0 o.1 port.1 ∙ ap (λ (y : WholePin). Some y.signal) o.2 in
+      let above : at port.0.net ≡ at n = sym port.2 ∙ ap (λ (y : WholePin). y.net.0) o.2 ∙ net in
+      let low = output_plain cut blif facts i p m step.chosen port.0 (output_place q n, port.1) in (
+        out.0.0,
         port.0,
-        (port.1.1, signal),
-        elim (placed.apart port.0.net n low.1 plain above) [ inl one ↦ one | inr exposed ↦ absurd (false≢true exposed.0) ],
+        (out.0.1, signal),
+        elim (placed.apart port.0.net n low.1 plain above) [
+          | inl one ↦ one
+          | inr both ↦
+              let other = exposed_true cut blif facts i p m any_step n both.1 in
+              let place : other.1.0 ≡ output_place q n = sym (place_of_port other.1.0 other.0 other.1.1) ∙ ap (output_place q) other.2 in
+              let same = one_at (output_ports q) (output_place q n) port.0 other.0 port.1 (subst (λ (j : ℕ). At (output_ports q) j other.0) place other.1.1) in
+              ap (λ (y : CellPort). y.net) same ∙ other.2
+        ],
       )
 
-  -- where a net of the cell remains, the instance has a soft pin
+  -- where a net of the cell remains, the instance has a pin there, which is soft where it is not exposed
   pub pin_there : (n : ℕ) → IsPlain q.circuit n → is_outside_at t depth p.at (at n) ≡ true
-      → (j : ℕ) × (pin : OutputPin) × At (output_pins whole_circuit) j pin × (pin.whole ≡ x) × (pin.pin.net.0 ≡ at n) × (pin.pin.drive ≡ Soft)
+      → (pin : OutputPin) × At (output_pins whole_circuit) (fresh n) pin × (pin.whole ≡ x) × (pin.pin.net.0 ≡ at n) × (exposed n ≡ false → pin.pin.drive ≡ Soft)
   pin_there n plain stays =
-      let low = remaining_port cut blif facts i p m step.at_gates depth front back step.split n plain stays in
-      let found = plain_output cut blif facts i p m step.at_gates n low plain in
+      let low = remaining_port cut blif facts i p m step.chosen depth front back step.split n plain stays in
+      let found = plain_output cut blif facts i p m step.chosen n low plain in
       let o = found.1 in
-      let olds_at = all_outputs (before cut i) blif facts in
-      let outs = outputs_of_place t blif facts p in
-      let number : ℕ = length olds_at + o.output in
-      let here : At (all_outputs (before cut (suc i)) blif facts) number o =
-      subst (λ (os : List OutputAt). At os number o) (sym (outputs_behind cut i p step.at_gates.place step.at_gates.chosen blif facts)) (at_back olds_at outs o.output o found.3) in
-      let pin = output_pin (before cut (suc i)) blif facts whole_circuit step.whole number o here in
-      let net : pin.0.pin.net.0 ≡ at n = ap (λ (y : WholePin). y.net.0) pin.2 ∙ found.5 in
-      let soft : pin.0.pin.drive ≡ Soft =
-      ap (λ (y : WholePin). y.drive) pin.2 ∙ ap (λ (b : Bool). cond b Soft o.pin.drive) (step.at_gates.gates o (o.output, found.3)) in (
-        number,
+      let place : o.output ≡ output_place q n = sym (place_of_port o.output found.0 found.2) ∙ ap (output_place q) found.4 in
+      let number : length earlier + o.output ≡ fresh n = ap (λ (j : ℕ). length earlier + j) place in
+      let here : At (all_outputs (before cut (suc i)) blif facts) (length earlier + o.output) o =
+      subst (λ (os : List OutputAt). At os (length earlier + o.output) o) (sym (outputs_behind cut i p step.chosen.place step.chosen.chosen blif facts)) (at_back earlier its_outputs o.output o found.3) in
+      let pin = output_pin (before cut (suc i)) blif facts whole_circuit step.whole (length earlier + o.output) o here in (
         pin.0,
-        pin.1,
-        elim (pin_is number pin.0 pin.1) [
-          | inl own ↦ own.0
-          | inr old ↦ absurd (no_old number n old.0 old.1 plain (ap (λ (y : Net). y.0) old.2.net ∙ net))
-        ],
-        net,
-        soft,
+        subst (λ (j : ℕ). At (output_pins whole_circuit) j pin.0) number pin.1,
+        (pin_behind o.output pin.0 pin.1).0,
+        ap (λ (y : WholePin). y.net.0) pin.2 ∙ found.5,
+        λ hidden. ap (λ (y : WholePin). y.drive) pin.2
+            ∙ ap (λ (b : Bool). cond b Soft o.pin.drive) (exposure_is.others o found.0 found.3 found.2 (ap exposed found.4 ∙ hidden)),
       )
 
   module _ (k : Comparison) (same : cut.top ≡ top_of k) (lt : phase < length cut.top.rules.phases) where
@@ -316,15 +366,12 @@ module _ (cut : Cut) (blif : Blif) (facts : List CellFacts) (i : ℕ) (p : Numbe
           let one = one_at (output_pins whole_circuit) j there.0 pin there.1 f in
           subst (HasSameSignal out) one (record { model = there.2.whole.model; clocked = there.2.whole.clocked; inputs = there.2.whole.inputs; signal = there.2.signal });
       own = λ n pin plain there net.
-          elim (pin_is (fresh_place (before cut i) blif facts q n) pin there) [
-            | inr old ↦ absurd (no_old (fresh_place (before cut i) blif facts q n) n old.0 old.1 plain (ap (λ (y : Net). y.0) old.2.net ∙ net))
-            | inl own ↦ (
-              subst (λ (w : Whole). StandsFor q phase whole_circuit (is_observed (with_circuit k whole_circuit) phase) at w) (sym own.0)
-                  (wholes_stand_for_cells k cut blif facts i p m phase (suc i) whole_circuit x same step.choice step.at_gates step.supported lt step.whole x_there x_is),
-              port_of pin.pin n own.1 plain net,
-            )
-          ];
-      there = λ n plain stays. let pin = pin_there n plain stays in (pin.1, (pin.0, pin.2), pin.4);
+          let own = pin_behind (output_place q n) pin there in (
+            subst (λ (w : Whole). StandsFor q phase whole_circuit (is_observed (with_circuit k whole_circuit) phase) at w) (sym own.0)
+                (wholes_stand_for_cells k cut blif facts i p m phase (suc i) whole_circuit x same step.choice step.chosen step.supported lt step.whole x_there x_is),
+            port_of n pin there plain net,
+          );
+      there = λ n plain stays. let pin = pin_there n plain stays in (pin.0, (fresh_place (before cut i) blif facts q n, pin.1), pin.3);
     }
 
     pub has_one_more : HasOneMoreWhole now c whole_circuit (λ j. j) x
@@ -338,10 +385,10 @@ module _ (cut : Cut) (blif : Blif) (facts : List CellFacts) (i : ℕ) (p : Numbe
       assigned = λ w reading on. (wholes_are_determined k cut blif facts phase (suc i) whole_circuit same step.choice lt step.whole w on).assigned reading;
     }
 
-pub step_has_cell_pins : StepHasCellPins
+pub step_has_cell_pins : {all_soft : Bool} → StepHasCellPins all_soft
 step_has_cell_pins k cut blif facts i p m depth front back c whole_circuit phase same lt step = has_cell_pins cut blif facts i p m depth front back c whole_circuit step phase k same lt
 
-pub step_has_one_more_whole : StepHasOneMoreWhole
+pub step_has_one_more_whole : {all_soft : Bool} → StepHasOneMoreWhole all_soft
 step_has_one_more_whole k cut blif facts i p m depth front back c whole_circuit phase same lt step = (
   x cut blif facts i p m depth front back c whole_circuit step phase,
   x_is cut blif facts i p m depth front back c whole_circuit step phase,

@@ -1,6 +1,6 @@
 -- Numbers, levels and sizes of the circuits of a chain are in range.
 use Rattle.std.proofs.Common.{◌≡◌, ℕ, zero, suc, ◌<◌, Bool, true, false, not, cond, List, [], ◌∷◌, map, length, Option, Some, None, refl, ap, sym, ◌∙◌, subst}
-use Rattle.std.specs.Prelude.{All, drop, is_some, option_map}
+use Rattle.std.specs.Prelude.{All, drop, option_map}
 use Rattle.std.proofs.lemmas.Bool.{false≢true}
 use Rattle.std.proofs.lemmas.Option.{none-some, same_Some, slice_get_within}
 use Rattle.blif_eval.proofs.Drivers.{interface_below}
@@ -10,20 +10,16 @@ use Rattle.checked_chain.specs.Holds.{IsEndShown}
 use Rattle.placed_cells.proofs.ListLaws.{zip_right}
 use Rattle.replaced_instances.proofs.StepInstances.{front_of}
 use Rattle.replaced_instances.specs.Steps.{compared_at}
-use Rattle.substitution_laws.proofs.ChosenLaws.{chosen_steps_are_at_gates, output_soft, soft_is_trial, tried_steps_are_chosen}
+use Rattle.substitution_laws.proofs.ChosenLaws.{chosen_instances_are_steps, tried_instances_are_steps}
+use Rattle.substitution_laws.proofs.DriveRanges.{told_in_range}
 use Rattle.substitution_laws.proofs.EndsLaws.{tried_ends_are_shown}
 use Rattle.substitution_laws.proofs.WholeCells.{whole_chosen}
-use Rattle.substitution_laws.specs.Chosen.{AreSoft, IsTrial}
+use Rattle.substitution_laws.specs.Chosen.{IsTrialByFacts}
 use Rattle.formed_cells.proofs.FormedLaws.{supported_cells_are_formed}
-use Rattle.placed_cells.proofs.SplitLaws.{places_in_stand_together}
-use Rattle.replaced_instances.proofs.ChosenSteps.{told_drive}
-use Rattle.replaced_instances.proofs.StepHides.{output_observed}
 use Rattle.replaced_instances.proofs.StepPlaced.{plain_with}
-use Rattle.replaced_instances.proofs.StepPorts.{no_holds, output_drive, output_plain, place_there, port_of_output, told}
-use Rattle.substitution_laws.proofs.EqualStates.{level_in_range}
 use Rattle.formed_cells.specs.Formed.{IsFormed}
 use Rattle.substitution_laws.proofs.FormedCells.{formed_cell}
-use Rattle.substitution_laws.specs.Wholes.{CircuitsHaveRanges, CutsHaveRanges, IsFormedCut, TrialsAreWired, TriedCircuitsAreWired}
+use Rattle.substitution_laws.specs.Wholes.{CircuitsHaveRanges, CutsHaveRanges, IsFormedCut, TriedCircuitsAreWired}
 use Rattle.vrt_model.proofs.Filtered.{filter_among}
 use Rattle.vrt_model.proofs.Lists.{among_filter_map, at_there, filter_map_among, map_among}
 use Rattle.vrt_model.proofs.Members.{all_among, all_by, among_flat_map, among_later, among_map, flat_map_among}
@@ -59,15 +55,11 @@ use Rattle.vrt_model.specs.declared.whole.Whole.{Whole}
 use Rattle.vrt_model.specs.declared.whole.WholePin.{WholePin}
 use Rattle.whole_ranks.proofs.PlaceLaws.{input_pin_of, made, made_is, output_pin}
 
--- a drive that is soft at gates alone is in range where the drive that is told is
-settled_in_range : (c e : Circuit) (b : Bool) (d : Drive) → IsDrive e d → IsDrive c (cond b Soft d)
-settled_in_range c e true d is = tt
-settled_in_range c e false Soft is = tt
-settled_in_range c e false (Level level) is = is
-
--- so is one that is not told
-told_in_range : (c : Circuit) (facts : List CellFacts) → AreSoft facts → (t : Top) (blif : Blif) (p : NumberedPlace) (o : OutputAt) → Among (outputs_of_place t blif facts p) o → IsDrive c o.pin.drive
-told_in_range c facts soft t blif p o on = subst (IsDrive c) (sym (output_soft facts soft t blif p o on)) tt
+-- a drive in range is so in each circuit, and so is it where it is settled
+settled_in_range : (b : Bool) (c flat : Circuit) (d : Drive) → IsDrive flat d → IsDrive c (cond b Soft d)
+settled_in_range true c flat d is = tt
+settled_in_range false c flat Soft is = tt
+settled_in_range false c flat (Level level) is = is
 
 -- a device that is shown is one of the flat circuit
 pub device_flat : (cut : Cut) (d : Device) → Among (checked_devices cut) d → Among (flat_devices cut.top) d
@@ -144,7 +136,7 @@ drive_in_range c d e = subst (IsDrive c) (sym e) tt
 
 module _ (cut : Cut) (blif : Blif) (facts : List CellFacts) (c : Circuit) (h : IsFormedCut cut blif facts) (circuit : IsCircuitWith cut blif facts c)
     (i : ℕ) (p : NumberedPlace) (place : At (all_places cut.top) (suc i) p.at) (m : ℕ) (paired : paired_model cut.top.design blif cut.top.rules p.at.cell ≡ Model m)
-    (formed : IsFormed (compared_at cut.top blif p m)) (w : Whole) (on : Among c.wholes w) (whole : IsWholeAt cut blif facts p w) (listed : Among (whole_places cut) p) where
+    (listed : Among (whole_places cut) p) (formed : IsFormed (compared_at cut.top blif p m)) (w : Whole) (on : Among c.wholes w) (whole : IsWholeAt cut blif facts p w) where
   abbrev q : Comparison
   q = compared_at cut.top blif p m
 
@@ -186,8 +178,7 @@ module _ (cut : Cut) (blif : Blif) (facts : List CellFacts) (c : Circuit) (h : I
       let from = output_pin cut blif facts p m w paired whole pin there in
       let settled : OutputAt → WholePin = λ o. settled_drive devices outputs o in
       let o = among_map settled (outputs_of_place cut.top blif facts p) pin (subst (λ (pins : List WholePin). Among pins pin) (sym (ap (λ (x : Whole). x.outputs) made_whole)) there) in
-      let range : IsDrive c (cond (meets_gates_only devices outputs o.0) Soft o.0.pin.drive) =
-      settled_in_range c (flat_circuit_of cut.top) (meets_gates_only devices outputs o.0) o.0.pin.drive (h.drives p o.0 listed o.1) in (
+      let range = settled_in_range (meets_gates_only devices outputs o.0) c (flat_circuit_of cut.top) o.0.pin.drive (h.drives p o.0 listed o.1) in (
         subst (IsNet c) from.3 (pin_net from.0 from.1),
         output_below_it from.0 pin.signal from.1 from.2,
         subst (λ (x : WholePin). IsDrive c x.drive) o.2 range,
@@ -238,25 +229,28 @@ cuts_have_ranges cut blif facts c h circuit = record {
         → (n : ℕ) → At (all_places cut.top) n p.at → is_whole cut.choice n ≡ true → IsWhole c w
     by_place w on p listed whole zero place e = absurd (false≢true e)
     by_place w on p listed whole (suc i) place e =
-        let cell = h.cells p listed in whole_in_range cut blif facts c h circuit i p place cell.0 cell.1 cell.2 w on whole listed
+        let cell = h.cells p listed in whole_in_range cut blif facts c h circuit i p place cell.0 cell.1 listed cell.2 w on whole
 
-pub circuits_have_ranges : CircuitsHaveRanges
+pub circuits_have_ranges : {all_soft : Bool} → CircuitsHaveRanges all_soft
 circuits_have_ranges cut blif facts n c h flat ends circuit =
     cuts_have_ranges (before cut n) blif facts c
     (record {
       flat = flat;
       cells = λ p on.
           (let is = whole_chosen cut n p on in
-          let step = chosen_steps_are_at_gates cut blif facts is.0 p h is.1.place is.1.chosen in
+          let step = chosen_instances_are_steps cut blif facts is.0 p h is.1.place is.1.chosen in
           (step.0, step.1.paired, formed_cell cut blif facts p.at.cell step.0 h step.2));
-      drives = λ p o on there. told_in_range (flat_circuit_of cut.top) facts h.soft cut.top blif p o there;
+      drives = λ p o on there.
+          (let is = whole_chosen cut n p on in
+          let step = chosen_instances_are_steps cut blif facts is.0 p h is.1.place is.1.chosen in
+          told_in_range cut blif facts is.0 p step.0 step.1 (formed_cell cut blif facts p.at.cell step.0 h step.2) h.read.valid.some_phase (flat_circuit_of cut.top) o there);
       ends = ends;
     })
     circuit
 
 -- ---- instances that are tried
 
-module _ (cut : Cut) (blif : Blif) (facts : List CellFacts) (c : Circuit) (h : IsTrial cut blif facts) (circuit : IsCircuitWith cut blif facts c) where
+module _ {all_soft : Bool} (cut : Cut) (blif : Blif) (facts : List CellFacts) (c : Circuit) (h : IsTrialByFacts all_soft cut blif facts) (circuit : IsCircuitWith cut blif facts c) where
   -- a place that is left whole is that of a chosen instance
   chosen_place : (p : NumberedPlace) → Among (whole_places cut) p → (i : ℕ) × At (numbered_places cut.top) (suc i) p × (cut.choice i ≡ true)
   chosen_place p on =
@@ -267,38 +261,17 @@ module _ (cut : Cut) (blif : Blif) (facts : List CellFacts) (c : Circuit) (h : I
       by_number zero there e = absurd (false≢true e)
       by_number (suc i) there e = (i, there, e)
 
-  -- the level that is told of an output is that of its net in the cell
-  level_told : (p : NumberedPlace) (o : OutputAt) (level : ℕ) → Among (whole_places cut) p → Among (outputs_of_place cut.top blif facts p) o → o.pin.drive ≡ Level level
-      → IsDrive (flat_circuit_of cut.top) (Level level)
-  unfolding flat_circuit_of
-  level_told p o level listed on e =
-      let is = chosen_place p listed in
-      let step = tried_steps_are_chosen cut blif facts is.0 p h is.1 is.2 in
-      let q = compared_at cut.top blif p step.0 in
-      let s = places_in_stand_together cut.top (suc is.0) p.at (place_there cut blif facts is.0 p step.0 step.1) in
-      let formed = supported_cells_are_formed cut.top.design blif cut.top.rules p.at.cell step.0 h.read step.2 in
-      let port = port_of_output cut blif facts is.0 p step.0 step.1 on.0 o on.1 in
-      let listed_port = filter_among (λ (x : CellPort). is_some (output_signal x.role)) (ports_of q) port.0 (on.0, port.1) in
-      let true_drive = told_drive cut blif facts is.0 p step.0 step.1 on.0 port.0 level port.1 (sym (output_drive cut blif facts is.0 p step.0 step.1 on.0 o on.1) ∙ e) in
-      let f = told cut blif facts is.0 p step.0 step.1 in
-      level_in_range q 0 (f.2.equal f.1 0 h.read.valid.some_phase)
-      (record { devices = formed.circuit.devices; holds = formed.circuit.holds; wholes = formed.circuit.wholes }) (no_holds cut blif facts is.0 p step.0 step.1) refl
-      port.0.net level h.read.valid.some_phase (output_plain cut blif facts is.0 p step.0 step.1 port.0 (on.0, port.1)).1
-      (output_observed cut blif facts is.0 p step.0 step.1 s.0 s.1 s.2 s.3 0 port.0 h.read.valid.some_phase listed_port.0 listed_port.1) true_drive.0
-      (flat_circuit_of cut.top)
-
-  drive_told : (p : NumberedPlace) (o : OutputAt) (d : Drive) → Among (whole_places cut) p → Among (outputs_of_place cut.top blif facts p) o → o.pin.drive ≡ d → IsDrive (flat_circuit_of cut.top) d
-  drive_told p o Soft listed on e = tt
-  drive_told p o (Level level) listed on e = level_told p o level listed on e
-
   formed_cut : IsCircuit (flat_circuit_of cut.top) → IsFormedCut cut blif facts
   formed_cut flat = record {
     flat = flat;
     cells = λ p on.
         (let is = chosen_place p on in
-        let step = tried_steps_are_chosen cut blif facts is.0 p h is.1 is.2 in
+        let step = tried_instances_are_steps cut blif facts is.0 p h is.1 is.2 in
         (step.0, step.1.paired, supported_cells_are_formed cut.top.design blif cut.top.rules p.at.cell step.0 h.read step.2));
-    drives = λ p o listed on. drive_told p o o.pin.drive listed on refl;
+    drives = λ p o on there.
+        (let is = chosen_place p on in
+        let step = tried_instances_are_steps cut blif facts is.0 p h is.1 is.2 in
+        told_in_range cut blif facts is.0 p step.0 step.1 (supported_cells_are_formed cut.top.design blif cut.top.rules p.at.cell step.0 h.read step.2) h.read.valid.some_phase (flat_circuit_of cut.top) o there);
     ends = tried_ends_are_shown cut blif facts h;
   }
 
@@ -307,7 +280,7 @@ module _ (cut : Cut) (blif : Blif) (facts : List CellFacts) (c : Circuit) (h : I
   plain_outputs w pin on there =
       let from = zip_right (IsWholeAt cut blif facts) (whole_places cut) c.wholes w circuit.wholes on in
       let is = chosen_place from.0 from.1 in
-      let step = tried_steps_are_chosen cut blif facts is.0 from.0 h is.1 is.2 in
+      let step = tried_instances_are_steps cut blif facts is.0 from.0 h is.1 is.2 in
       let settled : OutputAt → WholePin = λ o. settled_drive (checked_devices cut) (all_outputs cut blif facts) o in
       let same = made_is cut blif facts from.0 step.0 w step.1.paired from.2 in
       let o = among_map settled (outputs_of_place cut.top blif facts from.0) pin (subst (λ (pins : List WholePin). Among pins pin) (sym (ap (λ (x : Whole). x.outputs) same)) there) in
@@ -315,11 +288,8 @@ module _ (cut : Cut) (blif : Blif) (facts : List CellFacts) (c : Circuit) (h : I
       let plain = plain_with cut (with_one (before cut is.0) is.0) blif facts c circuit refl o.0.pin.net.0 (may.1.plain o.0 o.1).0 in
       subst (λ (x : WholePin). IsPlain c x.net.0) o.2 plain
 
-pub trials_are_wired : TrialsAreWired
-trials_are_wired cut blif facts c h flat circuit = record {
+pub tried_circuits_are_wired : {all_soft : Bool} → TriedCircuitsAreWired all_soft
+tried_circuits_are_wired cut blif facts c h flat circuit = record {
   ranges = cuts_have_ranges cut blif facts c (formed_cut cut blif facts c h circuit flat) circuit;
   outputs = plain_outputs cut blif facts c h circuit;
 }
-
-pub tried_circuits_are_wired : TriedCircuitsAreWired
-tried_circuits_are_wired cut blif facts c h flat circuit = trials_are_wired cut blif facts c (soft_is_trial cut blif facts h) flat circuit

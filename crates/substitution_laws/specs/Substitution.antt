@@ -1,7 +1,7 @@
 -- A checked cell's model stands for it in the cells above.
-use Rattle.std.specs.Prelude.{List}
+use Rattle.std.specs.Prelude.{Bool, List}
 use Rattle.replaced_cells.specs.Agreement.{AgreesWith}
-use Rattle.substitution_laws.specs.Agreement.{IsCheckedSoftly}
+use Rattle.substitution_laws.specs.Agreement.{IsCheckedByFacts}
 use Rattle.vrt_model.specs.Checked.{with_circuit}
 use Rattle.vrt_model.specs.CheckedVerdicts.{IsSamePlace}
 use Rattle.vrt_model.specs.Comparison.{Comparison}
@@ -20,9 +20,9 @@ FirstStands k cut j =
     → (flat : Finding) × Describes k fault flat × IsFinding k flat × IsSamePlace cut fault.kind flat.at f.at
 
 -- The law: nothing is wrong in the flat circuit exactly where nothing is wrong in the checked one, and the first fault of this stands in
--- that, where the facts say of no output how strongly it drives.
-abbrev pub SubstitutionHolds : Type 0
-SubstitutionHolds =
+-- that.
+abbrev pub SubstitutionHolds : Bool → Type 0
+SubstitutionHolds all_soft =
     (k : Comparison) (cut : Cut) (blif : Blif) (facts : List CellFacts) (c : Circuit)
-    → IsCheckedSoftly k cut blif facts c
+    → IsCheckedByFacts all_soft k cut blif facts c
     → AgreesWith k (with_circuit k c) × FirstStands k cut (with_circuit k c)

@@ -1,7 +1,7 @@
--- A verdict of the checked circuit of a cell is one of the cell, where the facts say of no output how strongly it drives.
-use Rattle.std.specs.Prelude.{ℕ, ◌≤◌, List}
+-- A verdict of the checked circuit of a cell is one of the cell.
+use Rattle.std.specs.Prelude.{ℕ, ◌≤◌, Bool, List}
 use Rattle.checked_chain.specs.Holds.{IsOfChain}
-use Rattle.substitution_laws.specs.Agreement.{IsCheckedSoftly}
+use Rattle.substitution_laws.specs.Agreement.{IsCheckedByFacts}
 use Rattle.vrt_model.specs.Budget.{enough_nodes}
 use Rattle.vrt_model.specs.Checked.{with_circuit}
 use Rattle.vrt_model.specs.CheckedVerdicts.{HasCheckedVerdict}
@@ -21,8 +21,8 @@ ChainNeedsNoMore =
 
 -- The law: what the checked circuit is found to be, the cell is: equal, vacuous in a phase, or too large for the budget, with each phase
 -- before it equal; and its first fault is the cell's, at the same place and with the same words.
-abbrev pub CheckedVerdictsHold : Type 0
-CheckedVerdictsHold =
+abbrev pub CheckedVerdictsHold : Bool → Type 0
+CheckedVerdictsHold all_soft =
     (k : Comparison) (cut : Cut) (blif : Blif) (facts : List CellFacts) (c : Circuit) (budget : ℕ) (verdict : Verdict)
-    → IsCheckedSoftly k cut blif facts c
+    → IsCheckedByFacts all_soft k cut blif facts c
     → HasVerdict (with_circuit k c) blif budget verdict → HasCheckedVerdict k blif facts budget verdict

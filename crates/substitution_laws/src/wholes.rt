@@ -1,21 +1,22 @@
 //! The whole instances of a circuit.
 
-ghost use Rattle.substitution_laws.specs.Wholes.{CircuitsHaveRanges, CutsHaveRanges, TrialsAreWired, TriedCircuitsAreWired, WholesAreDetermined, WholesStandForCells};
+ghost use Rattle.std.specs.Prelude.{Bool};
+ghost use Rattle.substitution_laws.specs.Wholes.{CircuitsHaveRanges, CutsHaveRanges, TriedCircuitsAreWired, WholesAreDetermined, WholesStandForCells};
 
 /// A whole instance stands for its cell: it has its model, its inputs and its outputs, and links from each input from which covers lead to
 /// one.
 pub fn wholes_stand_for_cells()
-    ensures { WholesStandForCells }
+    ensures { (all_soft : Bool) → WholesStandForCells all_soft }
 {}
 
 /// So its outputs follow from the observed inputs that are linked to them.
 pub fn wholes_are_determined()
-    ensures { WholesAreDetermined }
+    ensures { (all_soft : Bool) → WholesAreDetermined all_soft }
 {}
 
 /// The numbers of nets and signals, the levels and the sizes of the circuit are in range.
 pub fn circuits_have_ranges()
-    ensures { CircuitsHaveRanges }
+    ensures { (all_soft : Bool) → CircuitsHaveRanges all_soft }
 {}
 
 /// So are those of the circuit of a cell of which some instances are left whole, each of a well-formed cell.
@@ -23,12 +24,7 @@ pub fn cuts_have_ranges()
     ensures { CutsHaveRanges }
 {}
 
-/// So are those of the circuit with instances that are tried, whatever is told of drives, and the outputs of these are at plain nets.
-pub fn trials_are_wired()
-    ensures { TrialsAreWired }
-{}
-
-/// So it is where no drives are told.
+/// So are those of the circuit with instances that are tried, and the outputs of these are at plain nets.
 pub fn tried_circuits_are_wired()
-    ensures { TriedCircuitsAreWired }
+    ensures { (all_soft : Bool) → TriedCircuitsAreWired all_soft }
 {}

@@ -6,4 +6,5 @@ pub mod SharedSets
 pub mod StepArcs
 pub mod StepOpened
 pub mod TrialLaws
+pub mod UnsettledOutputs
 pub mod WithoutLinks
