@@ -30,7 +30,7 @@ use Rattle.vrt_model.specs.declared.rules.Phase.{Phase}
 use Rattle.vrt_model.specs.declared.whole.CellFacts.{CellFacts}
 use Rattle.vrt_model.specs.declared.whole.WholePin.{WholePin}
 use Rattle.trial_cycles.proofs.OpenedNets.{IsOpenedIn, driven_by_pin}
-use Rattle.replaced_instances.proofs.ChosenSteps.{chosen_step_is_left_whole, chosen_step_is_placed, exposed_drives_are_true}
+use Rattle.replaced_instances.proofs.ChosenSteps.{chosen_step_is_left_whole, chosen_step_is_placed, exposed_true}
 use Rattle.replaced_instances.proofs.StepLeft.{hidden_compared}
 use Rattle.trial_cycles.proofs.CellPorts.{one_port}
 use Rattle.trial_cycles.proofs.UnsettledOutputs.{outputs_are_unsettled}
@@ -92,7 +92,7 @@ module _ (cut : Cut) (blif : Blif) (facts : List CellFacts) (i : ℕ) (p : Numbe
 
   -- an exposed output is alone inside, as it is told
   alone_port : (n : ℕ) → exposed n ≡ true → (port : CellPort) × Among (output_ports q) port × (port.net ≡ n) × IsAloneInside q port
-  alone_port n e = let port = exposed_drives_are_true cut blif facts i p m n step e in (port.0, port.1, port.2, port.3.1)
+  alone_port n e = let port = exposed_true cut blif facts i p m step n e in (port.0, port.1, port.2, port.3.1)
 
   unsettled : AreExposedUnsettled q.circuit now exposed
   unfolding flat_circuit_of
