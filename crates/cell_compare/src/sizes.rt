@@ -3,6 +3,7 @@
 ghost use Rattle.std.specs.Prelude.{◌≡◌, ◌≤◌, ◌+◌, All, length, IfOk};
 ghost use Rattle.cell_compare.specs.Works.{AreWithin};
 ghost use Rattle.cell_compare.specs.Sizes.{elements_in};
+ghost use Rattle.path_fixpoint.specs.Parts.{pins_of};
 ghost use Rattle.phase_terms.specs.Ready.{comparison_in};
 ghost use Rattle.phase_terms.specs.Stores.{counts_of};
 ghost use Rattle.vrt_model.specs.Circuits.{IsCircuit};
@@ -12,7 +13,7 @@ ghost use Rattle.vrt_model.specs.declared.groups.Vars.{Vars as VarsValue};
 
 use phase_open::most_model_words;
 use phase_terms::{Comparison, WordCounts};
-use vrt_model::{FlatLatch, FlatModel, LatchKind, NoMemory, Vars};
+use vrt_model::{Circuit, FlatLatch, FlatModel, LatchKind, NoMemory, Vars};
 
 /// How many elements a latch has: a triggered one has two.
 fn element_count(kind: LatchKind) -> u32
@@ -56,15 +57,30 @@ fn model_elements(model: &FlatModel) -> Result<u32, NoMemory>
     elements_of(model.latches.as_slice())
 }
 
+/// How many outputs the whole instances of a circuit have.
+fn pin_count(circuit: &Circuit) -> u32
+    requires few { length (pins_of circuit.now) ≤ 20000 }
+    ensures { result ≡ length (pins_of circuit.now) }
+{
+    let mut count = 0;
+    for whole in circuit.wholes.as_slice() {
+        let outputs = whole.outputs.len() as u32;
+        count += outputs;
+    }
+    count
+}
+
 /// The words of a comparison, for so many variables.
 pub(crate) fn counts_with(compared: Comparison<'_>, variables: u32) -> Result<WordCounts, NoMemory>
     requires circuit { IsCircuit compared.circuit.now }
     requires model { IsFlatModel compared.model.now }
+    requires pins { length (pins_of compared.circuit.now) ≤ 20000 }
     ensures { IfOk result (λ counts. counts ≡ counts_of (comparison_in compared.entry) variables) }
 {
     let elements = model_elements(compared.model)?;
     Ok(WordCounts {
         nets: compared.circuit.nets.len() as u32,
+        pins: pin_count(compared.circuit),
         models: most_model_words(compared.circuit.wholes.as_slice()),
         signals: compared.model.signals.len() as u32,
         elements,

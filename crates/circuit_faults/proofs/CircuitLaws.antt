@@ -32,7 +32,7 @@ use Rattle.known_nets.proofs.NetKinds.{given_or_plain}
 use Rattle.known_nets.specs.KnownTables.{known_at}
 use Rattle.node_pool.specs.declared.region.Span.{Span}
 use Rattle.path_fixpoint.proofs.SolveLaws.{is_finite}
-use Rattle.path_fixpoint.specs.Parts.{IsPlace, part_devices}
+use Rattle.path_fixpoint.specs.Parts.{IsPlace, part_devices, pins_of}
 use Rattle.path_fixpoint.specs.Solved.{HasRootSpans, network_at}
 use Rattle.vrt_model.proofs.Decidable.{reaches_or_not}
 use Rattle.vrt_model.proofs.GatesGiven.{IsGiven}
@@ -125,7 +125,7 @@ pub step_is : (w : InPhase) (number : ℕ) (part : Part) → At w.parts number p
 step_is w number part e = ap (λ (o : Option Part). unwrap_or (option_map part_step o) (OfPart 0 [])) e
 
 module _ (w : InPhase) (care : H) (roots gates : Span)
-    (wholes : HasFreeWholes w.circuit (phase_of w) w.observed) (seen : AreObserved w.circuit w.observed) (are : AreOrderedSteps w) (roots_len : roots.len ≡ length w.circuit.nets) (gates_len : gates.len ≡ length w.circuit.nets) where
+    (wholes : HasFreeWholes w.circuit (phase_of w) w.observed) (seen : AreObserved w.circuit w.observed) (are : AreOrderedSteps w) (roots_len : length w.circuit.nets + length (pins_of w.circuit) ≤ roots.len) (gates_len : gates.len ≡ length w.circuit.nets) where
   abbrev c : Circuit
   c = w.circuit
 

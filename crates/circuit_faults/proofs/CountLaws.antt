@@ -85,7 +85,7 @@ module _ (u : ℕ) where
   first_within d (Some false) root w = within_zero u d
   first_within d None root w = w
 
-  pub opened_within : (roots gates : Span) (known : ℕ → Option Bool) (old new : Diagrams) → gates.len ≡ roots.len → new.nodes ≡ old.nodes
+  pub opened_within : (roots gates : Span) (known : ℕ → Option Bool) (old new : Diagrams) → gates.len ≤ roots.len → new.nodes ≡ old.nodes
       → ((n : ℕ) → n < gates.len → word_at new gates n ≡ first_word (known n) (word_at old roots n)) → IsSpanWithin u old roots → IsSpanWithin u new gates
   opened_within roots gates known old new len nodes first all k lt =
       subst (λ (ns : List Node). IsWithin u (meaning ns (word_at new gates k))) (sym nodes)

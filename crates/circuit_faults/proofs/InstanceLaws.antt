@@ -1,5 +1,5 @@
 -- One instance more: its constraints are looked at where the nets of its named ports have their bits.
-use Rattle.std.proofs.Common.{◌≡◌, ℕ, ◌+◌, ◌<◌, Bool, true, false, cond, [], ◌∷◌, Some, None, length, arith, ap, refl, sym, subst, ◌∙◌, inl, inr}
+use Rattle.std.proofs.Common.{◌≡◌, ℕ, ◌+◌, ◌<◌, Bool, true, false, cond, [], ◌∷◌, Some, None, length, arith, ap, refl, sym, subst, ◌∙◌, inl, inr, ◌≤◌}
 use Rattle.std.specs.Prelude.{◌↔◌, slice_get}
 use Rattle.std.proofs.lemmas.Bool.{cases_eq, false≢true}
 use Rattle.std.proofs.lemmas.Option.{none-some, same_Some}
@@ -28,6 +28,7 @@ use Rattle.known_nets.proofs.NetKinds.{given_or_plain}
 use Rattle.known_nets.specs.KnownTables.{known_at}
 use Rattle.vrt_model.proofs.Tests.{some_or_none}
 use Rattle.vrt_model.specs.Faults.{BreaksConstraint}
+use Rattle.path_fixpoint.specs.Parts.{pins_of}
 use Rattle.vrt_model.specs.Lists.{Among}
 use Rattle.vrt_model.specs.Reading.{Partial}
 use Rattle.vrt_model.specs.declared.circuit.FlatInstance.{FlatInstance}
@@ -43,7 +44,7 @@ broken_where care held v = by_test (held v)
     by_test false = (λ e. (e, refl), λ h. h.0)
 
 module _ (w : InPhase) (care : H) (roots gates : Span)
-    (wholes : HasFreeWholes w.circuit (phase_of w) w.observed) (seen : AreObserved w.circuit w.observed) (are : AreOrderedSteps w) (roots_len : roots.len ≡ length w.circuit.nets) (gates_len : gates.len ≡ length w.circuit.nets)
+    (wholes : HasFreeWholes w.circuit (phase_of w) w.observed) (seen : AreObserved w.circuit w.observed) (are : AreOrderedSteps w) (roots_len : length w.circuit.nets + length (pins_of w.circuit) ≤ roots.len) (gates_len : gates.len ≡ length w.circuit.nets)
     (k at : ℕ) (i : FlatInstance) (here : IsInstanceAt w k at i) (ready : IsReadyInstance w i) (first now new : Diagrams)
     (before : IsSolvedBefore w care roots gates k first now) (live : IsFilled now gates)
     (kept_care : (v : Valuation) → function_of now care v ≡ function_of first care v) where

@@ -15,7 +15,7 @@ use Rattle.circuit_faults.specs.Scans.{IsInEarlier, IsInside}
 use Rattle.circuit_faults.specs.declared.spans.KeptSpans.{KeptSpans}
 use Rattle.node_pool.specs.declared.region.Span.{Span}
 use Rattle.path_fixpoint.proofs.Spreading.{device_ranges}
-use Rattle.path_fixpoint.specs.Parts.{IsPart}
+use Rattle.path_fixpoint.specs.Parts.{IsPart, pins_of}
 use Rattle.path_fixpoint.specs.Solved.{net_of, network_at}
 use Rattle.vrt_model.proofs.Members.{all_among, at_none}
 use Rattle.vrt_model.specs.Networks.{HasRanges}
@@ -32,19 +32,19 @@ use Rattle.vrt_model.specs.declared.circuit.Hold.{Hold}
 -- where the handles at all nets of the circuit show the same bits, the one network has what the other has
 module _ (c : Circuit) (part : Part) (ranges : HasRanges c) (gates roots : Span) (one two : Diagrams) (v : Valuation)
     (same_gates : (n : ℕ) → n < length c.nets → shows one gates n v ≡ shows two gates n v)
-    (same_roots : (n : ℕ) → n < length c.nets → shows one roots n v ≡ shows two roots n v) where
+    (same_roots : (n : ℕ) → n < length c.nets + length (pins_of c) → shows one roots n v ≡ shows two roots n v) where
   held_same : (at : ℕ) (hold : Hold) → At c.holds at hold → shows one roots (net_of (slice_get c.holds at)) v ≡ shows two roots (net_of (slice_get c.holds at)) v
   held_same at hold e =
       subst (λ (o : Option Hold). shows one roots (net_of o) v ≡ shows two roots (net_of o) v) (sym e)
-      (same_roots hold.net.0 (all_among (IsHold c) c.holds hold ranges.holds (at, e)).net)
+      (same_roots hold.net.0 (let lt = (all_among (IsHold c) c.holds hold ranges.holds (at, e)).net in omega (arith, lt)))
 
   pub network_part : IsPartOf (network_at one c part gates roots v) (network_at two c part gates roots v)
   network_part = record {
     roots = λ root r. elim r [
-      | inl g ↦ inl (g.0, g.1, g.2, g.3, g.4 ∙ same_roots root.net (slice_get_within c.nets root.net g.0 g.1))
+      | inl g ↦ inl (g.0, g.1, g.2, g.3, g.4 ∙ same_roots root.net (let lt = slice_get_within c.nets root.net g.0 g.1 in omega (arith, lt)))
       | inr other ↦ elim other [
         | inl h ↦ inr (inl (h.0, h.1, h.2, h.3, h.4, h.5 ∙ held_same h.0 h.1 h.2))
-        | inr o ↦ absurd (at_none o.0 o.1 o.2)
+        | inr o ↦ inr (inr (o.0, o.1, o.2, o.3, o.4, o.5 ∙ same_roots (length c.nets + o.0) (let lt = slice_get_within (pins_of c) o.0 o.1 o.2 in omega (arith, lt))))
       ]
     ];
     devices = λ d on.
@@ -52,7 +52,7 @@ module _ (c : Circuit) (part : Part) (ranges : HasRanges c) (gates roots : Span)
   }
 
 pub network_reaches : (c : Circuit) (part : Part) (ranges : HasRanges c) (gates roots : Span) (one two : Diagrams) (v : Valuation)
-    → ((n : ℕ) → n < length c.nets → shows one gates n v ≡ shows two gates n v) → ((n : ℕ) → n < length c.nets → shows one roots n v ≡ shows two roots n v)
+    → ((n : ℕ) → n < length c.nets → shows one gates n v ≡ shows two gates n v) → ((n : ℕ) → n < length c.nets + length (pins_of c) → shows one roots n v ≡ shows two roots n v)
     → (n : ℕ) (value : Bool) → Reaches (network_at one c part gates roots v) n value → Reaches (network_at two c part gates roots v) n value
 network_reaches c part ranges gates roots one two v same_gates same_roots n value r =
     reaches_same (network_at one c part gates roots v) (network_at two c part gates roots v)
@@ -82,7 +82,7 @@ module _ (c : Circuit) (parts : List Part) (spans : KeptSpans) (ranges : HasRang
         live = r.live;
         reaches = λ value v.
             let gates = λ (m : ℕ) (lt : m < length c.nets). gates_shown c parts spans first has now before m v lt in
-            let roots = λ (m : ℕ) (lt : m < length c.nets). roots_shown c parts spans first has now before m v lt in
+            let roots = λ (m : ℕ) (lt : m < length c.nets + length (pins_of c)). roots_shown c parts spans first has now before m v lt in
             let t = r.reaches value v in (
               λ e. network_reaches c part ranges spans.gates spans.roots now first v gates roots n value (t.0 e),
               λ q. t.1 (network_reaches c part ranges spans.gates spans.roots first now v (λ m lt. sym (gates m lt)) (λ m lt. sym (roots m lt)) n value q),

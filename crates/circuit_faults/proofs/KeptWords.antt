@@ -19,7 +19,7 @@ use Rattle.circuit_faults.specs.KeptScans.{IsCopiedTo, IsPartReached, IsReached,
 use Rattle.circuit_faults.specs.Scans.{IsInside}
 use Rattle.circuit_faults.specs.declared.spans.KeptSpans.{KeptSpans}
 use Rattle.path_fixpoint.proofs.Places.{place_in, place_once}
-use Rattle.path_fixpoint.specs.Parts.{IsPart, IsPlace}
+use Rattle.path_fixpoint.specs.Parts.{IsPart, IsPlace, pins_of}
 use Rattle.path_fixpoint.specs.Reaching.{slot_of}
 use Rattle.path_fixpoint.specs.Solved.{HasRootSpans, TellsReach, network_at}
 use Rattle.path_fixpoint.specs.Strengths.{strong, word_of}
@@ -162,13 +162,13 @@ module _ (c : Circuit) (parts : List Part) (spans : KeptSpans) (old : Diagrams) 
     pub gates_word : (n : ℕ) → n < length c.nets → word_at new spans.gates n ≡ word_at old spans.gates n
     gates_word n lt = word_kept spans.gates n has.gates_zeros has.gates_ones has.gates_out (omega (arith, lt, has.gates_len))
 
-    pub roots_word : (n : ℕ) → n < length c.nets → word_at new spans.roots n ≡ word_at old spans.roots n
+    pub roots_word : (n : ℕ) → n < length c.nets + length (pins_of c) → word_at new spans.roots n ≡ word_at old spans.roots n
     roots_word n lt = word_kept spans.roots n has.roots_zeros has.roots_ones has.roots_out (omega (arith, lt, has.roots_len))
 
     pub gates_shown : (n : ℕ) (v : Valuation) → n < length c.nets → shows new spans.gates n v ≡ shows old spans.gates n v
     gates_shown n v lt = shows_kept spans.gates n v has.gates_zeros has.gates_ones has.gates_out has.gates_live (omega (arith, lt, has.gates_len))
 
-    pub roots_shown : (n : ℕ) (v : Valuation) → n < length c.nets → shows new spans.roots n v ≡ shows old spans.roots n v
+    pub roots_shown : (n : ℕ) (v : Valuation) → n < length c.nets + length (pins_of c) → shows new spans.roots n v ≡ shows old spans.roots n v
     roots_shown n v lt = shows_kept spans.roots n v has.roots_zeros has.roots_ones has.roots_out has.roots_live (omega (arith, lt, has.roots_len))
 
     span_within : (u : ℕ) (span : Span) → IsApart span spans.zeros → IsApart span spans.ones → IsApart span spans.out → IsFilled old span → IsSpanWithin u old span → IsSpanWithin u new span

@@ -27,4 +27,5 @@ pub mod Solutions
 pub mod StepLaws
 pub mod StepLists
 pub mod StrongReached
+pub mod Undriven
 pub mod WholeParts

@@ -1,5 +1,5 @@
 -- What is found in the kept circuit, and what is asked of the spans.
-use Rattle.std.specs.Prelude.{◌≡◌, ◌≢◌, ℕ, ◌*◌, ◌≤◌, ◌⊎◌, Bool, true, List, length, Option, Some, None, slice_index}
+use Rattle.std.specs.Prelude.{◌≡◌, ◌≢◌, ℕ, ◌*◌, ◌≤◌, ◌⊎◌, Bool, true, List, length, Option, Some, None, slice_index, ◌+◌}
 use Rattle.node_pool.specs.declared.region.Span.{Span}
 use Rattle.bdd_core.specs.Store.{Adds, Diagrams, IsLive, IsSpan, function_of}
 use Rattle.bdd_core.specs.Words.{IsApart, IsBeside, IsFilled}
@@ -11,6 +11,7 @@ use Rattle.circuit_faults.specs.Results.{root_at}
 use Rattle.circuit_faults.specs.declared.spans.KeptSpans.{KeptSpans}
 use Rattle.circuit_faults.specs.declared.kept_net.KeptFault.{KeptFault}
 use Rattle.fault_places.specs.Searches.{IsClearOf, IsFoundIn}
+use Rattle.path_fixpoint.specs.Parts.{pins_of}
 use Rattle.path_fixpoint.specs.Strengths.{net_words}
 use Rattle.vrt_model.specs.Lists.{Among}
 use Rattle.vrt_model.specs.Reading.{kept}
@@ -20,11 +21,12 @@ use Rattle.vrt_model.specs.declared.circuit.Circuit.{Circuit}
 use Rattle.vrt_model.specs.declared.rules.Phase.{Phase}
 use Rattle.vrt_model.specs.declared.verdict.FaultKind.TheVariants.{FightKept, Unsettled}
 
--- Live handles of the roots and of the bits of the bare circuit, one for each net; two words for each net, of where 0 and
+-- Live handles of the roots and of the bits of the bare circuit, one for each net and of the roots one for each output pin of the
+-- whole instances; two words for each net, of where 0 and
 -- of where 1 reaches it; and the words of the nets of the greatest kept part. What is written is apart from all else.
 pub record HasKeptSpans (c : Circuit) (parts : List Part) (spans : KeptSpans) (d : Diagrams) : Type 0 where
   pub roots_span : IsSpan d spans.roots
-  pub roots_len : spans.roots.len ≡ length c.nets
+  pub roots_len : length c.nets + length (pins_of c) ≤ spans.roots.len
   pub roots_live : IsFilled d spans.roots
   pub gates_span : IsSpan d spans.gates
   pub gates_len : spans.gates.len ≡ length c.nets

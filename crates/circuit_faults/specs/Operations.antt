@@ -8,13 +8,14 @@ use Rattle.circuit_faults.specs.Steps.{InPhase}
 use Rattle.circuit_faults.specs.declared.steps.CircuitStep.{CircuitStep}
 use Rattle.circuit_faults.specs.declared.steps.CircuitStep.TheVariants.{Part as PartStep, Instance as InstanceStep}
 use Rattle.constraints.specs.Obliged.{has_lines, obligation_size}
+use Rattle.path_fixpoint.specs.Parts.{pins_at, pins_of}
 use Rattle.vrt_model.specs.declared.circuit.FlatInstance.{FlatInstance}
 
 -- the refusal tells the budget, and as many nodes are there
 abbrev pub IsUsedUp : Diagrams → Diagrams → Spent → Type 0
 IsUsedUp old new spent = (spent.nodes ≡ old.budget) × (length new.nodes ≡ old.budget)
 
--- of a part: to solve it, and four for each net
+-- of a part without outputs of whole instances: to solve it, and four for each net
 abbrev pub part_operations : Part → ℕ
 part_operations part = 400 * (length part.nets + 1) * (length part.devices + 1) + 4 * length part.nets
 
@@ -22,12 +23,12 @@ abbrev pub circuit_operations : List Part → ℕ
 circuit_operations parts = sum_by part_operations parts
 
 -- of a part of the kept circuit: to solve it
-abbrev pub kept_part_operations : Part → ℕ
-kept_part_operations part = 400 * (length part.nets + 1) * (length part.devices + 1)
+abbrev pub kept_part_operations : Circuit → Part → ℕ
+kept_part_operations c part = 400 * (length part.nets + 1) * (length part.devices + pins_at part (pins_of c) + 1)
 
 -- all parts of the kept circuit, and twenty for each net
 abbrev pub kept_operations : Circuit → List Part → ℕ
-kept_operations c parts = sum_by kept_part_operations parts + 20 * length c.nets
+kept_operations c parts = sum_by (kept_part_operations c) parts + 20 * length c.nets
 
 -- of an instance: its lines, and two
 abbrev pub instance_operations : InPhase → FlatInstance → ℕ

@@ -1,5 +1,5 @@
 -- What is found in a whole circuit.
-use Rattle.std.specs.Prelude.{◌≡◌, ◌≢◌, ℕ, ◌*◌, ◌≤◌, ◌⊎◌, Bool, true, false, cond, List, flat_map, length, Option, Some, None}
+use Rattle.std.specs.Prelude.{◌≡◌, ◌≢◌, ℕ, ◌*◌, ◌≤◌, ◌⊎◌, Bool, true, false, cond, List, flat_map, length, Option, Some, None, ◌+◌}
 use Rattle.node_pool.specs.declared.region.Span.{Span}
 use Rattle.bdd_core.specs.Diagram.{Function, Valuation}
 use Rattle.bdd_core.specs.Store.{AddsNodes, Diagrams, IsLive, IsSpan, Means, function_of}
@@ -16,6 +16,7 @@ use Rattle.circuit_faults.specs.declared.steps.CircuitStep.TheVariants.{Part as 
 use Rattle.constraints.specs.Obliged.{obliged_at}
 use Rattle.fault_places.specs.PhaseSpots.{spots_of}
 use Rattle.fault_places.specs.Searches.{IsClearOf, IsFoundIn}
+use Rattle.path_fixpoint.specs.Parts.{pins_of}
 use Rattle.path_fixpoint.specs.Strengths.{net_words}
 use Rattle.vrt_model.specs.Lists.{At, Among}
 use Rattle.vrt_model.specs.State.{Setting}
@@ -34,11 +35,11 @@ abbrev pub first_word : Option Bool → ℕ → ℕ
 first_word None root = root
 first_word (Some known) root = cond known 1 0
 
--- live handles of the roots, one for each net; a word for each net; and the words of the nets of the greatest part; all
--- apart
+-- live handles of the roots, one for each net and behind these one for each output pin of the whole instances; a word for each
+-- net; and the words of the nets of the greatest part; all apart
 pub record HasCircuitSpans (c : Circuit) (parts : List Part) (roots gates out : Span) (d : Diagrams) : Type 0 where
   pub roots_span : IsSpan d roots
-  pub roots_len : roots.len ≡ length c.nets
+  pub roots_len : length c.nets + length (pins_of c) ≤ roots.len
   pub roots_live : IsFilled d roots
   pub gates_span : IsSpan d gates
   pub gates_len : gates.len ≡ length c.nets

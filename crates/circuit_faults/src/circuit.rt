@@ -16,7 +16,7 @@ ghost use Rattle.path_fixpoint.specs.Spending.{HasOneHold, Spends};
 ghost use Rattle.path_fixpoint.specs.Strengths.{net_words};
 ghost use Rattle.circuit_faults.specs.Scans.{PartGives};
 ghost use Rattle.circuit_faults.specs.Wholes.{IsReadyWholes, WiredGives, all_operations, part_driver, wired_operations};
-ghost use Rattle.path_fixpoint.specs.Parts.{IsPart};
+ghost use Rattle.path_fixpoint.specs.Parts.{AreSoftInside, IsPart, pins_at, pins_of};
 ghost use Rattle.vrt_model.specs.Lists.{Among, mark_at};
 ghost use Rattle.vrt_model.specs.Networks.{HasRanges};
 ghost use Rattle.vrt_model.specs.declared.whole.Whole.{Whole as WholeValue};
@@ -49,7 +49,7 @@ fn first_handle(known: Option<bool>, root: u32) -> u32
 fn write_first_handles(store: &mut Store, known: &[Option<bool>], roots: Span, gates: Span)
     requires roots { IsSpan store.old roots × IsFilled store.old roots }
     requires gates { IsSpan store.old gates }
-    requires len { (length known.now ≡ gates.len) × (roots.len ≡ gates.len) }
+    requires len { (length known.now ≡ gates.len) × (gates.len ≤ roots.len) }
     requires apart { IsApart roots gates }
     ensures writes { Writes gates store.old store.new }
     ensures rest { store.new ≡ record store.old { words = store.new.words } }
@@ -93,6 +93,8 @@ fn check_solved(
 ) -> Result<Option<CircuitFault>, Spent>
     requires circuit { HasRanges phased.circuit.now }
     requires part { Among phased.parts.now.list part.now × IsPart phased.circuit.now part.now }
+    requires soft { AreSoftInside phased.circuit.now part.now }
+    requires undriven { pins_at part.now (pins_of phased.circuit.now) ≡ 0 }
     requires observed { length phased.observed.now ≡ length phased.circuit.now.nets }
     requires care { IsLive store.old care }
     requires spans { HasCircuitSpans phased.circuit.now phased.parts.now.list spans.roots spans.gates spans.out store.old }
@@ -163,6 +165,7 @@ fn check_part_step(
     requires room { HasModelRoom phased.circuit.now spans.out }
     requires steps { AreOrderedSteps (in_phase phased) }
     requires there { number < length phased.parts.now.list }
+    requires listed { Among (in_phase phased).steps (PartStep number) }
     requires observed { length phased.observed.now ≡ length phased.circuit.now.nets }
     requires care { IsLive store.old care }
     requires spans { HasCircuitSpans phased.circuit.now phased.parts.now.list spans.roots spans.gates spans.out store.old }
@@ -215,6 +218,7 @@ fn check_step(
     requires steps { AreOrderedSteps (in_phase phased) }
     requires instances { All (IsReadyInstance (in_phase phased)) phased.circuit.now.instances }
     requires there { IsThere (in_phase phased) step }
+    requires listed { Among (in_phase phased).steps step }
     requires observed { length phased.observed.now ≡ length phased.circuit.now.nets }
     requires care { IsLive store.old care }
     requires spans { HasCircuitSpans phased.circuit.now phased.parts.now.list spans.roots spans.gates spans.out store.old }

@@ -17,6 +17,7 @@ ghost use Rattle.path_fixpoint.specs.Spending.{HasOneHold};
 ghost use Rattle.circuit_faults.specs.Wholes.{HasFreeWholes};
 ghost use Rattle.vrt_model.specs.Lists.{mark_at};
 ghost use Rattle.vrt_model.specs.Networks.{HasRanges};
+ghost use Rattle.whole_steps.specs.FreeOutputs.{HasFreeOutputs};
 ghost use Rattle.whole_steps.specs.Tables.{IsWholeTable};
 ghost use Rattle.vrt_model.specs.declared.circuit.Device.{Device as DeviceValue};
 ghost use Rattle.vrt_model.specs.declared.rules.Phase.{Phase};
@@ -127,7 +128,7 @@ fn scan_kept(
 /// are, also where the budget is used up.
 ///
 /// Where the handles read only the first `u` variables and no net has two holds, a part of p nets and q devices takes at
-/// most 400 (p + 1) (q + 1) operations of `2 ^ u` nodes, and each net at most 20. `Spent` comes only where the budget is
+/// most 400 (p + 1) (q + r + 1) operations of `2 ^ u` nodes for r outputs of whole instances on its nets, and each net at most 20. `Spent` comes only where the budget is
 /// less than all these with the nodes that were there, and has the budget.
 pub fn wired_kept(
     store: &mut Store,
@@ -139,6 +140,7 @@ pub fn wired_kept(
     spans: KeptSpans,
 ) -> Result<Option<KeptFault>, Spent>
     requires circuit { HasRanges circuit.now }
+    requires free { HasFreeOutputs circuit.now }
     requires wholes { IsWholeTable circuit.now wholes.drivers.now wholes.plans.now }
     requires parts { (phase : Phase) × IsPartList circuit.now phase false kept.now }
     requires marks { length observed.now ≡ length circuit.now.nets }

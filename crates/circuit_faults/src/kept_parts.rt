@@ -9,7 +9,7 @@ ghost use Rattle.circuit_faults.specs.KeptResults.{HasKeptSpans, WritesKept};
 ghost use Rattle.circuit_faults.specs.KeptScans.{IsCopiedTo, IsPartReached, IsReachedIn, SpendsReach};
 ghost use Rattle.circuit_faults.specs.Operations.{kept_part_operations};
 ghost use Rattle.circuit_faults.specs.Scans.{IsInEarlier, IsInside};
-ghost use Rattle.path_fixpoint.specs.Parts.{IsPart, IsPlace};
+ghost use Rattle.path_fixpoint.specs.Parts.{AreSoftInside, IsPart, IsPlace};
 ghost use Rattle.path_fixpoint.specs.Reaching.{slot_of};
 ghost use Rattle.path_fixpoint.specs.Spending.{HasOneHold};
 ghost use Rattle.path_fixpoint.specs.Strengths.{net_words, word_of};
@@ -62,10 +62,11 @@ fn solve_kept(
 ) -> Result<(), Spent>
     requires circuit { HasRanges circuit.now }
     requires part { IsPart circuit.now part.now }
+    requires soft { AreSoftInside circuit.now part.now }
     requires spans { HasKeptSpans circuit.now (part.now ∷ []) spans store.old }
     ensures writes { WritesKept spans store.old store.new }
     ensures gives { IfOk result (λ _. IsPartReached circuit.now part.now spans store.old store.new) }
-    ensures few { HasOneHold circuit.now → (u : ℕ) → IsSpanWithin u store.old spans.gates → IsSpanWithin u store.old spans.roots → SpendsReach u (kept_part_operations part.now) spans (IsInside part.now) store.old store.new result }
+    ensures few { HasOneHold circuit.now → (u : ℕ) → IsSpanWithin u store.old spans.gates → IsSpanWithin u store.old spans.roots → SpendsReach u (kept_part_operations circuit.now part.now) spans (IsInside part.now) store.old store.new result }
 {
     store.sound();
     let out = words_of(part, spans.out);
@@ -87,10 +88,11 @@ pub(crate) fn solve_parts(
 ) -> Result<(), Spent>
     requires circuit { HasRanges circuit.now }
     requires parts { (part : Part) → Among parts.now part → IsPart circuit.now part }
+    requires soft { (part : Part) → AreSoftInside circuit.now part }
     requires spans { HasKeptSpans circuit.now parts.now spans store.old }
     ensures writes { WritesKept spans store.old store.new }
     ensures gives { IfOk result (λ _. (n : ℕ) → IsInEarlier parts.now (length parts.now) n → IsReachedIn circuit.now parts.now spans (length parts.now) store.old store.new n) }
-    ensures few { HasOneHold circuit.now → (u : ℕ) → IsSpanWithin u store.old spans.gates → IsSpanWithin u store.old spans.roots → SpendsReach u (sum_by kept_part_operations parts.now) spans (IsInEarlier parts.now (length parts.now)) store.old store.new result }
+    ensures few { HasOneHold circuit.now → (u : ℕ) → IsSpanWithin u store.old spans.gates → IsSpanWithin u store.old spans.roots → SpendsReach u (sum_by (kept_part_operations circuit.now) parts.now) spans (IsInEarlier parts.now (length parts.now)) store.old store.new result }
 {
     store.sound();
     for part in parts {

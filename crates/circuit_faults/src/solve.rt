@@ -7,7 +7,7 @@ ghost use Rattle.bdd_core.specs.Words.{IsApart, IsFilled, WritesTwo};
 ghost use Rattle.bdd_ops.specs.Counting.{IsSpanWithin};
 ghost use Rattle.circuit_faults.specs.Operations.{part_operations};
 ghost use Rattle.circuit_faults.specs.Scans.{PartGives};
-ghost use Rattle.path_fixpoint.specs.Parts.{IsPart};
+ghost use Rattle.path_fixpoint.specs.Parts.{AreSoftInside, IsPart, pins_at, pins_of};
 ghost use Rattle.path_fixpoint.specs.Solved.{HasRootSpans};
 ghost use Rattle.path_fixpoint.specs.Spending.{HasOneHold, Spends};
 ghost use Rattle.vrt_model.specs.Lists.{mark_at};
@@ -23,7 +23,7 @@ use vrt_model::Circuit;
 
 /// The first fault of a part in the care set, at the valuations at which its devices have the bits of `gates`. Where
 /// there is none, the handles of its nets among `gates` become their bits. `roots` has the bits of the given nets and of
-/// the holds.
+/// the holds. No output of a whole instance stands at a net of the part.
 pub(crate) fn check_part(
     store: &mut Store,
     circuit: &Circuit,
@@ -38,6 +38,8 @@ pub(crate) fn check_part(
     requires part { IsPart circuit.now part.now }
     requires observed { length observed.now ≡ length circuit.now.nets }
     requires care { IsLive store.old care }
+    requires soft { AreSoftInside circuit.now part.now }
+    requires undriven { pins_at part.now (pins_of circuit.now) ≡ 0 }
     requires spans { HasRootSpans circuit.now part.now gates roots out store.old }
     ensures writes { WritesTwo gates out store.old store.new }
     ensures live { IsFilled store.new gates }

@@ -5,6 +5,7 @@ pub mod Idle
 pub mod Offered
 pub mod Opened
 pub mod Passing
+pub mod PinLaws
 pub mod Places
 pub mod RangeLaws
 pub mod ReachLaws

@@ -3,19 +3,19 @@
 use Rattle.std.proofs.Common.{◌≡◌, ℕ, ◌+◌, ◌<◌, ◌≤◌, ◌⊎◌, min, ◌&&◌, Bool, true, false, not, List, length, Option, Some, None, get_or, arith, ap, refl, sym, subst, ◌∙◌, inl, inr}
 use Rattle.std.specs.Prelude.{◌↔◌}
 use Rattle.std.proofs.lemmas.Bool.{cases_lt, false≢true}
-use Rattle.std.proofs.lemmas.Option.{same_Some}
+use Rattle.std.proofs.lemmas.Option.{same_Some, slice_get_within}
 use Rattle.node_pool.specs.declared.region.Span.{Span}
 use Rattle.bdd_core.specs.Diagram.{Valuation, meaning}
 use Rattle.bdd_core.specs.Store.{Diagrams}
 use Rattle.vrt_model.proofs.Clear.{HopFits, RootFits, arrives-reaches, reaches-arrives}
 use Rattle.vrt_model.proofs.GivenNets.{level_most}
-use Rattle.vrt_model.proofs.Members.{all_among, at_none}
+use Rattle.vrt_model.proofs.Members.{all_among}
 use Rattle.vrt_model.proofs.PathKinds.{Arrives, arrives_on, arrives_root, closed_end}
 use Rattle.vrt_model.proofs.Strength.{at_least-strength, at_least_on, strength-at_least}
 use Rattle.vrt_model.specs.Circuits.{IsHold}
 use Rattle.vrt_model.specs.Networks.{HasLevels, HasRanges}
 use Rattle.vrt_model.specs.Lists.{At, Among, differ}
-use Rattle.vrt_model.specs.Path.{IsOn, Joins, Network, Root}
+use Rattle.vrt_model.specs.Path.{IsOn, Joins, Network, Root, level_of_drive}
 use Rattle.vrt_model.specs.Reading.{conducts, conducts_at}
 use Rattle.vrt_model.specs.Response.{IsStrength}
 use Rattle.vrt_model.specs.declared.circuit.Circuit.{Circuit}
@@ -26,13 +26,14 @@ use Rattle.vrt_model.specs.declared.whole.WholePin.{WholePin}
 use Rattle.channel_parts.specs.declared.part.Part.{Part}
 use Rattle.path_fixpoint.specs.declared.side.Side.{Side}
 use Rattle.path_fixpoint.specs.declared.side.Side.TheVariants.{Inside, Outside}
-use Rattle.path_fixpoint.specs.Parts.{IsGiven, IsPart, IsPlace, is_on_side, part_devices}
+use Rattle.path_fixpoint.specs.Parts.{IsGiven, IsPart, IsPlace, is_on_side, part_devices, pins_of}
 use Rattle.path_fixpoint.specs.Reaching.{FitsAt, HasReach, HasReachPaths, HasReachPassed, HasReachRoots, HasRootWords, IsReached, PassesSignal, SolvedAt, offered_end, reached_end, slot_of}
 use Rattle.path_fixpoint.specs.Strengths.{ChangesLevel, StandsAt, StrongGrows, strong, strong_end, word_of}
 use Rattle.bdd_core.specs.Words.{Writes, shows}
 use Rattle.path_fixpoint.proofs.Counts.{count, count_all, none_counted, same_or_more}
 use Rattle.bdd_core.proofs.Frames.{filled_beside, shows_beside, shows_kept, span_written}
 use Rattle.path_fixpoint.proofs.Passing.{given_path}
+use Rattle.path_fixpoint.proofs.PinLaws.{pin_level}
 use Rattle.path_fixpoint.proofs.Places.{EndIs, on_a_side, place_in, place_once}
 use Rattle.path_fixpoint.proofs.RoundLaws.{level_stays, stands_kept, words_kept}
 use Rattle.path_fixpoint.proofs.Spreading.{device_ranges}
@@ -75,6 +76,10 @@ module _ (c : Circuit) (part : Part) (is_part : IsPart c part) (in_range : HasRa
     held = λ at hold e.
         let lt = (all_among (IsHold c) c.holds hold in_range.holds (at, e)).net in
         shows_beside out roots old new hold.net.0 v wr words.roots_apart words.roots_live (omega (arith, lt, words.roots_len)) ∙ is.held at hold e;
+    driven = λ at pin e.
+        let lt = slice_get_within (pins_of c) at pin e in
+        shows_beside out roots old new (length c.nets + at) v wr words.roots_apart words.roots_live (omega (arith, lt, words.roots_len)) ∙ is.driven at pin e;
+    soft = is.soft;
     strength = is.strength;
     solved = λ level low high.
         level_stays c part gates out level (slot_of value) old new v w low high (omega (arith, slot_low value)) (slot_high value) (λ e. omega (arith, e, high, slot_low value)) words.words wr changes (is.solved level low high);
@@ -89,7 +94,10 @@ module _ (c : Circuit) (part : Part) (is_part : IsPart c part) (in_range : HasRa
         | inl h ↦
             let there : At c.holds h.0 h.1 = subst (λ (hs : List Hold). At hs h.0 h.1) st.holds h.2 in
             omega (arith, h.4, (all_among (IsHold c) c.holds h.1 in_range.holds (h.0, there)).size.1, st.source)
-        | inr o ↦ absurd (at_none o.0 o.1 (subst (λ (ps : List WholePin). At ps o.0 o.1) st.outputs o.2))
+        | inr o ↦
+            let there : At (pins_of c) o.0 o.1 = subst (λ (ps : List WholePin). At ps o.0 o.1) st.outputs o.2 in
+            let size : root.level ≡ level_of_drive 8 o.1.drive = o.4 ∙ ap (λ (s : ℕ). level_of_drive s o.1.drive) st.source in
+            omega (arith, size, (pin_level c o.1 in_range (o.0, there)).1, st.source)
       ]
     ];
     devices = λ dev on. omega (arith, (device_ranges c part dev in_range (subst (λ (ds : List Device). Among ds dev) st.devices on.0)).level.1, st.source);

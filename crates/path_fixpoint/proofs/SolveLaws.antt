@@ -1,11 +1,11 @@
 -- A part solved, step by step, at each valuation.
-use Rattle.std.proofs.Common.{◌≡◌, ℕ, ◌≤◌, Bool, true, false, length, Option, arith, ap, refl, sym, ◌∙◌, inl, inr}
+use Rattle.std.proofs.Common.{◌≡◌, ℕ, ◌+◌, ◌≤◌, Bool, true, false, length, Option, arith, ap, refl, sym, ◌∙◌, inl, inr}
 use Rattle.std.proofs.lemmas.Option.{slice_get_within}
 use Rattle.node_pool.specs.declared.region.Span.{Span}
 use Rattle.bdd_core.specs.Diagram.{Valuation}
 use Rattle.bdd_core.specs.Store.{Diagrams}
 use Rattle.vrt_model.proofs.Decidable.{strength_exists}
-use Rattle.vrt_model.proofs.Members.{all_among, at_none}
+use Rattle.vrt_model.proofs.Members.{all_among}
 use Rattle.vrt_model.proofs.Strength.{at_least-strength, strength-at_least}
 use Rattle.vrt_model.specs.Circuits.{IsHold}
 use Rattle.vrt_model.specs.Networks.{HasRanges, IsFinite}
@@ -14,12 +14,13 @@ use Rattle.vrt_model.specs.Response.{IsStrength}
 use Rattle.vrt_model.specs.declared.circuit.Circuit.{Circuit}
 use Rattle.vrt_model.specs.declared.circuit.Hold.{Hold}
 use Rattle.channel_parts.specs.declared.part.Part.{Part}
-use Rattle.path_fixpoint.specs.Parts.{IsPart}
+use Rattle.path_fixpoint.specs.Parts.{AreSoftInside, IsPart, pins_of}
 use Rattle.path_fixpoint.specs.Reaching.{HasReach, HasRootWords, SolvedAt, slot_of}
 use Rattle.path_fixpoint.specs.Solved.{HasRootSpans, TellsReach, net_of, network_at}
 use Rattle.path_fixpoint.specs.Strengths.{ChangesLevel, HasLevel, StandsAt, TellsStrengths, strong, word_of}
 use Rattle.bdd_core.specs.Words.{Writes, shows}
 use Rattle.bdd_core.proofs.Frames.{filled_beside, shows_beside, shows_kept, span_written}
+use Rattle.path_fixpoint.proofs.PinLaws.{pin_ranges}
 use Rattle.path_fixpoint.proofs.Places.{levels_differ, place_word}
 use Rattle.path_fixpoint.proofs.ReachLaws.{levels_of, slot_high, slot_low, slot_place}
 use Rattle.path_fixpoint.proofs.RoundLaws.{words_from}
@@ -56,7 +57,7 @@ module _ (c : Circuit) (part : Part) (is_part : IsPart c part) (in_range : HasRa
             | inl g ↦ slice_get_within c.nets root.net g.0 g.1
             | inr other ↦ elim other [
               | inl h ↦ omega (arith, h.3, (all_among (IsHold c) c.holds h.1 in_range.holds (h.0, h.2)).net)
-              | inr o ↦ absurd (at_none o.0 o.1 o.2)
+              | inr o ↦ omega (arith, o.3, (pin_ranges c o.1 in_range (o.0, o.2)).0)
             ]
           ];
           hops = λ m n d on j.
@@ -76,10 +77,10 @@ module _ (c : Circuit) (part : Part) (is_part : IsPart c part) (in_range : HasRa
       (λ on. strength-at_least w n e.0 level (omega (arith, low)) e.1 (t.0 on), λ r. t.1 (at_least-strength w n e.0 level e.1 r))
 
   -- it is solved once the words of the levels are written
-  pub solved_from : (old new : Diagrams) (v : Valuation) → HasRootSpans c part gates roots out old → Writes out old new
+  pub solved_from : (old new : Diagrams) (v : Valuation) → AreSoftInside c part → HasRootSpans c part gates roots out old → Writes out old new
       → TellsStrengths c part out new v (network_at old c part gates roots v)
       → SolvedAt c part gates roots out new v (network_at old c part gates roots v) (λ n. (strength_here old v n).0)
-  solved_from old new v spans wr tells = record {
+  solved_from old new v soft spans wr tells = record {
     stands = record {
       nets = refl;
       holds = refl;
@@ -93,6 +94,10 @@ module _ (c : Circuit) (part : Part) (is_part : IsPart c part) (in_range : HasRa
         let lt = (all_among (IsHold c) c.holds hold in_range.holds (at, e)).net in
         shows_beside out roots old new hold.net.0 v wr spans.roots_apart spans.roots_live (omega (arith, lt, spans.roots_len))
         ∙ ap (λ (o : Option Hold). shows old roots (net_of o) v) (sym e);
+    driven = λ at pin e.
+        let lt = slice_get_within (pins_of c) at pin e in
+        shows_beside out roots old new (length c.nets + at) v wr spans.roots_apart spans.roots_live (omega (arith, lt, spans.roots_len));
+    soft = soft;
     strength = λ n. (strength_here old v n).1;
     solved = levels_from new v (network_at old c part gates roots v) (strength_here old v) tells;
   }

@@ -9,25 +9,26 @@ use Rattle.bdd_core.specs.Diagram.{Valuation, meaning}
 use Rattle.bdd_core.specs.Store.{Diagrams, Makes}
 use Rattle.bdd_core.proofs.Meaning.{meaning_zero}
 use Rattle.vrt_model.proofs.Clear.{HopFits, RootFits}
-use Rattle.vrt_model.proofs.Members.{all_among, at_none}
+use Rattle.vrt_model.proofs.Members.{all_among}
 use Rattle.vrt_model.proofs.PathKinds.{Arrives, arrives_root}
 use Rattle.vrt_model.proofs.Strength.{AtLeast, HopHas, RootHas, at_least-strength, strength-at_least}
 use Rattle.vrt_model.specs.Circuits.{IsHold}
 use Rattle.vrt_model.specs.Networks.{HasRanges}
-use Rattle.vrt_model.specs.Lists.{At}
-use Rattle.vrt_model.specs.Path.{IsRoot, Network, Root}
+use Rattle.vrt_model.specs.Lists.{At, Among}
+use Rattle.vrt_model.specs.Path.{IsRoot, Network, Root, level_of_drive}
 use Rattle.vrt_model.specs.declared.circuit.Circuit.{Circuit}
 use Rattle.vrt_model.specs.declared.circuit.FlatNet.{FlatNet}
 use Rattle.vrt_model.specs.declared.circuit.Hold.{Hold}
 use Rattle.vrt_model.specs.declared.whole.WholePin.{WholePin}
 use Rattle.channel_parts.specs.declared.part.Part.{Part}
-use Rattle.path_fixpoint.specs.Parts.{IsGiven, IsPart, IsPlace}
+use Rattle.path_fixpoint.specs.Parts.{IsGiven, IsPart, IsPlace, pins_of}
 use Rattle.path_fixpoint.specs.Passed.{IsWider}
 use Rattle.path_fixpoint.specs.Reaching.{HasReachPaths, HasReachRoots, HasRootWords, SolvedAt, bit_is, slot_of}
-use Rattle.path_fixpoint.specs.Sources.{AddsRoots, IsGivenSource, IsHoldSource, IsOpen}
+use Rattle.path_fixpoint.specs.Sources.{AddsRoots, IsGivenSource, IsHoldSource, IsOpen, IsPinSource}
 use Rattle.path_fixpoint.specs.Strengths.{ChangesLevel, strong, word_of}
 use Rattle.bdd_core.specs.Words.{IsApart, IsFilled, Writes, shows, word_at}
 use Rattle.bdd_core.proofs.Frames.{shows_beside, shows_kept, writes_then, adds_words, writes_added}
+use Rattle.path_fixpoint.proofs.PinLaws.{drive_below, pin_level, pin_ranges}
 use Rattle.path_fixpoint.proofs.Places.{levels_differ, place_in, place_once, words_differ}
 use Rattle.path_fixpoint.proofs.ReachLaws.{differ_same, given_strength, slot_high, slot_low, slot_place, strength_most}
 
@@ -37,20 +38,20 @@ level_in part out level i n len low high p = omega (arith, len, low, high, place
 
 -- a step that changes words of the value alone leaves a root open, or not open
 module _ (part : Part) (roots out : Span) (value : Bool) (len : out.len ≡ 10 * length part.nets) (a b : Diagrams) (wr : Writes out a b) (changes : ChangesLevel out (slot_of value) a b)
-    (apart : IsApart roots out) (roots_live : IsFilled a roots) (out_live : IsFilled a out) (n size i : ℕ) (n_in : n < roots.len) (low : 1 ≤ size) (p : IsPlace part i n) (v : Valuation) where
+    (apart : IsApart roots out) (roots_live : IsFilled a roots) (out_live : IsFilled a out) (n at size i : ℕ) (at_in : at < roots.len) (low : 1 ≤ size) (p : IsPlace part i n) (v : Valuation) where
   upper_same : size < 8 → strong b out (size + 1) i v ≡ strong a out (size + 1) i v
   upper_same lt =
       shows_kept out out a b (word_of (size + 1) i) v wr
       (changes (word_of (size + 1) i) (λ j e. omega (arith, levels_differ (size + 1) (slot_of value) i j (omega arith) (omega (arith, lt)) (omega (arith, slot_low value)) (slot_high value) e, lt, slot_low value)))
       (out_live (word_of (size + 1) i) (level_in part out (size + 1) i n len (omega arith) (omega (arith, lt)) p))
 
-  root_same : shows b roots n v ≡ shows a roots n v
-  root_same = shows_beside out roots a b n v wr apart roots_live n_in
+  root_same : shows b roots at v ≡ shows a roots at v
+  root_same = shows_beside out roots a b at v wr apart roots_live at_in
 
-  pub open_later : IsOpen roots out value n size a i v → IsOpen roots out value n size b i v
+  pub open_later : IsOpen roots out value at size a i v → IsOpen roots out value at size b i v
   open_later o = (root_same ∙ o.0, λ lt. upper_same lt ∙ o.1 lt)
 
-  pub open_before : IsOpen roots out value n size b i v → IsOpen roots out value n size a i v
+  pub open_before : IsOpen roots out value at size b i v → IsOpen roots out value at size a i v
   open_before o = (sym root_same ∙ o.0, λ lt. sym (upper_same lt) ∙ o.1 lt)
 
 -- a bit that stands where another is 0
@@ -59,48 +60,51 @@ block_bits true b = (λ e. absurd (false≢true e), λ q. absurd (false≢true (
 block_bits false b = (λ e. (e, refl), λ q. q.0)
 
 -- the same roots by another description
-pub adds_same : (part : Part) (roots out : Span) (value : Bool) (P R : ℕ → ℕ → Type 0) (a b : Diagrams) → ((n size : ℕ) → R n size → P n size) → ((n size : ℕ) → P n size → R n size)
-    → AddsRoots part roots out value P a b → AddsRoots part roots out value R a b
+pub adds_same : (part : Part) (roots out : Span) (value : Bool) (P R : ℕ → ℕ → ℕ → Type 0) (a b : Diagrams) → ((n at size : ℕ) → R n at size → P n at size)
+    → ((n at size : ℕ) → P n at size → R n at size) → AddsRoots part roots out value P a b → AddsRoots part roots out value R a b
 adds_same part roots out value P R a b less more x = record {
   grown = x.grown;
-  marked = λ n size r. x.marked n size (less n size r);
-  only = λ i lt v e. elim (x.only i lt v e) [ inl was ↦ inl was | inr new ↦ inr (new.0, new.1, more new.0 new.1 new.2, new.3, new.4) ];
+  marked = λ n at size r. x.marked n at size (less n at size r);
+  only = λ i lt v e. elim (x.only i lt v e) [ inl was ↦ inl was | inr new ↦ inr (new.0, new.1, new.2, more new.0 new.1 new.2 new.3, new.4, new.5) ];
 }
 
 -- no root
-pub adds_none : (part : Part) (roots out : Span) (value : Bool) (P : ℕ → ℕ → Type 0) (d : Diagrams) → ((n size : ℕ) → P n size → (i : ℕ) → IsPlace part i n → ⊥) → AddsRoots part roots out value P d d
+pub adds_none : (part : Part) (roots out : Span) (value : Bool) (P : ℕ → ℕ → ℕ → Type 0) (d : Diagrams) → ((n at size : ℕ) → P n at size → (i : ℕ) → IsPlace part i n → ⊥)
+    → AddsRoots part roots out value P d d
 adds_none part roots out value P d none = record {
   grown = λ i lt v e. e;
-  marked = λ n size q i p. absurd (none n size q i p);
+  marked = λ n at size q i p. absurd (none n at size q i p);
   only = λ i lt v e. inl e;
 }
 
 -- some roots, and then others
-pub adds_then : (part : Part) (roots out : Span) (value : Bool) (P Q R : ℕ → ℕ → Type 0) (a b c : Diagrams) → out.len ≡ 10 * length part.nets → Writes out a b → ChangesLevel out (slot_of value) a b
+pub adds_then : (part : Part) (roots out : Span) (value : Bool) (P Q R : ℕ → ℕ → ℕ → Type 0) (a b c : Diagrams) → out.len ≡ 10 * length part.nets → Writes out a b → ChangesLevel out (slot_of value) a b
     → IsApart roots out → IsFilled a roots → IsFilled a out
-    → ((n size : ℕ) → R n size → P n size ⊎ Q n size) → ((n size : ℕ) → P n size → R n size) → ((n size : ℕ) → Q n size → R n size) → ((n size : ℕ) → R n size → (n < roots.len) × (1 ≤ size))
+    → ((n at size : ℕ) → R n at size → P n at size ⊎ Q n at size) → ((n at size : ℕ) → P n at size → R n at size) → ((n at size : ℕ) → Q n at size → R n at size)
+    → ((n at size : ℕ) → R n at size → (at < roots.len) × (1 ≤ size))
     → AddsRoots part roots out value P a b → AddsRoots part roots out value Q b c → AddsRoots part roots out value R a c
 adds_then part roots out value P Q R a b c len wr changes apart roots_live out_live either from_p from_q ranges first second = record {
   grown = λ i lt v e. second.grown i lt v (first.grown i lt v e);
-  marked = λ n size r i p v o. elim (either n size r) [
-    | inl q ↦ second.grown i (omega (arith, len, slot_low value, slot_high value, place_in part i n p)) v (first.marked n size q i p v o)
-    | inr q ↦ second.marked n size q i p v (open_later part roots out value len a b wr changes apart roots_live out_live n size i (ranges n size r).0 (ranges n size r).1 p v o)
+  marked = λ n at size r i p v o. elim (either n at size r) [
+    | inl q ↦ second.grown i (omega (arith, len, slot_low value, slot_high value, place_in part i n p)) v (first.marked n at size q i p v o)
+    | inr q ↦ second.marked n at size q i p v (open_later part roots out value len a b wr changes apart roots_live out_live n at size i (ranges n at size r).0 (ranges n at size r).1 p v o)
   ];
   only = λ i lt v e. elim (second.only i lt v e) [
     | inr new ↦
-        let r = from_q new.0 new.1 new.2 in
-        inr (new.0, new.1, r, new.3, open_before part roots out value len a b wr changes apart roots_live out_live new.0 new.1 i (ranges new.0 new.1 r).0 (ranges new.0 new.1 r).1 new.3 v new.4)
+        let r = from_q new.0 new.1 new.2 new.3 in
+        let range = ranges new.0 new.1 new.2 r in
+        inr (new.0, new.1, new.2, r, new.4, open_before part roots out value len a b wr changes apart roots_live out_live new.0 new.1 new.2 i range.0 range.1 new.4 v new.5)
     | inl was ↦ elim (first.only i lt v was) [
       | inl old ↦ inl old
-      | inr new ↦ inr (new.0, new.1, from_p new.0 new.1 new.2, new.3, new.4)
+      | inr new ↦ inr (new.0, new.1, new.2, from_p new.0 new.1 new.2 new.3, new.4, new.5)
     ]
   ];
 }
 
 -- one root: its bit, what is left of it where its net is not stronger, and the word to which that is added
-module _ (part : Part) (once : (i j n : ℕ) → IsPlace part i n → IsPlace part j n → i ≡ j) (roots out : Span) (value : Bool) (net size i : ℕ) (old a b new : Diagrams) (bit signal : H) (changed : Bool)
+module _ (part : Part) (once : (i j n : ℕ) → IsPlace part i n → IsPlace part j n → i ≡ j) (roots out : Span) (value : Bool) (net handle size i : ℕ) (old a b new : Diagrams) (bit signal : H) (changed : Bool)
     (len : out.len ≡ 10 * length part.nets) (low : 1 ≤ size) (out_live : IsFilled old out) (here : IsPlace part i net)
-    (made : Makes old a (bit_is value (λ v. shows old roots net v)) (Ok bit)) (wb : Writes out a b) (sb : b.words ≡ a.words)
+    (made : Makes old a (bit_is value (λ v. shows old roots handle v)) (Ok bit)) (wb : Writes out a b) (sb : b.words ≡ a.words)
     (signal_is : (v : Valuation) → (meaning b.nodes signal.0 v ≡ true) ↔ ((meaning a.nodes bit.0 v ≡ true) × (size < 8 → strong a out (size + 1) i v ≡ false)))
     (wider : IsWider out (word_of (slot_of value) i) (meaning b.nodes signal.0) changed b new) (wn : Writes out b new)
     (apart : (k : ℕ) → k ≢ word_of (slot_of value) i → word_at new out k ≡ word_at b out k) where
@@ -129,29 +133,29 @@ module _ (part : Part) (once : (i j n : ℕ) → IsPlace part i n → IsPlace pa
   upper v lt = shows_kept out out old a (word_of (size + 1) i) v wa (ap (λ (ws : List ℕ). get_or ws (out.start + word_of (size + 1) i) 0) sa)
       (out_live (word_of (size + 1) i) (level_in part out (size + 1) i net len (omega arith) (omega (arith, lt)) here))
 
-  says : (v : Valuation) → (meaning b.nodes signal.0 v ≡ true) ↔ IsOpen roots out value net size old i v
+  says : (v : Valuation) → (meaning b.nodes signal.0 v ≡ true) ↔ IsOpen roots out value handle size old i v
   says v = (
-    λ e. let q = (signal_is v).0 e in ((differ_same value (shows old roots net v)).0 (sym (made.ok.same v) ∙ q.0), λ lt. sym (upper v lt) ∙ q.1 lt),
-    λ o. (signal_is v).1 (made.ok.same v ∙ (differ_same value (shows old roots net v)).1 o.0, λ lt. upper v lt ∙ o.1 lt),
+    λ e. let q = (signal_is v).0 e in ((differ_same value (shows old roots handle v)).0 (sym (made.ok.same v) ∙ q.0), λ lt. sym (upper v lt) ∙ q.1 lt),
+    λ o. (signal_is v).1 (made.ok.same v ∙ (differ_same value (shows old roots handle v)).1 o.0, λ lt. upper v lt ∙ o.1 lt),
   )
 
-  pub adds_one : AddsRoots part roots out value (λ n k. (n ≡ net) × (k ≡ size)) old new
+  pub adds_one : AddsRoots part roots out value (λ n at' size'. (n ≡ net) × (at' ≡ handle) × (size' ≡ size)) old new
   adds_one = record {
     grown = λ j lt v e. elim (cases_eq j i) [
       | inl is ↦ subst (λ (x : ℕ). strong new out (slot_of value) x v ≡ true) (sym is)
           (at v ∙ or_left (strong old out (slot_of value) i v) (meaning b.nodes signal.0 v) (subst (λ (x : ℕ). strong old out (slot_of value) x v ≡ true) is e))
       | inr ne ↦ other j lt ne v ∙ e
     ];
-    marked = λ n k q j p v o.
+    marked = λ n k l q j p v o.
         let j_is : j ≡ i = once j i net (subst (IsPlace part j) q.0 p) here in
-        let o' : IsOpen roots out value net size old i v =
-        subst (λ (x : ℕ). IsOpen roots out value net size old x v) j_is (subst (λ (x : ℕ). IsOpen roots out value net x old j v) q.1 (subst (λ (x : ℕ). IsOpen roots out value x k old j v) q.0 o)) in
+        let o' : IsOpen roots out value handle size old i v =
+        subst (λ (x : ℕ). IsOpen roots out value handle size old x v) j_is (subst (λ (x : ℕ). IsOpen roots out value handle x old j v) q.2 (subst (λ (x : ℕ). IsOpen roots out value x l old j v) q.1 o)) in
         subst (λ (x : ℕ). strong new out (slot_of value) x v ≡ true) (sym j_is)
         (at v ∙ or_right (strong old out (slot_of value) i v) (meaning b.nodes signal.0 v) ((says v).1 o'));
     only = λ j lt v e. elim (cases_eq j i) [
       | inl is ↦ elim (or_cases (strong old out (slot_of value) i v) (meaning b.nodes signal.0 v) (sym (at v) ∙ subst (λ (x : ℕ). strong new out (slot_of value) x v ≡ true) is e)) [
         | inl was ↦ inl (subst (λ (x : ℕ). strong old out (slot_of value) x v ≡ true) (sym is) was)
-        | inr new' ↦ inr (net, size, (refl, refl), subst (λ (x : ℕ). IsPlace part x net) (sym is) here, subst (λ (x : ℕ). IsOpen roots out value net size old x v) (sym is) ((says v).0 new'))
+        | inr new' ↦ inr (net, handle, size, (refl, refl, refl), subst (λ (x : ℕ). IsPlace part x net) (sym is) here, subst (λ (x : ℕ). IsOpen roots out value handle size old x v) (sym is) ((says v).0 new'))
       ]
       | inr ne ↦ inl (sym (other j lt ne v) ∙ e)
     ];
@@ -163,37 +167,61 @@ false_or_true : (b : Bool) → (b ≡ true → ⊥) → b ≡ false
 false_or_true true h = absurd (h refl)
 false_or_true false h = refl
 
-module _ (c : Circuit) (part : Part) (is_part : IsPart c part) (in_range : HasRanges c) (gates roots out : Span) (value : Bool) (old a b new : Diagrams) (words : HasRootWords c part gates roots out old)
+module _ (c : Circuit) (part : Part) (is_part : IsPart c part) (in_range : HasRanges c) (gates roots out : Span) (value : Bool) (old a b d new : Diagrams) (words : HasRootWords c part gates roots out old)
     (zero : (i : ℕ) → i < length part.nets → word_at a out (word_of (slot_of value) i) ≡ 0) (wa : Writes out old a) (ca : ChangesLevel out (slot_of value) old a)
-    (wb : Writes out a b) (cb : ChangesLevel out (slot_of value) a b)
-    (given : AddsRoots part roots out value (IsGivenSource c part) a b) (holds : AddsRoots part roots out value (IsHoldSource c) b new)
+    (wb : Writes out a b) (cb : ChangesLevel out (slot_of value) a b) (wd : Writes out b d) (cd : ChangesLevel out (slot_of value) b d)
+    (given : AddsRoots part roots out value (IsGivenSource c part) a b) (holds : AddsRoots part roots out value (IsHoldSource c) b d)
+    (pins : AddsRoots part roots out value (IsPinSource (pins_of c) (length c.nets)) d new)
     (v : Valuation) (w : Network) (s : ℕ → ℕ) (is : SolvedAt c part gates roots out old v w s) where
   len : out.len ≡ 10 * length part.nets
   len = words.words.out_len
 
+  roots_in : (x y : Diagrams) → Writes out x y → IsFilled x roots → IsFilled y roots
+  roots_in x y wr live k lt = omega (arith, wr.others (roots.start + k) (elim words.roots_apart [ inl l ↦ inl (omega (arith, l, lt)) | inr h ↦ inr (omega (arith, h)) ]), live k lt, wr.adds.longer)
+
   roots_a : IsFilled a roots
-  roots_a k lt = omega (arith, wa.others (roots.start + k) (elim words.roots_apart [ inl l ↦ inl (omega (arith, l, lt)) | inr h ↦ inr (omega (arith, h)) ]), words.roots_live k lt, wa.adds.longer)
+  roots_a = roots_in old a wa words.roots_live
+
+  roots_b : IsFilled b roots
+  roots_b = roots_in a b wb roots_a
 
   -- open at the beginning is open at each step
-  to_a : (n size i : ℕ) → n < roots.len → 1 ≤ size → IsPlace part i n → IsOpen roots out value n size old i v ↔ IsOpen roots out value n size a i v
-  to_a n size i n_in low p = (
-    open_later part roots out value len old a wa ca words.roots_apart words.roots_live words.words.out_live n size i n_in low p v,
-    open_before part roots out value len old a wa ca words.roots_apart words.roots_live words.words.out_live n size i n_in low p v,
+  to_a : (n at size i : ℕ) → at < roots.len → 1 ≤ size → IsPlace part i n → IsOpen roots out value at size old i v ↔ IsOpen roots out value at size a i v
+  to_a n at size i at_in low p = (
+    open_later part roots out value len old a wa ca words.roots_apart words.roots_live words.words.out_live n at size i at_in low p v,
+    open_before part roots out value len old a wa ca words.roots_apart words.roots_live words.words.out_live n at size i at_in low p v,
   )
 
-  to_b : (n size i : ℕ) → n < roots.len → 1 ≤ size → IsPlace part i n → IsOpen roots out value n size old i v ↔ IsOpen roots out value n size b i v
-  to_b n size i n_in low p = (
-    λ o. open_later part roots out value len a b wb cb words.roots_apart roots_a wa.live n size i n_in low p v ((to_a n size i n_in low p).0 o),
-    λ o. (to_a n size i n_in low p).1 (open_before part roots out value len a b wb cb words.roots_apart roots_a wa.live n size i n_in low p v o),
+  to_b : (n at size i : ℕ) → at < roots.len → 1 ≤ size → IsPlace part i n → IsOpen roots out value at size old i v ↔ IsOpen roots out value at size b i v
+  to_b n at size i at_in low p = (
+    λ o. open_later part roots out value len a b wb cb words.roots_apart roots_a wa.live n at size i at_in low p v ((to_a n at size i at_in low p).0 o),
+    λ o. (to_a n at size i at_in low p).1 (open_before part roots out value len a b wb cb words.roots_apart roots_a wa.live n at size i at_in low p v o),
+  )
+
+  to_d : (n at size i : ℕ) → at < roots.len → 1 ≤ size → IsPlace part i n → IsOpen roots out value at size old i v ↔ IsOpen roots out value at size d i v
+  to_d n at size i at_in low p = (
+    λ o. open_later part roots out value len b d wd cd words.roots_apart roots_b wb.live n at size i at_in low p v ((to_b n at size i at_in low p).0 o),
+    λ o. (to_b n at size i at_in low p).1 (open_before part roots out value len b d wd cd words.roots_apart roots_b wb.live n at size i at_in low p v o),
   )
 
   hold_in : (at : ℕ) (hold : Hold) → At c.holds at hold → IsHold c hold
   hold_in at hold e = all_among (IsHold c) c.holds hold in_range.holds (at, e)
 
+  pin_in : (k : ℕ) (pin : WholePin) → At (pins_of c) k pin → length c.nets + k < roots.len
+  pin_in k pin e = omega (arith, slice_get_within (pins_of c) k pin e, words.roots_len)
+
   -- a net that is as strong as a root is not one level stronger
   not_above : (n size i : ℕ) → IsPlace part i n → size ≡ s n → size < 8 → strong old out (size + 1) i v ≡ false
   not_above n size i p e lt = false_or_true (strong old out (size + 1) i v)
       (λ on. let le = at_least-strength w n (s n) (size + 1) (is.strength n) ((is.solved (size + 1) (omega arith) (omega (arith, lt)) i n p).0 on) in omega (arith, le, e))
+
+  -- a root of an output outside the part is weaker than a given net
+  pin_outside : (pin : WholePin) (n : ℕ) → Among (pins_of c) pin → n ≡ pin.net.0 → ((i : ℕ) → IsPlace part i n → ⊥) → IsGiven c n → level_of_drive 8 pin.drive < 8
+  pin_outside pin n m net none q =
+      elim (drive_below c pin.drive (pin_ranges c pin in_range m).1) [
+        | inr lt ↦ lt
+        | inl soft ↦ absurd (let there = is.soft pin m soft (subst (IsGiven c) net q) in none there.0 (subst (IsPlace part there.0) (sym net) there.1))
+      ]
 
   pub source_roots : HasReachRoots c part out value new v w s
   source_roots root r k =
@@ -204,9 +232,10 @@ module _ (c : Circuit) (part : Part) (is_part : IsPart c part) (in_range : HasRa
               λ i p.
                   let n_in : root.net < length c.nets = slice_get_within c.nets root.net g.0 there in
                   let bit : shows old roots root.net v ≡ value = is.given root.net n_in ∙ sym g.4 ∙ k.1 in
-                  holds.grown i (slot_place c part is_part in_range gates roots out value old i root.net words p) v
-                  (given.marked root.net 8 ((i, p), given_net, refl) i p v
-                  ((to_a root.net 8 i (omega (arith, n_in, words.roots_len)) (omega arith) p).0 (bit, λ lt. absurd (omega (arith, lt))))),
+                  let lt = slot_place c part is_part in_range gates roots out value old i root.net words p in
+                  pins.grown i lt v (holds.grown i lt v
+                  (given.marked root.net root.net 8 ((i, p), given_net, refl, refl) i p v
+                  ((to_a root.net root.net 8 i (omega (arith, n_in, words.roots_len)) (omega arith) p).0 (bit, λ l. absurd (omega (arith, l)))))),
               λ none q. sym g.4 ∙ k.1,
             )
         | inr other ↦ elim other [
@@ -218,56 +247,90 @@ module _ (c : Circuit) (part : Part) (is_part : IsPart c part) (in_range : HasRa
               let strength : h.1.size ≡ s h.1.net.0 = sym size ∙ k.0 ∙ ap s h.3 in (
                 λ i p.
                     let p' : IsPlace part i h.1.net.0 = subst (IsPlace part i) h.3 p in
-                    holds.marked h.1.net.0 h.1.size (h.0, h.1, there, refl, refl) i p' v
-                    ((to_b h.1.net.0 h.1.size i (omega (arith, range.net, words.roots_len)) range.size.0 p').0 (bit, not_above h.1.net.0 h.1.size i p' strength)),
+                    pins.grown i (slot_place c part is_part in_range gates roots out value old i root.net words p) v
+                    (holds.marked h.1.net.0 h.1.net.0 h.1.size (h.0, h.1, there, refl, refl, refl) i p' v
+                    ((to_b h.1.net.0 h.1.net.0 h.1.size i (omega (arith, range.net, words.roots_len)) range.size.0 p').0 (bit, not_above h.1.net.0 h.1.size i p' strength))),
                 λ none q. absurd (omega (arith, given_strength c part is_part in_range gates roots out value old v w root.net (s root.net) is.stands (is.strength root.net) q, k.0, size, range.size.1)),
               )
-          | inr o ↦ absurd (at_none o.0 o.1 (subst (λ (ps : List WholePin). At ps o.0 o.1) is.stands.outputs o.2))
+          | inr o ↦
+              let pin : WholePin = o.1 in
+              let there : At (pins_of c) o.0 pin = subst (λ (ps : List WholePin). At ps o.0 pin) is.stands.outputs o.2 in
+              let level : ℕ = level_of_drive 8 pin.drive in
+              let size : root.level ≡ level = o.4 ∙ ap (λ (x : ℕ). level_of_drive x pin.drive) is.stands.source in
+              let bit : shows old roots (length c.nets + o.0) v ≡ value = is.driven o.0 pin there ∙ sym o.5 ∙ k.1 in
+              let strength : level ≡ s pin.net.0 = sym size ∙ k.0 ∙ ap s o.3 in (
+                λ i p.
+                    let p' : IsPlace part i pin.net.0 = subst (IsPlace part i) o.3 p in
+                    pins.marked pin.net.0 (length c.nets + o.0) level (o.0, pin, there, refl, refl, refl) i p' v
+                    ((to_d pin.net.0 (length c.nets + o.0) level i (pin_in o.0 pin there) (pin_level c pin in_range (o.0, there)).0 p').0 (bit, not_above pin.net.0 level i p' strength)),
+                λ none q. absurd (omega (
+                  arith,
+                  given_strength c part is_part in_range gates roots out value old v w root.net (s root.net) is.stands (is.strength root.net) q,
+                  k.0,
+                  size,
+                  pin_outside pin root.net (o.0, there) o.3 none q,
+                )),
+              )
         ]
       ]
+
+  at_most : (m size j : ℕ) → IsPlace part j m → (size < 8 → strong old out (size + 1) j v ≡ false) → s m ≤ size
+  at_most m size j q off =
+      elim (cases_lt size 8) [
+        | inr top ↦ omega (arith, top, strength_most c part is_part in_range gates roots out value old v w m (s m) is.stands (is.strength m))
+        | inl lt ↦ elim (cases_lt size (s m)) [
+          | inr done ↦ done
+          | inl up ↦
+              let at : AtLeast w (size + 1) m = strength-at_least w m (s m) (size + 1) (omega arith) (is.strength m) (omega (arith, up)) in
+              absurd (false≢true (sym (off lt) ∙ (is.solved (size + 1) (omega arith) (omega (arith, lt)) j m q).1 at))
+        ]
+      ]
+
+  -- at the net of a root that is open a path ends that fits
+  fits_from : (root : Root) (at size i n : ℕ) → IsRoot w root → root.level ≡ size → at < roots.len → 1 ≤ size → IsPlace part i root.net → IsPlace part i n
+      → shows old roots at v ≡ root.value → IsOpen roots out value at size old i v → Arrives w (RootFits s value) (HopFits s) n
+  fits_from root at size i n is_root level at_in low q p bit o =
+      let below : size ≤ s root.net = at_least-strength w root.net (s root.net) size (is.strength root.net) (arrives_root w (RootHas size) (HopHas size) root is_root (omega (arith, level))) in
+      let above : s root.net ≤ size = at_most root.net size i q o.1 in
+      subst (Arrives w (RootFits s value) (HopFits s)) (place_once part i root.net n q p)
+      (arrives_root w (RootFits s value) (HopFits s) root is_root (omega (arith, below, above, level), sym bit ∙ o.0))
 
   pub source_paths : HasReachPaths part out value new v w s
   source_paths i n p e =
       let lt = slot_place c part is_part in_range gates roots out value old i n words p in
-      elim (holds.only i lt v e) [
+      elim (pins.only i lt v e) [
         | inr x ↦
-            let h = x.2 in
-            let hold : Hold = h.1 in
-            let range = hold_in h.0 hold h.2 in
-            let net : hold.net.0 ≡ n = h.3 ∙ place_once part i x.0 n x.3 p in
-            let size : x.1 ≡ hold.size = sym h.4 in
-            let o : IsOpen roots out value x.0 x.1 old i v =
-            (to_b x.0 x.1 i (omega (arith, h.3, range.net, words.roots_len)) (omega (arith, h.4, range.size.0)) x.3).1 x.4 in
-            let root : Root = record { net = hold.net.0; level = hold.size; value = w.held h.0 } in
-            let there : At w.holds h.0 hold = subst (λ (hs : List Hold). At hs h.0 hold) (sym is.stands.holds) h.2 in
-            let is_root : IsRoot w root = inr (inl (h.0, hold, there, refl, refl, refl)) in
-            let bit : w.held h.0 ≡ value = sym (is.held h.0 hold h.2) ∙ ap (λ (m : ℕ). shows old roots m v) h.3 ∙ o.0 in
-            let below : hold.size ≤ s hold.net.0 = at_least-strength w hold.net.0 (s hold.net.0) hold.size (is.strength hold.net.0) (arrives_root w (RootHas hold.size) (HopHas hold.size) root is_root (omega arith)) in
-            let above : s hold.net.0 ≤ hold.size = at_most hold.net.0 hold.size i (subst (λ (m : ℕ). IsPlace part i m) (sym h.3) x.3) (λ l. subst (λ (m : ℕ). strong old out (m + 1) i v ≡ false) size (o.1 (omega (arith, l, size)))) (range.size.1) in
-            subst (Arrives w (RootFits s value) (HopFits s)) net (arrives_root w (RootFits s value) (HopFits s) root is_root (omega (arith, below, above), bit))
-        | inl was ↦ elim (given.only i lt v was) [
-          | inl none ↦ absurd (false≢true (sym (meaning_zero a.nodes v) ∙ sym (ap (λ (h : ℕ). meaning a.nodes h v) (zero i (place_in part i n p))) ∙ none))
+            let h = x.3 in
+            let pin : WholePin = h.1 in
+            let level : ℕ = level_of_drive 8 pin.drive in
+            let root : Root = record { net = pin.net.0; level = level_of_drive w.source pin.drive; value = w.driven h.0 } in
+            let there : At w.outputs h.0 pin = subst (λ (ps : List WholePin). At ps h.0 pin) (sym is.stands.outputs) h.2 in
+            let low : 1 ≤ x.2 = (let lowest = (pin_level c pin in_range (h.0, h.2)).0 in let same = h.5 in omega (arith, lowest, same)) in
+            let at_in : x.1 < roots.len = (let inside = pin_in h.0 pin h.2 in let same = h.4 in omega (arith, inside, same)) in
+            fits_from root x.1 x.2 i n (inr (inr (h.0, pin, there, refl, refl, refl))) (ap (λ (y : ℕ). level_of_drive y pin.drive) is.stands.source ∙ h.5) at_in low
+            (subst (IsPlace part i) (sym h.3) x.4) p (ap (λ (m : ℕ). shows old roots m v) h.4 ∙ is.driven h.0 pin h.2) ((to_d x.0 x.1 x.2 i at_in low x.4).1 x.5)
+        | inl later ↦ elim (holds.only i lt v later) [
           | inr x ↦
-              let g = x.2 in
-              let n_in : x.0 < length c.nets = slice_get_within c.nets x.0 g.1.0 g.1.1 in
-              let o : IsOpen roots out value x.0 x.1 old i v = (to_a x.0 x.1 i (omega (arith, n_in, words.roots_len)) (omega (arith, g.2)) x.3).1 x.4 in
-              let root : Root = record { net = x.0; level = 8; value = w.given x.0 } in
-              let there : At w.nets x.0 g.1.0 = subst (λ (ns : List FlatNet). At ns x.0 g.1.0) (sym is.stands.nets) g.1.1 in
-              let level : 8 ≡ s x.0 = omega (
-                arith,
-                given_strength c part is_part in_range gates roots out value old v w x.0 (s x.0) is.stands (is.strength x.0) g.1,
-                strength_most c part is_part in_range gates roots out value old v w x.0 (s x.0) is.stands (is.strength x.0),
-              ) in
-              subst (Arrives w (RootFits s value) (HopFits s)) (place_once part i x.0 n x.3 p)
-              (arrives_root w (RootFits s value) (HopFits s) root (inl (g.1.0, there, g.1.2, sym is.stands.source, refl)) (level, sym (is.given x.0 n_in) ∙ o.0))
+              let h = x.3 in
+              let hold : Hold = h.1 in
+              let range = hold_in h.0 hold h.2 in
+              let root : Root = record { net = hold.net.0; level = hold.size; value = w.held h.0 } in
+              let there : At w.holds h.0 hold = subst (λ (hs : List Hold). At hs h.0 hold) (sym is.stands.holds) h.2 in
+              let low : 1 ≤ x.2 = (let lowest = range.size.0 in let same = h.5 in omega (arith, lowest, same)) in
+              let at_in : x.1 < roots.len = (let inside = range.net in let net = h.3 in let same = h.4 in omega (arith, inside, net, same, words.roots_len)) in
+              fits_from root x.1 x.2 i n (inr (inl (h.0, hold, there, refl, refl, refl))) h.5 at_in low
+              (subst (IsPlace part i) (sym h.3) x.4) p (ap (λ (m : ℕ). shows old roots m v) (h.4 ∙ sym h.3) ∙ is.held h.0 hold h.2) ((to_b x.0 x.1 x.2 i at_in low x.4).1 x.5)
+          | inl was ↦ elim (given.only i lt v was) [
+            | inl none ↦ absurd (false≢true (sym (meaning_zero a.nodes v) ∙ sym (ap (λ (h : ℕ). meaning a.nodes h v) (zero i (place_in part i n p))) ∙ none))
+            | inr x ↦
+                let g = x.3 in
+                let n_in : x.0 < length c.nets = slice_get_within c.nets x.0 g.1.0 g.1.1 in
+                let root : Root = record { net = x.0; level = 8; value = w.given x.0 } in
+                let there : At w.nets x.0 g.1.0 = subst (λ (ns : List FlatNet). At ns x.0 g.1.0) (sym is.stands.nets) g.1.1 in
+                let low : 1 ≤ x.2 = (let top = g.3 in omega (arith, top)) in
+                let at_in : x.1 < roots.len = (let same = g.2 in omega (arith, n_in, same, words.roots_len)) in
+                fits_from root x.1 x.2 i n (inl (g.1.0, there, g.1.2, sym is.stands.source, refl)) (sym g.3) at_in low x.4 p
+                (ap (λ (m : ℕ). shows old roots m v) g.2 ∙ is.given x.0 n_in) ((to_a x.0 x.1 x.2 i at_in low x.4).1 x.5)
+          ]
         ]
       ]
-    where
-      at_most : (m size j : ℕ) → IsPlace part j m → (size < 8 → strong old out (size + 1) j v ≡ false) → size ≤ 3 → s m ≤ size
-      at_most m size j q off le =
-          elim (cases_lt size (s m)) [
-            | inr done ↦ done
-            | inl up ↦
-                let at : AtLeast w (size + 1) m = strength-at_least w m (s m) (size + 1) (omega arith) (is.strength m) (omega (arith, up)) in
-                absurd (false≢true (sym (off (omega (arith, le))) ∙ (is.solved (size + 1) (omega arith) (omega (arith, le)) j m q).1 at))
-          ]

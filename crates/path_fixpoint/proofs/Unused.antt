@@ -4,17 +4,17 @@ use Rattle.node_pool.specs.declared.region.Span.{Span}
 use Rattle.bdd_core.specs.Diagram.{Valuation, meaning}
 use Rattle.bdd_core.specs.Store.{Diagrams}
 use Rattle.bdd_core.specs.Words.{Writes}
-use Rattle.vrt_model.proofs.Members.{at_none}
 use Rattle.vrt_model.proofs.PathKinds.{arrives_on, arrives_root, closed_end}
 use Rattle.vrt_model.proofs.Strength.{AtLeast, HopHas, RootHas, at_least_weaker}
 use Rattle.vrt_model.specs.Lists.{At, Among}
-use Rattle.vrt_model.specs.Path.{IsRoot, Network, Root}
+use Rattle.vrt_model.specs.Path.{IsRoot, Network, Root, level_of_drive}
 use Rattle.vrt_model.specs.declared.circuit.Circuit.{Circuit}
 use Rattle.vrt_model.specs.declared.circuit.Device.{Device}
 use Rattle.vrt_model.specs.declared.circuit.Hold.{Hold}
 use Rattle.vrt_model.specs.declared.whole.WholePin.{WholePin}
 use Rattle.channel_parts.specs.declared.part.Part.{Part}
 use Rattle.path_fixpoint.specs.Openings.{IsUnused, TakesAbove, mark_of}
+use Rattle.path_fixpoint.specs.Parts.{pins_of}
 use Rattle.path_fixpoint.specs.Strengths.{HasLevel, HasWords, StandsAt, strong, word_of}
 use Rattle.path_fixpoint.proofs.Places.{place_in}
 
@@ -38,7 +38,10 @@ module _ (c : Circuit) (part : Part) (gates out : Span) (level : ℕ) (unused : 
               let there : At c.holds h.0 h.1 = subst (λ (hs : List Hold). At hs h.0 h.1) st.holds h.2 in
               let size : root.level ≡ h.1.size = h.4 in
               unused.2 h.0 h.1 there (sym size ∙ same)
-          | inr o ↦ absurd (at_none o.0 o.1 (subst (λ (ps : List WholePin). At ps o.0 o.1) st.outputs o.2))
+          | inr o ↦
+              let there : At (pins_of c) o.0 o.1 = subst (λ (ps : List WholePin). At ps o.0 o.1) st.outputs o.2 in
+              let size : root.level ≡ level_of_drive 8 o.1.drive = o.4 ∙ ap (λ (s : ℕ). level_of_drive s o.1.drive) st.source in
+              unused.3 o.1 (o.0, there) (sym size ∙ same)
         ]
       ]
 

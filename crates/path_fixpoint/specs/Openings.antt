@@ -1,13 +1,15 @@
 -- Where the marks of a level begin: at the marks of the level above, and at the roots.
-use Rattle.std.specs.Prelude.{◌≡◌, ◌≢◌, ℕ, ◌+◌, ◌<◌, ◌≤◌, ◌⊎◌}
+use Rattle.std.specs.Prelude.{◌≡◌, ◌≢◌, ℕ, ◌+◌, ◌<◌, ◌≤◌, ◌⊎◌, List}
 use Rattle.node_pool.specs.declared.region.Span.{Span}
 use Rattle.bdd_core.specs.Store.{Diagrams}
 use Rattle.vrt_model.specs.Lists.{At, Among}
+use Rattle.vrt_model.specs.Path.{level_of_drive}
 use Rattle.vrt_model.specs.declared.circuit.Circuit.{Circuit}
 use Rattle.vrt_model.specs.declared.circuit.Device.{Device}
 use Rattle.vrt_model.specs.declared.circuit.Hold.{Hold}
+use Rattle.vrt_model.specs.declared.whole.WholePin.{WholePin}
 use Rattle.channel_parts.specs.declared.part.Part.{Part}
-use Rattle.path_fixpoint.specs.Parts.{IsGiven, IsPlace, part_devices}
+use Rattle.path_fixpoint.specs.Parts.{IsGiven, IsPlace, part_devices, pins_of}
 use Rattle.path_fixpoint.specs.Strengths.{word_of}
 use Rattle.bdd_core.specs.Words.{word_at}
 
@@ -27,6 +29,10 @@ OnlyBy out level IsCause old new = (i : ℕ) → (mark_of new out level i ≡ ma
 abbrev pub IsHoldAt : Circuit → Part → ℕ → ℕ → Type 0
 IsHoldAt c part level i = (at : ℕ) × (hold : Hold) × At c.holds at hold × (level ≤ hold.size) × IsPlace part i hold.net.0
 
+-- one of these output pins of at least this level at place i
+abbrev pub IsPinAt : Part → List WholePin → ℕ → ℕ → Type 0
+IsPinAt part pins level i = (pin : WholePin) × Among pins pin × (level ≤ level_of_drive 8 pin.drive) × IsPlace part i pin.net.0
+
 -- a net with a given value at place i
 abbrev pub IsGivenAt : Circuit → Part → ℕ → Type 0
 IsGivenAt c part i = (n : ℕ) × IsPlace part i n × IsGiven c n
@@ -39,6 +45,10 @@ NoDeviceHas c part level = (d : Device) → Among (part_devices c part) d → d.
 abbrev pub NoHoldHas : Circuit → ℕ → Type 0
 NoHoldHas c level = (at : ℕ) (hold : Hold) → At c.holds at hold → hold.size ≢ level
 
--- a level below the greatest that no device of the part and no hold has
+-- none of these output pins has exactly this level
+abbrev pub NoPinHas : List WholePin → ℕ → Type 0
+NoPinHas pins level = (pin : WholePin) → Among pins pin → level_of_drive 8 pin.drive ≢ level
+
+-- a level below the greatest that no device of the part, no hold and no output pin has
 abbrev pub IsUnused : Circuit → Part → ℕ → Type 0
-IsUnused c part level = (level < 8) × NoDeviceHas c part level × NoHoldHas c level
+IsUnused c part level = (level < 8) × NoDeviceHas c part level × NoHoldHas c level × NoPinHas (pins_of c) level

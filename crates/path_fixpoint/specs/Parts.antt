@@ -1,14 +1,17 @@
 -- What a channel-connected part is in its circuit.
-use Rattle.std.specs.Prelude.{◌≡◌, ℕ, ◌-◌, ◌<◌, ◌⊎◌, Bool, IsTrue, true, List, [], Option, is_none, is_some, length, slice_get, filter_map, All}
+use Rattle.std.specs.Prelude.{◌≡◌, ℕ, ◌-◌, ◌<◌, ◌⊎◌, ◌==◌, Bool, IsTrue, true, cond, List, Option, is_none, is_some, length, slice_get, filter_map, map, sum_by, All}
+use Rattle.std.specs.List.{list_any}
 use Rattle.vrt_model.specs.Circuits.{IsNet}
 use Rattle.vrt_model.specs.Networks.{HasRanges}
 use Rattle.vrt_model.specs.Lists.{At, Among}
 use Rattle.vrt_model.specs.Reading.{is_given}
+use Rattle.vrt_model.specs.State.{OutputPin, output_pins}
 use Rattle.vrt_model.specs.declared.circuit.Circuit.{Circuit}
 use Rattle.vrt_model.specs.declared.circuit.Device.{Device}
 use Rattle.vrt_model.specs.declared.circuit.FlatNet.{FlatNet}
 use Rattle.vrt_model.specs.declared.ids.Dev.{Dev}
 use Rattle.vrt_model.specs.declared.ids.Net.{Net}
+use Rattle.vrt_model.specs.declared.whole.Drive.TheVariants.{Soft}
 use Rattle.vrt_model.specs.declared.whole.WholePin.{WholePin}
 use Rattle.channel_parts.specs.declared.part.Part.{Part}
 use Rattle.path_fixpoint.specs.declared.direction.Direction.{Direction}
@@ -29,13 +32,21 @@ visited_place Backward count step = count - 1 - step
 abbrev pub IsVisited : Circuit → Part → Direction → ℕ → Device → Type 0
 IsVisited c part direction step d = (dev : Dev) × At part.devices (visited_place direction (length part.devices) step) dev × At c.devices dev.0 d
 
--- the output pins of whole instances at the nets of a part: circuits without whole instances have none
-abbrev pub part_pins : Circuit → Part → List WholePin
-part_pins c part = []
-
 -- the net n stands at place i of a part
 abbrev pub IsPlace : Part → ℕ → ℕ → Type 0
 IsPlace part i n = (net : Net) × At part.nets i net × (net.0 ≡ n)
+
+-- a net of the part has this number
+abbrev pub has_net : Part → ℕ → Bool
+has_net part n = list_any (λ (net : Net). net.0 == n) part.nets
+
+-- the output pins of the whole instances of a circuit, in their order
+abbrev pub pins_of : Circuit → List WholePin
+pins_of c = map (λ (out : OutputPin). out.pin) (output_pins c)
+
+-- how many of these pins stand at nets of a part
+abbrev pub pins_at : Part → List WholePin → ℕ
+pins_at part pins = sum_by (λ (pin : WholePin). cond (has_net part pin.net.0) 1 0) pins
 
 -- the net n is in the part, or outside it
 abbrev pub IsOnSide : Part → Side → ℕ → Type 0
@@ -50,6 +61,10 @@ is_on_side Outside place = is_none place
 -- a supply, an input or a clock port
 abbrev pub IsGiven : Circuit → ℕ → Type 0
 IsGiven c n = (net : FlatNet) × At c.nets n net × (is_given net.kind ≡ true)
+
+-- a soft output of a whole instance, whose root is as strong as that of a given net, stands at no given net outside the part
+abbrev pub AreSoftInside : Circuit → Part → Type 0
+AreSoftInside c part = (pin : WholePin) → Among (pins_of c) pin → pin.drive ≡ Soft → IsGiven c pin.net.0 → IsOnSide part Inside pin.net.0
 
 -- neither end of a device's channel has a given value
 abbrev pub IsWithoutGivenEnd : Circuit → Device → Type 0

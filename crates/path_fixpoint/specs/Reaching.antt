@@ -1,5 +1,5 @@
 -- What the words of a part say of the values that reach its nets.
-use Rattle.std.specs.Prelude.{◌≡◌, ℕ, ◌<◌, ◌≤◌, ◌⊎◌, ◌↔◌, ◌-◌, ◌&&◌, Bool, true, false, not, cond, length, Option, Some, None}
+use Rattle.std.specs.Prelude.{◌≡◌, ℕ, ◌+◌, ◌<◌, ◌≤◌, ◌⊎◌, ◌↔◌, ◌-◌, ◌&&◌, Bool, true, false, not, cond, length, Option, Some, None}
 use Rattle.node_pool.specs.declared.region.Span.{Span}
 use Rattle.bdd_core.specs.Diagram.{Function, Valuation, meaning}
 use Rattle.bdd_core.specs.Store.{Diagrams, IsSpan}
@@ -14,9 +14,10 @@ use Rattle.vrt_model.specs.declared.circuit.Circuit.{Circuit}
 use Rattle.vrt_model.specs.declared.circuit.Device.{Device}
 use Rattle.vrt_model.specs.declared.circuit.Hold.{Hold}
 use Rattle.vrt_model.specs.declared.design.Kind.{Kind}
+use Rattle.vrt_model.specs.declared.whole.WholePin.{WholePin}
 use Rattle.channel_parts.specs.declared.part.Part.{Part}
 use Rattle.path_fixpoint.specs.declared.side.Side.{Side}
-use Rattle.path_fixpoint.specs.Parts.{IsGiven, IsOnSide, IsPlace, is_on_side}
+use Rattle.path_fixpoint.specs.Parts.{AreSoftInside, IsGiven, IsOnSide, IsPlace, is_on_side, pins_of}
 use Rattle.path_fixpoint.specs.Strengths.{HasLevel, HasWords, StandsAt, StrongGrows, net_words, strong, strong_end, word_of}
 use Rattle.bdd_core.specs.Words.{IsApart, IsFilled, shows}
 
@@ -37,11 +38,12 @@ reached_end d roots out value None n v = differ (not value) (shows d roots n v)
 abbrev pub offered_end : Diagrams → Span → Span → Bool → Side → Option ℕ → ℕ → Valuation → Bool
 offered_end d roots out value side place n v = is_on_side side place && reached_end d roots out value place n v
 
--- the spans of the handles of the gates and the roots, one for each net, and of the words of a part
+-- the spans of the handles of the gates and the roots, one for each net and of the roots one for each output pin, and of the
+-- words of a part
 pub record HasRootWords (c : Circuit) (part : Part) (gates roots out : Span) (d : Diagrams) : Type 0 where
   pub words : HasWords c part gates out d
   pub roots_span : IsSpan d roots
-  pub roots_len : roots.len ≡ length c.nets
+  pub roots_len : length c.nets + length (pins_of c) ≤ roots.len
   pub roots_live : IsFilled d roots
   pub roots_apart : IsApart roots out
 
@@ -50,6 +52,8 @@ pub record SolvedAt (c : Circuit) (part : Part) (gates roots out : Span) (d : Di
   pub stands : StandsAt c part gates d v w
   pub given : (n : ℕ) → n < length c.nets → shows d roots n v ≡ w.given n
   pub held : (at : ℕ) (hold : Hold) → At c.holds at hold → shows d roots hold.net.0 v ≡ w.held at
+  pub driven : (at : ℕ) (pin : WholePin) → At (pins_of c) at pin → shows d roots (length c.nets + at) v ≡ w.driven at
+  pub soft : AreSoftInside c part
   pub strength : (n : ℕ) → IsStrength w n (s n)
   pub solved : (level : ℕ) → 1 ≤ level → level ≤ source_level c → HasLevel part out level d v w
 

@@ -13,7 +13,7 @@ use Rattle.vrt_model.specs.declared.circuit.Device.{Device}
 use Rattle.vrt_model.specs.declared.design.Kind.{Kind}
 use Rattle.channel_parts.specs.declared.part.Part.{Part}
 use Rattle.path_fixpoint.specs.declared.side.Side.{Side}
-use Rattle.path_fixpoint.specs.Parts.{IsOnSide, IsPlace, part_devices, part_pins}
+use Rattle.path_fixpoint.specs.Parts.{IsOnSide, IsPlace, part_devices, pins_of}
 use Rattle.bdd_core.specs.Words.{IsApart, IsFilled, shows, word_at}
 
 -- the words of a net of a part: whether its strength is at least each level from 1 to the source level, and whether 0 and 1 reach it
@@ -59,7 +59,7 @@ pub record HasWords (c : Circuit) (part : Part) (gates out : Span) (d : Diagrams
 pub record StandsAt (c : Circuit) (part : Part) (gates : Span) (d : Diagrams) (v : Valuation) (w : Network) : Type 0 where
   pub nets : w.nets ≡ c.nets
   pub holds : w.holds ≡ c.holds
-  pub outputs : w.outputs ≡ part_pins c part
+  pub outputs : w.outputs ≡ pins_of c
   pub source : w.source ≡ source_level c
   pub devices : w.devices ≡ part_devices c part
   pub reading : (n : ℕ) → n < length c.nets → shows d gates n v ≡ w.reading n

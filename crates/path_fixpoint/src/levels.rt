@@ -6,8 +6,8 @@ ghost use Rattle.bdd_core.specs.Store.{IsSpan};
 ghost use Rattle.vrt_model.specs.Networks.{HasRanges};
 ghost use Rattle.vrt_model.specs.Levels.{source_level};
 ghost use Rattle.vrt_model.specs.Path.{Network};
-ghost use Rattle.path_fixpoint.specs.Openings.{IsUnused, NoDeviceHas, NoHoldHas};
-ghost use Rattle.path_fixpoint.specs.Parts.{IsPart, IsPartOf};
+ghost use Rattle.path_fixpoint.specs.Openings.{IsUnused, NoDeviceHas, NoHoldHas, NoPinHas};
+ghost use Rattle.path_fixpoint.specs.Parts.{IsPart, IsPartOf, pins_of};
 ghost use Rattle.path_fixpoint.specs.Strengths.{ChangesLevel, HasLevel, HasSpans, HasWords, StandsAt, TellsStrengths};
 ghost use Rattle.bdd_core.specs.Words.{IsFilled, Writes};
 ghost use Rattle.bdd_ops.specs.Counting.{IsSpanWithin};
@@ -16,12 +16,13 @@ ghost use Rattle.path_fixpoint.specs.Spending.{Rewrites, Spends};
 use crate::Part;
 use crate::direction::Direction;
 use crate::opening::{open, take_above};
+use crate::pins::{drive_level, pin_at};
 use crate::ranges::rises;
 use crate::rounds::settle;
 use crate::steps::visited;
 use bdd_core::{Spent, Store};
 use node_pool::Span;
-use vrt_model::Circuit;
+use vrt_model::{Circuit, WholePin};
 
 /// Writes the constant 0 into each word of a span.
 fn clear(store: &mut Store, out: Span)
@@ -61,6 +62,31 @@ fn no_hold_has(circuit: &Circuit, level: u32) -> bool
     true
 }
 
+/// Whether no output of a whole instance has exactly the level.
+fn no_output_has(outputs: &[WholePin], level: u32) -> bool
+    ensures { result ≡ true → NoPinHas outputs.now level }
+{
+    for at in 0..outputs.len() {
+        let pin = pin_at(outputs, at);
+        if drive_level(pin.drive) == level {
+            return false;
+        }
+    }
+    true
+}
+
+/// Whether no output of the whole instances has exactly the level.
+fn no_pin_has(circuit: &Circuit, level: u32) -> bool
+    ensures { result ≡ true → NoPinHas (pins_of circuit.now) level }
+{
+    for whole in circuit.wholes.as_slice() {
+        if !no_output_has(whole.outputs.as_slice(), level) {
+            return false;
+        }
+    }
+    true
+}
+
 /// Whether a level is below the greatest, and no device of the part and no root has exactly it.
 fn is_unused(circuit: &Circuit, part: &Part, level: u32) -> bool
     requires { IsPart circuit.now part.now }
@@ -69,10 +95,13 @@ fn is_unused(circuit: &Circuit, part: &Part, level: u32) -> bool
     if level >= 8 {
         return false;
     }
-    if no_device_has(circuit, part, level) {
-        return no_hold_has(circuit, level);
+    if !no_device_has(circuit, part, level) {
+        return false;
     }
-    false
+    if !no_hold_has(circuit, level) {
+        return false;
+    }
+    no_pin_has(circuit, level)
 }
 
 /// Writes for each net of the part whether its strength is at least a level, where it is written for the level above. A

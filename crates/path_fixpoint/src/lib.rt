@@ -6,6 +6,7 @@
 mod direction;
 mod levels;
 mod opening;
+mod pins;
 mod ranges;
 mod reach;
 mod rounds;

@@ -7,8 +7,8 @@ ghost use Rattle.vrt_model.specs.Circuits.{IsNet};
 ghost use Rattle.vrt_model.specs.Lists.{At};
 ghost use Rattle.vrt_model.specs.Path.{Network};
 ghost use Rattle.vrt_model.specs.declared.circuit.Hold.{Hold as HoldValue};
-ghost use Rattle.path_fixpoint.specs.Openings.{IsGivenAt, IsHoldAt, OnlyBy, TakesAbove, mark_of};
-ghost use Rattle.path_fixpoint.specs.Parts.{IsGiven, IsPart, IsPlace, IsWithoutGivenEnd, Rises};
+ghost use Rattle.path_fixpoint.specs.Openings.{IsGivenAt, IsHoldAt, IsPinAt, OnlyBy, TakesAbove, mark_of};
+ghost use Rattle.path_fixpoint.specs.Parts.{IsGiven, IsPart, IsPlace, IsWithoutGivenEnd, Rises, pins_of};
 ghost use Rattle.path_fixpoint.specs.declared.side.Side.TheVariants.{Outside};
 ghost use Rattle.path_fixpoint.specs.Strengths.{ChangesLevel, HasLevel, HasPaths, HasRoots, HasWords, StandsAt, word_of, HasMarks, net_words};
 ghost use Rattle.bdd_core.specs.Words.{IsFilled, Writes, word_at};
@@ -16,11 +16,12 @@ ghost use Rattle.bdd_ops.specs.Counting.{IsSpanWithin};
 ghost use Rattle.path_fixpoint.specs.Spending.{Rewrites};
 
 use crate::Part;
+use crate::pins::{drive_level, pin_at};
 use crate::side::Side;
 use crate::steps::{place, word};
 use bdd_core::{H, ONE, Store, ZERO};
 use node_pool::Span;
-use vrt_model::{Circuit, Device, Net, NetKind};
+use vrt_model::{Circuit, Device, Net, NetKind, WholePin};
 
 /// Writes a handle into a word.
 pub(crate) fn set(store: &mut Store, out: Span, at: u32, handle: H)
@@ -151,11 +152,11 @@ fn mark_given(
     }
 }
 
-/// Whether a hold of this size is a root of at least the level.
-fn has_level(size: u8, level: u32) -> bool
+/// Whether a root of this level is one of at least the level.
+fn has_level(size: u32, level: u32) -> bool
     ensures { (result ≡ true) ↔ (level ≤ size) }
 {
-    size as u32 >= level
+    size >= level
 }
 
 /// Marks the nets of the holds of at least this level.
@@ -179,8 +180,53 @@ fn mark_holds(
 {
     store.sound();
     for hold in circuit.holds.as_slice() {
-        let fits = has_level(hold.size, level);
+        let fits = has_level(hold.size as u32, level);
         mark(store, part, rising, out, hold.net, level, fits);
+    }
+}
+
+/// Marks the nets of these outputs of at least this level.
+fn mark_outputs(
+    store: &mut Store,
+    part: &Part,
+    rising: bool,
+    out: Span,
+    level: u32,
+    outputs: &[WholePin],
+)
+    requires rising { IsTrue rising → Rises part.now }
+    requires part { (i j n : ℕ) → IsPlace part.now i n → IsPlace part.now j n → i ≡ j }
+    requires out { HasMarks part.now out store.old }
+    requires level { (1 ≤ level) × (level ≤ 8) }
+    ensures writes { Writes out store.old store.new }
+    ensures apart { ChangesLevel out level store.old store.new }
+    ensures marked { (i : ℕ) → IsPinAt part.now outputs.now level i → mark_of store.new out level i ≡ 1 }
+    ensures only { OnlyBy out level (IsPinAt part.now outputs.now level) store.old store.new }
+    ensures few { (u : ℕ) → IsSpanWithin u store.old out → Rewrites u out store.old store.new }
+{
+    store.sound();
+    for at in 0..outputs.len() {
+        let pin = pin_at(outputs, at);
+        let fits = has_level(drive_level(pin.drive), level);
+        mark(store, part, rising, out, pin.net, level, fits);
+    }
+}
+
+/// Marks the nets of the outputs of whole instances of at least this level.
+fn mark_pins(store: &mut Store, circuit: &Circuit, part: &Part, rising: bool, out: Span, level: u32)
+    requires rising { IsTrue rising → Rises part.now }
+    requires part { (i j n : ℕ) → IsPlace part.now i n → IsPlace part.now j n → i ≡ j }
+    requires out { HasMarks part.now out store.old }
+    requires level { (1 ≤ level) × (level ≤ 8) }
+    ensures writes { Writes out store.old store.new }
+    ensures apart { ChangesLevel out level store.old store.new }
+    ensures marked { (i : ℕ) → IsPinAt part.now (pins_of circuit.now) level i → mark_of store.new out level i ≡ 1 }
+    ensures only { OnlyBy out level (IsPinAt part.now (pins_of circuit.now) level) store.old store.new }
+    ensures few { (u : ℕ) → IsSpanWithin u store.old out → Rewrites u out store.old store.new }
+{
+    store.sound();
+    for whole in circuit.wholes.as_slice() {
+        mark_outputs(store, part, rising, out, level, whole.outputs.as_slice());
     }
 }
 
@@ -208,4 +254,5 @@ pub(crate) fn open(
     take_above(store, part, out, level);
     mark_given(store, circuit, part, rising, out, level);
     mark_holds(store, circuit, part, rising, out, level);
+    mark_pins(store, circuit, part, rising, out, level);
 }

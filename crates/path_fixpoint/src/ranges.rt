@@ -5,7 +5,7 @@ ghost use Rattle.bdd_core.specs.Store.{IsSpan};
 ghost use Rattle.bdd_core.specs.Words.{IsApart, IsFilled};
 ghost use Rattle.vrt_model.specs.Circuits.{IsNet};
 ghost use Rattle.vrt_model.specs.Lists.{Among};
-ghost use Rattle.path_fixpoint.specs.Parts.{IsGiven, IsPart, IsPartDevice, Rises};
+ghost use Rattle.path_fixpoint.specs.Parts.{IsGiven, IsPart, IsPartDevice, Rises, pins_of};
 ghost use Rattle.path_fixpoint.specs.Solved.{HasRootSpans};
 ghost use Rattle.path_fixpoint.specs.Strengths.{net_words};
 
@@ -111,14 +111,41 @@ fn are_apart(a: Span, b: Span) -> bool
         || b.start as u64 + b.len as u64 <= a.start as u64
 }
 
-/// Whether a span has a live handle for each net of the circuit, apart from `out`.
-fn has_handles(store: &Store, circuit: &Circuit, span: Span, out: Span) -> bool
-    ensures { IsTrue result ↔ ((IsSpan store.now span × (span.len ≡ length circuit.now.nets)) × (IsFilled store.now span × IsApart span out)) }
+/// Whether a span has live handles, apart from `out`.
+fn has_handles(store: &Store, span: Span, out: Span) -> bool
+    ensures { IsTrue result ↔ (IsSpan store.now span × (IsFilled store.now span × IsApart span out)) }
 {
     if !is_span(store, span) {
         return false;
     }
-    span.len as usize == circuit.nets.len() && is_filled(store, span) && are_apart(span, out)
+    is_filled(store, span) && are_apart(span, out)
+}
+
+/// Whether there are at most so many output pins of whole instances.
+fn has_room(circuit: &Circuit, room: usize) -> bool
+    ensures { IsTrue result ↔ (length (pins_of circuit.now) ≤ room) }
+{
+    let mut left = room;
+    for whole in circuit.wholes.as_slice() {
+        let count = whole.outputs.len();
+        if count > left {
+            return false;
+        }
+        left -= count;
+    }
+    true
+}
+
+/// Whether there are so many handles: of the gates one for each net of the circuit, and of the roots one for each output of a whole
+/// instance too.
+fn has_lengths(circuit: &Circuit, gates: usize, roots: usize) -> bool
+    ensures { IsTrue result ↔ ((gates ≡ length circuit.now.nets) × (length circuit.now.nets + length (pins_of circuit.now) ≤ roots)) }
+{
+    let nets = circuit.nets.len();
+    if gates != nets || roots < nets {
+        return false;
+    }
+    has_room(circuit, roots - nets)
 }
 
 /// Whether a span has the words of each net of the part.
@@ -142,6 +169,7 @@ pub fn are_spans(
     ensures { IsTrue result ↔ HasRootSpans circuit.now part.now gates roots out store.now }
 {
     has_words(store, part, out)
-        && has_handles(store, circuit, gates, out)
-        && has_handles(store, circuit, roots, out)
+        && has_handles(store, gates, out)
+        && has_handles(store, roots, out)
+        && has_lengths(circuit, gates.len as usize, roots.len as usize)
 }

@@ -26,14 +26,14 @@ pub(crate) fn slot(value: bool) -> u32
     if value { net_words() } else { net_words() - 1 }
 }
 
-/// Whether the root of a net has the value.
-pub(crate) fn root_bit(store: &mut Store, roots: Span, net: Net, value: bool) -> Result<H, Spent>
+/// Whether the root whose handle stands at a place has the value.
+pub(crate) fn root_bit(store: &mut Store, roots: Span, at: u32, value: bool) -> Result<H, Spent>
     requires roots { IsSpan store.old roots × IsFilled store.old roots }
-    requires net { net.0 < roots.len }
-    ensures { Makes store.old store.new (bit_is value (λ v. shows store.old roots net.0 v)) result }
+    requires at { at < roots.len }
+    ensures { Makes store.old store.new (bit_is value (λ v. shows store.old roots at v)) result }
 {
     store.sound();
-    let bit = H(store.read(roots, net.0));
+    let bit = H(store.read(roots, at));
     if value {
         return Ok(bit);
     }
@@ -58,7 +58,7 @@ pub(crate) fn reached(
 {
     store.sound();
     let Some(place) = place else {
-        return root_bit(store, roots, net, value);
+        return root_bit(store, roots, net.0, value);
     };
     Ok(H(store.read(out, word(place, slot(value)))))
 }

@@ -4,7 +4,7 @@ ghost use Rattle.std.specs.Prelude.{◌≡◌, ℕ, ◌+◌, ◌*◌, ◌<◌, �
 ghost use Rattle.bdd_core.specs.Diagram.{Valuation};
 ghost use Rattle.vrt_model.specs.Networks.{HasRanges};
 ghost use Rattle.vrt_model.specs.Path.{Network};
-ghost use Rattle.path_fixpoint.specs.Parts.{IsPart, IsPartOf};
+ghost use Rattle.path_fixpoint.specs.Parts.{AreSoftInside, IsPart, IsPartOf, pins_at, pins_of};
 ghost use Rattle.path_fixpoint.specs.Reaching.{HasReach, HasRootWords, SolvedAt, slot_of};
 ghost use Rattle.path_fixpoint.specs.Solved.{HasRootSpans, TellsReach, network_at};
 ghost use Rattle.path_fixpoint.specs.Strengths.{ChangesLevel, TellsStrengths};
@@ -37,7 +37,7 @@ fn reaches(
     ensures writes { Writes out store.old store.new }
     ensures apart { ChangesLevel out (slot_of value) store.old store.new }
     ensures reach { IfOk result (λ _. (v : Valuation) (w : Network) (s : ℕ → ℕ) → SolvedAt circuit.now part.now gates roots out store.old v w s → HasReach part.now out value store.new v w) }
-    ensures few { HasOneHold circuit.now → (u : ℕ) → IsSpanWithin u store.old gates → IsSpanWithin u store.old roots → IsSpanWithin u store.old out → Spends u (length part.now.nets * 6 + length part.now.nets * (length part.now.devices * 38)) out store.old store.new result }
+    ensures few { HasOneHold circuit.now → (u : ℕ) → IsSpanWithin u store.old gates → IsSpanWithin u store.old roots → IsSpanWithin u store.old out → Spends u (length part.now.nets * 6 + pins_at part.now (pins_of circuit.now) * 3 + length part.now.nets * (length part.now.devices * 38)) out store.old store.new result }
 {
     match open(store, circuit, part, rising, gates, roots, out, value) {
         Ok(()) => {}
@@ -49,7 +49,8 @@ fn reaches(
 /// Writes for each net of a part, as diagrams over all valuations, whether its strength is at least each level from 1 to
 /// the source level, whether a clear path from a root of value 0 ends at it, and whether one of value 1 does: the words of
 /// the net at place `i` are those from number `net_words() * i` of `out` on. `gates` and `roots` have a handle for each net of the circuit: the bit
-/// of the net at gates, and the bit of the root that stands at it.
+/// of the net at gates, and the bit of the root that stands at it. Behind these `roots` has a handle for each output of the whole
+/// instances, instance by instance: the bit that the model gives, the root of the level that its drive says.
 ///
 /// Handles from before keep their functions and words outside `out` stay as they are, also where the budget is used up.
 pub fn solve_part(
@@ -65,8 +66,8 @@ pub fn solve_part(
     requires spans { HasRootSpans circuit.now part.now gates roots out store.old }
     ensures writes { Writes out store.old store.new }
     ensures strengths { IfOk result (λ _. (v : Valuation) → TellsStrengths circuit.now part.now out store.new v (network_at store.old circuit.now part.now gates roots v)) }
-    ensures reaches { IfOk result (λ _. (v : Valuation) → TellsReach part.now out store.new v (network_at store.old circuit.now part.now gates roots v)) }
-    ensures few { HasOneHold circuit.now → (u : ℕ) → IsSpanWithin u store.old gates → IsSpanWithin u store.old roots → Spends u (400 * (length part.now.nets + 1) * (length part.now.devices + 1)) out store.old store.new result }
+    ensures reaches { IfOk result (λ _. AreSoftInside circuit.now part.now → (v : Valuation) → TellsReach part.now out store.new v (network_at store.old circuit.now part.now gates roots v)) }
+    ensures few { HasOneHold circuit.now → (u : ℕ) → IsSpanWithin u store.old gates → IsSpanWithin u store.old roots → Spends u (400 * (length part.now.nets + 1) * (length part.now.devices + pins_at part.now (pins_of circuit.now) + 1)) out store.old store.new result }
 {
     let rising = rises(part);
     match strengths(store, circuit, part, gates, out) {

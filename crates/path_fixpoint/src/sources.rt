@@ -3,23 +3,37 @@
 ghost use Rattle.std.specs.Prelude.{IsTrue, ◌≡◌, ◌≢◌, ℕ, ◌+◌, ◌*◌, ◌^◌, ◌<◌, ◌≤◌, ◌⊎◌, ◌↔◌, true, false, length, IfOk, IfSome};
 ghost use Rattle.bdd_core.specs.Diagram.{IsWithin, Valuation};
 ghost use Rattle.bdd_core.specs.Store.{IsLive, IsSpan, function_of};
+ghost use Rattle.vrt_model.specs.Lists.{Among};
 ghost use Rattle.vrt_model.specs.Path.{Network};
+ghost use Rattle.vrt_model.specs.declared.whole.WholePin.{WholePin as PinValue};
 ghost use Rattle.path_fixpoint.specs.Openings.{IsGivenAt, IsHoldAt};
-ghost use Rattle.path_fixpoint.specs.Parts.{IsGiven, IsPlace, Rises, IsPartOf};
+ghost use Rattle.path_fixpoint.specs.Parts.{IsGiven, IsPlace, Rises, IsPartOf, pins_at, pins_of};
 ghost use Rattle.path_fixpoint.specs.Reaching.{HasReachPaths, HasReachRoots, HasRootWords, SolvedAt, slot_of};
-ghost use Rattle.path_fixpoint.specs.Sources.{AddsRoots, IsGivenSource, IsHoldSource};
+ghost use Rattle.path_fixpoint.specs.Sources.{AddsRoots, HasDriveLevel, IsGivenSource, IsHoldSource, IsPinSource};
 ghost use Rattle.path_fixpoint.specs.Strengths.{ChangesLevel, strong, word_of, HasMarks, net_words};
-ghost use Rattle.bdd_core.specs.Words.{IsFilled, Writes, shows, word_at};
+ghost use Rattle.bdd_core.specs.Words.{IsApart, IsFilled, Writes, shows, word_at};
 ghost use Rattle.bdd_ops.specs.Counting.{IsSpanWithin};
 ghost use Rattle.path_fixpoint.specs.Spending.{Finds, HasOneHold, Rewrites, Spends};
 
 use crate::Part;
 use crate::opening::{is_given, set};
+use crate::pins::{drive_level, pin_at};
 use crate::signals::{root_bit, slot};
 use crate::steps::{place, strength, widen, word};
 use bdd_core::{H, Spent, Store, ZERO};
 use node_pool::Span;
-use vrt_model::{Circuit, Net};
+use vrt_model::{Circuit, Net, WholePin};
+
+/// A root: the net at which it stands, the place of its handle among those of the roots, and its level.
+#[derive(Clone, Copy)]
+struct Source {
+    /// The net at which the root stands.
+    net: Net,
+    /// The place of its handle: the number of the net, and of an output its place behind all nets.
+    at: u32,
+    /// Its level, 1 to 8.
+    size: u32,
+}
 
 /// Writes the constant 0 into the word of each net for a value.
 fn clear(store: &mut Store, part: &Part, out: Span, value: bool)
@@ -55,36 +69,35 @@ fn unblocked(store: &mut Store, out: Span, place: usize, size: u32, bit: H) -> R
     store.ite(above, ZERO, bit)
 }
 
-/// Marks the net of a root of this size, where the root has the value and the net is no stronger.
+/// Marks the net of a root, where the root has the value and the net is no stronger.
 fn add_root(
     store: &mut Store,
     part: &Part,
     rising: bool,
     roots: Span,
     out: Span,
-    net: Net,
-    size: u32,
+    source: Source,
     value: bool,
 ) -> Result<(), Spent>
     requires rising { IsTrue rising → Rises part.now }
     requires part { (i j n : ℕ) → IsPlace part.now i n → IsPlace part.now j n → i ≡ j }
-    requires roots { IsSpan store.old roots × IsFilled store.old roots × (net.0 < roots.len) }
+    requires roots { IsSpan store.old roots × IsFilled store.old roots × (source.at < roots.len) }
     requires out { HasMarks part.now out store.old }
-    requires size { (1 ≤ size) × (size ≤ 8) }
+    requires size { (1 ≤ source.size) × (source.size ≤ 8) }
     ensures writes { Writes out store.old store.new }
     ensures apart { ChangesLevel out (slot_of value) store.old store.new }
-    ensures adds { IfOk result (λ _. AddsRoots part.now roots out value (λ n k. (n ≡ net.0) × (k ≡ size)) store.old store.new) }
-    ensures few { (u : ℕ) → IsSpanWithin u store.old roots → IsSpanWithin u store.old out → Spends u 0 out store.old store.new result ⊎ ((i : ℕ) × IsPlace part.now i net.0 × Spends u 3 out store.old store.new result) }
+    ensures adds { IfOk result (λ _. AddsRoots part.now roots out value (λ n at size. (n ≡ source.net.0) × (at ≡ source.at) × (size ≡ source.size)) store.old store.new) }
+    ensures few { (u : ℕ) → IsSpanWithin u store.old roots → IsSpanWithin u store.old out → Spends u 0 out store.old store.new result ⊎ ((i : ℕ) × IsPlace part.now i source.net.0 × Spends u 3 out store.old store.new result) }
 {
     store.sound();
-    let Some(i) = place(part, rising, net) else {
+    let Some(i) = place(part, rising, source.net) else {
         return Ok(());
     };
-    let bit = match root_bit(store, roots, net, value) {
+    let bit = match root_bit(store, roots, source.at, value) {
         Ok(bit) => bit,
         Err(spent) => return Err(spent),
     };
-    let signal = match unblocked(store, out, i, size, bit) {
+    let signal = match unblocked(store, out, i, source.size, bit) {
         Ok(signal) => signal,
         Err(spent) => return Err(spent),
     };
@@ -111,14 +124,19 @@ fn add_net(
     requires out { HasMarks part.now out store.old }
     ensures writes { Writes out store.old store.new }
     ensures apart { ChangesLevel out (slot_of value) store.old store.new }
-    ensures adds { IfOk result (λ _. AddsRoots part.now roots out value (λ n k. IsGiven circuit.now n × (n ≡ net.0) × (k ≡ 8)) store.old store.new) }
+    ensures adds { IfOk result (λ _. AddsRoots part.now roots out value (λ n at size. IsGiven circuit.now n × (n ≡ net.0) × (at ≡ n) × (size ≡ 8)) store.old store.new) }
     ensures few { (u : ℕ) → IsSpanWithin u store.old roots → IsSpanWithin u store.old out → Spends u 3 out store.old store.new result }
 {
     store.sound();
     if !is_given(circuit, net) {
         return Ok(());
     }
-    add_root(store, part, rising, roots, out, net, 8, value)
+    let source = Source {
+        net,
+        at: net.0,
+        size: 8,
+    };
+    add_root(store, part, rising, roots, out, source, value)
 }
 
 /// Marks the nets of the part that have given values, where these are the value.
@@ -171,19 +189,86 @@ fn add_holds(
     store.sound();
     let _gates = gates;
     for hold in circuit.holds.as_slice() {
-        match add_root(
-            store,
-            part,
-            rising,
-            roots,
-            out,
-            hold.net,
-            hold.size as u32,
-            value,
-        ) {
+        let source = Source {
+            net: hold.net,
+            at: hold.net.0,
+            size: hold.size as u32,
+        };
+        match add_root(store, part, rising, roots, out, source, value) {
             Ok(()) => {}
             Err(spent) => return Err(spent),
         }
+    }
+    Ok(())
+}
+
+/// Marks the nets of these outputs, whose handles stand one behind the other from a place on, where these have the value and
+/// their nets are no stronger.
+fn add_outputs(
+    store: &mut Store,
+    part: &Part,
+    rising: bool,
+    roots: Span,
+    out: Span,
+    outputs: &[WholePin],
+    first: u32,
+    value: bool,
+) -> Result<(), Spent>
+    requires rising { IsTrue rising → Rises part.now }
+    requires part { (i j n : ℕ) → IsPlace part.now i n → IsPlace part.now j n → i ≡ j }
+    requires roots { IsSpan store.old roots × IsFilled store.old roots × IsApart roots out }
+    requires handles { first + length outputs.now ≤ roots.len }
+    requires levels { (pin : PinValue) → Among outputs.now pin → HasDriveLevel pin }
+    requires out { HasMarks part.now out store.old }
+    ensures writes { Writes out store.old store.new }
+    ensures apart { ChangesLevel out (slot_of value) store.old store.new }
+    ensures adds { IfOk result (λ _. AddsRoots part.now roots out value (IsPinSource outputs.now first) store.old store.new) }
+    ensures few { (u : ℕ) → IsSpanWithin u store.old roots → IsSpanWithin u store.old out → Spends u (pins_at part.now outputs.now * 3) out store.old store.new result }
+{
+    store.sound();
+    for at in 0..outputs.len() {
+        let pin = pin_at(outputs, at);
+        let source = Source {
+            net: pin.net,
+            at: first + at as u32,
+            size: drive_level(pin.drive),
+        };
+        match add_root(store, part, rising, roots, out, source, value) {
+            Ok(()) => {}
+            Err(spent) => return Err(spent),
+        }
+    }
+    Ok(())
+}
+
+/// Marks the nets of the outputs of whole instances, where these have the value and their nets are no stronger.
+fn add_pins(
+    store: &mut Store,
+    circuit: &Circuit,
+    part: &Part,
+    rising: bool,
+    gates: Span,
+    roots: Span,
+    out: Span,
+    value: bool,
+) -> Result<(), Spent>
+    requires part { IsPartOf circuit.now part.now rising }
+    requires words { HasRootWords circuit.now part.now gates roots out store.old }
+    ensures writes { Writes out store.old store.new }
+    ensures apart { ChangesLevel out (slot_of value) store.old store.new }
+    ensures adds { IfOk result (λ _. AddsRoots part.now roots out value (IsPinSource (pins_of circuit.now) (length circuit.now.nets)) store.old store.new) }
+    ensures few { (u : ℕ) → IsSpanWithin u store.old roots → IsSpanWithin u store.old out → Spends u (pins_at part.now (pins_of circuit.now) * 3) out store.old store.new result }
+{
+    store.sound();
+    let _gates = gates;
+    let mut first = circuit.nets.len() as u32;
+    for whole in circuit.wholes.as_slice() {
+        let outputs = whole.outputs.as_slice();
+        match add_outputs(store, part, rising, roots, out, outputs, first, value) {
+            Ok(()) => {}
+            Err(spent) => return Err(spent),
+        }
+        first += outputs.len() as u32;
     }
     Ok(())
 }
@@ -205,12 +290,16 @@ pub(crate) fn open(
     ensures apart { ChangesLevel out (slot_of value) store.old store.new }
     ensures roots { IfOk result (λ _. (v : Valuation) (w : Network) (s : ℕ → ℕ) → SolvedAt circuit.now part.now gates roots out store.old v w s → HasReachRoots circuit.now part.now out value store.new v w s) }
     ensures paths { IfOk result (λ _. (v : Valuation) (w : Network) (s : ℕ → ℕ) → SolvedAt circuit.now part.now gates roots out store.old v w s → HasReachPaths part.now out value store.new v w s) }
-    ensures few { HasOneHold circuit.now → (u : ℕ) → IsSpanWithin u store.old roots → IsSpanWithin u store.old out → Spends u (length part.now.nets * 6) out store.old store.new result }
+    ensures few { HasOneHold circuit.now → (u : ℕ) → IsSpanWithin u store.old roots → IsSpanWithin u store.old out → Spends u (length part.now.nets * 6 + pins_at part.now (pins_of circuit.now) * 3) out store.old store.new result }
 {
     clear(store, part, out, value);
     match add_given(store, circuit, part, rising, gates, roots, out, value) {
         Ok(()) => {}
         Err(spent) => return Err(spent),
     }
-    add_holds(store, circuit, part, rising, gates, roots, out, value)
+    match add_holds(store, circuit, part, rising, gates, roots, out, value) {
+        Ok(()) => {}
+        Err(spent) => return Err(spent),
+    }
+    add_pins(store, circuit, part, rising, gates, roots, out, value)
 }

@@ -1,5 +1,5 @@
 -- The work of the steps of a phase, and words and marks in other words.
-use Rattle.std.proofs.Common.{◌≡◌, ℕ, ◌+◌, ◌*◌, ◌≤◌, Bool, List, length, arith, ap, ap₂, sym, subst, ◌∙◌}
+use Rattle.std.proofs.Common.{◌≡◌, ℕ, ◌+◌, ◌*◌, ◌≤◌, Bool, List, length, arith, ap, ap₂, sym, subst, ◌∙◌, []}
 use Rattle.std.proofs.Math.Path.{fun_ext}
 use Rattle.bdd_core.proofs.Frames.{adds_words}
 use Rattle.bdd_core.specs.Store.{Adds, AddsNodes, Diagrams}
@@ -48,20 +48,20 @@ module _ (k : Comparison) (phase : ℕ) (plan : PhasePlan) (ready : IsReady k) (
   abbrev wishes : ℕ
   wishes = 3 * length plan.wishes
 
-  pub opened_within : 0 + opened_operations k phase ≤ phase_work_of k
-  opened_within = none_first (opened_operations k phase) steps kept model wishes (phase_work_of k) (phase_work k phase plan ready is)
+  pub opened_within : k.circuit.wholes ≡ [] → 0 + opened_operations k phase ≤ phase_work_of k
+  opened_within none = none_first (opened_operations k phase) steps kept model wishes (phase_work_of k) (phase_work k phase plan ready is none)
 
-  pub solved_within : opened_operations k phase + steps ≤ phase_work_of k
-  solved_within = two_first (opened_operations k phase) steps kept model wishes (phase_work_of k) (phase_work k phase plan ready is)
+  pub solved_within : k.circuit.wholes ≡ [] → opened_operations k phase + steps ≤ phase_work_of k
+  solved_within none = two_first (opened_operations k phase) steps kept model wishes (phase_work_of k) (phase_work k phase plan ready is none)
 
-  pub settled_within : solved_operations k phase plan + kept ≤ phase_work_of k
-  settled_within = three_first (opened_operations k phase) steps kept model wishes (phase_work_of k) (phase_work k phase plan ready is)
+  pub settled_within : k.circuit.wholes ≡ [] → solved_operations k phase plan + kept ≤ phase_work_of k
+  settled_within none = three_first (opened_operations k phase) steps kept model wishes (phase_work_of k) (phase_work k phase plan ready is none)
 
-  pub evaluated_within : settled_operations k phase plan + model ≤ phase_work_of k
-  evaluated_within = four_first (opened_operations k phase) steps kept model wishes (phase_work_of k) (phase_work k phase plan ready is)
+  pub evaluated_within : k.circuit.wholes ≡ [] → settled_operations k phase plan + model ≤ phase_work_of k
+  evaluated_within none = four_first (opened_operations k phase) steps kept model wishes (phase_work_of k) (phase_work k phase plan ready is none)
 
-  pub all_within : evaluated_operations k phase plan + wishes ≤ phase_work_of k
-  all_within = phase_work k phase plan ready is
+  pub all_within : k.circuit.wholes ≡ [] → evaluated_operations k phase plan + wishes ≤ phase_work_of k
+  all_within none = phase_work k phase plan ready is none
 
   -- ---- marks
 

@@ -67,7 +67,7 @@ module _ (k : Comparison) (phase : ℕ) (plan : PhasePlan) (ready : IsReady k) (
       → HasKeptSpans k.circuit plan.kept.list (kept_spans w) d
   kept_there w d care h o gates = record {
     roots_span = roots_span (counts_of k d.vars) w d h;
-    roots_len = h.roots_len;
+    roots_len = (let len = h.roots_len in omega (arith, len));
     roots_live = o.roots.live;
     gates_span = gates_span (counts_of k d.vars) w d h;
     gates_len = h.gates_len;

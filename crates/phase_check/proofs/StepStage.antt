@@ -81,7 +81,7 @@ module _ (k : Comparison) (phase : ℕ) (plan : PhasePlan) (ready : IsReady k) (
       → HasCircuitSpans k.circuit plan.parts.list words.roots words.gates words.out d
   spans_there words d care h o = record {
     roots_span = roots_span (counts_of k d.vars) words d h;
-    roots_len = h.roots_len;
+    roots_len = (let len = h.roots_len in omega (arith, len));
     roots_live = o.roots.live;
     gates_span = gates_span (counts_of k d.vars) words d h;
     gates_len = h.gates_len;

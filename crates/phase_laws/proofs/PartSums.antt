@@ -14,9 +14,12 @@ use Rattle.circuit_faults.specs.Operations.{circuit_operations, kept_part_operat
 use Rattle.channel_parts.specs.PartLists.{AreParts, IsPartOf, device_numbers, least_of, net_numbers}
 use Rattle.channel_parts.specs.declared.part.Part.{Part}
 use Rattle.channel_parts.specs.declared.part.Parts.{Parts}
+use Rattle.path_fixpoint.proofs.PinLaws.{flat_at}
+use Rattle.path_fixpoint.specs.Parts.{pins_at, pins_of}
 use Rattle.vrt_model.proofs.Laws.{turned}
 use Rattle.vrt_model.proofs.Members.{among_later}
 use Rattle.vrt_model.proofs.Ranked.{together_plain}
+use Rattle.vrt_model.proofs.Sums.{sum_same}
 use Rattle.vrt_model.specs.Known.{IsChannel, IsInPart, IsPlain, IsTogether, itself, onward}
 use Rattle.vrt_model.specs.Lists.{At, Among}
 use Rattle.vrt_model.specs.Path.{Joins}
@@ -51,6 +54,15 @@ record IsLaidOut (items : Part → List ℕ) (parts : List Part) (k count : ℕ)
 
 abbrev no_part : Part
 no_part = record { rank = 0; nets = []; devices = [] }
+
+-- to solve a part at which no output of a whole instance stands
+abbrev solving_operations : Part → ℕ
+solving_operations part = 400 * (length part.nets + 1) * (length part.devices + 1)
+
+solving_is : (c : Circuit) → c.wholes ≡ [] → (part : Part) → kept_part_operations c part ≡ solving_operations part
+solving_is c none part =
+    let same : length part.devices + pins_at part (pins_of c) + 1 ≡ length part.devices + 1 = omega (arith, flat_at c part none) in
+    ap (λ (k : ℕ). 400 * (length part.nets + 1) * k) same
 
 module _ (items : Part → List ℕ) (parts : List Part) (bound : ℕ) (own : HasOwnNumbers items parts bound) where
   abbrev size : Part → ℕ
@@ -257,7 +269,7 @@ module _ (c : Circuit) (phase : Phase) (which : Bool) (rank : ℕ → ℕ) (part
   abbrev factor : ℕ
   factor = 400 * (length c.nets + 1)
 
-  part_few : (part : Part) → Among parts.list part → kept_part_operations part ≤ (net_count part + device_count part) * factor
+  part_few : (part : Part) → Among parts.list part → solving_operations part ≤ (net_count part + device_count part) * factor
   part_few part m =
       let some = some_net part m in
       let few = part_room part m in
@@ -268,16 +280,16 @@ module _ (c : Circuit) (phase : Phase) (which : Bool) (rank : ℕ → ℕ) (part
       let turned : factor * (net_count part + device_count part) ≡ (net_count part + device_count part) * factor = mul_comm factor (net_count part + device_count part) in
       omega (arith, product, turned)
 
-  parts_few : (xs : List Part) → ((part : Part) → Among xs part → Among parts.list part) → sum_by kept_part_operations xs ≤ (sum_by net_count xs + sum_by device_count xs) * factor
+  parts_few : (xs : List Part) → ((part : Part) → Among xs part → Among parts.list part) → sum_by solving_operations xs ≤ (sum_by net_count xs + sum_by device_count xs) * factor
   parts_few [] inside = omega arith
   parts_few (part ∷ xs) inside =
       let rest = parts_few xs (λ q m. inside q (among_later part xs q m)) in
       let own = part_few part (inside part (0, refl)) in
-      let operations = sum_by-cons kept_part_operations part xs in
+      let operations = sum_by-cons solving_operations part xs in
       let nets = sum_by-cons net_count part xs in
       let devices = sum_by-cons device_count part xs in
-      step (sum_by kept_part_operations xs) (sum_by net_count xs) (sum_by device_count xs) (kept_part_operations part) (net_count part) (device_count part)
-      (sum_by kept_part_operations (part ∷ xs)) (sum_by net_count (part ∷ xs)) (sum_by device_count (part ∷ xs)) rest own operations nets devices
+      step (sum_by solving_operations xs) (sum_by net_count xs) (sum_by device_count xs) (solving_operations part) (net_count part) (device_count part)
+      (sum_by solving_operations (part ∷ xs)) (sum_by net_count (part ∷ xs)) (sum_by device_count (part ∷ xs)) rest own operations nets devices
     where
       step : (o n d x y z o' n' d' : ℕ) → o ≤ (n + d) * factor → x ≤ (y + z) * factor → o' ≡ x + o → n' ≡ y + n → d' ≡ z + d → o' ≤ (n' + d') * factor
       step o n d x y z o' n' d' before own e f g =
@@ -286,20 +298,23 @@ module _ (c : Circuit) (phase : Phase) (which : Bool) (rank : ℕ → ℕ) (part
           omega (arith, before, own, e, product)
 
   -- the operations that solve all parts
-  pub solved_few : sum_by kept_part_operations parts.list ≤ (length c.nets + length c.devices) * factor
+  pub solved_few : sum_by solving_operations parts.list ≤ (length c.nets + length c.devices) * factor
   solved_few =
       let all = parts_few parts.list (λ part m. m) in
       let product : (sum_by net_count parts.list + sum_by device_count parts.list) * factor ≤ (length c.nets + length c.devices) * factor =
       mul-le-mul_right {m = sum_by net_count parts.list + sum_by device_count parts.list} {n = length c.nets + length c.devices} factor (omega (arith, nets_few, devices_few)) in
       omega (arith, all, product)
 
+  pub kept_few : c.wholes ≡ [] → sum_by (kept_part_operations c) parts.list ≤ (length c.nets + length c.devices) * factor
+  kept_few none = omega (arith, solved_few, sum_same (kept_part_operations c) solving_operations (solving_is c none) parts.list)
+
   -- with four for each net
-  with_nets : (xs : List Part) → sum_by part_operations xs ≡ sum_by kept_part_operations xs + 4 * sum_by net_count xs
+  with_nets : (xs : List Part) → sum_by part_operations xs ≡ sum_by solving_operations xs + 4 * sum_by net_count xs
   with_nets [] = refl
   with_nets (part ∷ xs) =
       let rest = with_nets xs in
       let all = sum_by-cons part_operations part xs in
-      let solved = sum_by-cons kept_part_operations part xs in
+      let solved = sum_by-cons solving_operations part xs in
       let nets = sum_by-cons net_count part xs in
       omega (arith, rest, all, solved, nets, length-map part.nets (λ (net : Net). net.0))
 

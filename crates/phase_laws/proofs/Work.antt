@@ -1,5 +1,5 @@
 -- All operations of a phase are within its work; operation after operation, and what a refusal says.
-use Rattle.std.proofs.Common.{◌≡◌, ℕ, ◌+◌, ◌*◌, ◌^◌, ◌<◌, ◌≤◌, Err, List, length, arith, true, false, ap, sym, subst, ◌∙◌, inl, inr}
+use Rattle.std.proofs.Common.{◌≡◌, ℕ, ◌+◌, ◌*◌, ◌^◌, ◌<◌, ◌≤◌, Err, List, length, arith, true, false, ap, sym, subst, ◌∙◌, inl, inr, []}
 use Rattle.std.specs.Prelude.{sum_by}
 use Rattle.std.proofs.Math.Nat.{add-mul, mul-le-mul_right, mul_comm}
 use Rattle.std.proofs.lemmas.Bool.{cases_lt}
@@ -18,7 +18,7 @@ use Rattle.channel_parts.specs.declared.part.Part.{Part}
 use Rattle.circuit_faults.specs.Operations.{circuit_operations, constraint_operations, kept_part_operations, steps_operations}
 use Rattle.circuit_faults.specs.Steps.{InPhase, in_comparison}
 use Rattle.constraints.specs.Cared.{assumed_size}
-use Rattle.phase_laws.proofs.PartSums.{circuit_few, part_room, solved_few}
+use Rattle.phase_laws.proofs.PartSums.{circuit_few, kept_few, part_room}
 use Rattle.phase_laws.proofs.Sizes.{assumed_few, holds_few, instances_few, lines_of}
 use Rattle.phase_laws.specs.Sums.{phase_work_of, total_operations}
 use Rattle.phase_terms.specs.Found.{MaySpend}
@@ -67,8 +67,8 @@ module _ (k : Comparison) (phase : ℕ) (plan : PhasePlan) (ready : IsReady k) (
   latches_within : length k.model.latches ≤ model_size k.model
   latches_within = omega arith
 
-  pub phase_work : total_operations k phase plan ≤ phase_work_of k
-  phase_work =
+  pub phase_work : k.circuit.wholes ≡ [] → total_operations k phase plan ≤ phase_work_of k
+  phase_work none =
       let n = length k.circuit.nets in
       let t = n + length k.circuit.devices in
       let name = (cell_at k.design k.cell).name in
@@ -76,10 +76,10 @@ module _ (k : Comparison) (phase : ℕ) (plan : PhasePlan) (ready : IsReady k) (
       let sum =
       within_work t n (model_size k.model) (length k.circuit.holds) (length (element_names k.model)) (assumed_size k.rules name phase) (assume_size k.rules name)
       (sum_by (lines_of here) k.circuit.instances) (length k.model.latches) (circuit_operations plan.parts.list) (sum_by (constraint_operations here) k.circuit.instances)
-      (sum_by kept_part_operations plan.kept.list) (length plan.wishes)
+      (sum_by (kept_part_operations k.circuit) plan.kept.list) (length plan.wishes)
       (omega arith) (holds_few k.circuit ready.circuit) (names_few k.model) (assumed_few k.rules name phase)
       (circuit_few k.circuit at true is.parts.0 plan.parts is.parts.1) (instances_few here k.circuit.instances)
-      (solved_few k.circuit at false (λ n. 0) plan.kept is.kept) is.few latches_within in
+      (kept_few k.circuit at false (λ n. 0) plan.kept is.kept none) is.few latches_within in
       omega (arith, sum, steps)
 
 -- ---- operation after operation

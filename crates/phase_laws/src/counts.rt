@@ -1,6 +1,6 @@
 //! How many operations a phase takes, and what a store has after some of them.
 
-ghost use Rattle.std.specs.Prelude.{◌≡◌, ℕ, ◌+◌, ◌≤◌, Err, length};
+ghost use Rattle.std.specs.Prelude.{◌≡◌, ℕ, ◌+◌, ◌≤◌, [], Err, length};
 ghost use Rattle.node_pool.specs.declared.region.Span.{Span as SpanValue};
 ghost use Rattle.bdd_core.specs.Diagram.{IsReduced, IsWithin};
 ghost use Rattle.bdd_core.specs.Store.{Diagrams, IsLive, function_of};
@@ -19,9 +19,9 @@ ghost use Rattle.vrt_model.specs.Comparison.{Comparison};
 ghost use Rattle.vrt_model.specs.Held.{sources_of};
 ghost use Rattle.vrt_model.specs.Lists.{Among};
 
-/// All operations of a phase are within its work.
+/// All operations of a phase of a circuit without whole instances are within its work.
 pub fn phase_work()
-    ensures { (k : Comparison) (phase : ℕ) (plan : PhasePlan) → IsReady k → IsPhasePlan k phase plan → total_operations k phase plan ≤ phase_work_of k }
+    ensures { (k : Comparison) (phase : ℕ) (plan : PhasePlan) → IsReady k → IsPhasePlan k phase plan → k.circuit.wholes ≡ [] → total_operations k phase plan ≤ phase_work_of k }
 {}
 
 /// Each part of a plan has at most as many nets as the circuit.

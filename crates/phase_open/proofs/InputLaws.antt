@@ -1,5 +1,5 @@
 -- The inputs of the model: words that are written for the clocks, for the input ports and for the default clock.
-use Rattle.std.proofs.Common.{◌≡◌, ℕ, ◌+◌, ◌-◌, ◌<◌, Bool, false, cond, List, length, map, Option, Some, None, arith, ap, refl, sym, subst, ◌∙◌, inl, inr}
+use Rattle.std.proofs.Common.{◌≡◌, ℕ, ◌+◌, ◌-◌, ◌<◌, Bool, false, cond, List, length, map, Option, Some, None, arith, ap, refl, sym, subst, ◌∙◌, inl, inr, ◌≤◌}
 use Rattle.std.specs.Prelude.{◌≢◌, option_map, slice_get, unwrap_or}
 use Rattle.std.proofs.lemmas.Bool.{cases_eq}
 use Rattle.std.proofs.lemmas.Option.{none-some, same_Some, slice_get_within}
@@ -112,7 +112,7 @@ module _ (k : Comparison) (ready : IsReady k) where
       let signal = t.3 in
       omega (arith, below, signal)
 
-  pub ties_within : (nets signals : ℕ) → nets ≡ length k.circuit.nets → signals ≡ length k.model.signals + 1 → AreTiesWithin ports_here nets signals
+  pub ties_within : (nets signals : ℕ) → length k.circuit.nets ≤ nets → signals ≡ length k.model.signals + 1 → AreTiesWithin ports_here nets signals
   ties_within nets signals count inputs p s is =
       let net = ports_below p is.there in
       let below = tied_below s p is in
@@ -129,7 +129,7 @@ module _ (k : Comparison) (ready : IsReady k) where
 
   -- what is written for the clocks, for the input ports and then for the default clock
   module _ (phase : ℕ) (roots inputs : Span) (first mid last new : Diagrams) (nodes : new.nodes ≡ first.nodes) (writes : Writes inputs first mid) (all : Writes inputs first new) (apart : IsApart roots inputs)
-      (len : inputs.len ≡ length k.model.signals + 1) (count : roots.len ≡ length k.circuit.nets) (bits : AreRootsOpen k phase roots first)
+      (len : inputs.len ≡ length k.model.signals + 1) (count : length k.circuit.nets ≤ roots.len) (bits : AreRootsOpen k phase roots first)
       (opened : (c : ClockedSignal) → Among k.pairing.clocked c → word_at mid inputs c.signal ≡ constant_word (phase_at k.rules phase) c)
       (tied : (p : Port) (s : ℕ) → IsTie ports_here p s → word_at last inputs s ≡ word_at mid roots p.net)
       (others : (s : ℕ) → ((p : Port) → ¬ IsTie ports_here p s) → word_at last inputs s ≡ word_at mid inputs s)

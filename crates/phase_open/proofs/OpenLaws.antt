@@ -1,5 +1,5 @@
 -- What stands in the store of a phase when it is opened.
-use Rattle.std.proofs.Common.{◌≡◌, ℕ, ◌+◌, ◌<◌, Bool, true, false, cond, List, length, Option, Some, None, arith, ap, refl, sym, subst, ◌∙◌, eqb, inl, inr}
+use Rattle.std.proofs.Common.{◌≡◌, ℕ, ◌+◌, ◌<◌, Bool, true, false, cond, List, length, Option, Some, None, arith, ap, refl, sym, subst, ◌∙◌, eqb, inl, inr, ◌≤◌}
 use Rattle.std.specs.Prelude.{find, option_map, unwrap_or}
 use Rattle.std.specs.List.{list_any}
 use Rattle.std.proofs.lemmas.Bool.{cases_lt, eq-eqb, eqb-true, false≢true}
@@ -51,6 +51,11 @@ holds_two c roots old new inside w = record {
       elim beside [ inl low ↦ omega (arith, low, e) | inr high ↦ omega (arith, high, e, lt) ]);
 }
 
+-- the words of hold nets are among those of a longer span
+pub holds_wider : (c : Circuit) (roots : Span) (len : ℕ) (old new : Diagrams) → WritesHolds c (record { start = roots.start; len = len }) old new → WritesHolds c roots old new
+holds_wider c roots len old new w =
+    record { rest = w.rest; sound = w.sound; within = w.within; longer = w.longer; kept = w.kept; len = w.len; others = w.others }
+
 -- each word of the roots has a live handle
 pub held_filled : (c : Circuit) (roots : Span) (old new : Diagrams) (f : ℕ → Valuation → Bool) → WritesHolds c roots old new → AreRoots c roots new f → IsFilled old roots → IsFilled new roots
 held_filled c roots old new f w are live k lt = by_test (list_any at_net c.holds) refl
@@ -74,7 +79,7 @@ fixed_root phase (Clock clock) x f v b is = sym is
 fixed_root phase Input x f v b is = absurd is
 fixed_root phase Plain x f v b is = absurd is
 
-module _ (k : Comparison) (phase : ℕ) (roots : Span) (old new : Diagrams) (len : roots.len ≡ length k.circuit.nets) (given : AreGiven k.circuit (phase_at k.rules phase) roots old new) where
+module _ (k : Comparison) (phase : ℕ) (roots : Span) (old new : Diagrams) (len : length k.circuit.nets ≤ roots.len) (given : AreGiven k.circuit (phase_at k.rules phase) roots old new) where
   abbrev this : Phase
   this = phase_at k.rules phase
 
@@ -113,7 +118,7 @@ module _ (a b span : Span) (old new : Diagrams) (w : WritesTwo a b old new) (apa
   shows_two : (n : ℕ) (v : Valuation) → n < span.len → shows new span n v ≡ shows old span n v
   shows_two n v lt = ap (λ (h : ℕ). meaning new.nodes h v) (two_word a b span old new w apart_a apart_b n lt) ∙ w.adds.kept (word_at old span n) (live n lt) v
 
-  pub roots_stay : (k : Comparison) (phase : ℕ) → span.len ≡ length k.circuit.nets → AreRootsOpen k phase span old → AreRootsOpen k phase span new
+  pub roots_stay : (k : Comparison) (phase : ℕ) → length k.circuit.nets ≤ span.len → AreRootsOpen k phase span old → AreRootsOpen k phase span new
   roots_stay k phase len are = record {
     live = two_filled a b span old new w apart_a apart_b live;
     fixed = λ v n bit f. shows_two n v (below n f.0 f.1) ∙ are.fixed v n bit f;

@@ -50,7 +50,7 @@ module _ (k : Comparison) (phase : ℕ) (first roots care : Diagrams) where
       model_counted y one = with_model (Ok h) (counts_value u elements care last y h one)
 
 -- roots stay where nodes are added alone
-pub roots_added : (k : Comparison) (phase : ℕ) (roots : Span) (old new : Diagrams) → roots.len ≡ length k.circuit.nets → AddsNodes old new → AreRootsOpen k phase roots old → AreRootsOpen k phase roots new
+pub roots_added : (k : Comparison) (phase : ℕ) (roots : Span) (old new : Diagrams) → length k.circuit.nets ≤ roots.len → AddsNodes old new → AreRootsOpen k phase roots old → AreRootsOpen k phase roots new
 roots_added k phase roots old new len adds are =
     let none : Span = record { start = 0; len = 0 } in
     let words : new.words ≡ old.words = adds_words old new old.words adds in

@@ -107,7 +107,7 @@ root_same phase Plain variable f g v same = same v
 
 -- one net more
 module _ (c : Circuit) (phase : Phase) (roots : Span) (first old new : Diagrams) (before : Writes roots first old) (w : Writes roots old new) (live : IsFilled first roots)
-    (len : roots.len ≡ length c.nets) (n : ℕ) (apart : (k : ℕ) → k ≢ n → word_at new roots k ≡ word_at old roots k) (net : FlatNet) (there : At c.nets n net)
+    (len : length c.nets ≤ roots.len) (n : ℕ) (apart : (k : ℕ) → k ≢ n → word_at new roots k ≡ word_at old roots k) (net : FlatNet) (there : At c.nets n net)
     (is : (v : Valuation) → shows new roots n v ≡ root_by phase net.kind (variable_at c n) (λ x. shows old roots n x) v) (behind : IsAsBefore roots n first old)
     (given : AreGivenBefore c phase roots n first old) where
   pub behind_more : IsAsBefore roots (n + 1) first new

@@ -1,6 +1,6 @@
 //! The inputs of the model: the bits of clocks, and the roots of the nets of input ports.
 
-ghost use Rattle.std.specs.Prelude.{◌≡◌, ◌≢◌, ℕ, ◌+◌, ◌<◌, cond, false, length, Some, unwrap_or};
+ghost use Rattle.std.specs.Prelude.{◌≡◌, ◌≢◌, ℕ, ◌+◌, ◌<◌, ◌≤◌, cond, false, length, Some, unwrap_or};
 ghost use Rattle.bdd_core.specs.Store.{IsSpan};
 ghost use Rattle.bdd_core.specs.Words.{IsApart, IsFilled, Writes, word_at};
 ghost use Rattle.phase_open.specs.Given.{AreTiesWithin, HasModelInputs, HasOneNet, IsTie};
@@ -159,7 +159,7 @@ pub(crate) fn open_inputs(
 )
     requires ready { IsReady (comparison_in compared) }
     requires phase { phase < length compared.rules.now.phases }
-    requires roots { IsSpan store.old roots × (roots.len ≡ length compared.circuit.now.nets) }
+    requires roots { IsSpan store.old roots × (length compared.circuit.now.nets ≤ roots.len) }
     requires bits { AreRootsOpen (comparison_in compared) phase roots store.old }
     requires inputs { IsSpan store.old inputs × IsFilled store.old inputs × (inputs.len ≡ length compared.model.now.signals + 1) × IsApart roots inputs }
     ensures writes { Writes inputs store.old store.new }

@@ -16,8 +16,20 @@ use crate::roots::open_given;
 use bdd_core::{H, Spent, Store};
 use constraints::care;
 use hold_keep::held_roots;
+use node_pool::Span;
 use phase_terms::{Comparison, PhaseWords};
-use vrt_model::Vars;
+use vrt_model::{Circuit, Vars};
+
+/// The words of the nets among those of the roots.
+fn net_roots(circuit: &Circuit, roots: Span) -> Span
+    requires { length circuit.now.nets ≤ roots.len }
+    ensures { result ≡ record { start = roots.start; len = length circuit.now.nets } }
+{
+    Span {
+        start: roots.start,
+        len: circuit.nets.len() as u32,
+    }
+}
 
 /// Writes the held values of holds, and over them the bits of nets with given values. Answers how many input nets there are.
 fn open_roots(
@@ -46,7 +58,7 @@ fn open_roots(
         compared.groups,
         vars,
         phase,
-        words.roots,
+        net_roots(compared.circuit, words.roots),
     ) {
         Ok(()) => {}
         Err(spent) => return Err(spent),
@@ -125,7 +137,7 @@ pub fn open_phase(
         compared.groups,
         vars,
         phase,
-        words.roots,
+        net_roots(compared.circuit, words.roots),
     ) {
         Ok(care) => care,
         Err(spent) => return Err(spent),

@@ -104,7 +104,7 @@ pub(crate) fn open_given(
 ) -> Result<u32, Spent>
     requires vars { input_count circuit.now ≤ store.old.vars }
     requires roots { IsSpan store.old roots × IsFilled store.old roots }
-    requires len { roots.len ≡ length circuit.now.nets }
+    requires len { length circuit.now.nets ≤ roots.len }
     ensures writes { Writes roots store.old store.new }
     ensures given { IfOk result (λ _. AreGiven circuit.now phase.now roots store.old store.new) }
     ensures count { IfOk result (λ count. count ≡ input_count circuit.now) }

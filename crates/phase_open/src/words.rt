@@ -47,6 +47,7 @@ pub fn word_count(counts: WordCounts) -> u32
     ensures { result ≡ word_count counts }
 {
     (net_words() + 4) * counts.nets
+        + counts.pins
         + counts.models
         + (2 * counts.signals + 1)
         + 2 * counts.elements
@@ -97,7 +98,7 @@ pub fn take_words(store: &mut Store, counts: WordCounts) -> PhaseWords
     let _end = store.mark();
     let roots = Span {
         start: all.start,
-        len: counts.nets,
+        len: counts.nets + counts.pins,
     };
     let gates = behind(roots, counts.nets);
     let zeros = behind(gates, counts.nets);

@@ -1,5 +1,5 @@
 -- Spans one behind the other in a span of live handles.
-use Rattle.std.proofs.Common.{◌≡◌, ℕ, ◌+◌, ◌-◌, ◌*◌, ◌<◌, ◌≤◌, All, List, length, arith, inl, refl, subst, sym}
+use Rattle.std.proofs.Common.{◌≡◌, ℕ, ◌+◌, ◌-◌, ◌*◌, ◌<◌, ◌≤◌, All, List, [], length, arith, ap, inl, refl, subst, sym}
 use Rattle.std.specs.Prelude.{slice_index}
 use Rattle.node_pool.specs.declared.region.Span.{Span}
 use Rattle.bdd_core.specs.Store.{Diagrams, IsSpan}
@@ -7,11 +7,13 @@ use Rattle.bdd_core.specs.Words.{IsFilled}
 use Rattle.channel_parts.specs.declared.part.Part.{Part}
 use Rattle.circuit_faults.specs.KeptResults.{HasKeptSpans}
 use Rattle.circuit_faults.specs.declared.spans.KeptSpans.{KeptSpans}
+use Rattle.path_fixpoint.proofs.PinLaws.{pins_none}
 use Rattle.path_fixpoint.specs.Strengths.{net_words}
 use Rattle.phase_rows.specs.Spans.{HasSpans, spans_of}
 use Rattle.vrt_model.proofs.Members.{all_among}
 use Rattle.vrt_model.specs.Lists.{Among}
 use Rattle.vrt_model.specs.declared.circuit.Circuit.{Circuit}
+use Rattle.vrt_model.specs.declared.whole.WholePin.{WholePin}
 
 -- words of a span are one
 inner_span : (d : Diagrams) (whole : Span) (start len : ℕ) → IsSpan d whole → whole.start ≤ start → start + len ≤ whole.start + whole.len → IsSpan d (record { start = start; len = len })
@@ -31,7 +33,7 @@ inner_live d whole start len live low high k lt =
     subst (λ (j : ℕ). slice_index d.words j < length d.nodes) here (live ((start - whole.start) + k) inside)
 
 module _ (c : Circuit) (parts : List Part) (whole : Span) (d : Diagrams) (enough : (4 + net_words) * length c.nets ≤ whole.len) (span : IsSpan d whole) (live : IsFilled d whole)
-    (few : All (λ (part : Part). length part.nets ≤ length c.nets) parts) where
+    (few : All (λ (part : Part). length part.nets ≤ length c.nets) parts) (none : c.wholes ≡ []) where
   roots_span : IsSpan d (record { start = whole.start; len = length c.nets })
   roots_span = inner_span d whole whole.start (length c.nets) span (omega arith) (omega (arith, enough))
 
@@ -59,7 +61,7 @@ module _ (c : Circuit) (parts : List Part) (whole : Span) (d : Diagrams) (enough
   kept_spans : HasKeptSpans c parts (spans_of whole.start (length c.nets)) d
   kept_spans = record {
     roots_span = roots_span;
-    roots_len = refl;
+    roots_len = omega (arith, ap (λ (ps : List WholePin). length ps) (pins_none c none));
     roots_live = roots_live;
     gates_span = gates_span;
     gates_len = refl;
@@ -85,7 +87,7 @@ module _ (c : Circuit) (parts : List Part) (whole : Span) (d : Diagrams) (enough
   made = record {
     bare = record {
       roots_span = roots_span;
-      roots_len = refl;
+      roots_len = omega (arith, ap (λ (ps : List WholePin). length ps) (pins_none c none));
       roots_live = roots_live;
       gates_span = gates_span;
       gates_len = refl;
@@ -99,5 +101,5 @@ module _ (c : Circuit) (parts : List Part) (whole : Span) (d : Diagrams) (enough
   }
 
 pub spans_are : (c : Circuit) (parts : List Part) (whole : Span) (spans : KeptSpans) (d : Diagrams) → spans ≡ spans_of whole.start (length c.nets) → (4 + net_words) * length c.nets ≤ whole.len
-    → IsSpan d whole → IsFilled d whole → All (λ (part : Part). length part.nets ≤ length c.nets) parts → HasSpans c parts spans d
-spans_are c parts whole spans d is enough span live few = subst (λ (s : KeptSpans). HasSpans c parts s d) (sym is) (made c parts whole d enough span live few)
+    → IsSpan d whole → IsFilled d whole → All (λ (part : Part). length part.nets ≤ length c.nets) parts → c.wholes ≡ [] → HasSpans c parts spans d
+spans_are c parts whole spans d is enough span live few none = subst (λ (s : KeptSpans). HasSpans c parts s d) (sym is) (made c parts whole d enough span live few none)

@@ -73,6 +73,9 @@ pub(crate) fn spans_in(
 ) -> Result<KeptSpans, Stop>
     ensures { IfOk result (λ spans. HasSpans circuit.now parts.now.list spans store.now) }
 {
+    if !circuit.wholes.is_empty() {
+        return Err(Stop::Unfit);
+    }
     let nets = circuit.nets.len();
     if whole.start > MOST_WORDS || nets > MOST_NETS {
         return Err(Stop::Unfit);

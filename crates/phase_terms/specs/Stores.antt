@@ -2,6 +2,7 @@
 use Rattle.std.specs.Prelude.{◌≡◌, ℕ, ◌+◌, ◌*◌, ◌^◌, ◌≤◌, List, [], ◌∷◌, length, max}
 use Rattle.bdd_core.specs.Diagram.{TestsWithin}
 use Rattle.bdd_core.specs.Store.{Diagrams}
+use Rattle.path_fixpoint.specs.Parts.{pins_of}
 use Rattle.path_fixpoint.specs.Strengths.{net_words}
 use Rattle.phase_terms.specs.declared.words.PhaseWords.{PhaseWords}
 use Rattle.phase_terms.specs.declared.words.WordCounts.{WordCounts}
@@ -18,12 +19,13 @@ most_model_words (w ∷ ws) = max (model_words w.model) (most_model_words ws)
 
 -- how many words a phase takes
 abbrev pub word_count : WordCounts → ℕ
-word_count c = (net_words + 4) * c.nets + c.models + (2 * c.signals + 1) + 2 * c.elements + c.variables
+word_count c = (net_words + 4) * c.nets + c.pins + c.models + (2 * c.signals + 1) + 2 * c.elements + c.variables
 
 -- the words of a comparison in a store of so many variables
 abbrev pub counts_of : Comparison → ℕ → WordCounts
 counts_of k variables = record {
   nets = length k.circuit.nets;
+  pins = length (pins_of k.circuit);
   models = most_model_words k.circuit.wholes;
   signals = length k.model.signals;
   elements = length (element_names k.model);
@@ -42,7 +44,7 @@ pub record HasPhaseWords (c : WordCounts) (w : PhaseWords) (d : Diagrams) : Type
   pub values_behind : w.held.start + w.held.len ≤ w.values.start
   pub least_behind : w.values.start + w.values.len ≤ w.least.start
   pub last : w.least.start + w.least.len ≤ length d.words
-  pub roots_len : w.roots.len ≡ c.nets
+  pub roots_len : w.roots.len ≡ c.nets + c.pins
   pub gates_len : w.gates.len ≡ c.nets
   pub zeros_len : w.zeros.len ≡ c.nets
   pub ones_len : w.ones.len ≡ c.nets

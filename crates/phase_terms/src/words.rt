@@ -6,7 +6,8 @@ use node_pool::Span;
 /// each variable.
 #[derive(Clone, Copy)]
 pub struct PhaseWords {
-    /// One word for each net, by its number: the bit that a net with a given value has, and the held value of a hold.
+    /// One word for each net, by its number: the bit that a net with a given value has, and the held value of a hold. Behind these one
+    /// word for each output of the whole instances, instance by instance.
     pub roots: Span,
     /// One word for each net, by its number: its bit as gates see it, which is known, given, or found in its part.
     pub gates: Span,
@@ -27,11 +28,14 @@ pub struct PhaseWords {
     pub least: Span,
 }
 
-/// How many nets, signals, latch elements and variables a phase has words for, and how many for the models of whole instances.
+/// How many nets, outputs of whole instances, signals, latch elements and variables a phase has words for, and how many for the
+/// models of whole instances.
 #[derive(Clone, Copy)]
 pub struct WordCounts {
     /// The nets of the circuit.
     pub nets: u32,
+    /// The outputs of the whole instances.
+    pub pins: u32,
     /// The words in which the greatest model of a whole instance is evaluated.
     pub models: u32,
     /// The signals of the model.

@@ -1,5 +1,5 @@
 -- The counts are within the limits.
-use Rattle.cell_compare.proofs.SizeLaws.{all_few, few_counts}
+use Rattle.cell_compare.proofs.SizeLaws.{all_few, few_counts, ready_pins}
 use Rattle.phase_terms.specs.Ready.{comparison_in}
 use Rattle.cell_compare.proofs.phases.check_phases.Goals as goal
 
@@ -13,3 +13,6 @@ word_count-words-requires c =
 pub search-requires-clause-few : goal.search-requires-clause-few
 search-requires-clause-few c =
     few_counts (comparison_in c.args.compared) c.args.vars.now c.requires.vars c.requires.ready c.most_variables.result c.in_ok-counts.counts c.most_variables.ensures.few c.in_ok-counts.ensures
+
+pub counts_with-requires-clause-pins : goal.counts_with-requires-clause-pins
+counts_with-requires-clause-pins c = ready_pins (comparison_in c.args.compared) c.requires.ready

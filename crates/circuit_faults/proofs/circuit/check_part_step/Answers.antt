@@ -1,7 +1,8 @@
 use Rattle.std.proofs.Common.{sym, ◌∙◌}
-use Rattle.circuit_faults.proofs.StepLaws.{driver_here, output_work, solved_operations}
+use Rattle.circuit_faults.proofs.StepLaws.{driver_here, no_driver, output_work, solved_operations}
+use Rattle.circuit_faults.proofs.Undriven.{soft_inside, undriven_pins}
 use Rattle.circuit_faults.specs.Operations.{part_operations}
-use Rattle.circuit_faults.specs.Steps.{InPhase, in_phase}
+use Rattle.circuit_faults.specs.Steps.{InPhase, IsPartAt, in_phase}
 use Rattle.circuit_faults.specs.Wholes.{wired_operations}
 use Rattle.circuit_faults.specs.declared.steps.CircuitStep.TheVariants.{Part as PartStep}
 use Rattle.path_fixpoint.proofs.SpendingLaws.{spends_more}
@@ -17,6 +18,17 @@ check_output-requires-clause-phase c =
 pub check_solved-requires-clause-part : goal.check_solved-requires-clause-part
 check_solved-requires-clause-part c =
     let there = c.part_at-part.ensures in ((c.args.number, there), (c.requires.steps.each c.part_at-part.result.now (c.args.number, there)).is)
+
+pub check_solved-requires-clause-soft : goal.check_solved-requires-clause-soft
+check_solved-requires-clause-soft c = soft_inside c.args.phased.circuit.now c.requires.wholes.wholes.free c.part_at-part.result.now
+
+pub check_solved-requires-clause-undriven : goal.check_solved-requires-clause-undriven
+check_solved-requires-clause-undriven c =
+    let w : InPhase = in_phase c.args.phased in
+    let part = c.part_at-part.result.now in
+    let here : IsPartAt w c.requires.listed.0 part = (c.args.number, c.requires.listed.1, c.part_at-part.ensures) in
+    undriven_pins c.args.phased.circuit.now part
+    (no_driver w c.args.wholes.drivers.now c.args.wholes.plans.now c.requires.wholes c.requires.listed.0 part here (sym c.part_driver.ensures ∙ c.in-None.is))
 
 pub returns-in-Some-clause-few : goal.returns-in-Some-clause-few
 returns-in-Some-clause-few c one u care gates roots =

@@ -37,17 +37,20 @@ loop-place-init c =
           let rest = c.write_first_handles.ensures.rest in
           let nodes : new.nodes ≡ old.nodes = ap (λ (d : Diagrams). d.nodes) rest in (
             counted_same u old new (ap (λ (d : Diagrams). d.budget) rest) nodes,
-            opened_within u spans.roots spans.gates (known_at w.known) old new (c.requires.spans.gates_len ∙ sym c.requires.spans.roots_len) nodes opened roots,
+            opened_within u spans.roots spans.gates (known_at w.known) old new (omega (arith, c.requires.spans.gates_len, c.requires.spans.roots_len)) nodes opened roots,
           );
     }
 
 pub write_first_handles-requires-clause-len : goal.write_first_handles-requires-clause-len
 write_first_handles-requires-clause-len c =
     let known : length c.as_slice.result.now ≡ length c.args.phased.parts.now.known = ap (λ (xs : List (Option Bool)). length xs) c.as_slice.ensures in
-    (known ∙ c.requires.steps.count ∙ sym c.requires.spans.gates_len, c.requires.spans.roots_len ∙ sym c.requires.spans.gates_len)
+    (known ∙ c.requires.steps.count ∙ sym c.requires.spans.gates_len, omega (arith, c.requires.spans.gates_len, c.requires.spans.roots_len))
 
 pub check_step-requires-clause-there : goal.check_step-requires-clause-there
 check_step-requires-clause-there c = c.requires.steps.there c.loop-place.place c.step_at-step.result c.step_at-step.ensures
+
+pub check_step-requires-clause-listed : goal.check_step-requires-clause-listed
+check_step-requires-clause-listed c = (c.loop-place.place, c.step_at-step.ensures)
 
 pub check_step-requires-clause-care : goal.check_step-requires-clause-care
 check_step-requires-clause-care c = omega (arith, c.requires.care, c.loop-place.invariant.writes.adds.longer)

@@ -8,6 +8,7 @@ use Rattle.bdd_ops.proofs.CountingLaws.{counts_err, counts_more, counts_then}
 use Rattle.bdd_ops.proofs.WithinLaws.{within_same}
 use Rattle.circuit_faults.proofs.CountLaws.{reads_variables, used_counted}
 use Rattle.circuit_faults.proofs.KeptCases.{keeper_none, keeper_some, kept_gives, kept_idle, kept_part, plain_inside}
+use Rattle.circuit_faults.proofs.Undriven.{soft_inside}
 use Rattle.circuit_faults.proofs.KeptWords.{gates_within, kept_added, kept_then, spans_later}
 use Rattle.circuit_faults.specs.KeptScans.{IsReachedIn, ReadWithin}
 use Rattle.circuit_faults.specs.Operations.{kept_operations, kept_part_operations}
@@ -41,6 +42,9 @@ pub solve_parts-requires-clause-parts : goal.solve_parts-requires-clause-parts
 solve_parts-requires-clause-parts c =
     subst (λ (ps : List Part). (part : Part) → Among ps part → IsPart c.args.circuit.now part) (sym c.as_slice-2.ensures)
     (kept_part c.args.circuit.now c.requires.parts.0 c.args.kept.now c.requires.parts.1 c.requires.circuit)
+
+pub solve_parts-requires-clause-soft : goal.solve_parts-requires-clause-soft
+solve_parts-requires-clause-soft c part = soft_inside c.args.circuit.now c.requires.free part
 
 pub scan_kept-requires-clause-spans : goal.scan_kept-requires-clause-spans
 scan_kept-requires-clause-spans c =
@@ -79,9 +83,9 @@ returns-in-Err-clause-few c one u care gates roots =
     let old = c.args.store.now in
     let new = c.solve_parts.new.store in
     let slice = c.as_slice-2.result.now in
-    let sums : sum_by kept_part_operations slice ≡ sum_by kept_part_operations list = ap (λ (ps : List Part). sum_by kept_part_operations ps) c.as_slice-2.ensures in
-    counts_more u (sum_by kept_part_operations slice) (kept_operations circuit list) old new (Err c.in-Err.spent) (omega (arith, sums))
-    (counts_err u (sum_by kept_part_operations slice) old new c.in-Err.spent (c.in-Err.ensures.few one u gates roots).counts)
+    let sums : sum_by (kept_part_operations circuit) slice ≡ sum_by (kept_part_operations circuit) list = ap (λ (ps : List Part). sum_by (kept_part_operations circuit) ps) c.as_slice-2.ensures in
+    counts_more u (sum_by (kept_part_operations circuit) slice) (kept_operations circuit list) old new (Err c.in-Err.spent) (omega (arith, sums))
+    (counts_err u (sum_by (kept_part_operations circuit) slice) old new c.in-Err.spent (c.in-Err.ensures.few one u gates roots).counts)
 
 pub returns-in-Err-clause-spent : goal.returns-in-Err-clause-spent
 returns-in-Err-clause-spent c one =
@@ -102,11 +106,11 @@ returns-clause-few c one u care gates roots =
     let new = c.scan_kept.new.store in
     let slice = c.as_slice-2.result.now in
     let writes = c.in-Ok.ensures.writes in
-    let sums : sum_by kept_part_operations slice ≡ sum_by kept_part_operations list = ap (λ (ps : List Part). sum_by kept_part_operations ps) c.as_slice-2.ensures in
+    let sums : sum_by (kept_part_operations circuit) slice ≡ sum_by (kept_part_operations circuit) list = ap (λ (ps : List Part). sum_by (kept_part_operations circuit) ps) c.as_slice-2.ensures in
     let solved = c.in-Ok.ensures.few one u gates roots in
     let within = subst (λ (ps : List Part). ReadWithin u spans (IsInEarlier ps (length ps)) mid) c.as_slice-2.ensures solved.within in
-    counts_more u (sum_by kept_part_operations slice + 20 * length circuit.nets) (kept_operations circuit list) old new c.scan_kept.result (omega (arith, sums))
-    (counts_then u (sum_by kept_part_operations slice) (20 * length circuit.nets) old mid new c.scan_kept.result solved.counts.added
+    counts_more u (sum_by (kept_part_operations circuit) slice + 20 * length circuit.nets) (kept_operations circuit list) old new c.scan_kept.result (omega (arith, sums))
+    (counts_then u (sum_by (kept_part_operations circuit) slice) (20 * length circuit.nets) old mid new c.scan_kept.result solved.counts.added
     (c.scan_kept.ensures.few u (within_same u (function_of old c.args.care) (function_of mid c.args.care) (writes.adds.kept c.args.care.0 c.requires.care) care)
     (gates_within circuit list spans old c.requires.spans mid writes u gates)
     (λ n value p. within n value (plain_inside circuit c.requires.parts.0 c.args.kept.now c.requires.parts.1 n p.0))))

@@ -86,7 +86,7 @@ returns-clause-gives c =
     let has = c.requires.spans in
     part_reached circuit part spans out old c.solve_part.new.store c.copy_reach.new.store c.copy_reach-2.new.store has (kept_root_spans c.args.circuit.now (c.args.part.now ∷ []) c.args.spans c.args.store.now c.requires.spans c.args.part.now (0, refl) c.words_of-out.result c.words_of-out.ensures).spans.out_len (reach_apart c.args.circuit.now (c.args.part.now ∷ []) c.args.spans c.args.store.now c.requires.spans c.args.part.now (0, refl) false c.words_of-out.result c.words_of-out.ensures)
     (inside_range circuit part c.requires.part)
-    c.in-Ok.ensures.writes c.copy_reach.ensures c.copy_reach-2.ensures c.in-Ok.ensures.reaches
+    c.in-Ok.ensures.writes c.copy_reach.ensures c.copy_reach-2.ensures (c.in-Ok.ensures.reaches c.requires.soft)
     (λ value. reach_apart circuit (part ∷ []) spans old has part (0, refl) value out c.words_of-out.ensures)
     (λ value. reach_len circuit (part ∷ []) spans old has value)
 
@@ -105,7 +105,7 @@ returns-clause-few c one u gates roots =
     let in_range = inside_range circuit part c.requires.part in
     let solved = c.in-Ok.ensures.few one u gates roots in
     record {
-      counts = counts_ok u (kept_part_operations part) old new _
-          (counted_copies circuit part spans out old mid next new c.requires.spans len apart in_range c.in-Ok.ensures.writes c.copy_reach.ensures c.copy_reach-2.ensures u (kept_part_operations part) solved.counts.added);
+      counts = counts_ok u (kept_part_operations circuit part) old new _
+          (counted_copies circuit part spans out old mid next new c.requires.spans len apart in_range c.in-Ok.ensures.writes c.copy_reach.ensures c.copy_reach-2.ensures u (kept_part_operations circuit part) solved.counts.added);
       within = copied_within circuit part spans out old mid next new c.requires.spans len apart in_range c.in-Ok.ensures.writes c.copy_reach.ensures c.copy_reach-2.ensures u solved.within;
     }

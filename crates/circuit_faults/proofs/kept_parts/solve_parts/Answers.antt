@@ -25,6 +25,9 @@ pub solve_kept-requires-clause-part : goal.solve_kept-requires-clause-part
 solve_kept-requires-clause-part c =
     c.requires.parts c.part-item.result (c.loop-part.part-index, item_at c.args.parts.now c.args.parts.now c.loop-part.part-index c.part-item.result refl c.loop-part-test.true c.part-item.is)
 
+pub solve_kept-requires-clause-soft : goal.solve_kept-requires-clause-soft
+solve_kept-requires-clause-soft c = c.requires.soft c.part-item.result
+
 pub solve_kept-requires-clause-spans : goal.solve_kept-requires-clause-spans
 solve_kept-requires-clause-spans c =
     let part : Part = c.part-item.result in
@@ -55,9 +58,9 @@ loop-part-preserved c =
       counted = λ one u gates roots.
           let counts = c.loop-part.invariant.counted one u gates roots in
           let solved = c.in-Ok.ensures.few one u (gates_within circuit parts spans first c.requires.spans now before u gates) (roots_within circuit parts spans first c.requires.spans now before u roots) in
-          let sums = sum_next kept_part_operations parts k part there in (
-            counted_more u (sum_by kept_part_operations (take k parts) + kept_part_operations part) (sum_by kept_part_operations (take (k + 1) parts)) first new (omega (arith, sums))
-                (counted_then u (sum_by kept_part_operations (take k parts)) (kept_part_operations part) first now new counts.0 solved.counts.added),
+          let sums = sum_next (kept_part_operations c.args.circuit.now) parts k part there in (
+            counted_more u (sum_by (kept_part_operations c.args.circuit.now) (take k parts) + kept_part_operations c.args.circuit.now part) (sum_by (kept_part_operations c.args.circuit.now) (take (k + 1) parts)) first new (omega (arith, sums))
+                (counted_then u (sum_by (kept_part_operations c.args.circuit.now) (take k parts)) (kept_part_operations c.args.circuit.now part) first now new counts.0 solved.counts.added),
             within_more circuit parts spans c.requires.circuit first now new c.requires.spans before step k part there range reached c.in-Ok.ensures.gives u counts.1 solved.within,
           );
     }
@@ -76,11 +79,11 @@ returns-in-Err-clause-few c one u gates roots =
     let before = c.loop-part.invariant.writes in
     let counts = c.loop-part.invariant.counted one u gates roots in
     let solved = c.in-Err.ensures.few one u (gates_within circuit parts spans first c.requires.spans now before u gates) (roots_within circuit parts spans first c.requires.spans now before u roots) in
-    let sums = sum_next kept_part_operations parts k part there in
-    let all = sum_by-take-le kept_part_operations parts (k + 1) in
+    let sums = sum_next (kept_part_operations c.args.circuit.now) parts k part there in
+    let all = sum_by-take-le (kept_part_operations c.args.circuit.now) parts (k + 1) in
     record {
-      counts = counts_more u (sum_by kept_part_operations (take k parts) + kept_part_operations part) (sum_by kept_part_operations parts) first new (Err c.in-Err.spent) (omega (arith, sums, all))
-          (counts_then u (sum_by kept_part_operations (take k parts)) (kept_part_operations part) first now new (Err c.in-Err.spent) counts.0 solved.counts);
+      counts = counts_more u (sum_by (kept_part_operations c.args.circuit.now) (take k parts) + kept_part_operations c.args.circuit.now part) (sum_by (kept_part_operations c.args.circuit.now) parts) first new (Err c.in-Err.spent) (omega (arith, sums, all))
+          (counts_then u (sum_by (kept_part_operations c.args.circuit.now) (take k parts)) (kept_part_operations c.args.circuit.now part) first now new (Err c.in-Err.spent) counts.0 solved.counts);
       within = tt;
     }
 
@@ -98,7 +101,7 @@ returns-clause-few c one u gates roots =
     let end : k ≡ length parts = omega (arith, c.loop-part-test.false, c.loop-part.auto.part-index-end) in
     let counts = c.loop-part.invariant.counted one u gates roots in
     record {
-      counts = counts_ok u (sum_by kept_part_operations parts) c.args.store.now c.loop-part.store _
-          (counted_more u (sum_by kept_part_operations (take k parts)) (sum_by kept_part_operations parts) c.args.store.now c.loop-part.store (sum_by-take-le kept_part_operations parts k) counts.0);
+      counts = counts_ok u (sum_by (kept_part_operations c.args.circuit.now) parts) c.args.store.now c.loop-part.store _
+          (counted_more u (sum_by (kept_part_operations c.args.circuit.now) (take k parts)) (sum_by (kept_part_operations c.args.circuit.now) parts) c.args.store.now c.loop-part.store (sum_by-take-le (kept_part_operations c.args.circuit.now) parts k) counts.0);
       within = subst (λ (j : ℕ). ReadWithin u spans (IsInEarlier parts j) c.loop-part.store) end counts.1;
     }

@@ -13,5 +13,5 @@ invariant-loop-part l = record {
   writes : WritesKept l.fn.spans l.fn.store l.store;
   reached : (n : ℕ) → IsInEarlier l.parts l.part-index n → IsReachedIn l.circuit l.parts l.fn.spans l.part-index l.fn.store l.store n;
   counted : HasOneHold l.circuit → (u : ℕ) → IsSpanWithin u l.fn.store l.fn.spans.gates → IsSpanWithin u l.fn.store l.fn.spans.roots
-      → IsCounted u (sum_by kept_part_operations (take l.part-index l.parts)) l.fn.store l.store × ReadWithin u l.fn.spans (IsInEarlier l.parts l.part-index) l.store;
+      → IsCounted u (sum_by (kept_part_operations l.circuit) (take l.part-index l.parts)) l.fn.store l.store × ReadWithin u l.fn.spans (IsInEarlier l.parts l.part-index) l.store;
 }

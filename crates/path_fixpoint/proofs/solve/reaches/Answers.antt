@@ -3,6 +3,7 @@ use Rattle.bdd_core.proofs.Results.{if_ok_more}
 use Rattle.path_fixpoint.proofs.SpendingLaws.{span_beside, spends_behind, spends_more}
 use Rattle.bdd_core.proofs.Frames.{writes_then}
 use Rattle.path_fixpoint.proofs.ReachLaws.{root_words_kept, solved_kept}
+use Rattle.path_fixpoint.specs.Parts.{pins_at, pins_of}
 use Rattle.path_fixpoint.proofs.solve.reaches.Goals as goal
 
 pub settle-requires-clause-words : goal.settle-requires-clause-words
@@ -24,18 +25,20 @@ returns-clause-reach c =
 pub returns-in-Err-clause-few : goal.returns-in-Err-clause-few
 returns-in-Err-clause-few c one u gates roots all =
     let n = length c.args.part.now.nets in
+    let r = pins_at c.args.part.now (pins_of c.args.circuit.now) in
     let size = n * (length c.args.part.now.devices * 38) in
-    spends_more u c.args.out (n * 6) (n * 6 + size) c.args.store.now c.open.new.store (Err c.in-Err.spent) (omega arith) (c.in-Err.ensures.few one u roots all)
+    spends_more u c.args.out (n * 6 + r * 3) (n * 6 + r * 3 + size) c.args.store.now c.open.new.store (Err c.in-Err.spent) (omega arith) (c.in-Err.ensures.few one u roots all)
 
 pub returns-clause-few : goal.returns-clause-few
 returns-clause-few c one u gates roots all =
     let out = c.args.out in
     let n = length c.args.part.now.nets in
+    let r = pins_at c.args.part.now (pins_of c.args.circuit.now) in
     let size = n * (length c.args.part.now.devices * 38) in
     let words = c.requires.words in
     let old = c.args.store.now in
     let mid = c.open.new.store in
     let wrote = c.in-Ok.ensures.writes in
     let opened = c.in-Ok.ensures.few one u roots all in
-    spends_behind u out (n * 6) size old mid c.settle.new.store c.settle.result opened.counts.added
+    spends_behind u out (n * 6 + r * 3) size old mid c.settle.new.store c.settle.result opened.counts.added
     (c.settle.ensures.few u (span_beside u out c.args.gates old mid wrote words.words.apart words.words.gates_live gates) (span_beside u out c.args.roots old mid wrote words.roots_apart words.roots_live roots) opened.within)

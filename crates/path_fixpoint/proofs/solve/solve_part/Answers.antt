@@ -1,6 +1,7 @@
 use Rattle.std.proofs.Common.{ℕ, ◌+◌, ◌*◌, length, Err, true, false}
 use Rattle.bdd_core.proofs.Results.{if_ok_more}
 use Rattle.vrt_model.specs.Path.{Network}
+use Rattle.path_fixpoint.specs.Parts.{pins_at, pins_of}
 use Rattle.path_fixpoint.specs.Reaching.{HasRootWords, SolvedAt}
 use Rattle.path_fixpoint.specs.Solved.{network_at}
 use Rattle.bdd_ops.proofs.CountingLaws.{counted_then}
@@ -67,11 +68,11 @@ returns-clause-reaches c =
     let words_a : HasRootWords circuit part gates roots out a = root_words_from circuit part is_part in_range gates roots out old a c.requires.spans c.in-Ok.ensures.writes in
     let words_b : HasRootWords circuit part gates roots out b = root_words_kept circuit part is_part in_range gates roots out false a b words_a c.in-Ok-reaches.ensures.writes in
     if_ok_more _ _ c.reaches-2.result
-    (λ u h v.
+    (λ u h soft v.
     let w : Network = network_at old circuit part gates roots v in
     let s : ℕ → ℕ = λ n. (strength_here circuit part is_part in_range gates roots out old v n).0 in
     let tells = c.in-Ok.ensures.strengths v w (stands_here circuit part is_part in_range gates roots out old v) in
-    let solved : SolvedAt circuit part gates roots out a v w s = solved_from circuit part is_part in_range gates roots out old a v c.requires.spans c.in-Ok.ensures.writes tells in
+    let solved : SolvedAt circuit part gates roots out a v w s = solved_from circuit part is_part in_range gates roots out old a v soft c.requires.spans c.in-Ok.ensures.writes tells in
     let later : SolvedAt circuit part gates roots out b v w s = solved_kept circuit part is_part in_range gates roots out false a b v w s words_a c.in-Ok-reaches.ensures.writes c.in-Ok-reaches.ensures.apart solved in
     both_reach circuit part is_part in_range gates roots out d v w
     (zeros_stay circuit part is_part in_range gates roots out b d v w words_b c.reaches-2.ensures.writes c.reaches-2.ensures.apart (c.in-Ok-reaches.ensures.reach v w s solved))
@@ -83,31 +84,33 @@ returns-in-Err-clause-few c one u gates roots =
     let out = c.args.out in
     let n = length c.args.part.now.nets in
     let m = length c.args.part.now.devices in
+    let r = pins_at c.args.part.now (pins_of c.args.circuit.now) in
     let old = c.args.store.now in
     let a = c.strengths.new.store in
     let spans = c.requires.spans in
     let first = 8 * (n * (m * 4)) in
-    let each = n * 6 + n * (m * 38) in
-    let most = 400 * (n + 1) * (m + 1) in
-    spends_more u out first most old a (Err c.in-Err.spent) (part_most_levels n m) (c.in-Err.ensures.few u gates)
+    let each = n * 6 + r * 3 + n * (m * 38) in
+    let most = 400 * (n + 1) * (m + r + 1) in
+    spends_more u out first most old a (Err c.in-Err.spent) (part_most_levels n m r) (c.in-Err.ensures.few u gates)
 
 pub returns-in-Err-reaches-clause-few : goal.returns-in-Err-reaches-clause-few
 returns-in-Err-reaches-clause-few c one u gates roots =
     let out = c.args.out in
     let n = length c.args.part.now.nets in
     let m = length c.args.part.now.devices in
+    let r = pins_at c.args.part.now (pins_of c.args.circuit.now) in
     let old = c.args.store.now in
     let a = c.strengths.new.store in
     let spans = c.requires.spans in
     let first = 8 * (n * (m * 4)) in
-    let each = n * 6 + n * (m * 38) in
-    let most = 400 * (n + 1) * (m + 1) in
+    let each = n * 6 + r * 3 + n * (m * 38) in
+    let most = 400 * (n + 1) * (m + r + 1) in
     let wa = c.in-Ok.ensures.writes in
     let found = c.in-Ok.ensures.few u gates in
     let gates_a = span_beside u out c.args.gates old a wa spans.spans.apart spans.spans.gates_live gates in
     let roots_a = span_beside u out c.args.roots old a wa spans.roots_apart spans.roots_live roots in
     let new = c.reaches.new.store in
-    spends_more u out (first + each) most old new (Err c.in-Err-reaches.spent) (part_most_one n m)
+    spends_more u out (first + each) most old new (Err c.in-Err-reaches.spent) (part_most_one n m r)
     (spends_behind u out first each old a new (Err c.in-Err-reaches.spent) found.counts.added (c.in-Err-reaches.ensures.few one u gates_a roots_a found.within))
 
 pub returns-clause-few : goal.returns-clause-few
@@ -115,12 +118,13 @@ returns-clause-few c one u gates roots =
     let out = c.args.out in
     let n = length c.args.part.now.nets in
     let m = length c.args.part.now.devices in
+    let r = pins_at c.args.part.now (pins_of c.args.circuit.now) in
     let old = c.args.store.now in
     let a = c.strengths.new.store in
     let spans = c.requires.spans in
     let first = 8 * (n * (m * 4)) in
-    let each = n * 6 + n * (m * 38) in
-    let most = 400 * (n + 1) * (m + 1) in
+    let each = n * 6 + r * 3 + n * (m * 38) in
+    let most = 400 * (n + 1) * (m + r + 1) in
     let wa = c.in-Ok.ensures.writes in
     let found = c.in-Ok.ensures.few u gates in
     let gates_a = span_beside u out c.args.gates old a wa spans.spans.apart spans.spans.gates_live gates in
@@ -132,5 +136,5 @@ returns-clause-few c one u gates roots =
     let roots_b = span_beside u out c.args.roots a b wb spans.roots_apart (filled_beside out c.args.roots old a wa spans.roots_apart spans.roots_live) roots_a in
     let count = counted_then u first each old a b found.counts.added zeros.counts.added in
     let new = c.reaches-2.new.store in
-    spends_more u out (first + each + each) most old new c.reaches-2.result (part_most n m)
+    spends_more u out (first + each + each) most old new c.reaches-2.result (part_most n m r)
     (spends_behind u out (first + each) each old b new c.reaches-2.result count (c.reaches-2.ensures.few one u gates_b roots_b zeros.within))

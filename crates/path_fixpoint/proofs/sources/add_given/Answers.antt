@@ -26,20 +26,20 @@ loop-net-preserved c =
     let blank : Net = record { 0 = 0 } in
     let net : Net = get_or c.as_slice-net-items.result.now at blank in
     let there : At part.nets at net = subst (λ (xs : List Net). At xs at net) c.as_slice-net-items.ensures (slice_get-get_or c.as_slice-net-items.result.now at blank c.loop-net-test.true) in
-    let P : ℕ → ℕ → Type 0 = λ n size. ((j : ℕ) × (j < at) × IsPlace part j n) × IsGiven circuit n × (size ≡ 8) in
-    let Q : ℕ → ℕ → Type 0 = λ n size. IsGiven circuit n × (n ≡ net.0) × (size ≡ 8) in
-    let R : ℕ → ℕ → Type 0 = λ n size. ((j : ℕ) × (j < at + 1) × IsPlace part j n) × IsGiven circuit n × (size ≡ 8) in
+    let P : ℕ → ℕ → ℕ → Type 0 = λ n handle size. ((j : ℕ) × (j < at) × IsPlace part j n) × IsGiven circuit n × (handle ≡ n) × (size ≡ 8) in
+    let Q : ℕ → ℕ → ℕ → Type 0 = λ n handle size. IsGiven circuit n × (n ≡ net.0) × (handle ≡ n) × (size ≡ 8) in
+    let R : ℕ → ℕ → ℕ → Type 0 = λ n handle size. ((j : ℕ) × (j < at + 1) × IsPlace part j n) × IsGiven circuit n × (handle ≡ n) × (size ≡ 8) in
     record {
       writes = writes_then out first old new i.writes c.in-Ok.ensures.writes;
       apart = λ k away. c.in-Ok.ensures.apart k away ∙ i.apart k away;
       adds = adds_then part c.args.roots out c.args.value P Q R first old new words.words.out_len i.writes i.apart words.roots_apart words.roots_live words.words.out_live
-          (λ n size r. elim (cases_lt r.0.0 at) [
-            | inl low ↦ inl ((r.0.0, low, r.0.2), r.1, r.2)
-            | inr ge ↦ inr (r.1, place_once part at n net.0 (subst (λ (k : ℕ). IsPlace part k n) (let e : r.0.0 ≡ at = omega (arith, ge, r.0.1) in e) r.0.2) (net, there, refl), r.2)
+          (λ n handle size r. elim (cases_lt r.0.0 at) [
+            | inl low ↦ inl ((r.0.0, low, r.0.2), r.1, r.2, r.3)
+            | inr ge ↦ inr (r.1, place_once part at n net.0 (subst (λ (k : ℕ). IsPlace part k n) (let e : r.0.0 ≡ at = omega (arith, ge, r.0.1) in e) r.0.2) (net, there, refl), r.2, r.3)
           ])
-          (λ n size p. ((p.0.0, omega (arith, p.0.1), p.0.2), p.1, p.2))
-          (λ n size q. ((at, omega arith, (net, there, sym q.1)), q.0, q.2))
-          (λ n size r. (omega (arith, slice_get_within circuit.nets n r.1.0 r.1.1, words.roots_len), omega (arith, r.2)))
+          (λ n handle size p. ((p.0.0, omega (arith, p.0.1), p.0.2), p.1, p.2, p.3))
+          (λ n handle size q. ((at, omega arith, (net, there, sym q.1)), q.0, q.2, q.3))
+          (λ n handle size r. ((let same = r.2 in omega (arith, slice_get_within circuit.nets n r.1.0 r.1.1, same, words.roots_len)), (let top = r.3 in omega (arith, top))))
           i.adds c.in-Ok.ensures.adds;
       few = λ u roots all.
           let q = i.few u roots all in
@@ -53,9 +53,9 @@ returns-clause-adds c =
     let part = c.args.part.now in
     let at = c.loop-net.net-index in
     let shown : length c.as_slice-net-items.result.now ≡ length part.nets = ap (λ (xs : List Net). length xs) c.as_slice-net-items.ensures in
-    adds_same part c.args.roots c.args.out c.args.value (λ n size. ((j : ℕ) × (j < at) × IsPlace part j n) × IsGiven circuit n × (size ≡ 8)) (IsGivenSource circuit part) c.args.store.now c.loop-net.store
-    (λ n size g. ((g.0.0, omega (arith, place_in part g.0.0 n g.0.1, shown, c.loop-net-test.false), g.0.1), g.1, g.2))
-    (λ n size g. ((g.0.0, g.0.2), g.1, g.2)) c.loop-net.invariant.adds
+    adds_same part c.args.roots c.args.out c.args.value (λ n handle size. ((j : ℕ) × (j < at) × IsPlace part j n) × IsGiven circuit n × (handle ≡ n) × (size ≡ 8)) (IsGivenSource circuit part) c.args.store.now c.loop-net.store
+    (λ n handle size g. ((g.0.0, omega (arith, place_in part g.0.0 n g.0.1, shown, c.loop-net-test.false), g.0.1), g.1, g.2, g.3))
+    (λ n handle size g. ((g.0.0, g.0.2), g.1, g.2, g.3)) c.loop-net.invariant.adds
 
 pub returns-in-Err-clause-few : goal.returns-in-Err-clause-few
 returns-in-Err-clause-few c u roots all =

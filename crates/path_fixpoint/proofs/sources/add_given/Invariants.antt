@@ -11,6 +11,6 @@ abbrev pub invariant-loop-net : goal.invariant-loop-net
 invariant-loop-net l = record {
   writes : Writes l.fn.out l.fn.store l.store;
   apart : ChangesLevel l.fn.out (slot_of l.fn.value) l.fn.store l.store;
-  adds : AddsRoots l.part l.fn.roots l.fn.out l.fn.value (λ n size. ((i : ℕ) × (i < l.net-index) × IsPlace l.part i n) × IsGiven l.circuit n × (size ≡ 8)) l.fn.store l.store;
+  adds : AddsRoots l.part l.fn.roots l.fn.out l.fn.value (λ n at size. ((i : ℕ) × (i < l.net-index) × IsPlace l.part i n) × IsGiven l.circuit n × (at ≡ n) × (size ≡ 8)) l.fn.store l.store;
   few : (u : ℕ) → IsSpanWithin u l.fn.store l.fn.roots → IsSpanWithin u l.fn.store l.fn.out → IsCounted u (l.net-index * 3) l.fn.store l.store × IsSpanWithin u l.store l.fn.out;
 }

@@ -19,7 +19,7 @@ loop-hold-init c = record {
   writes = writes_none c.args.out c.args.store.now c.sound.ensures.sound c.sound.ensures.within c.requires.words.words.out_live;
   apart = λ k away. refl;
   adds = adds_none c.args.part.now c.args.roots c.args.out c.args.value
-      (λ n size. (k : ℕ) × (k < 0) × (h : Hold) × At c.args.circuit.now.holds k h × (h.net.0 ≡ n) × (h.size ≡ size)) c.args.store.now (λ n k q i p. absurd (omega (arith, q.1)));
+      (λ n handle size. (k : ℕ) × (k < 0) × (h : Hold) × At c.args.circuit.now.holds k h × (h.net.0 ≡ n) × (handle ≡ n) × (h.size ≡ size)) c.args.store.now (λ n handle k q i p. absurd (omega (arith, q.1)));
   few = λ one u roots all. (0, places_none c.args.circuit.now c.args.part.now, counted_same u c.args.store.now c.args.store.now refl refl, all);
 }
 
@@ -36,25 +36,26 @@ loop-hold-preserved c =
     let i = c.loop-hold.invariant in
     let hold : Hold = c.hold-item.result in
     let there : At circuit.holds at hold = item_at circuit.holds c.as_slice-hold-items.result.now at hold c.as_slice-hold-items.ensures c.loop-hold-test.true c.hold-item.is in
-    let P : ℕ → ℕ → Type 0 = λ n size. (k : ℕ) × (k < at) × (h : Hold) × At circuit.holds k h × (h.net.0 ≡ n) × (h.size ≡ size) in
-    let Q : ℕ → ℕ → Type 0 = λ n size. (n ≡ hold.net.0) × (size ≡ hold.size) in
-    let R : ℕ → ℕ → Type 0 = λ n size. (k : ℕ) × (k < at + 1) × (h : Hold) × At circuit.holds k h × (h.net.0 ≡ n) × (h.size ≡ size) in
+    let P : ℕ → ℕ → ℕ → Type 0 = λ n handle size. (k : ℕ) × (k < at) × (h : Hold) × At circuit.holds k h × (h.net.0 ≡ n) × (handle ≡ n) × (h.size ≡ size) in
+    let Q : ℕ → ℕ → ℕ → Type 0 = λ n handle size. (n ≡ hold.net.0) × (handle ≡ hold.net.0) × (size ≡ hold.size) in
+    let R : ℕ → ℕ → ℕ → Type 0 = λ n handle size. (k : ℕ) × (k < at + 1) × (h : Hold) × At circuit.holds k h × (h.net.0 ≡ n) × (handle ≡ n) × (h.size ≡ size) in
     record {
       writes = writes_then out first old new i.writes c.in-Ok.ensures.writes;
       apart = λ k away. c.in-Ok.ensures.apart k away ∙ i.apart k away;
       adds = adds_then part c.args.roots out c.args.value P Q R first old new words.words.out_len i.writes i.apart words.roots_apart words.roots_live words.words.out_live
-          (λ n size r. elim (cases_lt r.0 at) [
-            | inl low ↦ inl (r.0, low, r.2, r.3, r.4, r.5)
+          (λ n handle size r. elim (cases_lt r.0 at) [
+            | inl low ↦ inl (r.0, low, r.2, r.3, r.4, r.5, r.6)
             | inr ge ↦
                 let e : r.0 ≡ at = omega (arith, ge, r.1) in
                 let same : r.2 ≡ hold = same_Some r.2 hold (sym r.3 ∙ subst (λ (k : ℕ). At circuit.holds k hold) (sym e) there) in
-                inr (sym r.4 ∙ ap (λ (h : Hold). h.net.0) same, sym r.5 ∙ ap (λ (h : Hold). h.size) same)
+                (let net = sym r.4 ∙ ap (λ (h : Hold). h.net.0) same in inr (net, r.5 ∙ net, sym r.6 ∙ ap (λ (h : Hold). h.size) same))
           ])
-          (λ n size p. (p.0, omega (arith, p.1), p.2, p.3, p.4, p.5))
-          (λ n size q. (at, omega arith, hold, there, sym q.0, sym q.1))
-          (λ n size r.
+          (λ n handle size p. (p.0, omega (arith, p.1), p.2, p.3, p.4, p.5, p.6))
+          (λ n handle size q. (at, omega arith, hold, there, sym q.0, q.1 ∙ sym q.0, sym q.2))
+          (λ n handle size r.
           let range = all_among (IsHold circuit) circuit.holds r.2 c.requires.part.0.holds (r.0, r.3) in
-          (omega (arith, range.net, r.4, words.roots_len), omega (arith, range.size.0, r.5)))
+          let net = r.4 in let same = r.5 in let level = r.6 in
+          (omega (arith, range.net, net, same, words.roots_len), omega (arith, range.size.0, level)))
           i.adds c.in-Ok.ensures.adds;
       few = λ one u roots all.
           let q = i.few one u roots all in
@@ -75,9 +76,9 @@ returns-clause-adds c =
     let circuit = c.args.circuit.now in
     let at = c.loop-hold.hold-index in
     let shown : length c.as_slice-hold-items.result.now ≡ length circuit.holds = ap (λ (xs : List Hold). length xs) c.as_slice-hold-items.ensures in
-    adds_same c.args.part.now c.args.roots c.args.out c.args.value (λ n size. (k : ℕ) × (k < at) × (h : Hold) × At circuit.holds k h × (h.net.0 ≡ n) × (h.size ≡ size)) (IsHoldSource circuit) c.args.store.now c.loop-hold.store
-    (λ n size h. (h.0, omega (arith, slice_get_within circuit.holds h.0 h.1 h.2, shown, c.loop-hold-test.false), h.1, h.2, h.3, h.4))
-    (λ n size h. (h.0, h.2, h.3, h.4, h.5)) c.loop-hold.invariant.adds
+    adds_same c.args.part.now c.args.roots c.args.out c.args.value (λ n handle size. (k : ℕ) × (k < at) × (h : Hold) × At circuit.holds k h × (h.net.0 ≡ n) × (handle ≡ n) × (h.size ≡ size)) (IsHoldSource circuit) c.args.store.now c.loop-hold.store
+    (λ n handle size h. (h.0, omega (arith, slice_get_within circuit.holds h.0 h.1 h.2, shown, c.loop-hold-test.false), h.1, h.2, h.3, h.4, h.5))
+    (λ n handle size h. (h.0, h.2, h.3, h.4, h.5, h.6)) c.loop-hold.invariant.adds
 
 pub returns-in-Err-clause-few : goal.returns-in-Err-clause-few
 returns-in-Err-clause-few c one u roots all =

@@ -1,4 +1,4 @@
-use Rattle.std.proofs.Common.{◌≡◌, arith, sym, subst, inl, inr}
+use Rattle.std.proofs.Common.{◌≡◌, ℕ, arith, sym, subst, ◌∙◌, inl, inr}
 use Rattle.bdd_core.proofs.Results.{if_ok_more}
 use Rattle.path_fixpoint.specs.Parts.{IsGiven}
 use Rattle.path_fixpoint.specs.Sources.{AddsRoots}
@@ -9,10 +9,13 @@ use Rattle.path_fixpoint.proofs.sources.add_net.Goals as goal
 pub returns-clause-adds : goal.returns-clause-adds
 returns-clause-adds c =
     let circuit = c.args.circuit.now in
-    if_ok_more (λ _. AddsRoots c.args.part.now c.args.roots c.args.out c.args.value (λ n k. (n ≡ c.args.net.0) × (k ≡ 8)) c.args.store.now c.add_root.new.store)
-    (λ _. AddsRoots c.args.part.now c.args.roots c.args.out c.args.value (λ n k. IsGiven circuit n × (n ≡ c.args.net.0) × (k ≡ 8)) c.args.store.now c.add_root.new.store) c.add_root.result
-    (λ u a. adds_same c.args.part.now c.args.roots c.args.out c.args.value (λ n k. (n ≡ c.args.net.0) × (k ≡ 8)) (λ n k. IsGiven circuit n × (n ≡ c.args.net.0) × (k ≡ 8))
-    c.args.store.now c.add_root.new.store (λ n k q. (q.1, q.2)) (λ n k q. (subst (IsGiven circuit) (sym q.0) (c.is_given.ensures.0 c.if-not-is_given.false), q.0, q.1)) a)
+    let n0 = c.args.net.0 in
+    let P : ℕ → ℕ → ℕ → Type 0 = λ n at size. (n ≡ n0) × (at ≡ n0) × (size ≡ 8) in
+    let R : ℕ → ℕ → ℕ → Type 0 = λ n at size. IsGiven circuit n × (n ≡ n0) × (at ≡ n) × (size ≡ 8) in
+    if_ok_more (λ _. AddsRoots c.args.part.now c.args.roots c.args.out c.args.value P c.args.store.now c.add_root.new.store)
+    (λ _. AddsRoots c.args.part.now c.args.roots c.args.out c.args.value R c.args.store.now c.add_root.new.store) c.add_root.result
+    (λ u a. adds_same c.args.part.now c.args.roots c.args.out c.args.value P R
+    c.args.store.now c.add_root.new.store (λ n at size q. (q.1, q.2 ∙ q.1, q.3)) (λ n at size q. (subst (IsGiven circuit) (sym q.0) (c.is_given.ensures.0 c.if-not-is_given.false), q.0, q.1 ∙ sym q.0, q.2)) a)
     c.add_root.ensures.adds
 
 pub returns-clause-few : goal.returns-clause-few

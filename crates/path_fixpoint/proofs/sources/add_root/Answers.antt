@@ -14,14 +14,14 @@ use Rattle.path_fixpoint.proofs.sources.add_root.Goals as goal
 
 pub returns-in_default-clause-adds : goal.returns-in_default-clause-adds
 returns-in_default-clause-adds c =
-    adds_none c.args.part.now c.args.roots c.args.out c.args.value (λ n k. (n ≡ c.args.net.0) × (k ≡ c.args.size)) c.args.store.now
-    (λ n k q i p. c.in_default.ensures.none refl i (subst (IsPlace c.args.part.now i) q.0 p))
+    adds_none c.args.part.now c.args.roots c.args.out c.args.value (λ n at size. (n ≡ c.args.source.net.0) × (at ≡ c.args.source.at) × (size ≡ c.args.source.size)) c.args.store.now
+    (λ n at size q i p. c.in_default.ensures.none refl i (subst (IsPlace c.args.part.now i) q.0 p))
 
 pub returns-in-Err-clause-writes : goal.returns-in-Err-clause-writes
 returns-in-Err-clause-writes c = writes_added c.args.out c.args.store.now c.root_bit.new.store c.requires.out.1 c.in-Err.ensures.adds
 
 pub unblocked-requires-clause-place : goal.unblocked-requires-clause-place
-unblocked-requires-clause-place c = (omega (arith, place_in c.args.part.now c.in-Some.i c.args.net.0 c.in-Some.ensures.some, c.requires.out.2), c.requires.out.3)
+unblocked-requires-clause-place c = (omega (arith, place_in c.args.part.now c.in-Some.i c.args.source.net.0 c.in-Some.ensures.some, c.requires.out.2), c.requires.out.3)
 
 pub returns-in-Err-unblocked-clause-writes : goal.returns-in-Err-unblocked-clause-writes
 returns-in-Err-unblocked-clause-writes c =
@@ -30,11 +30,11 @@ returns-in-Err-unblocked-clause-writes c =
 
 pub word-requires-clause-fits : goal.word-requires-clause-fits
 word-requires-clause-fits c =
-    omega (arith, place_in c.args.part.now c.in-Some.i c.args.net.0 c.in-Some.ensures.some, c.requires.out.2, c.requires.out.3, c.slot.ensures, slot_high c.args.value)
+    omega (arith, place_in c.args.part.now c.in-Some.i c.args.source.net.0 c.in-Some.ensures.some, c.requires.out.2, c.requires.out.3, c.slot.ensures, slot_high c.args.value)
 
 pub widen-requires-clause-at : goal.widen-requires-clause-at
 widen-requires-clause-at c =
-    omega (arith, place_in c.args.part.now c.in-Some.i c.args.net.0 c.in-Some.ensures.some, c.requires.out.2, c.slot.ensures, slot_high c.args.value, slot_low c.args.value, c.word.ensures)
+    omega (arith, place_in c.args.part.now c.in-Some.i c.args.source.net.0 c.in-Some.ensures.some, c.requires.out.2, c.slot.ensures, slot_high c.args.value, slot_low c.args.value, c.word.ensures)
 
 pub returns-in-Ok-widen-clause-writes : goal.returns-in-Ok-widen-clause-writes
 returns-in-Ok-widen-clause-writes c =
@@ -69,7 +69,7 @@ returns-in-Ok-widen-clause-adds c =
     let new = c.widen.new.store in
     let signal = c.in-Ok-unblocked.signal in
     let at : c.word.result ≡ word_of (slot_of value) i = c.word.ensures ∙ ap (λ (l : ℕ). word_of l i) c.slot.ensures in
-    adds_one c.args.part.now c.requires.part c.args.roots out value c.args.net.0 c.args.size i c.args.store.now c.root_bit.new.store b new c.in-Ok.bit signal c.in-Ok-widen.field-0
+    adds_one c.args.part.now c.requires.part c.args.roots out value c.args.source.net.0 c.args.source.at c.args.source.size i c.args.store.now c.root_bit.new.store b new c.in-Ok.bit signal c.in-Ok-widen.field-0
     c.requires.out.2 c.requires.size.0 c.requires.out.1 c.in-Some.ensures.some c.in-Ok.ensures c.in-Ok-unblocked.ensures.writes c.in-Ok-unblocked.ensures.words c.in-Ok-unblocked.ensures.is
     (subst (λ (x : ℕ). IsWider out x (meaning b.nodes signal.0) c.in-Ok-widen.field-0 b new) at c.in-Ok-widen.ensures.wider)
     c.in-Ok-widen.ensures.writes (λ k ne. c.in-Ok-widen.ensures.apart k (λ e. ne (e ∙ at)))
@@ -82,7 +82,7 @@ returns-in-Err-clause-few c u roots all =
       c.in-Some.ensures.some,
       spends_refused u c.args.out 3 old c.root_bit.new.store c.in-Err.spent
           (counts_more u 1 3 old c.root_bit.new.store (Err c.in-Err.spent) (omega arith)
-          (counts_made u old c.root_bit.new.store c.sound.ensures.sound.ends _ (Err c.in-Err.spent) c.in-Err.ensures (root_within u old c.args.roots c.args.net.0 c.args.value c.requires.roots.2 roots))),
+          (counts_made u old c.root_bit.new.store c.sound.ensures.sound.ends _ (Err c.in-Err.spent) c.in-Err.ensures (root_within u old c.args.roots c.args.source.at c.args.value c.requires.roots.2 roots))),
     )
 
 pub returns-in-Err-unblocked-clause-few : goal.returns-in-Err-unblocked-clause-few
@@ -90,7 +90,7 @@ returns-in-Err-unblocked-clause-few c u roots all =
     let out = c.args.out in
     let old = c.args.store.now in
     let mid = c.root_bit.new.store in
-    let made = finds_made u old mid _ (Ok c.in-Ok.bit) c.sound.ensures.sound.ends c.in-Ok.ensures (root_within u old c.args.roots c.args.net.0 c.args.value c.requires.roots.2 roots) in
+    let made = finds_made u old mid _ (Ok c.in-Ok.bit) c.sound.ensures.sound.ends c.in-Ok.ensures (root_within u old c.args.roots c.args.source.at c.args.value c.requires.roots.2 roots) in
     let held = span_still u out out old mid (writes_added out old mid c.requires.out.1 c.in-Ok.ensures.adds) (adds_words old mid old.words c.in-Ok.ensures.adds) c.requires.out.1 all in
     inr (
       c.in-Some.i,
@@ -107,7 +107,7 @@ returns-in-Ok-widen-clause-few c u roots all =
     let mid = c.root_bit.new.store in
     let late = c.unblocked.new.store in
     let new = c.widen.new.store in
-    let made = finds_made u old mid _ (Ok c.in-Ok.bit) c.sound.ensures.sound.ends c.in-Ok.ensures (root_within u old c.args.roots c.args.net.0 c.args.value c.requires.roots.2 roots) in
+    let made = finds_made u old mid _ (Ok c.in-Ok.bit) c.sound.ensures.sound.ends c.in-Ok.ensures (root_within u old c.args.roots c.args.source.at c.args.value c.requires.roots.2 roots) in
     let wrote = writes_added out old mid c.requires.out.1 c.in-Ok.ensures.adds in
     let held = span_still u out out old mid wrote (adds_words old mid old.words c.in-Ok.ensures.adds) c.requires.out.1 all in
     let found = c.in-Ok-unblocked.ensures.few u held made.within in
@@ -126,7 +126,7 @@ returns-in-Err-widen-clause-few c u roots all =
     let mid = c.root_bit.new.store in
     let late = c.unblocked.new.store in
     let new = c.widen.new.store in
-    let made = finds_made u old mid _ (Ok c.in-Ok.bit) c.sound.ensures.sound.ends c.in-Ok.ensures (root_within u old c.args.roots c.args.net.0 c.args.value c.requires.roots.2 roots) in
+    let made = finds_made u old mid _ (Ok c.in-Ok.bit) c.sound.ensures.sound.ends c.in-Ok.ensures (root_within u old c.args.roots c.args.source.at c.args.value c.requires.roots.2 roots) in
     let wrote = writes_added out old mid c.requires.out.1 c.in-Ok.ensures.adds in
     let held = span_still u out out old mid wrote (adds_words old mid old.words c.in-Ok.ensures.adds) c.requires.out.1 all in
     let found = c.in-Ok-unblocked.ensures.few u held made.within in

@@ -141,7 +141,7 @@ returns-in-Err-clause-gives c =
     (filled_within d.budget u operations d words.roots s.store.used sound s.opened.roots.live)).counts in
     λ none.
     may_spend k phase d.budget u operations (all_operations drivers there) d new c.in-Err.field-0 s.store.used refl c.requires.budget
-    (subst (λ a. operations + a ≤ phase_work_of k) (sym (flat_operations drivers there none)) (solved_within k phase plan c.requires.ready c.requires.plan))
+    (subst (λ a. operations + a ≤ phase_work_of k) (sym (flat_operations drivers there none)) (solved_within k phase plan c.requires.ready c.requires.plan none))
     (subst (λ (w : InPhase). Counts {A = Option CircuitFault} u (all_operations drivers w) d new (Err c.in-Err.field-0)) same counts)
 
 pub returns-in-Ok-Some-clause-gives : goal.returns-in-Ok-Some-clause-gives

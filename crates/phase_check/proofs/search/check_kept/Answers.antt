@@ -42,6 +42,9 @@ wired_kept-requires-clause-spans c =
     let s = c.requires.searched.searched in
     kept_there k c.args.search.phase c.args.search.plan.now c.requires.ready c.requires.plan c.args.search.words c.args.store.now c.args.search.care s.store.words s.opened c.requires.solved.live
 
+pub wired_kept-requires-clause-free : goal.wired_kept-requires-clause-free
+wired_kept-requires-clause-free c = (c.requires.ready.wholes c.args.search.phase c.requires.phase).free
+
 pub check_model-requires-clause-searched : goal.check_model-requires-clause-searched
 check_model-requires-clause-searched c =
     let k = comparison_in c.args.search.compared in
@@ -129,7 +132,7 @@ returns-in-Err-clause-gives c =
     let operations : ℕ = c.requires.searched.made in
     λ none.
     may_spend k phase d.budget u operations (kept_operations k.circuit plan.kept.list) d c.wired_kept.new.store c.in-Err.field-0 s.store.used refl c.requires.budget
-    (within_made (kept_operations k.circuit plan.kept.list) (phase_work_of k) operations (solved_operations k phase plan) (c.requires.searched.exact none) (settled_within k phase plan c.requires.ready c.requires.plan))
+    (within_made (kept_operations k.circuit plan.kept.list) (phase_work_of k) operations (solved_operations k phase plan) (c.requires.searched.exact none) (settled_within k phase plan c.requires.ready c.requires.plan none))
     (c.in-Err.ensures.few c.requires.ready.circuit.one_hold u (live_within d.budget u operations d c.args.search.care s.store.used sound s.opened.care_live)
     (filled_within d.budget u operations d words.gates s.store.used sound c.requires.solved.live)
     (filled_within d.budget u operations d words.roots s.store.used sound s.opened.roots.live))

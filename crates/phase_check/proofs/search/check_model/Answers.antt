@@ -81,6 +81,6 @@ returns-in-Err-clause-gives c =
     let operations : ℕ = c.requires.searched.made in
     λ none.
     may_spend k phase d.budget u operations (20 * (model_size k.model + 1)) d c.eval_model.new.store c.in-Err.field-0 s.store.used refl c.requires.budget
-    (within_made (20 * (model_size k.model + 1)) (phase_work_of k) operations (settled_operations k phase plan) (c.requires.searched.exact none) (evaluated_within k phase plan c.requires.ready c.requires.plan))
+    (within_made (20 * (model_size k.model + 1)) (phase_work_of k) operations (settled_operations k phase plan) (c.requires.searched.exact none) (evaluated_within k phase plan c.requires.ready c.requires.plan none))
     (c.in-Err.ensures.counts u (filled_within d.budget u operations d words.inputs s.store.used sound s.opened.model.inputs_live)
     (filled_within d.budget u operations d words.held s.store.used sound s.opened.model.held_live))

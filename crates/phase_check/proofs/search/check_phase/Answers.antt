@@ -18,4 +18,4 @@ returns-in-Err-clause-gives c =
     λ none.
     may_spend k c.args.phase d.budget u 0 (opened_operations k c.args.phase) mid c.open_phase.new.store c.in-Err.field-0
     (used_none d.budget u mid (ap (λ (x : Diagrams). x.budget) rest) count) refl c.requires.budget
-    (opened_within k c.args.phase c.args.plan.now c.requires.ready c.requires.plan) c.in-Err.ensures.counts
+    (opened_within k c.args.phase c.args.plan.now c.requires.ready c.requires.plan none) c.in-Err.ensures.counts

@@ -50,7 +50,7 @@ returns-in-Err-clause-gives c =
     c.in-Err.ensures.counts u care_in (subst (λ (b : WishBits). AreWithin u d b) (sym c.wish_bits-bits.ensures) all_in) in
     λ none.
     may_spend k phase d.budget u operations (3 * length plan.wishes) d new spent s.store.used refl c.requires.budget
-    (within_made (3 * length plan.wishes) (phase_work_of k) operations (evaluated_operations k phase plan) (c.requires.searched.exact none) (all_within k phase plan c.requires.ready c.requires.plan))
+    (within_made (3 * length plan.wishes) (phase_work_of k) operations (evaluated_operations k phase plan) (c.requires.searched.exact none) (all_within k phase plan c.requires.ready c.requires.plan none))
     (subst (λ (ws : List Wish). Counts {A = Option WishFault} u (3 * length ws) d new (Err spent)) c.as_slice.ensures counts)
 
 pub returns-in-Ok-None-clause-gives : goal.returns-in-Ok-None-clause-gives

@@ -1,5 +1,5 @@
-use Rattle.std.proofs.Common.{length, arith, inl, inr}
-use Rattle.bdd_core.proofs.Frames.{filled_beside, shows_beside, two_first}
+use Rattle.std.proofs.Common.{◌+◌, ◌≤◌, length, arith, inl, inr}
+use Rattle.bdd_core.proofs.Frames.{filled_beside, shows_beside, span_written, two_first}
 use Rattle.bdd_core.specs.Words.{IsApart}
 use Rattle.phase_open.proofs.OpenLaws.{model_open, roots_stay}
 use Rattle.phase_open.proofs.RootLaws.{counts_written}
@@ -24,7 +24,14 @@ open_inputs-requires-clause-bits c =
     inl (omega (arith, words.gates_behind, words.zeros_behind, words.ones_behind, words.out_behind, words.inputs_behind, words.held_behind)) in
     roots_stay c.args.words.held c.args.words.held c.args.words.roots c.args.store.now c.open_elements.new.store
     (two_first c.args.words.held c.args.words.held c.args.store.now c.open_elements.new.store c.open_elements.ensures.writes) apart apart c.requires.roots.live (comparison_in c.args.compared) c.args.phase
-    words.roots_len c.requires.roots
+    (omega (arith, words.roots_len)) c.requires.roots
+
+pub open_inputs-requires-clause-roots : goal.open_inputs-requires-clause-roots
+open_inputs-requires-clause-roots c =
+    let words = c.requires.words in
+    let end : c.args.words.roots.start + c.args.words.roots.len ≤ length c.args.store.now.words =
+    omega (arith, words.gates_behind, words.zeros_behind, words.ones_behind, words.out_behind, words.inputs_behind, words.held_behind, words.values_behind, words.least_behind, words.last) in
+    (span_written c.args.words.held c.args.words.roots c.args.store.now c.open_elements.new.store c.open_elements.ensures.writes (words.first, end), omega (arith, words.roots_len))
 
 pub returns-clause-model : goal.returns-clause-model
 returns-clause-model c =

@@ -1,0 +1,8 @@
+use Rattle.std.proofs.Common.{ℕ, ◌<◌}
+use Rattle.vrt_model.specs.Lists.{At}
+use Rattle.vrt_model.specs.declared.whole.Whole.{Whole}
+use Rattle.path_fixpoint.specs.Openings.{NoPinHas}
+use Rattle.path_fixpoint.proofs.levels.no_pin_has.Given as goal
+
+abbrev pub invariant-loop-whole : goal.invariant-loop-whole
+invariant-loop-whole l = (k : ℕ) → k < l.whole-index → (w : Whole) → At l.circuit.wholes k w → NoPinHas w.outputs l.fn.level
