@@ -1,2 +1,0 @@
-pub mod NetLevels
-pub mod PortLevels

@@ -1,2 +1,0 @@
-pub mod Always
-pub mod PartLevels
