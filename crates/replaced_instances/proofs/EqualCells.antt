@@ -39,7 +39,7 @@ abbrev pins_of : List Whole → List WholePin
 pins_of ws = map (λ (out : OutputPin). out.pin) (flat_map (λ (w : Whole). map (λ (p : WholePin). let pin : OutputPin = record { whole = w; pin = p } in pin) w.outputs) ws)
 
 module _ (c : Circuit) (n : ℕ) (holds : c.holds ≡ []) (wholes : c.wholes ≡ []) (plain : IsPlain c n) where
-  pub no_root : (which : Bool) (held : ℕ → Bool) (s : State) (root : Root) → IsRoot (network_of c which held s) root → root.net ≡ n → ⊥
+  no_root : (which : Bool) (held : ℕ → Bool) (s : State) (root : Root) → IsRoot (network_of c which held s) root → root.net ≡ n → ⊥
   no_root which held s root r same =
       elim r [
         | inl g ↦ plain_not_given c root.net g.0 (subst (λ (x : ℕ). IsPlain c x) (sym same) plain) g.1 g.2
@@ -75,7 +75,7 @@ channel_there k n phase lt equal holds wholes plain seen =
 -- ---- strengths
 
 module _ (c : Circuit) (ranges : HasRanges c) (holds : c.holds ≡ []) (wholes : c.wholes ≡ []) where
-  pub root_level : (which : Bool) (held : ℕ → Bool) (s : State) (root : Root) → IsRoot (network_of c which held s) root → root.level ≡ 8
+  root_level : (which : Bool) (held : ℕ → Bool) (s : State) (root : Root) → IsRoot (network_of c which held s) root → root.level ≡ 8
   root_level which held s root r =
       elim r [
         | inl g ↦ g.3

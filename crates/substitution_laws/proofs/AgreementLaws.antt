@@ -1,5 +1,5 @@
 -- Along the chain from the flat circuit to the checked one nothing is wrong in the one exactly where nothing is wrong in the other.
-use Rattle.std.proofs.Common.{◌≡◌, ◌⊎◌, ℕ, zero, suc, ◌+◌, ◌<◌, Bool, true, List, length, ap, sym, ◌∙◌, subst, arith, inl, inr}
+use Rattle.std.proofs.Common.{◌≡◌, ℕ, zero, suc, ◌+◌, ◌<◌, Bool, true, List, length, ap, sym, ◌∙◌, subst, arith, inl, inr}
 use Rattle.std.proofs.lemmas.Bool.{cases_Bool}
 use Rattle.channel_parts.specs.OneSolution.{AreDetermined}
 use Rattle.checked_chain.proofs.EndLaws.{chain_begins_flat}

@@ -6,10 +6,10 @@ use Rattle.std.proofs.lemmas.Bool.{and_parts}
 use Rattle.std.proofs.lemmas.Option.{none-some, same_Some}
 use Rattle.checked_chain.proofs.StepLaws.{one_more_is_next}
 use Rattle.placed_cells.proofs.ListLaws.{enumerated}
-use Rattle.replaced_instances.proofs.StepPorts.{fact_there}
+use Rattle.replaced_instances.proofs.StepPorts.{fact_there, may}
 use Rattle.formed_cells.proofs.FormedLaws.{supported_cells_are_formed}
-use Rattle.replaced_instances.specs.Steps.{AreAtGates, IsAllowedInstance, IsStep}
-use Rattle.substitution_laws.specs.Chosen.{AreSoft, AreSoftIf, ChosenInstancesAreSteps, ChosenStepsAreAtGates, IsChoiceByFacts, IsTrialByFacts}
+use Rattle.replaced_instances.specs.Steps.{AreAtGates, IsAllowedInstance, IsChosenStep}
+use Rattle.substitution_laws.specs.Chosen.{AreSoft, AreSoftIf, ChosenInstancesAreSteps, ChosenStepsAreAtGates, IsChoiceByFacts, IsSoftTrial, IsTrial}
 use Rattle.vrt_model.proofs.Members.{among_map}
 use Rattle.vrt_model.specs.Checked.{MayBeWhole, before, has_fact, keeps_inputs_free, names_no_global, observes_outputs}
 use Rattle.vrt_model.specs.CheckedParts.{checked_devices}
@@ -99,22 +99,25 @@ gates_if_soft true cut blif facts i p soft allowed = λ o on.
 
 -- ---- steps
 
-pub trial_of : {all_soft : Bool} → (cut : Cut) (blif : Blif) (facts : List CellFacts) → IsChoiceByFacts all_soft cut blif facts → IsTrialByFacts all_soft cut blif facts
+pub trial_of : {all_soft : Bool} → (cut : Cut) (blif : Blif) (facts : List CellFacts) → IsChoiceByFacts all_soft cut blif facts → IsTrial cut blif facts
 trial_of cut blif facts h = record {
   netlist = h.netlist;
   read = h.read;
   told = h.told;
-  soft = h.soft;
   tried = λ i p place chosen.
       (let there = (h.tried i p place).0 chosen in
       let may : MayBeWhole (before cut i) blif facts i p there.1.0 = there.1.1 in
       (there.0, (there.1.0, record { paired = may.paired; cell = may.cell; plain = may.plain; allowed = may.allowed })));
 }
 
-pub tried_instances_are_steps : {all_soft : Bool} → (cut : Cut) (blif : Blif) (facts : List CellFacts) (i : ℕ) (p : NumberedPlace)
-    → IsTrialByFacts all_soft cut blif facts → At (numbered_places cut.top) (suc i) p → cut.choice i ≡ true
-    → (m : ℕ) × IsStep all_soft cut blif facts i p m × IsSupported cut.top.design blif cut.top.rules p.at.cell m
-tried_instances_are_steps {all_soft} cut blif facts i p h place chosen =
+pub soft_is_trial : (cut : Cut) (blif : Blif) (facts : List CellFacts) → IsSoftTrial cut blif facts → IsTrial cut blif facts
+soft_is_trial cut blif facts h = record { netlist = h.netlist; read = h.read; told = h.told; tried = h.tried }
+
+-- each instance that is tried is a step, and its cell is supported
+pub tried_steps_are_chosen : (cut : Cut) (blif : Blif) (facts : List CellFacts) (i : ℕ) (p : NumberedPlace)
+    → IsTrial cut blif facts → At (numbered_places cut.top) (suc i) p → cut.choice i ≡ true
+    → (m : ℕ) × IsChosenStep cut blif facts i p m × IsSupported cut.top.design blif cut.top.rules p.at.cell m
+tried_steps_are_chosen cut blif facts i p h place chosen =
     let t = cut.top in
     let there = (h.tried i p place chosen).1 in
     let m = there.0 in
@@ -138,14 +141,31 @@ tried_instances_are_steps {all_soft} cut blif facts i p h place chosen =
         place = place;
         paired = may.paired;
         roles = (supported_cells_are_formed t.design blif t.rules p.at.cell m h.read supported).roles;
-        gates = gates_if_soft all_soft cut blif facts i p h.soft (λ o on.
-            subst (λ (x : Cut). is_output_allowed (checked_devices x) (all_outputs x blif facts) o ≡ true) (one_more_is_next cut i chosen) (may.allowed o on));
+        gates = tt;
       },
       supported,
     )
 
+-- so is each that is chosen, and where all drives are soft its outputs meet gates alone
 pub chosen_instances_are_steps : {all_soft : Bool} → ChosenInstancesAreSteps all_soft
-chosen_instances_are_steps cut blif facts i p h place chosen = tried_instances_are_steps cut blif facts i p (trial_of cut blif facts h) place chosen
+chosen_instances_are_steps {all_soft} cut blif facts i p h place chosen =
+    let found = tried_steps_are_chosen cut blif facts i p (trial_of cut blif facts h) place chosen in
+    let step : IsChosenStep cut blif facts i p found.0 = found.1 in
+    let allowed = (may cut blif facts i p found.0 step).allowed in (
+      found.0,
+      record {
+        netlist = step.netlist;
+        told = step.told;
+        tried = step.tried;
+        chosen = step.chosen;
+        place = step.place;
+        paired = step.paired;
+        roles = step.roles;
+        gates = gates_if_soft all_soft cut blif facts i p h.soft
+            (λ o on. subst (λ (x : Cut). is_output_allowed (checked_devices x) (all_outputs x blif facts) o ≡ true) (one_more_is_next cut i chosen) (allowed o on));
+      },
+      found.2,
+    )
 
 pub chosen_steps_are_at_gates : ChosenStepsAreAtGates
 chosen_steps_are_at_gates cut blif facts i p h place chosen = chosen_instances_are_steps cut blif facts i p h place chosen

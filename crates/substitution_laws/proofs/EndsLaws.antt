@@ -16,8 +16,8 @@ use Rattle.placed_cells.specs.Splits.{is_net_in}
 use Rattle.replaced_instances.proofs.StepInstances.{FitsPlace, fitting, place_inside, zip_at_right}
 use Rattle.replaced_instances.proofs.StepPorts.{no_holds, place_there}
 use Rattle.replaced_instances.specs.Steps.{compared_at}
-use Rattle.substitution_laws.proofs.ChosenLaws.{trial_of, tried_instances_are_steps}
-use Rattle.substitution_laws.specs.Chosen.{IsTrialByFacts}
+use Rattle.substitution_laws.proofs.ChosenLaws.{trial_of, tried_steps_are_chosen}
+use Rattle.substitution_laws.specs.Chosen.{IsTrial}
 use Rattle.substitution_laws.specs.Ends.{ChosenEndsAreShown}
 use Rattle.vrt_model.proofs.Lists.{among_filter_map}
 use Rattle.vrt_model.proofs.Members.{among_flat_map, any_among, find_among}
@@ -55,7 +55,7 @@ module _ (t : Top) where
 
 -- ---- a rule of a cell inside
 
-module _ {all_soft : Bool} (cut : Cut) (blif : Blif) (facts : List CellFacts) (h : IsTrialByFacts all_soft cut blif facts) where
+module _ (cut : Cut) (blif : Blif) (facts : List CellFacts) (h : IsTrial cut blif facts) where
   abbrev t : Top
   t = cut.top
 
@@ -64,7 +64,7 @@ module _ {all_soft : Bool} (cut : Cut) (blif : Blif) (facts : List CellFacts) (h
       → (n j : ℕ) (r : Place) (rule : HoldRule) → At (all_places t) (suc j) r → is_inside r p.at ≡ true → Among t.rules.holds rule → falls_on t n r rule ≡ true → ⊥
   unfolding flat_circuit_of
   no_rule_inside i p place chosen n j r rule here inside on falls =
-      let step = tried_instances_are_steps cut blif facts i p h place chosen in
+      let step = tried_steps_are_chosen cut blif facts i p h place chosen in
       let m = step.0 in
       let there = place_there cut blif facts i p m step.1 in
       let split = places_in_stand_together t (suc i) p.at there in
@@ -125,7 +125,7 @@ module _ {all_soft : Bool} (cut : Cut) (blif : Blif) (facts : List CellFacts) (h
           let both = and_parts (is_whole cut.choice w.0.number) (is_inside one.at w.0.at) w.2 in
           by_number w.0.number w.1.0 w.0 refl (numbered_at t w.1.0 w.0 w.1.1).0 w.1.1 both.0 both.1
 
-pub tried_ends_are_shown : {all_soft : Bool} → (cut : Cut) (blif : Blif) (facts : List CellFacts) → IsTrialByFacts all_soft cut blif facts → AreEndsShown cut
+pub tried_ends_are_shown : (cut : Cut) (blif : Blif) (facts : List CellFacts) → IsTrial cut blif facts → AreEndsShown cut
 tried_ends_are_shown cut blif facts h = ends_stay_shown cut (rule_outside cut blif facts h)
 
 pub chosen_ends_are_shown : {all_soft : Bool} → ChosenEndsAreShown all_soft

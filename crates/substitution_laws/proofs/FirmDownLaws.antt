@@ -1,5 +1,5 @@
 -- Firm ground goes down the chain to the flat circuit.
-use Rattle.std.proofs.Common.{◌≡◌, ◌↔◌, ℕ, zero, suc, ◌<◌, not, Bool, true, false, List, [], length, map, refl, ap, sym, ◌∙◌, subst, arith, inl, inr}
+use Rattle.std.proofs.Common.{◌≡◌, ◌↔◌, ℕ, zero, suc, ◌<◌, Bool, true, List, [], length, map, refl, ap, sym, ◌∙◌, subst, arith, inl, inr}
 use Rattle.std.proofs.lemmas.Bool.{cases_Bool}
 use Rattle.checked_chain.proofs.AcyclicLaws.{no_place}
 use Rattle.checked_chain.proofs.EndLaws.{chain_begins_flat}

@@ -5,6 +5,7 @@ pub mod ChainLaws
 pub mod ChosenLaws
 pub mod DriveRanges
 pub mod EndsLaws
+pub mod EqualStates
 pub mod Example
 pub mod ExampleArcs
 pub mod ExampleCells

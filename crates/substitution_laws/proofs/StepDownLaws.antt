@@ -1,5 +1,5 @@
 -- One step of the chain goes down as the law of firm ground asks.
-use Rattle.std.proofs.Common.{◌≡◌, ◌≢◌, ◌⊎◌, ℕ, zero, suc, ◌<◌, ◌||◌, not, Bool, true, false, cond, List, [], ◌∷◌, length, Some, ap, sym, ◌∙◌, subst, inl, inr}
+use Rattle.std.proofs.Common.{◌≡◌, ◌≢◌, ◌⊎◌, ℕ, zero, suc, ◌<◌, ◌||◌, Bool, true, false, cond, List, [], ◌∷◌, length, Some, ap, sym, ◌∙◌, subst, inl, inr}
 use Rattle.std.specs.Prelude.{is_some}
 use Rattle.std.specs.List.{list_any}
 use Rattle.std.proofs.lemmas.Bool.{or_right}
@@ -42,7 +42,7 @@ use Rattle.vrt_model.specs.Lists.{Among, At, has_name}
 use Rattle.vrt_model.specs.Path.{level_of_drive}
 use Rattle.vrt_model.specs.Places.{named_nets_from}
 use Rattle.vrt_model.specs.Reading.{bare, kept}
-use Rattle.vrt_model.specs.State.{OutputPin, Setting, output_pins}
+use Rattle.vrt_model.specs.State.{Setting}
 use Rattle.vrt_model.specs.Unrolled.{Place, Top}
 use Rattle.vrt_model.specs.WholeInstances.{IsChain, IsWholeAt, Pin, pins_of}
 use Rattle.vrt_model.specs.declared.blif.Blif.{Blif}

@@ -40,7 +40,6 @@ use Rattle.vrt_model.specs.Unrolled.{Place, Top}
 use Rattle.vrt_model.specs.WholeInstances.{IsWholeAt, OutputAt, all_outputs, outputs_of_place, settled_drive}
 use Rattle.vrt_model.specs.declared.blif.Blif.{Blif}
 use Rattle.vrt_model.specs.declared.circuit.Circuit.{Circuit}
-use Rattle.vrt_model.specs.declared.ids.Net.{Net}
 use Rattle.vrt_model.specs.declared.rules.Phase.{Phase}
 use Rattle.vrt_model.specs.declared.whole.CellFacts.{CellFacts}
 use Rattle.vrt_model.specs.declared.whole.Drive.TheVariants.{Soft}

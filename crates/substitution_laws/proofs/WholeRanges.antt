@@ -10,16 +10,16 @@ use Rattle.checked_chain.specs.Holds.{IsEndShown}
 use Rattle.placed_cells.proofs.ListLaws.{zip_right}
 use Rattle.replaced_instances.proofs.StepInstances.{front_of}
 use Rattle.replaced_instances.specs.Steps.{compared_at}
-use Rattle.substitution_laws.proofs.ChosenLaws.{chosen_instances_are_steps, tried_instances_are_steps}
+use Rattle.substitution_laws.proofs.ChosenLaws.{chosen_instances_are_steps, soft_is_trial, tried_steps_are_chosen}
 use Rattle.substitution_laws.proofs.DriveRanges.{told_in_range}
 use Rattle.substitution_laws.proofs.EndsLaws.{tried_ends_are_shown}
 use Rattle.substitution_laws.proofs.WholeCells.{whole_chosen}
-use Rattle.substitution_laws.specs.Chosen.{IsTrialByFacts}
+use Rattle.substitution_laws.specs.Chosen.{IsTrial}
 use Rattle.formed_cells.proofs.FormedLaws.{supported_cells_are_formed}
 use Rattle.replaced_instances.proofs.StepPlaced.{plain_with}
 use Rattle.formed_cells.specs.Formed.{IsFormed}
 use Rattle.substitution_laws.proofs.FormedCells.{formed_cell}
-use Rattle.substitution_laws.specs.Wholes.{CircuitsHaveRanges, CutsHaveRanges, IsFormedCut, TriedCircuitsAreWired}
+use Rattle.substitution_laws.specs.Wholes.{CircuitsHaveRanges, CutsHaveRanges, IsFormedCut, TrialsAreWired, TriedCircuitsAreWired}
 use Rattle.vrt_model.proofs.Filtered.{filter_among}
 use Rattle.vrt_model.proofs.Lists.{among_filter_map, at_there, filter_map_among, map_among}
 use Rattle.vrt_model.proofs.Members.{all_among, all_by, among_flat_map, among_later, among_map, flat_map_among}
@@ -250,7 +250,7 @@ circuits_have_ranges cut blif facts n c h flat ends circuit =
 
 -- ---- instances that are tried
 
-module _ {all_soft : Bool} (cut : Cut) (blif : Blif) (facts : List CellFacts) (c : Circuit) (h : IsTrialByFacts all_soft cut blif facts) (circuit : IsCircuitWith cut blif facts c) where
+module _ (cut : Cut) (blif : Blif) (facts : List CellFacts) (c : Circuit) (h : IsTrial cut blif facts) (circuit : IsCircuitWith cut blif facts c) where
   -- a place that is left whole is that of a chosen instance
   chosen_place : (p : NumberedPlace) → Among (whole_places cut) p → (i : ℕ) × At (numbered_places cut.top) (suc i) p × (cut.choice i ≡ true)
   chosen_place p on =
@@ -266,11 +266,11 @@ module _ {all_soft : Bool} (cut : Cut) (blif : Blif) (facts : List CellFacts) (c
     flat = flat;
     cells = λ p on.
         (let is = chosen_place p on in
-        let step = tried_instances_are_steps cut blif facts is.0 p h is.1 is.2 in
+        let step = tried_steps_are_chosen cut blif facts is.0 p h is.1 is.2 in
         (step.0, step.1.paired, supported_cells_are_formed cut.top.design blif cut.top.rules p.at.cell step.0 h.read step.2));
     drives = λ p o on there.
         (let is = chosen_place p on in
-        let step = tried_instances_are_steps cut blif facts is.0 p h is.1 is.2 in
+        let step = tried_steps_are_chosen cut blif facts is.0 p h is.1 is.2 in
         told_in_range cut blif facts is.0 p step.0 step.1 (supported_cells_are_formed cut.top.design blif cut.top.rules p.at.cell step.0 h.read step.2) h.read.valid.some_phase (flat_circuit_of cut.top) o there);
     ends = tried_ends_are_shown cut blif facts h;
   }
@@ -280,7 +280,7 @@ module _ {all_soft : Bool} (cut : Cut) (blif : Blif) (facts : List CellFacts) (c
   plain_outputs w pin on there =
       let from = zip_right (IsWholeAt cut blif facts) (whole_places cut) c.wholes w circuit.wholes on in
       let is = chosen_place from.0 from.1 in
-      let step = tried_instances_are_steps cut blif facts is.0 from.0 h is.1 is.2 in
+      let step = tried_steps_are_chosen cut blif facts is.0 from.0 h is.1 is.2 in
       let settled : OutputAt → WholePin = λ o. settled_drive (checked_devices cut) (all_outputs cut blif facts) o in
       let same = made_is cut blif facts from.0 step.0 w step.1.paired from.2 in
       let o = among_map settled (outputs_of_place cut.top blif facts from.0) pin (subst (λ (pins : List WholePin). Among pins pin) (sym (ap (λ (x : Whole). x.outputs) same)) there) in
@@ -288,8 +288,11 @@ module _ {all_soft : Bool} (cut : Cut) (blif : Blif) (facts : List CellFacts) (c
       let plain = plain_with cut (with_one (before cut is.0) is.0) blif facts c circuit refl o.0.pin.net.0 (may.1.plain o.0 o.1).0 in
       subst (λ (x : WholePin). IsPlain c x.net.0) o.2 plain
 
-pub tried_circuits_are_wired : {all_soft : Bool} → TriedCircuitsAreWired all_soft
-tried_circuits_are_wired cut blif facts c h flat circuit = record {
+pub trials_are_wired : TrialsAreWired
+trials_are_wired cut blif facts c h flat circuit = record {
   ranges = cuts_have_ranges cut blif facts c (formed_cut cut blif facts c h circuit flat) circuit;
   outputs = plain_outputs cut blif facts c h circuit;
 }
+
+pub tried_circuits_are_wired : TriedCircuitsAreWired
+tried_circuits_are_wired cut blif facts c h flat circuit = trials_are_wired cut blif facts c (soft_is_trial cut blif facts h) flat circuit

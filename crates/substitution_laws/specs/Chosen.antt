@@ -39,17 +39,20 @@ IsToldChoice cut blif facts = IsChoiceByFacts false cut blif facts
 abbrev pub IsSoftChoice : Cut → Blif → List CellFacts → Type 0
 IsSoftChoice cut blif facts = IsChoiceByFacts true cut blif facts
 
--- the same where cycles are not looked at: instances each of which is allowed besides those before it
-pub record IsTrialByFacts (all_soft : Bool) (cut : Cut) (blif : Blif) (facts : List CellFacts) : Type 0 where
+-- The same where cycles are not looked at: instances each of which is allowed besides those before it. The facts may tell drives.
+pub record IsTrial (cut : Cut) (blif : Blif) (facts : List CellFacts) : Type 0 where
   pub netlist : IsSoundNetlist cut.top
   pub read : AreRead blif cut.top.rules
   pub told : (cell : ℕ) (f : CellFacts) → At facts cell f → IsTrueOf cut.top.design blif cut.top.rules cell f
-  pub soft : AreSoftIf all_soft facts
   pub tried : AreAllowed cut blif facts
 
--- a trial by facts without drives
-abbrev pub IsSoftTrial : Cut → Blif → List CellFacts → Type 0
-IsSoftTrial cut blif facts = IsTrialByFacts true cut blif facts
+-- and where they tell none
+pub record IsSoftTrial (cut : Cut) (blif : Blif) (facts : List CellFacts) : Type 0 where
+  pub netlist : IsSoundNetlist cut.top
+  pub read : AreRead blif cut.top.rules
+  pub told : (cell : ℕ) (f : CellFacts) → At facts cell f → IsTrueOf cut.top.design blif cut.top.rules cell f
+  pub soft : AreSoft facts
+  pub tried : AreAllowed cut blif facts
 
 -- The law: a chosen instance is one more step, and its cell is supported. Where all drives are soft each of its outputs meets gates
 -- alone, where it and those before it are whole.

@@ -6,5 +6,4 @@ pub mod SharedSets
 pub mod StepArcs
 pub mod StepOpened
 pub mod TrialLaws
-pub mod UnsettledOutputs
 pub mod WithoutLinks

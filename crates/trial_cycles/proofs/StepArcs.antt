@@ -8,6 +8,7 @@ use Rattle.placed_cells.proofs.AboveLaws.{port_outside}
 use Rattle.placed_cells.proofs.CutLaws.{pin_among}
 use Rattle.placed_cells.specs.Above.{net_above}
 use Rattle.placed_cells.specs.Splits.{IsSplit}
+use Rattle.replaced_instances.proofs.ChosenOutputs.{same_port}
 use Rattle.replaced_instances.proofs.OutputPorts.{pin_at}
 use Rattle.replaced_instances.proofs.PinOutputs.{output_pin}
 use Rattle.replaced_instances.proofs.StepHides.{remaining_port, whole_outside}
@@ -52,7 +53,7 @@ use Rattle.trial_cycles.proofs.OpenedNets.{IsOpenedIn, known_stays, plain_up, su
 use Rattle.channel_parts.proofs.Labels.{together_further}
 use Rattle.channel_parts.proofs.RankLaws.{together_back}
 use Rattle.fault_places.proofs.PartRanks.{same_rank}
-use Rattle.trial_cycles.proofs.CellPorts.{clock_in, clock_role, is_input, one_port, signal_is_net}
+use Rattle.trial_cycles.proofs.CellPorts.{clock_in, clock_role, is_input, signal_is_net}
 use Rattle.trial_cycles.proofs.WithoutLinks.{gate_in, gate_out, together_in, together_out}
 use Rattle.vrt_model.specs.State.{OutputPin, output_pins}
 
@@ -253,7 +254,7 @@ module _ (cut : Cut) (blif : Blif) (facts : List CellFacts) (i : ℕ) (p : Numbe
       let from = output_port l from_plain from_stays in
       let to = output_port n to_plain meets.0 in
       let apart : from.0.place ≡ to.0.place → ⊥ = λ same.
-      (let one : l ≡ n = sym from.2 ∙ (ap (λ (x : CellPort). x.net) (one_port q from.0 to.0 from.1 to.1 same) ∙ to.2) in
+      (let one : l ≡ n = sym from.2 ∙ (ap (λ (x : CellPort). x.net) (same_port q from.0 to.0 from.1 to.1 same) ∙ to.2) in
       never_back g n chain (together_back q.circuit now bare n g (subst (λ (x : ℕ). IsTogether q.circuit now bare x g) one t))) in
       link_over l n k from.0 to.0 from.1 to.1 from.2 to.2 meets
       (inl (

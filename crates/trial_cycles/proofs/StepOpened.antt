@@ -12,14 +12,14 @@ use Rattle.replaced_instances.proofs.StepHides.{output_observed, remaining_port}
 use Rattle.replaced_instances.proofs.StepOutputs.{outputs_behind}
 use Rattle.replaced_instances.proofs.StepPorts.{no_holds, plain_output, plain_port, told}
 use Rattle.replaced_instances.specs.Steps.{IsChosenStep, compared_at, compared_at_step, drive_at, exposed_at, fresh_place, is_outside_at}
-use Rattle.vrt_model.proofs.Filtered.{among_devices, device_among, filter_among}
+use Rattle.vrt_model.proofs.Filtered.{filter_among}
 use Rattle.vrt_model.proofs.Lists.{at_back}
 use Rattle.vrt_model.specs.Checked.{IsCircuitWith, before}
 use Rattle.vrt_model.specs.Comparison.{CellPort, Comparison, output_signal, phase_at, ports_of}
 use Rattle.vrt_model.specs.Cut.{Cut, NumberedPlace}
 use Rattle.vrt_model.specs.Facts.{output_ports}
 use Rattle.vrt_model.specs.FlatCircuit.{flat_circuit_of}
-use Rattle.vrt_model.specs.Known.{IsDriven, IsPlain, IsTogether, IsUnknown, itself, onward}
+use Rattle.vrt_model.specs.Known.{IsDriven, IsPlain, IsTogether, IsUnknown}
 use Rattle.vrt_model.specs.Lists.{Among, At}
 use Rattle.vrt_model.specs.Networks.{HasRanges}
 use Rattle.vrt_model.specs.Unrolled.{Place, Top}
@@ -30,19 +30,14 @@ use Rattle.vrt_model.specs.declared.rules.Phase.{Phase}
 use Rattle.vrt_model.specs.declared.whole.CellFacts.{CellFacts}
 use Rattle.vrt_model.specs.declared.whole.WholePin.{WholePin}
 use Rattle.trial_cycles.proofs.OpenedNets.{IsOpenedIn, driven_by_pin}
+use Rattle.replaced_instances.proofs.ChosenOutputs.{same_port, together_kept}
 use Rattle.replaced_instances.proofs.ChosenSteps.{chosen_step_is_left_whole, chosen_step_is_placed, exposed_true}
 use Rattle.replaced_instances.proofs.StepLeft.{hidden_compared}
-use Rattle.trial_cycles.proofs.CellPorts.{one_port}
-use Rattle.trial_cycles.proofs.UnsettledOutputs.{outputs_are_unsettled}
+use Rattle.substitution_laws.proofs.EqualStates.{outputs_are_unsettled}
 use Rattle.vrt_model.specs.Comparison.{is_observed}
 use Rattle.vrt_model.specs.Facts.{IsAloneInside}
 use Rattle.vrt_model.specs.Reading.{kept}
 use Rattle.whole_solutions.specs.KnownInside.{AreExposedUnsettled}
-
--- a part of the bare circuit lies in one of the kept circuit
-together_kept : (c : Circuit) (phase : Phase) {m n : ℕ} → IsTogether c phase true m n → IsTogether c phase kept m n
-together_kept c phase (itself p) = itself p
-together_kept c phase (onward d before channel joins p) = onward d (together_kept c phase before) (among_devices kept c d (device_among true c d channel.0).0 refl, channel.1) joins p
 
 module _ (cut : Cut) (blif : Blif) (facts : List CellFacts) (i : ℕ) (p : NumberedPlace) (m : ℕ) (step : IsChosenStep cut blif facts i p m)
     (formed : IsFormed (compared_at cut.top blif p m)) (depth : ℕ) (front back : List Place) (split : IsSplit cut.top (suc i) p.at depth front back)
@@ -111,10 +106,10 @@ module _ (cut : Cut) (blif : Blif) (facts : List CellFacts) (i : ℕ) (p : Numbe
       let other = plain_port cut blif facts i p m step n (remaining_port cut blif facts i p m step depth front back split n plain stays) plain in
       let listed = λ (port : CellPort) (on : Among (output_ports q) port). (filter_among (λ (x : CellPort). is_some (output_signal x.role)) (ports_of q) port on).0 in
       elim (cases_Bool (eqb other.0.place one.0.place)) [
-        | inl same ↦ sym one.2 ∙ ap (λ (x : CellPort). x.net) (one_port q one.0 other.0 (listed one.0 one.1) (listed other.0 other.1) (sym (eqb-true other.0.place one.0.place same))) ∙ other.2
+        | inl same ↦ sym one.2 ∙ ap (λ (x : CellPort). x.net) (same_port q one.0 other.0 (listed one.0 one.1) (listed other.0 other.1) (sym (eqb-true other.0.place one.0.place same))) ∙ other.2
         | inr apart ↦
             absurd (one.3.alone phase other.0 lt other.1 (λ same. false≢true (sym apart ∙ eq-eqb other.0.place one.0.place same))
-            (subst (λ (x : ℕ). IsTogether q.circuit now kept x other.0.net) (sym one.2) (subst (IsTogether q.circuit now kept l) (sym other.2) (together_kept q.circuit now t))))
+            (subst (λ (x : ℕ). IsTogether q.circuit now kept x other.0.net) (sym one.2) (subst (IsTogether q.circuit now kept l) (sym other.2) (together_kept q.circuit now true l n t))))
       ]
 
   pub step_is_opened : IsOpenedIn q.circuit c whole_circuit now at (λ j. j) (fresh_place (before cut i) blif facts q) remaining (compared_at_step cut blif facts i p q) exposed (drive_at facts p q)

@@ -17,21 +17,21 @@ use Rattle.known_nets.specs.Wired.{IsWired}
 use Rattle.placed_cells.proofs.CutLaws.{pin_among}
 use Rattle.placed_cells.proofs.SplitLaws.{places_in_stand_together}
 use Rattle.replaced_instances.proofs.StepOutputs.{one_more_place}
-use Rattle.replaced_instances.proofs.StepPorts.{fact_there, place_there}
+use Rattle.replaced_instances.proofs.StepPorts.{place_there}
 use Rattle.replaced_instances.specs.Steps.{AreAllowed, IsAllowedInstance, IsChosenStep, compared_at, compared_at_step, drive_at, exposed_at}
 use Rattle.whole_circuits.proofs.ArcLaws.{acyclic_is}
 use Rattle.substitution_laws.proofs.WholeCells.{whole_chosen}
-use Rattle.substitution_laws.proofs.WholeRanges.{tried_circuits_are_wired}
-use Rattle.substitution_laws.specs.Chosen.{IsSoftTrial}
+use Rattle.substitution_laws.proofs.WholeRanges.{trials_are_wired}
+use Rattle.substitution_laws.proofs.ChosenLaws.{soft_is_trial, tried_steps_are_chosen}
+use Rattle.substitution_laws.specs.Chosen.{IsTrial}
 use Rattle.trial_cycles.proofs.StepArcs.{step_goes}
 use Rattle.trial_cycles.proofs.StepOpened.{step_is_opened}
-use Rattle.trial_cycles.specs.TrialCycles.{AllowedAreChosen, AnyAllowedAreChosen, AnyStepKeepsAcyclic, AnyTrialsAreAcyclic, AnyTriedMayBeWhole, AreWired, CarriedClocksAreKnown, FlatTrialsAreAcyclic, IsAcyclicTrial, IsTrial, IsTrialAtClocks, IsTrialInPhase, IsTrialWithoutCycles, StepKeepsAcyclic, TrialsAreAcyclic, TriedMayBeWhole}
+use Rattle.trial_cycles.specs.TrialCycles.{AllowedAreChosen, AnyAllowedAreChosen, AnyStepKeepsAcyclic, AnyTrialsAreAcyclic, AnyTriedMayBeWhole, CarriedClocksAreKnown, FlatTrialsAreAcyclic, IsAcyclicTrial, IsTrialAtClocks, IsTrialInPhase, IsTrialWithoutCycles, StepKeepsAcyclic, TrialsAreAcyclic, TriedMayBeWhole}
 use Rattle.vrt_model.proofs.Filtered.{among_kept, filter_among}
 use Rattle.vrt_model.proofs.Lists.{at_there}
 use Rattle.vrt_model.proofs.Members.{among_left, among_right}
-use Rattle.vrt_model.specs.Checked.{HasArcWith, IsCircuitWith, MayBeWhole, before, circuit_with, has_fact, keeps_inputs_free, names_no_global, observes_outputs}
-use Rattle.vrt_model.specs.Circuits.{IsCircuit}
-use Rattle.vrt_model.specs.Comparison.{Comparison, phase_at, ports_of}
+use Rattle.vrt_model.specs.Checked.{HasArcWith, IsCircuitWith, MayBeWhole, before, circuit_with}
+use Rattle.vrt_model.specs.Comparison.{phase_at, ports_of}
 use Rattle.vrt_model.specs.Cut.{Cut, NumberedPlace, is_inside_whole, is_whole, numbered_places, whole_places}
 use Rattle.vrt_model.specs.FlatCircuit.{flat_circuit_of}
 use Rattle.vrt_model.specs.Known.{HasArc, HasFixedBit, IsKnown, fixed}
@@ -39,7 +39,7 @@ use Rattle.vrt_model.specs.Lists.{Among, At}
 use Rattle.vrt_model.specs.PairedPorts.{Missing, Model, Paired, Skipped, paired_model}
 use Rattle.vrt_model.specs.Reading.{clock_bit}
 use Rattle.vrt_model.specs.Unrolled.{Top, all_places}
-use Rattle.vrt_model.specs.Unsupported.{IsAcyclic, IsSupported, comparison_of}
+use Rattle.vrt_model.specs.Unsupported.{IsAcyclic, comparison_of}
 use Rattle.vrt_model.specs.WholeInstances.{Pin, pins_of}
 use Rattle.vrt_model.specs.declared.blif.Blif.{Blif}
 use Rattle.vrt_model.specs.declared.circuit.Circuit.{Circuit}
@@ -71,45 +71,14 @@ tried_before cut blif facts n tried i p place chosen =
     subst (λ (x : Cut). (is_inside_whole x p.at ≡ false) × ((m : ℕ) × IsAllowedInstance x blif facts i p m)) (sym (before_twice cut n i (omega (arith, lt))))
     (tried i p place both.0)
 
--- ---- steps
-
--- each instance is a step of the chain, and its cell is supported
-tried_step : (cut : Cut) (blif : Blif) (facts : List CellFacts) (i : ℕ) (p : NumberedPlace) → IsTrial cut blif facts → At (numbered_places cut.top) (suc i) p → cut.choice i ≡ true
-    → (m : ℕ) × IsChosenStep cut blif facts i p m × IsSupported cut.top.design blif cut.top.rules p.at.cell m
-tried_step cut blif facts i p h place chosen =
-    let t = cut.top in
-    let there = (h.tried i p place chosen).1 in
-    let m = there.0 in
-    let may : IsAllowedInstance (before cut i) blif facts i p m = there.1 in
-    let k : Comparison = comparison_of t.design blif t.rules p.at.cell m in
-    let fact = has_fact (λ (f : CellFacts). f.equal && f.stateless) facts k.cell in
-    let one = and_parts (fact && names_no_global t k.cell && observes_outputs k) (keeps_inputs_free k) may.cell in
-    let two = and_parts (fact && names_no_global t k.cell) (observes_outputs k) one.0 in
-    let three = and_parts fact (names_no_global t k.cell) two.0 in
-    let f = fact_there (λ (f : CellFacts). f.equal && f.stateless) facts k.cell three.0 in
-    let told = (h.told k.cell f.0 f.1).supported (and_parts f.0.equal f.0.stateless f.2).0 in
-    let model : Paired → ℕ = λ x. elim x [ Model j ↦ j | Skipped ↦ 0 | Missing ↦ 0 ] in
-    let same : told.0 ≡ m = ap model (sym told.1.paired ∙ may.paired) in
-    let supported : IsSupported t.design blif t.rules p.at.cell m = subst (λ (j : ℕ). IsSupported t.design blif t.rules p.at.cell j) same told.1 in (
-      m,
-      record {
-        netlist = h.netlist;
-        told = h.told;
-        tried = h.tried;
-        chosen = chosen;
-        place = place;
-        paired = may.paired;
-        roles = (supported_cells_are_formed t.design blif t.rules p.at.cell m h.read supported).roles;
-        gates = tt;
-      },
-      supported,
-    )
+trial_before : (cut : Cut) (blif : Blif) (facts : List CellFacts) (n : ℕ) → IsTrial cut blif facts → IsTrial (before cut n) blif facts
+trial_before cut blif facts n h = record { netlist = h.netlist; read = h.read; told = h.told; tried = tried_before cut blif facts n h.tried }
 
 -- the outputs of each cell of theirs are apart
 outputs_apart : (cut : Cut) (blif : Blif) (facts : List CellFacts) (n : ℕ) → IsTrial cut blif facts → AreWholeOutputsApart (before cut n) blif
 outputs_apart cut blif facts n h p m on paired =
     let is = whole_chosen cut n p on in
-    let step = tried_step cut blif facts is.0 p h is.1.place is.1.chosen in
+    let step = tried_steps_are_chosen cut blif facts is.0 p h is.1.place is.1.chosen in
     let model : Paired → ℕ = λ x. elim x [ Model j ↦ j | Skipped ↦ 0 | Missing ↦ 0 ] in
     let same : step.0 ≡ m = ap model (sym step.1.paired ∙ paired) in
     subst (λ (j : ℕ). AreOutputsApart (comparison_of cut.top.design blif cut.top.rules p.at.cell j)) same
@@ -131,7 +100,7 @@ module _ (cut : Cut) (blif : Blif) (facts : List CellFacts) (c : Circuit) (phase
   steps : (n : ℕ) (o : NumberedPlace) → Among (whole_places (before cut n)) o → (j : ℕ) × (l : ℕ) × IsChosenStep cut blif facts j o l
   steps n o on =
       let is = whole_chosen cut n o on in
-      let step = tried_step cut blif facts is.0 o h.trial is.1.place is.1.chosen in
+      let step = tried_steps_are_chosen cut blif facts is.0 o h.trial is.1.place is.1.chosen in
       (is.0, step.0, step.1)
 
   -- the clock ports of whole instances are known in a circuit with a choice
@@ -157,12 +126,12 @@ module _ (cut : Cut) (blif : Blif) (facts : List CellFacts) (c : Circuit) (phase
   first_is i = (chain_is_there cut blif facts c i h.circuit).1
 
   first_wired : (i : ℕ) → IsWired (first i)
-  first_wired i = h.wired i (first i) (first_is i)
+  first_wired i = trials_are_wired (before cut i) blif facts (first i) (trial_before cut blif facts i h.trial) h.formed (first_is i)
 
   chosen_goes : (i : ℕ) → suc i < length (all_places t) → cut.choice i ≡ true → HasKnown (before cut (suc i)) → HasKnown (before cut i) × (IsFree (before cut (suc i)) → IsFree (before cut i))
   chosen_goes i low chosen known =
       let p = at_there (numbered_places t) (suc i) (subst (λ (n : ℕ). suc i < n) (sym (as_many t)) low) in
-      let step = tried_step cut blif facts i p.0 h.trial p.1 chosen in
+      let step = tried_steps_are_chosen cut blif facts i p.0 h.trial p.1 chosen in
       let formed = supported_cells_are_formed t.design blif t.rules p.0.at.cell step.0 h.trial.read step.2 in
       let split = places_in_stand_together t (suc i) p.0.at (place_there cut blif facts i p.0 step.0 step.1) in
       let one_more = one_more_place cut i p.0 p.1 chosen in
@@ -258,7 +227,7 @@ phase_is phases j x e = ap (λ (o : Option Phase). unwrap_or o (record { line = 
 
 module _ (cut : Cut) (blif : Blif) (facts : List CellFacts) (c : Circuit) (h : IsAcyclicTrial cut blif facts c) where
   in_phase : (phase : ℕ) → phase < length cut.top.rules.phases → IsTrialInPhase cut blif facts c phase
-  in_phase phase lt = record { trial = h.trial; wired = h.wired; circuit = h.circuit; there = lt; clocks = h.clocks phase lt }
+  in_phase phase lt = record { trial = h.trial; formed = h.formed; circuit = h.circuit; there = lt; clocks = h.clocks phase lt }
 
   free_in : (phase : ℕ) → phase < length cut.top.rules.phases → IsAcyclic (HasArc c (phase_at cut.top.rules phase))
   free_in phase lt =
@@ -294,22 +263,13 @@ any_allowed_are_chosen cut blif facts c choice h i p place = (
 
 -- ---- facts without drives
 
-soft_before : (cut : Cut) (blif : Blif) (facts : List CellFacts) (n : ℕ) → IsSoftTrial cut blif facts → IsSoftTrial (before cut n) blif facts
-soft_before cut blif facts n h = record { netlist = h.netlist; read = h.read; told = h.told; soft = h.soft; tried = tried_before cut blif facts n h.tried }
-
-soft_wired : (cut : Cut) (blif : Blif) (facts : List CellFacts) → IsSoftTrial cut blif facts → IsCircuit (flat_circuit_of cut.top) → AreWired cut blif facts
-soft_wired cut blif facts h formed i c is = tried_circuits_are_wired (before cut i) blif facts c (soft_before cut blif facts i h) formed is
-
-soft_trial : (cut : Cut) (blif : Blif) (facts : List CellFacts) → IsSoftTrial cut blif facts → IsTrial cut blif facts
-soft_trial cut blif facts h = record { netlist = h.netlist; read = h.read; told = h.told; tried = h.tried }
-
 soft_in_phase : (cut : Cut) (blif : Blif) (facts : List CellFacts) (c : Circuit) (phase : ℕ) → IsTrialAtClocks cut blif facts c phase → IsTrialInPhase cut blif facts c phase
 soft_in_phase cut blif facts c phase h =
-    record { trial = soft_trial cut blif facts h.trial; wired = soft_wired cut blif facts h.trial h.formed; circuit = h.circuit; there = h.there; clocks = h.clocks }
+    record { trial = soft_is_trial cut blif facts h.trial; formed = h.formed; circuit = h.circuit; there = h.there; clocks = h.clocks }
 
 soft_acyclic : (cut : Cut) (blif : Blif) (facts : List CellFacts) (c : Circuit) → IsTrialWithoutCycles cut blif facts c → IsAcyclicTrial cut blif facts c
 soft_acyclic cut blif facts c h =
-    record { trial = soft_trial cut blif facts h.trial; wired = soft_wired cut blif facts h.trial h.formed; circuit = h.circuit; clocks = h.clocks; acyclic = h.acyclic }
+    record { trial = soft_is_trial cut blif facts h.trial; formed = h.formed; circuit = h.circuit; clocks = h.clocks; acyclic = h.acyclic }
 
 pub step_keeps_acyclic : StepKeepsAcyclic
 step_keeps_acyclic cut blif facts c i phase h low free = any_step_keeps_acyclic cut blif facts c i phase (soft_in_phase cut blif facts c phase h) low free

@@ -1,15 +1,12 @@
 -- Instances that are tried together: whether arcs have a cycle is asked once, of the circuit in which all of them are whole.
 use Rattle.std.specs.Prelude.{◌≡◌, ◌↔◌, ℕ, suc, ◌<◌, true, false, List, length}
-use Rattle.formed_cells.specs.Formed.{AreRead}
-use Rattle.known_nets.specs.Wired.{IsWired}
-use Rattle.replaced_instances.specs.Steps.{AreAllowed, IsAllowedInstance, IsSoundNetlist}
+use Rattle.replaced_instances.specs.Steps.{IsAllowedInstance}
 use Rattle.whole_circuits.specs.Acyclic.{AreAcyclic}
-use Rattle.substitution_laws.specs.Chosen.{IsSoftTrial}
+use Rattle.substitution_laws.specs.Chosen.{IsSoftTrial, IsTrial}
 use Rattle.vrt_model.specs.Checked.{HasArcWith, IsChoice, IsCircuitWith, MayBeWhole, before}
 use Rattle.vrt_model.specs.Circuits.{IsCircuit}
 use Rattle.vrt_model.specs.Comparison.{phase_at}
 use Rattle.vrt_model.specs.Cut.{Cut, NumberedPlace, is_inside_whole, numbered_places, whole_places}
-use Rattle.vrt_model.specs.Facts.{IsTrueOf}
 use Rattle.vrt_model.specs.FlatCircuit.{flat_circuit_of, flat_nets}
 use Rattle.vrt_model.specs.Known.{HasArc, IsKnown}
 use Rattle.vrt_model.specs.Lists.{Among, At}
@@ -53,21 +50,11 @@ CarriedClocksAreKnown =
 
 -- ---- trials
 
--- instances each of which is allowed besides those before it, by true facts, whatever these say of how strongly outputs drive
-pub record IsTrial (cut : Cut) (blif : Blif) (facts : List CellFacts) : Type 0 where
-  pub netlist : IsSoundNetlist cut.top
-  pub read : AreRead blif cut.top.rules
-  pub told : (cell : ℕ) (f : CellFacts) → At facts cell f → IsTrueOf cut.top.design blif cut.top.rules cell f
-  pub tried : AreAllowed cut blif facts
-
--- each circuit with the instances before some place whole has its numbers and levels in range, and outputs of whole instances at plain nets
-abbrev pub AreWired : Cut → Blif → List CellFacts → Type 0
-AreWired cut blif facts = (i : ℕ) (c : Circuit) → IsCircuitWith (before cut i) blif facts c → IsWired c
-
--- such instances, with the circuit in which all of them are whole; their clock ports are known there in the phase
+-- instances that are allowed one besides the other in a well-formed flat circuit, whatever is told of drives, with the circuit in which all of them
+-- are whole; their clock ports are known there in the phase
 pub record IsTrialInPhase (cut : Cut) (blif : Blif) (facts : List CellFacts) (c : Circuit) (phase : ℕ) : Type 0 where
   pub trial : IsTrial cut blif facts
-  pub wired : AreWired cut blif facts
+  pub formed : IsCircuit (flat_circuit_of cut.top)
   pub circuit : IsCircuitWith cut blif facts c
   pub there : phase < length cut.top.rules.phases
   pub clocks : AreClocksKnown cut blif c phase
@@ -90,7 +77,7 @@ AnyTrialsAreAcyclic =
 -- so in each phase, and the arcs of the circuit in which all are whole have no cycle in any
 pub record IsAcyclicTrial (cut : Cut) (blif : Blif) (facts : List CellFacts) (c : Circuit) : Type 0 where
   pub trial : IsTrial cut blif facts
-  pub wired : AreWired cut blif facts
+  pub formed : IsCircuit (flat_circuit_of cut.top)
   pub circuit : IsCircuitWith cut blif facts c
   pub clocks : (phase : ℕ) → phase < length cut.top.rules.phases → AreClocksKnown cut blif c phase
   pub acyclic : AreAcyclic c cut.top.rules.phases
@@ -116,8 +103,7 @@ AnyAllowedAreChosen =
 
 -- ---- cycles, where facts say of no output how strongly it drives
 
--- such instances in a well-formed flat circuit, with the circuit in which all of them are whole; their clock ports
--- are known there in the phase
+-- the same by facts that tell no drives
 pub record IsTrialAtClocks (cut : Cut) (blif : Blif) (facts : List CellFacts) (c : Circuit) (phase : ℕ) : Type 0 where
   pub trial : IsSoftTrial cut blif facts
   pub formed : IsCircuit (flat_circuit_of cut.top)
