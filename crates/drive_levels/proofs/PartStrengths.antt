@@ -12,13 +12,14 @@ use Rattle.circuit_faults.specs.Scans.{IsInside}
 use Rattle.circuit_faults.specs.Wholes.{HasFreeWholes}
 use Rattle.known_nets.proofs.NetKinds.{given_or_plain}
 use Rattle.known_nets.proofs.WiredLaws.{pin_of_whole}
-use Rattle.path_fixpoint.specs.Parts.{part_devices}
+use Rattle.path_fixpoint.proofs.PinLaws.{pin_level}
+use Rattle.path_fixpoint.specs.Parts.{part_devices, pins_of}
 use Rattle.path_fixpoint.specs.Solved.{net_of}
 use Rattle.vrt_model.proofs.Bounded.{strength_inside}
 use Rattle.vrt_model.proofs.Filtered.{device_among}
 use Rattle.vrt_model.proofs.GatesGiven.{IsGiven}
 use Rattle.vrt_model.proofs.Lists.{at_map}
-use Rattle.vrt_model.proofs.Members.{all_among, at_none}
+use Rattle.vrt_model.proofs.Members.{all_among}
 use Rattle.vrt_model.specs.Circuits.{IsDevice, IsHold}
 use Rattle.vrt_model.specs.Known.{IsChannel, IsDriven, IsPlain}
 use Rattle.vrt_model.specs.Lists.{At, Among}
@@ -54,7 +55,7 @@ module _ (which : Bool) (c : Circuit) (phase : Phase) (observed : ℕ → Bool) 
       | inl g ↦ (let is = g.3 in omega (arith, is))
       | inr other ↦ elim other [
         | inl h ↦ (let is = h.4 in let le = (all_among (IsHold c) c.holds h.1 wholes.ranges.holds (h.0, h.2)).size.1 in omega (arith, is, le))
-        | inr o ↦ absurd (at_none o.0 o.1 o.2)
+        | inr o ↦ (let is = o.4 in let le = (pin_level c o.1 wholes.ranges (o.0, o.2)).1 in omega (arith, is, le))
       ]
     ];
     devices = λ d on. (let le = (in_circuit d on.0).level.1 in omega (arith, le));
@@ -75,8 +76,8 @@ module _ (which : Bool) (c : Circuit) (phase : Phase) (observed : ℕ → Bool) 
       ]
 
   -- the net of an output pin has an output
-  driven_here : (s : State) (at : ℕ) (pin : WholePin) → At (circuit_at s).outputs at pin → (n : ℕ) → n ≡ pin.net.0 → IsDriven c n
-  driven_here s at pin e n net =
+  driven_here : (at : ℕ) (pin : WholePin) → At (pins_of c) at pin → (n : ℕ) → n ≡ pin.net.0 → IsDriven c n
+  driven_here at pin e n net =
       let from = at_map (λ (out : OutputPin). out.pin) (output_pins c) at pin e in
       let there = pin_of_whole c from.0 (at, from.1) in
       (from.0.whole, from.0.pin, there.0, there.1, ap (λ (p : WholePin). p.net.0) from.2 ∙ sym net)
@@ -103,7 +104,7 @@ module _ (which : Bool) (c : Circuit) (phase : Phase) (observed : ℕ → Bool) 
             | inr e ↦ absurd (let small = (all_among (IsHold c) c.holds h.1 wholes.ranges.holds (h.0, h.2)).size.1 in let top : r.level ≡ 8 = e.1 in let is = h.4 in omega (arith, small, top, is))
           ]
           | inr o ↦ elim in_it [
-            | inl i ↦ absurd (undriven r.net i (driven_here s o.0 o.1 o.2 r.net o.3))
+            | inl i ↦ absurd (undriven r.net i (driven_here o.0 o.1 o.2 r.net o.3))
             | inr e ↦ absurd (no_output which c phase observed wholes seen root fixed setting here s o.0 o.1 o.2 (subst (IsGiven c) o.3 e.0))
           ]
         ]
@@ -125,7 +126,10 @@ module _ (which : Bool) (c : Circuit) (phase : Phase) (observed : ℕ → Bool) 
             | inl i ↦ inr (inl (h.0, h.1, h.2, h.3, h.4, h.5 ∙ sym (held_bit h.0 h.1 h.2 (subst (IsPlain c) h.3 (whole.plain r.net i)))))
             | inr e ↦ absurd (let small = (all_among (IsHold c) c.holds h.1 wholes.ranges.holds (h.0, h.2)).size.1 in let top : r.level ≡ 8 = e.1 in let is = h.4 in omega (arith, small, top, is))
           ]
-          | inr o ↦ absurd (at_none o.0 o.1 o.2)
+          | inr o ↦ elim in_it [
+            | inl i ↦ absurd (undriven r.net i (driven_here o.0 o.1 o.2 r.net o.3))
+            | inr e ↦ absurd (no_output which c phase observed wholes seen root fixed setting here s o.0 o.1 o.2 (subst (IsGiven c) o.3 e.0))
+          ]
         ]
       ];
       devices = λ m n d on j i. ((whole.devices d on.0).0, subst (λ (b : Bool). conducts_at d.kind b ≡ true) (sym (gate_bit d on.0)) on.1);
