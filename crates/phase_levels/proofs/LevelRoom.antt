@@ -1,5 +1,5 @@
--- The operations of a phase, with those that its levels take, are within its work.
-use Rattle.std.proofs.Common.{◌≡◌, ℕ, ◌+◌, ◌*◌, ◌≤◌, true, false, length, arith, ◌∙◌}
+-- The operations of a phase of a circuit without whole instances, with those that its levels take, are within its work.
+use Rattle.std.proofs.Common.{◌≡◌, ℕ, ◌+◌, ◌*◌, ◌≤◌, true, false, [], length, arith, ◌∙◌}
 use Rattle.std.specs.Prelude.{sum_by}
 use Rattle.std.proofs.Math.Nat.{add-mul, mul_assoc, mul_comm}
 use Rattle.blif_eval.proofs.LatchLaws.{names_few}
@@ -8,7 +8,7 @@ use Rattle.circuit_faults.specs.Steps.{InPhase, in_comparison}
 use Rattle.constraints.specs.Cared.{assumed_size}
 use Rattle.drive_levels.proofs.LevelWork.{levels_few}
 use Rattle.drive_levels.specs.NetLevels.{drive_operations}
-use Rattle.phase_laws.proofs.PartSums.{circuit_few, solved_few}
+use Rattle.phase_laws.proofs.PartSums.{circuit_few, kept_few}
 use Rattle.phase_laws.proofs.Sizes.{assumed_few, holds_few, instances_few, lines_of}
 use Rattle.phase_laws.specs.Sums.{phase_work_of, total_operations}
 use Rattle.phase_terms.specs.Plans.{IsPhasePlan}
@@ -37,21 +37,21 @@ module _ (k : Comparison) (phase : ℕ) (plan : PhasePlan) (ready : IsReady k) (
   latches_within : length k.model.latches ≤ model_size k.model
   latches_within = omega arith
 
-  pub levels_work : total_operations k phase plan + drive_operations k.circuit plan.parts.list plan.kept.list ≤ phase_work_of k
-  levels_work =
+  pub levels_work : k.circuit.wholes ≡ [] → total_operations k phase plan + drive_operations k.circuit plan.parts.list plan.kept.list ≤ phase_work_of k
+  levels_work none =
       let at : Phase = phase_at k.rules phase in
       let n = length k.circuit.nets in
       let t = n + length k.circuit.devices in
       let name = (cell_at k.design k.cell).name in
       let steps : steps_operations here ≡ circuit_operations plan.parts.list + sum_by (constraint_operations here) k.circuit.instances = is.steps.work (is_observed k phase) in
-      let bare_solved = solved_few k.circuit at true is.parts.0 plan.parts is.parts.1 in
-      let kept_solved = solved_few k.circuit at false (λ m. 0) plan.kept is.kept in
+      let bare_solved = kept_few k.circuit at true is.parts.0 plan.parts is.parts.1 none in
+      let kept_solved = kept_few k.circuit at false (λ m. 0) plan.kept is.kept none in
       let bare_few = levels_few k.circuit plan.parts.list in
       let kept_few = levels_few k.circuit plan.kept.list in
       let sum =
       within_room t n (model_size k.model) (length k.circuit.holds) (length (element_names k.model)) (assumed_size k.rules name phase) (assume_size k.rules name)
       (sum_by (lines_of here) k.circuit.instances) (length k.model.latches) (circuit_operations plan.parts.list) (sum_by (constraint_operations here) k.circuit.instances)
-      (sum_by kept_part_operations plan.kept.list) (length plan.wishes) (drive_operations k.circuit plan.parts.list plan.kept.list)
+      (sum_by (kept_part_operations k.circuit) plan.kept.list) (length plan.wishes) (drive_operations k.circuit plan.parts.list plan.kept.list)
       (omega arith) (holds_few k.circuit ready.circuit) (names_few k.model) (assumed_few k.rules name phase)
       (circuit_few k.circuit at true is.parts.0 plan.parts is.parts.1) (instances_few here k.circuit.instances)
       kept_solved is.few latches_within (omega (arith, bare_solved, kept_solved, bare_few, kept_few)) in

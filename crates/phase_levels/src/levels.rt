@@ -22,7 +22,7 @@ use phase_terms::{Comparison, PhasePlan, PhaseWords};
 /// none, but for nets at which an output of a whole instance stands.
 ///
 /// Handles from before keep their functions and words outside those of the parts stay as they are, also where the budget is used
-/// up; the operations, with all others of the phase, are within its work.
+/// up; the operations, with all others of the phase, are within its work where the circuit has no whole instances.
 pub fn phase_levels(
     store: &mut Store,
     compared: Comparison<'_>,
