@@ -1,0 +1,6 @@
+pub mod CaseLevels
+pub mod LevelWork
+pub mod NetLevelLaws
+pub mod PartStrengths
+pub mod PhaseLevels
+pub mod PortLaws

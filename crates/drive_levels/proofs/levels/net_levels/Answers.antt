@@ -1,0 +1,46 @@
+use Rattle.std.proofs.Common.{Err, arith}
+use Rattle.std.specs.Prelude.{sum_by}
+use Rattle.std.proofs.lemmas.Result.{IfOk-weaker}
+use Rattle.bdd_ops.proofs.CountingLaws.{counts_more, counts_then}
+use Rattle.drive_levels.proofs.NetLevelLaws.{tables_give}
+use Rattle.output_levels.proofs.PartLevelLaws.{gates_within, in_then, spans_later, told_first, words_care}
+use Rattle.output_levels.specs.PartLevels.{level_operations}
+use Rattle.drive_levels.specs.NetLevels.{drive_operations}
+use Rattle.drive_levels.proofs.levels.net_levels.Goals as goal
+
+pub circuit_levels-requires-2-clause-care : goal.circuit_levels-requires-2-clause-care
+circuit_levels-requires-2-clause-care c = (let live = c.requires.care in let longer = c.circuit_levels.ensures.writes.adds.longer in omega (arith, live, longer))
+
+pub circuit_levels-requires-2-clause-spans : goal.circuit_levels-requires-2-clause-spans
+circuit_levels-requires-2-clause-spans c =
+    spans_later c.args.out c.args.circuit.now c.args.kept.now c.args.kept.now c.args.gates c.args.store.now c.circuit_levels.new.store c.circuit_levels.ensures.writes c.requires.spans.1 (λ part m. m)
+
+pub returns-in-Err-clause-few : goal.returns-in-Err-clause-few
+returns-in-Err-clause-few c u care gates =
+    counts_more u (sum_by (level_operations c.args.circuit.now) c.args.bare.now) (drive_operations c.args.circuit.now c.args.bare.now c.args.kept.now) c.args.store.now c.circuit_levels.new.store (Err c.in-Err.spent)
+    (omega arith) (c.in-Err.ensures.few u care gates)
+
+pub returns-clause-writes : goal.returns-clause-writes
+returns-clause-writes c = in_then c.args.out c.args.store.now c.circuit_levels.new.store c.circuit_levels-2.new.store c.circuit_levels.ensures.writes c.circuit_levels-2.ensures.writes
+
+pub returns-clause-gives : goal.returns-clause-gives
+returns-clause-gives c =
+    let circuit = c.args.circuit.now in
+    let asked = c.args.asked.now in
+    IfOk-weaker c.circuit_levels-2.result _ _
+    (λ x told phase observed setting roots solved of_bare of_kept.
+    tables_give circuit phase observed setting c.args.care roots c.args.gates c.args.store.now solved c.args.bare.now c.args.kept.now of_bare of_kept asked c.circuit_levels.new.levels.items c.circuit_levels-2.new.levels.items
+    c.in-Ok.ensures.gives
+    (λ n part there inside mark.
+    told_first circuit c.args.kept.now asked c.args.gates c.args.out c.args.care c.args.store.now c.circuit_levels.new.store c.requires.care c.requires.spans.1 c.circuit_levels.ensures.writes c.circuit_levels-2.new.levels.items n
+    (told n part there inside mark)))
+    c.circuit_levels-2.ensures.gives
+
+pub returns-clause-few : goal.returns-clause-few
+returns-clause-few c u care gates =
+    let first = c.args.store.now in
+    let mid = c.circuit_levels.new.store in
+    let writes = c.circuit_levels.ensures.writes in
+    counts_then u (sum_by (level_operations c.args.circuit.now) c.args.bare.now) (sum_by (level_operations c.args.circuit.now) c.args.kept.now) first mid c.circuit_levels-2.new.store c.circuit_levels-2.result
+    (c.in-Ok.ensures.few u care gates).added
+    (c.circuit_levels-2.ensures.few u (words_care u c.args.out first mid c.args.care writes c.requires.care care) (gates_within c.args.out c.args.gates first mid c.requires.spans.1.apart writes u c.requires.spans.1.gates_live gates))

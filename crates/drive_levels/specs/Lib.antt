@@ -1,0 +1,2 @@
+pub mod NetLevels
+pub mod PortLevels

@@ -1,0 +1,2 @@
+pub mod LevelRoom
+pub mod SolvedPhase
