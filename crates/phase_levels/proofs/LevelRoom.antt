@@ -46,13 +46,13 @@ module _ (k : Comparison) (phase : ℕ) (plan : PhasePlan) (ready : IsReady k) (
       let steps : steps_operations here ≡ circuit_operations plan.parts.list + sum_by (constraint_operations here) k.circuit.instances = is.steps.work (is_observed k phase) in
       let bare_solved = kept_few k.circuit at true is.parts.0 plan.parts is.parts.1 none in
       let kept_solved = kept_few k.circuit at false (λ m. 0) plan.kept is.kept none in
-      let bare_few = levels_few k.circuit plan.parts.list in
-      let kept_few = levels_few k.circuit plan.kept.list in
+      let bare_levels = levels_few k.circuit plan.parts.list in
+      let kept_levels = levels_few k.circuit plan.kept.list in
       let sum =
       within_room t n (model_size k.model) (length k.circuit.holds) (length (element_names k.model)) (assumed_size k.rules name phase) (assume_size k.rules name)
       (sum_by (lines_of here) k.circuit.instances) (length k.model.latches) (circuit_operations plan.parts.list) (sum_by (constraint_operations here) k.circuit.instances)
       (sum_by (kept_part_operations k.circuit) plan.kept.list) (length plan.wishes) (drive_operations k.circuit plan.parts.list plan.kept.list)
       (omega arith) (holds_few k.circuit ready.circuit) (names_few k.model) (assumed_few k.rules name phase)
       (circuit_few k.circuit at true is.parts.0 plan.parts is.parts.1) (instances_few here k.circuit.instances)
-      kept_solved is.few latches_within (omega (arith, bare_solved, kept_solved, bare_few, kept_few)) in
+      kept_solved is.few latches_within (omega (arith, bare_solved, kept_solved, bare_levels, kept_levels)) in
       omega (arith, sum, steps)
