@@ -182,9 +182,10 @@ pub(crate) fn tell(page: &mut Page, name: &str, row: Row<'_>) {
     page.word(name);
     match checked(page.alloc(), row) {
         Ok(circuit) => {
-            page.behind_blank(circuit.wholes.len() as u32);
-            page.behind_blank(circuit.instances.len() as u32);
-            page.behind_blank(circuit.devices.len() as u32);
+            page.word(" ");
+            page.count(circuit.wholes.len(), " ");
+            page.count(circuit.instances.len(), " ");
+            page.count(circuit.devices.len(), "");
         }
         Err(_) => page.word(" no circuit"),
     }
