@@ -1,7 +1,7 @@
 -- Output ports that are alone in a phase: their nets are not known, and in their parts of the kept circuit is no other.
 use Rattle.std.specs.Prelude.{◌≡◌, ◌≢◌, ◌↔◌, ◌<◌, ◌&&◌, ℕ, zero, suc, Bool, true, List, length, map}
-use Rattle.vrt_model.specs.Comparison.{CellPort, Comparison}
-use Rattle.vrt_model.specs.Facts.{output_ports}
+use Rattle.vrt_model.specs.Comparison.{CellPort, Comparison, phase_at}
+use Rattle.vrt_model.specs.Facts.{IsAloneInside, output_ports}
 use Rattle.vrt_model.specs.Known.{IsTogether, IsUnknown}
 use Rattle.vrt_model.specs.Lists.{At, mark_at}
 use Rattle.vrt_model.specs.Reading.{kept}
@@ -34,3 +34,10 @@ lone_in_all lone (suc phase) j = mark_at (lone (suc phase)) j && lone_in_all lon
 pub record AreKept (more old new : List Bool) : Type 0 where
   pub len : length new ≡ length old
   pub each : (j : ℕ) → j < length old → mark_at new j ≡ (mark_at more j && mark_at old j)
+
+-- The law: the ports whose bits are 1 in all phases are those that are alone inside their cell.
+abbrev pub LonePortsAreAlone : Type 0
+LonePortsAreAlone =
+    (k : Comparison) (nets : List Net) → AreOutputNets k nets → (j : ℕ) (port : CellPort) → At (output_ports k) j port → (lone : ℕ → List Bool)
+    → ((phase : ℕ) → phase < length k.rules.phases → AreLone k.circuit (phase_at k.rules phase) (map (λ (n : Net). n.0) nets) (lone phase)) → (last : ℕ) → length k.rules.phases ≡ suc last
+    → (lone_in_all lone last j ≡ true) ↔ IsAloneInside k port

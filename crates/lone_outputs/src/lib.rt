@@ -4,7 +4,9 @@
 
 mod counts;
 mod keep;
+mod laws;
 mod lone;
 
 pub use keep::keep_lone;
+pub use laws::lone_ports_are_alone;
 pub use lone::lone_outputs;

@@ -2,5 +2,7 @@
 #![tactic(auto)]
 
 mod levels;
+mod work;
 
 pub use levels::phase_levels;
+pub use work::work_with_levels;
