@@ -1,6 +1,6 @@
 //! The levels of output ports, by the levels of their nets.
 
-ghost use Rattle.std.specs.Prelude.{◌≡◌, ◌≢◌, ◌<◌, ◌||◌, ◌==◌, ℕ, All, IfOk, false, length, replicate};
+ghost use Rattle.std.specs.Prelude.{◌≡◌, ◌≢◌, ◌<◌, ◌||◌, ◌==◌, ℕ, All, IfOk, length};
 ghost use Rattle.drive_levels.specs.NetLevels.{same_level};
 ghost use Rattle.drive_levels.specs.PortLevels.{AreJoined, drive_by, is_one_of, levels_by};
 ghost use Rattle.output_levels.specs.PartLevels.{level_at};
@@ -8,18 +8,9 @@ ghost use Rattle.vrt_model.specs.Lists.{mark_at};
 ghost use Rattle.vrt_model.specs.declared.ids.Net.{Net as NetValue};
 
 use crate::levels::{level_at, level_of, same_level};
+use known_nets::no_marks;
 use std::alloc::Global;
 use vrt_model::{Circuit, Drive, Net, NoMemory, Seq};
-
-/// No mark yet.
-fn no_marks(alloc: Global, count: usize) -> Result<Vec<bool>, NoMemory>
-    ensures { IfOk result (λ marks. marks.items ≡ replicate count false) }
-{
-    match vec![in alloc; false; count] {
-        Ok(marks) => Ok(marks),
-        Err(_) => Err(NoMemory),
-    }
-}
 
 /// Marks a net.
 fn mark(marks: &mut Vec<bool>, net: Net)
