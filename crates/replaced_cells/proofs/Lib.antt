@@ -6,6 +6,7 @@ pub mod ExposedPins
 pub mod GoesDown
 pub mod GoesUp
 pub mod GoesUpByFaults
+pub mod LevelLaws
 pub mod MissedLaws
 pub mod ObservedFaults
 pub mod OwnBits

@@ -199,6 +199,20 @@ module _ (k q : Comparison) (phase : ℕ) (whole_circuit : Circuit) (at place fr
     response_by (whole which) (above which) n n (λ u. let e = outside_same which n u c in (e.1, e.0)) x,
   )
 
+  -- a net outside has the same strength in both circuits
+  pub outside_strength : (which : Bool) (n level : ℕ) → compared n ≡ true → IsStrength (above which) n level ↔ IsStrength (whole which) n level
+  outside_strength which n level c =
+      (left_whole_is_same q.circuit k.circuit whole_circuit at (λ x. x) place fresh remaining compared exposed drive value (phase_at k.rules phase) setting.inputs setting.held which s r
+      one.cell.ranges one.ranges one.whole_ranges one.placed one.whole own.state.reading
+      (record { reading = own.same.reading; driven = own.same.driven; fresh_driven = λ m e. refl }) (outputs which) (unjoined which)).0 n level c
+
+  -- and a net inside that of the cell alone
+  pub inside_strength : (which : Bool) (n level : ℕ) → IsPlain q.circuit n → IsStrength (cell which) n level → IsStrength (above which) (at n) level
+  inside_strength which n level p has =
+      ((placed_cell_stands_alone q.circuit k.circuit at exposed drive (phase_at k.rules phase) setting.inputs setting.held which s one.cell.ranges one.ranges one.placed own.state.reading
+      (outputs which).drives).0 n level (is_plain_is q.circuit n p)).0
+      (subst (λ (w : Network). IsStrength w n level) (alone_is k q phase whole_circuit at place fresh remaining compared exposed drive one bits which s) has)
+
   -- an output that conducting devices of the cell join to the net fights
   abbrev pub IsBesideFight : Bool → ℕ → Type 0
   IsBesideFight which n = FightsBeside (alone q.circuit which at s) (whole which) (λ m. at m) (is_plain_at q.circuit) exposed n

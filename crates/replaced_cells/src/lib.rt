@@ -7,6 +7,7 @@ mod agreement;
 mod bits;
 mod chain;
 mod faults;
+mod levels;
 
 pub use agreement::{
     agreement_goes_down, agreement_goes_up, agreement_goes_up_by_faults, agreement_is_transitive,
@@ -17,3 +18,4 @@ pub use chain::{agreement_follows_chain, chain_keeps_valuations};
 pub use faults::{
     faults_are_shared, faults_stand_below, observed_bits_show_faults, printed_values_are_same,
 };
+pub use levels::{levels_come_from_cells, levels_go_down};
