@@ -15,7 +15,7 @@ use Rattle.cell_compare.specs.Compared.{AreInputs, IsFlattened, comparison}
 use Rattle.cell_compare.specs.Works.{AreVars, IsChecked, IsPlanned}
 use Rattle.cell_compare.specs.declared.flattened.Flattened.{Flattened}
 use Rattle.checked_cells.proofs.CircuitLaws.{checked_circuits_are_formed, checked_circuits_share}
-use Rattle.checked_cells.proofs.GivenLaws.{checked_cells_are_soft}
+use Rattle.checked_cells.proofs.GivenLaws.{checked_cells_are_by_facts}
 use Rattle.checked_cells.proofs.OutputLaws.{checked_outputs_are_free}
 use Rattle.checked_cells.proofs.VerdictLaws.{checked_variables_are_same, flat_verdicts_hold, found_verdicts_hold}
 use Rattle.checked_cells.proofs.WholeLaws.{checked_circuits_are_wired, checked_wholes_are_determined, checked_wholes_are_logic}
@@ -64,7 +64,7 @@ checkable design blif rules cell m f inputs is facts plain =
       ground = ground_of design blif rules cell m f inputs is facts plain;
       soft = λ c planned checked.
           subst (λ (x : Comparison). (y : IsCheckedOf x blif facts c) → IsCheckedSoftly x y.0 blif facts c) (sym same)
-          (λ y. checked_cells_are_soft design blif rules cell m facts y.0 c given (supported design blif rules cell m f inputs is planned) plain y.1 y.2) checked;
+          (λ y. checked_cells_are_by_facts design blif rules cell m facts y.0 c given (supported design blif rules cell m f inputs is planned) (record { told = plain.told }) plain.soft y.1 y.2) checked;
     }
 
 -- so its checked circuit may be asked for

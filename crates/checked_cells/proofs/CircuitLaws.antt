@@ -1,6 +1,6 @@
 -- A checked circuit has the nets, as many holds and the groups of the flat one, some of its instances, and is well formed.
-use Rattle.std.proofs.Common.{◌≡◌, ℕ, zero, suc, ◌+◌, ◌<◌, ◌≤◌, ◌++◌, not, cond, Bool, true, false, List, [], ◌∷◌, drop, length, map, refl, ap, sym, subst, ◌∙◌, arith}
-use Rattle.std.specs.Prelude.{All, filter, flat_map}
+use Rattle.std.proofs.Common.{◌≡◌, ℕ, suc, ◌<◌, ◌≤◌, not, cond, Bool, true, false, List, [], ◌∷◌, drop, length, ap, sym, subst, ◌∙◌, arith}
+use Rattle.std.specs.Prelude.{All, filter}
 use Rattle.std.proofs.lemmas.List.{length-map}
 use Rattle.checked_cells.proofs.WholeLaws.{ranges}
 use Rattle.checked_cells.specs.Circuits.{CheckedCircuitsAreFormed, CheckedCircuitsShare, SharesCircuit}
@@ -8,23 +8,20 @@ use Rattle.checked_chain.proofs.GroupLaws.{groups_are_same}
 use Rattle.checked_chain.specs.Holds.{IsOfChain}
 use Rattle.substitution_laws.proofs.BudgetLaws.{fewer_devices}
 use Rattle.substitution_laws.proofs.EndsLaws.{chosen_ends_are_shown}
-use Rattle.substitution_laws.specs.Agreement.{IsCheckedSoftly}
+use Rattle.substitution_laws.specs.Agreement.{IsCheckedByFacts}
 use Rattle.vrt_model.proofs.Filtered.{filter_among}
 use Rattle.vrt_model.proofs.Lists.{at_map, map_among}
 use Rattle.vrt_model.proofs.Members.{all_among, all_by, among_map}
-use Rattle.vrt_model.specs.Checked.{before}
 use Rattle.vrt_model.specs.CheckedParts.{moved_end}
 use Rattle.vrt_model.specs.Circuits.{IsCircuit, IsNet}
-use Rattle.vrt_model.specs.Comparison.{Comparison, cell_at}
-use Rattle.vrt_model.specs.Cut.{Cut, NumberedPlace, is_inside_whole, is_left_out, numbered_places}
-use Rattle.vrt_model.specs.FlatCircuit.{flat_circuit_of, flat_device, flat_devices, flat_holds, flat_instance, flat_instances}
+use Rattle.vrt_model.specs.Comparison.{Comparison}
+use Rattle.vrt_model.specs.Cut.{Cut, is_inside_whole}
+use Rattle.vrt_model.specs.FlatCircuit.{flat_circuit_of, flat_holds, flat_instance, flat_instances}
 use Rattle.vrt_model.specs.Groups.{groups_of}
-use Rattle.vrt_model.specs.Limits.{most_devices, most_instances, most_nets}
 use Rattle.vrt_model.specs.Lists.{Among, At}
 use Rattle.vrt_model.specs.Unrolled.{Place, Top, all_places}
 use Rattle.vrt_model.specs.declared.blif.Blif.{Blif}
 use Rattle.vrt_model.specs.declared.circuit.Circuit.{Circuit}
-use Rattle.vrt_model.specs.declared.circuit.Device.{Device}
 use Rattle.vrt_model.specs.declared.circuit.FlatInstance.{FlatInstance}
 use Rattle.vrt_model.specs.declared.circuit.FlatNet.{FlatNet}
 use Rattle.vrt_model.specs.declared.circuit.Hold.{Hold}
@@ -42,7 +39,7 @@ fewer_pass {X} test (x ∷ xs) = by_test (test x) (fewer_pass test xs)
     by_test true rest = omega (arith, rest)
     by_test false rest = omega (arith, rest)
 
-module _ (k : Comparison) (cut : Cut) (blif : Blif) (facts : List CellFacts) (c : Circuit) (h : IsCheckedSoftly k cut blif facts c) where
+module _ {all_soft : Bool} (k : Comparison) (cut : Cut) (blif : Blif) (facts : List CellFacts) (c : Circuit) (h : IsCheckedByFacts all_soft k cut blif facts c) where
   abbrev t : Top
   t = cut.top
 
@@ -125,8 +122,8 @@ module _ (k : Comparison) (cut : Cut) (blif : Blif) (facts : List CellFacts) (c 
         one_hold = one_hold_each;
       }
 
-pub checked_circuits_share : CheckedCircuitsShare
+pub checked_circuits_share : {all_soft : Bool} → CheckedCircuitsShare all_soft
 checked_circuits_share k cut blif facts c h = shares k cut blif facts c h
 
-pub checked_circuits_are_formed : CheckedCircuitsAreFormed
+pub checked_circuits_are_formed : {all_soft : Bool} → CheckedCircuitsAreFormed all_soft
 checked_circuits_are_formed k cut blif facts c h = formed k cut blif facts c h

@@ -1,7 +1,10 @@
+pub mod AllowedOutputs
 pub mod CircuitLaws
 pub mod GivenLaws
 pub mod NoneWhole
 pub mod OutputLaws
 pub mod PlacesAlone
+pub mod StepLevels
+pub mod ToldFactLaws
 pub mod VerdictLaws
 pub mod WholeLaws

@@ -1,5 +1,5 @@
 -- Where no instance may be left whole, the checked circuit is the flat one.
-use Rattle.std.proofs.Common.{◌≡◌, ℕ, suc, ◌&&◌, Bool, true, false, List, drop, map, refl, ap, sym, subst, ◌∙◌}
+use Rattle.std.proofs.Common.{◌≡◌, ℕ, suc, ◌&&◌, true, false, List, drop, refl, ap, sym, ◌∙◌}
 use Rattle.std.specs.List.{list_any}
 use Rattle.std.proofs.lemmas.Bool.{and_parts, false≢true}
 use Rattle.checked_cells.specs.Given.{NothingIsWhole, is_candidate}
@@ -13,11 +13,10 @@ use Rattle.vrt_model.specs.Comparison.{Comparison}
 use Rattle.vrt_model.specs.Cut.{Cut, NumberedPlace, numbered_places}
 use Rattle.vrt_model.specs.FlatCircuit.{flat_circuit_of, flat_instance}
 use Rattle.vrt_model.specs.Lists.{Among, At}
-use Rattle.vrt_model.specs.Unrolled.{Place, Top, all_places}
+use Rattle.vrt_model.specs.Unrolled.{Top, all_places}
 use Rattle.vrt_model.specs.Unsupported.{comparison_of}
 use Rattle.vrt_model.specs.declared.blif.Blif.{Blif}
 use Rattle.vrt_model.specs.declared.circuit.Circuit.{Circuit}
-use Rattle.vrt_model.specs.declared.circuit.FlatInstance.{FlatInstance}
 use Rattle.vrt_model.specs.declared.whole.CellFacts.{CellFacts}
 
 module _ (t : Top) (blif : Blif) (facts : List CellFacts) where

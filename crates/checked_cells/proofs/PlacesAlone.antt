@@ -1,10 +1,10 @@
 -- The roles of the checked cell's ports count for no place of the unrolled netlist.
-use Rattle.std.proofs.Common.{◌≡◌, ℕ, zero, suc, ◌+◌, Bool, not, ◌&&◌, List, [], ◌∷◌, map, length, Option, refl, ap, ap₂}
+use Rattle.std.proofs.Common.{◌≡◌, ℕ, zero, suc, ◌+◌, not, ◌&&◌, List, [], ◌∷◌, length, refl, ap, ap₂}
 use Rattle.std.proofs.Math.Path.{fun_ext}
 use Rattle.std.specs.Prelude.{find, flat_map, is_none, option_map, slice_get}
 use Rattle.vrt_model.proofs.Lists.{map_same}
 use Rattle.vrt_model.specs.Comparison.{cell_at}
-use Rattle.vrt_model.specs.Unrolled.{Place, Step, Top, all_places, cell_named, deepest, instances_at, instances_from, net_at, own_count, own_nets, path_text, places_in, top_place}
+use Rattle.vrt_model.specs.Unrolled.{Place, Top, all_places, cell_named, deepest, instances_from, net_at, own_count, own_nets, path_text, places_in, top_place}
 use Rattle.vrt_model.specs.Unsupported.{is_tied_apart, supply_tie}
 use Rattle.vrt_model.specs.declared.design.InstanceCard.{InstanceCard}
 use Rattle.vrt_model.specs.declared.pairing.PortRole.{PortRole}

@@ -1,5 +1,5 @@
 -- The whole instances of a checked circuit stand for their cells.
-use Rattle.std.proofs.Common.{◌≡◌, ℕ, ◌<◌, ◌++◌, Bool, List, [], length, map, refl, ap, sym, subst, ◌∙◌}
+use Rattle.std.proofs.Common.{◌≡◌, ℕ, ◌<◌, ◌++◌, Bool, List, [], length, refl, ap, sym, subst, ◌∙◌}
 use Rattle.checked_chain.proofs.LinkLaws.{circuits_are_acyclic}
 use Rattle.checked_cells.specs.Outputs.{CheckedCircuitsAreAcyclic, CheckedCircuitsAreWired, CheckedWholesAreDetermined, CheckedWholesAreLogic}
 use Rattle.channel_parts.specs.OneSolution.{AreDetermined}
@@ -7,15 +7,15 @@ use Rattle.formed_cells.specs.Formed.{IsFormed}
 use Rattle.placed_cells.proofs.ListLaws.{zip_right}
 use Rattle.placed_cells.specs.Above.{net_above}
 use Rattle.replaced_instances.proofs.StepPorts.{told}
-use Rattle.replaced_instances.specs.Steps.{IsStepAtGates, compared_at}
+use Rattle.replaced_instances.specs.Steps.{IsStep, compared_at}
 use Rattle.substitution_laws.proofs.ChainLaws.{at_last, outputs_apart}
-use Rattle.substitution_laws.proofs.ChosenLaws.{chosen_steps_are_at_gates}
+use Rattle.substitution_laws.proofs.ChosenLaws.{chosen_instances_are_steps}
 use Rattle.substitution_laws.proofs.EndsLaws.{chosen_ends_are_shown}
 use Rattle.substitution_laws.proofs.FormedCells.{formed_cell}
 use Rattle.substitution_laws.proofs.ToldLaws.{ends_before}
 use Rattle.substitution_laws.proofs.WholeCells.{IsChosenAt, whole_chosen, wholes_are_determined, wholes_stand_for_cells}
 use Rattle.substitution_laws.proofs.WholeRanges.{circuits_have_ranges}
-use Rattle.substitution_laws.specs.Agreement.{IsCheckedSoftly}
+use Rattle.substitution_laws.specs.Agreement.{IsCheckedByFacts}
 use Rattle.vrt_model.proofs.Lists.{map_among}
 use Rattle.vrt_model.proofs.Members.{among_map}
 use Rattle.vrt_model.specs.Assignment.{Tied}
@@ -32,7 +32,6 @@ use Rattle.vrt_model.specs.Unsupported.{IsAcyclic, IsSupported}
 use Rattle.vrt_model.specs.WholeInstances.{IsWholeAt}
 use Rattle.vrt_model.specs.declared.blif.Blif.{Blif}
 use Rattle.vrt_model.specs.declared.circuit.Circuit.{Circuit}
-use Rattle.vrt_model.specs.declared.flat_model.FlatLatch.{FlatLatch}
 use Rattle.vrt_model.specs.declared.flat_model.FlatModel.{FlatModel}
 use Rattle.vrt_model.specs.declared.pairing.ClockedSignal.{ClockedSignal}
 use Rattle.vrt_model.specs.declared.whole.CellFacts.{CellFacts}
@@ -42,17 +41,17 @@ use Rattle.whole_ranks.specs.WholeCells.{StandsFor, moved_tie}
 use Rattle.whole_steps.specs.Logic.{IsLogicWhole}
 
 -- a whole instance of a checked circuit, the chosen instance that it is, and the model with which its cell pairs
-pub record IsChosenWhole (cut : Cut) (blif : Blif) (facts : List CellFacts) (n : ℕ) (w : Whole) : Type 0 where
+pub record IsChosenWhole (all_soft : Bool) (cut : Cut) (blif : Blif) (facts : List CellFacts) (n : ℕ) (w : Whole) : Type 0 where
   pub number : ℕ
   pub place : NumberedPlace
   pub model : ℕ
   pub listed : Among (whole_places (before cut n)) place
   pub chosen : IsChosenAt cut number place
-  pub step : IsStepAtGates cut blif facts number place model
+  pub step : IsStep all_soft cut blif facts number place model
   pub supported : IsSupported cut.top.design blif cut.top.rules place.at.cell model
   pub is : IsWholeAt (before cut n) blif facts place w
 
-module _ (k : Comparison) (cut : Cut) (blif : Blif) (facts : List CellFacts) (c : Circuit) (h : IsCheckedSoftly k cut blif facts c) where
+module _ {all_soft : Bool} (k : Comparison) (cut : Cut) (blif : Blif) (facts : List CellFacts) (c : Circuit) (h : IsCheckedByFacts all_soft k cut blif facts c) where
   -- the checked circuit as the last of its chain
   abbrev pub last : (n : ℕ) × (n < length (all_places cut.top)) × IsCircuitWith (before cut n) blif facts c
   last = at_last k cut blif facts c h
@@ -60,23 +59,23 @@ module _ (k : Comparison) (cut : Cut) (blif : Blif) (facts : List CellFacts) (c 
   pub ranges : HasRanges c
   ranges = circuits_have_ranges cut blif facts last.0 c h.choice h.formed (ends_before cut last.0 (chosen_ends_are_shown cut blif facts h.choice)) last.2
 
-  pub chosen_whole : (w : Whole) → Among c.wholes w → IsChosenWhole cut blif facts last.0 w
+  pub chosen_whole : (w : Whole) → Among c.wholes w → IsChosenWhole all_soft cut blif facts last.0 w
   chosen_whole w on =
       let from = zip_right (IsWholeAt (before cut last.0) blif facts) (whole_places (before cut last.0)) c.wholes w last.2.wholes on in
       let is = whole_chosen cut last.0 from.0 from.1 in
-      let step = chosen_steps_are_at_gates cut blif facts is.0 from.0 h.choice is.1.place is.1.chosen in
+      let step = chosen_instances_are_steps cut blif facts is.0 from.0 h.choice is.1.place is.1.chosen in
       record { number = is.0; place = from.0; model = step.0; listed = from.1; chosen = is.1; step = step.1; supported = step.2; is = from.2 }
 
-  determined : (phase : ℕ) → phase < length cut.top.rules.phases → AreDetermined c (phase_at cut.top.rules phase) (is_observed (with_circuit k c) phase)
+  pub determined : (phase : ℕ) → phase < length cut.top.rules.phases → AreDetermined c (phase_at cut.top.rules phase) (is_observed (with_circuit k c) phase)
   determined phase lt = wholes_are_determined k cut blif facts phase last.0 c h.top h.choice lt last.2
 
-  some_phase : 0 < length cut.top.rules.phases
+  pub some_phase : 0 < length cut.top.rules.phases
   some_phase = h.choice.read.valid.some_phase
 
   -- ---- the model of a whole instance
 
   module _ (w : Whole) (on : Among c.wholes w) where
-    one : IsChosenWhole cut blif facts last.0 w
+    one : IsChosenWhole all_soft cut blif facts last.0 w
     one = chosen_whole w on
 
     abbrev q : Comparison
@@ -123,21 +122,21 @@ module _ (k : Comparison) (cut : Cut) (blif : Blif) (facts : List CellFacts) (c 
           ap net_id (sym t.3 ∙ ap at net ∙ u.3));
     }
 
-pub checked_circuits_are_wired : CheckedCircuitsAreWired
+pub checked_circuits_are_wired : {all_soft : Bool} → CheckedCircuitsAreWired all_soft
 checked_circuits_are_wired k cut blif facts c h = record {
   ranges = ranges k cut blif facts c h;
   outputs = λ w pin on there. (determined k cut blif facts c h 0 (some_phase k cut blif facts c h) w on).plain pin there;
 }
 
-pub checked_wholes_are_determined : CheckedWholesAreDetermined
+pub checked_wholes_are_determined : {all_soft : Bool} → CheckedWholesAreDetermined all_soft
 checked_wholes_are_determined k cut blif facts c phase h lt =
     subst (λ (u : Top). AreDetermined c (phase_at u.rules phase) (is_observed (with_circuit k c) phase)) h.top
     (determined k cut blif facts c h phase (subst (λ (u : Top). phase < length u.rules.phases) (sym h.top) lt))
 
-pub checked_wholes_are_logic : CheckedWholesAreLogic
+pub checked_wholes_are_logic : {all_soft : Bool} → CheckedWholesAreLogic all_soft
 checked_wholes_are_logic k cut blif facts c w h on = logic_whole k cut blif facts c h w on
 
-pub checked_circuits_are_acyclic : CheckedCircuitsAreAcyclic
+pub checked_circuits_are_acyclic : {all_soft : Bool} → CheckedCircuitsAreAcyclic all_soft
 checked_circuits_are_acyclic k cut blif facts c phase h lt =
     let there = last k cut blif facts c h in
     let low = subst (λ (u : Top). phase < length u.rules.phases) (sym h.top) lt in

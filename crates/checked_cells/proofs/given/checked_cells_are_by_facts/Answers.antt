@@ -1,5 +1,5 @@
-use Rattle.checked_cells.proofs.GivenLaws.{checked_cells_are_soft}
-use Rattle.checked_cells.proofs.given.checked_cells_are_soft.Goals as goal
+use Rattle.checked_cells.proofs.GivenLaws.{checked_cells_are_by_facts}
+use Rattle.checked_cells.proofs.given.checked_cells_are_by_facts.Goals as goal
 
 pub returns : goal.returns
-returns c = checked_cells_are_soft
+returns c all_soft = checked_cells_are_by_facts

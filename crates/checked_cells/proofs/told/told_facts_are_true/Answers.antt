@@ -1,0 +1,5 @@
+use Rattle.checked_cells.proofs.ToldFactLaws.{told_facts_are_true}
+use Rattle.checked_cells.proofs.told.told_facts_are_true.Goals as goal
+
+pub returns : goal.returns
+returns c = told_facts_are_true
