@@ -1,11 +1,12 @@
 -- Outputs at nets, where those of one more instance come.
-use Rattle.std.proofs.Common.{◌≡◌, ℕ, zero, suc, ◌+◌, ◌<◌, ◌==◌, ◌&&◌, ◌||◌, Bool, true, false, not, List, [], ◌∷◌, length, map, slice_set, arith, ap, ap₂, refl, sym, ◌∙◌}
+use Rattle.std.proofs.Common.{◌≡◌, ℕ, zero, suc, ◌+◌, ◌<◌, ◌==◌, ◌&&◌, ◌||◌, Bool, true, false, not, List, [], ◌∷◌, length, map, replicate, slice_set, arith, ap, ap₂, refl, sym, ◌∙◌}
 use Rattle.std.specs.List.{enumerate_from, list_all}
 use Rattle.std.proofs.lemmas.Bool.Decides.{nat_tests}
 use Rattle.std.proofs.lemmas.List.Folds.{list_all-append}
 use Rattle.whole_circuits.specs.Outputs.{output_at, own_outputs}
 use Rattle.whole_circuits.specs.Taken.{admits, joins, may_meet, taken_at}
 use Rattle.whole_circuits.specs.declared.taken.Taken.{Taken}
+use Rattle.whole_circuits.specs.declared.taken.Taken.TheVariants.{Free}
 use Rattle.vrt_model.specs.declared.whole.Drive.{Drive}
 use Rattle.vrt_model.specs.declared.whole.WholePin.{WholePin}
 use Rattle.substitute.specs.Taken.{TakenGrow, may_meet_pin}
@@ -24,6 +25,13 @@ taken_grow earlier number pins old new taken more n drive =
     more n drive
     ∙ ap₂ (λ (a b : Bool). a && b) (taken n drive) (sym (pins_same n drive number 0 pins))
     ∙ sym (list_all-append (may_meet n drive) earlier (own_outputs number pins))
+
+-- ---- no output
+
+pub none_taken : (n m : ℕ) → taken_at (replicate n Free) m ≡ Free
+none_taken zero m = refl
+none_taken (suc n) zero = refl
+none_taken (suc n) (suc m) = none_taken n m
 
 -- ---- one output
 

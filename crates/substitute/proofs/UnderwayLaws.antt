@@ -49,7 +49,7 @@ use Rattle.substitute.proofs.ChosenLaws.{marked_is_with_one, one_more_brings_its
 use Rattle.substitute.proofs.InsideLaws.{marks_stay}
 use Rattle.substitute.proofs.GoneLaws.{counts_settled, counts_without}
 use Rattle.substitute.proofs.RightLaws.{allowed_of, inside_is_left_out, open_of, refused_is_left_out, with_model}
-use Rattle.substitute.proofs.TakenLaws.{taken_grow}
+use Rattle.substitute.proofs.TakenLaws.{none_taken, taken_grow}
 use Rattle.substitute.specs.Candidates.{IsCandidate}
 use Rattle.substitute.specs.Chosen.{IsRightly, MarksOneMore, MayBeChosen, cut_of}
 use Rattle.substitute.specs.Ranges.{AreSettled, devices_gone, with_chosen}
@@ -482,11 +482,6 @@ module _ (asked : Bool) (t : Top) (blif : Blif) (facts : List CellFacts) (tables
           let no : Cut = record { top = t; choice = λ i. false } in
           ((chain_begins_flat no blif facts tables.flat.now).1 are.flat_is).devices
           ∙ ap (λ (f : ℕ → Bool). checked_devices (record { top = t; choice = f })) (fun_ext (λ i. sym (none_marked n (suc i))))
-
-      none_taken : (n m : ℕ) → taken_at (replicate n Free) m ≡ Free
-      none_taken zero m = refl
-      none_taken (suc n) zero = refl
-      none_taken (suc n) (suc m) = none_taken n m
 
       none_inside : (n : ℕ) (at : FlatPlace) → is_inside_whole (cut_of t (nowhere n)) at ≡ false
       none_inside n at =
