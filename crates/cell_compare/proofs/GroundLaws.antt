@@ -25,7 +25,7 @@ in_phase k free i phase at =
     subst (λ (x : Phase). IsAcyclic (HasArc k.circuit x)) (ap (λ (o : Option Phase). unwrap_or o (record { line = 0; name = []; bits = [] })) at)
     (free i (slice_get_within k.rules.phases i phase at)).0
 
--- the ground on which instances of the cell are tried, by true facts that tell no drive
+-- the ground on which instances of the cell are tried, by true facts
 pub ground_of : (design : Design) (blif : Blif) (rules : Rules) (cell m : ℕ) (f : Flattened) → AreInputs design blif rules cell → IsFlattened design blif rules cell m f
     → (facts : List CellFacts) → ArePlainFacts design blif rules facts → IsPlanned (comparison design rules cell f) → IsGround (top_of (comparison design rules cell f)) blif facts f.circuit
 ground_of design blif rules cell m f inputs is facts plain planned = record {
@@ -37,7 +37,6 @@ ground_of design blif rules cell m f inputs is facts plain planned = record {
   };
   read = record { names = inputs.names; models = inputs.models; valid = inputs.valid };
   told = plain.told;
-  soft = plain.soft;
   formed = is.circuit;
   acyclic = in_phase (comparison design rules cell f) planned.acyclic;
 }

@@ -3,6 +3,7 @@ use Rattle.std.proofs.Common.{◌≡◌, ℕ, suc, ◌++◌, true, false, List, 
 use Rattle.std.specs.Prelude.{◌==◌, ◌↔◌}
 use Rattle.std.proofs.lemmas.Bool.{false≢true}
 use Rattle.checked_chain.proofs.ChoiceLaws.{numbered_at}
+use Rattle.whole_circuits.proofs.EndLaws.{levels_are}
 use Rattle.whole_circuits.specs.Acyclic.{AreAcyclic}
 use Rattle.whole_circuits.specs.Outputs.{AreAround, AreOpen, own_outputs}
 use Rattle.whole_circuits.specs.declared.marks.Marks.{Marks}
@@ -31,6 +32,7 @@ module _ (asked : Bool) (cut : Cut) (blif : Blif) (facts : List CellFacts) (i : 
   pub is_around : AreAround tables.flat.now nets (checked_devices (with_one cut i)) (all_outputs cut blif facts) p.number
   is_around = record {
     held = is.held;
+    levels = levels_are (with_one cut i) blif facts tables.flat.now is.next.flat_is is.ground.formed;
     counts = is.counts;
     taken = is.taken;
     apart = λ o on.
@@ -50,12 +52,10 @@ module _ (asked : Bool) (cut : Cut) (blif : Blif) (facts : List CellFacts) (i : 
   pub tried_soundly : Open pins → (own : Marks) → AreMarksBeside tables.unrolled.now whole at own → IsTriedSoundly (with_one cut i) blif facts tables own
   tried_soundly free own beside = record {
     by = is.by own beside;
-    formed = is.ground.formed;
     trial = record {
       netlist = is.ground.netlist;
       read = is.ground.read;
       told = is.ground.told;
-      soft = is.ground.soft;
       tried =
           open_are_allowed asked cut blif facts i p m tables.flat.now
           (record {

@@ -1,12 +1,12 @@
 -- The devices that go where one more instance is whole, and how many channels are left at each net.
-use Rattle.std.proofs.Common.{◌≡◌, ℕ, zero, suc, ◌+◌, ◌<◌, ◌&&◌, ◌||◌, Bool, true, false, not, cond, List, [], ◌∷◌, length, map, arith, ap, ap₂, refl, subst, sym, ◌∙◌, inl, inr, length-append}
+use Rattle.std.proofs.Common.{◌≡◌, ℕ, zero, suc, ◌+◌, ◌&&◌, ◌||◌, Bool, true, false, not, cond, List, [], ◌∷◌, length, map, arith, ap, ap₂, refl, subst, sym, ◌∙◌, inl, inr, length-append}
 use Rattle.std.specs.Prelude.{◌==◌, filter, flat_map}
-use Rattle.std.specs.List.{list_any, slice_index}
+use Rattle.std.specs.List.{list_any}
 use Rattle.std.proofs.lemmas.Bool.{and_from, and_parts, eq-eqb, eqb-true, false≢true, or_cases}
 use Rattle.std.proofs.lemmas.List.Elements.{filter-append}
 use Rattle.checked_chain.proofs.ChoiceLaws.{numbered_at}
 use Rattle.checked_chain.proofs.OrderLaws.{nothing_is_left_out_inside}
-use Rattle.whole_circuits.specs.Outputs.{AreCounts, changed}
+use Rattle.whole_circuits.specs.Counts.{AreChanged, AreCounts, channels_of, is_of}
 use Rattle.vrt_model.proofs.Lists.{one_at}
 use Rattle.vrt_model.proofs.Members.{among_any, among_later, any_among}
 use Rattle.vrt_model.proofs.Tests.{same_tests}
@@ -18,11 +18,10 @@ use Rattle.vrt_model.specs.FlatCircuit.{flat_device}
 use Rattle.vrt_model.specs.Inputs.{IsDesign}
 use Rattle.vrt_model.specs.Lists.{Among, At}
 use Rattle.vrt_model.specs.Unrolled.{Place, Top}
-use Rattle.vrt_model.specs.WholeInstances.{channels_at}
 use Rattle.vrt_model.specs.declared.circuit.Device.{Device}
 use Rattle.substitute.proofs.ChosenLaws.{front_is_all}
 use Rattle.substitute.specs.Chosen.{NoneFrom}
-use Rattle.substitute.specs.Ranges.{alone, devices_gone, with_chosen}
+use Rattle.substitute.specs.Ranges.{AreSettled, alone, devices_gone, with_chosen}
 use Rattle.substitute.specs.Underway.{AreCountsOf}
 
 -- ---- one instance alone
@@ -87,19 +86,19 @@ module _ (cut : Cut) (i : ℕ) where
       (numbered_places cut.top))
       ∙ crossed (is_whole cut.choice q.number) (is_whole (λ j. i == j) q.number) (is_inside_whole cut q.at) (is_inside_whole (alone cut.top i) q.at)
 
--- ---- how many channels are at a net
+-- ---- how many channels of a level are at a net
 
-module _ (t : Top) (n : ℕ) where
+module _ (t : Top) (n level : ℕ) where
   abbrev cards : NumberedPlace → List Device
   cards p = map (flat_device t p.at) (cell_at t.design p.at.cell).devices
 
   abbrev count : List NumberedPlace → ℕ
-  count ps = length (channels_at (flat_map cards ps) n)
+  count ps = length (channels_of level (flat_map cards ps) n)
 
-  count_one : (p : NumberedPlace) (ps : List NumberedPlace) → count (p ∷ ps) ≡ length (channels_at (cards p) n) + count ps
+  count_one : (p : NumberedPlace) (ps : List NumberedPlace) → count (p ∷ ps) ≡ length (channels_of level (cards p) n) + count ps
   count_one p ps =
-      ap (λ (ds : List Device). length ds) (filter-append (λ (d : Device). (d.left.0 == n) || (d.right.0 == n)) (cards p) (flat_map cards ps))
-      ∙ length-append (channels_at (cards p) n) (channels_at (flat_map cards ps) n)
+      ap (λ (ds : List Device). length ds) (filter-append (is_of level n) (cards p) (flat_map cards ps))
+      ∙ length-append (channels_of level (cards p) n) (channels_of level (flat_map cards ps) n)
 
   -- where some of the places that pass one test pass another, and the others a third
   counts_parted : (f g h : NumberedPlace → Bool) (ps : List NumberedPlace) → ((p : NumberedPlace) → Among ps p → (g p ≡ (f p || h p)) × (h p ≡ true → f p ≡ false))
@@ -150,36 +149,35 @@ module _ (cut : Cut) (i : ℕ) (p : NumberedPlace) (design : IsDesign cut.top.de
           subst Kept (front_is_all cut i none)
           (nothing_is_left_out_inside cut i p design here (subst (λ (c : Cut). is_inside_whole c p.at ≡ false) (sym (front_is_all cut i none)) outside))
 
-  gone_is : (n : ℕ) → length (channels_at (checked_devices cut) n) ≡ length (channels_at (checked_devices (with_one cut i)) n) + length (channels_at (devices_gone cut.top i) n)
-  gone_is n =
-      counts_parted cut.top n (is_left_out cut) (is_left_out (with_one cut i)) (is_left_out (alone cut.top i)) (numbered_places cut.top)
+  gone_is : (n level : ℕ) → length (channels_of level (checked_devices cut) n) ≡ length (channels_of level (checked_devices (with_one cut i)) n) + length (channels_of level (devices_gone cut.top i) n)
+  gone_is n level =
+      counts_parted cut.top n level (is_left_out cut) (is_left_out (with_one cut i)) (is_left_out (alone cut.top i)) (numbered_places cut.top)
       (λ q m. (left_with cut i q, still_there q m))
 
   module _ (size : ℕ) where
     -- counts without its channels
     pub counts_without : (old new : List ℕ) → AreCountsOf cut size old → length new ≡ length old
-        → ((n : ℕ) → n < length old → slice_index new n ≡ changed false (slice_index old n) (length (channels_at (devices_gone cut.top i) n))) → AreCountsOf (with_one cut i) size new
+        → AreChanged false (λ n k. length (channels_of (4 + k) (devices_gone cut.top i) n)) old new → AreCountsOf (with_one cut i) size new
     counts_without old new are each fewer = record { each = each ∙ are.each; are = by_net }
       where
         by_net : AreCounts size (checked_devices (with_one cut i)) new
-        by_net n lt =
+        by_net n k lt low =
             let long = are.each in
-            let was = are.are n lt in
-            let sum = gone_is n in
-            let now = fewer n (omega (arith, long, lt)) in
+            let was = are.are n k lt low in
+            let sum = gone_is n (4 + k) in
+            let now = fewer n k low (omega (arith, long, lt, low)) in
             omega (arith, was, sum, now)
 
     -- and with them again, unless it is chosen
     pub counts_settled : (right : Bool) (less new : List ℕ) → AreCountsOf (with_one cut i) size less → length new ≡ length less
-        → ((n : ℕ) → n < length less → slice_index new n ≡ cond right (slice_index less n) (changed true (slice_index less n) (length (channels_at (devices_gone cut.top i) n))))
-        → AreCountsOf (with_chosen right cut i) size new
-    counts_settled true less new are each is = record { each = each ∙ are.each; are = λ n lt. is n (subst (λ (k : ℕ). n < k) (sym are.each) lt) ∙ are.are n lt }
+        → AreSettled right (devices_gone cut.top i) less new → AreCountsOf (with_chosen right cut i) size new
+    counts_settled true less new are each is = record { each = each ∙ are.each; are = λ n k lt low. is n k low (let long = are.each in omega (arith, long, lt, low)) ∙ are.are n k lt low }
     counts_settled false less new are each is = record { each = each ∙ are.each; are = by_net }
       where
         by_net : AreCounts size (checked_devices cut) new
-        by_net n lt =
+        by_net n k lt low =
             let long = are.each in
-            let was = are.are n lt in
-            let sum = gone_is n in
-            let now = is n (omega (arith, long, lt)) in
+            let was = are.are n k lt low in
+            let sum = gone_is n (4 + k) in
+            let now = is n k low (omega (arith, long, lt, low)) in
             omega (arith, was, sum, now)

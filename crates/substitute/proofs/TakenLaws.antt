@@ -1,30 +1,51 @@
--- Marks at the nets of outputs.
-use Rattle.std.proofs.Common.{◌≡◌, ℕ, ◌+◌, ◌||◌, ◌++◌, Bool, true, false, List, [], ◌∷◌, map, ap, ap₂, refl, sym, ◌∙◌}
-use Rattle.std.specs.Prelude.{◌==◌}
-use Rattle.std.specs.List.{enumerate_from, list_any}
+-- Outputs at nets, where those of one more instance come.
+use Rattle.std.proofs.Common.{◌≡◌, ℕ, zero, suc, ◌+◌, ◌<◌, ◌==◌, ◌&&◌, ◌||◌, Bool, true, false, not, List, [], ◌∷◌, length, map, replicate, slice_set, arith, ap, ap₂, refl, sym, ◌∙◌}
+use Rattle.std.specs.List.{enumerate_from, list_all}
+use Rattle.std.proofs.lemmas.Bool.Decides.{nat_tests}
+use Rattle.std.proofs.lemmas.List.Folds.{list_all-append}
 use Rattle.whole_circuits.specs.Outputs.{output_at, own_outputs}
-use Rattle.vrt_model.specs.WholeInstances.{OutputAt}
+use Rattle.whole_circuits.specs.Taken.{admits, joins, may_meet, taken_at}
+use Rattle.whole_circuits.specs.declared.taken.Taken.{Taken}
+use Rattle.whole_circuits.specs.declared.taken.Taken.TheVariants.{Free}
+use Rattle.vrt_model.specs.declared.whole.Drive.{Drive}
 use Rattle.vrt_model.specs.declared.whole.WholePin.{WholePin}
-use Rattle.substitute.specs.Taken.{TakenGrow, has_pin}
+use Rattle.substitute.specs.Taken.{TakenGrow, may_meet_pin}
 
-or_or : (a b c : Bool) → (a || (b || c)) ≡ ((a || b) || c)
-or_or true b c = refl
-or_or false b c = refl
+and_true : (b : Bool) → (b && true) ≡ b
+and_true true = refl
+and_true false = refl
 
-any_both : {X : Type 0} (test : X → Bool) (xs ys : List X) → list_any test (xs ++ ys) ≡ (list_any test xs || list_any test ys)
-any_both test [] ys = refl
-any_both test (x ∷ xs) ys = ap (λ (b : Bool). test x || b) (any_both test xs ys) ∙ or_or (test x) (list_any test xs) (list_any test ys)
-
-module _ (n number : ℕ) where
-  abbrev is_there : OutputAt → Bool
-  is_there o = o.pin.net.0 == n
-
-  pins_same : (at : ℕ) (pins : List WholePin) → list_any is_there (map (output_at number) (enumerate_from at pins)) ≡ has_pin n pins
+module _ (n : ℕ) (drive : Drive) (number : ℕ) where
+  pins_same : (at : ℕ) (pins : List WholePin) → list_all (may_meet n drive) (map (output_at number) (enumerate_from at pins)) ≡ list_all (may_meet_pin n drive) pins
   pins_same at [] = refl
-  pins_same at (p ∷ pins) = ap (λ (b : Bool). (p.net.0 == n) || b) (pins_same (at + 1) pins)
+  pins_same at (p ∷ pins) = ap (λ (b : Bool). may_meet_pin n drive p && b) (pins_same (at + 1) pins)
 
 pub taken_grow : TakenGrow
-taken_grow earlier number pins old new taken more n =
-    more n
-    ∙ ap₂ (λ (a b : Bool). a || b) (taken n) (sym (pins_same n number 0 pins))
-    ∙ sym (any_both (λ (o : OutputAt). o.pin.net.0 == n) earlier (own_outputs number pins))
+taken_grow earlier number pins old new taken more n drive =
+    more n drive
+    ∙ ap₂ (λ (a b : Bool). a && b) (taken n drive) (sym (pins_same n drive number 0 pins))
+    ∙ sym (list_all-append (may_meet n drive) earlier (own_outputs number pins))
+
+-- ---- no output
+
+pub none_taken : (n m : ℕ) → taken_at (replicate n Free) m ≡ Free
+none_taken zero m = refl
+none_taken (suc n) zero = refl
+none_taken (suc n) (suc m) = none_taken n m
+
+-- ---- one output
+
+module _ (drive : Drive) (joined : Taken) where
+  -- a net at which one output comes
+  pub taken_one : (taken : List Taken) (net : ℕ) → net < length taken → ((own : Drive) → admits joined own ≡ (admits (taken_at taken net) own && joins own drive))
+      → (n : ℕ) (own : Drive) → admits (taken_at (slice_set taken net joined) n) own ≡ (admits (taken_at taken n) own && (not (net == n) || joins own drive))
+  taken_one [] net lt is n own = absurd (let no : ⊥ = omega (arith, lt) in no)
+  taken_one (x ∷ taken) zero lt is zero own =
+      let here : (0 == 0) ≡ true = grind (arith, nat_tests) in is own ∙ ap (λ (b : Bool). admits x own && (not b || joins own drive)) (sym here)
+  taken_one (x ∷ taken) zero lt is (suc n) own =
+      let other : (0 == suc n) ≡ false = grind (arith, nat_tests) in sym (and_true (admits (taken_at taken n) own)) ∙ ap (λ (b : Bool). admits (taken_at taken n) own && (not b || joins own drive)) (sym other)
+  taken_one (x ∷ taken) (suc net) lt is zero own =
+      let other : (suc net == 0) ≡ false = grind (arith, nat_tests) in sym (and_true (admits x own)) ∙ ap (λ (b : Bool). admits x own && (not b || joins own drive)) (sym other)
+  taken_one (x ∷ taken) (suc net) lt is (suc n) own =
+      let same : (suc net == suc n) ≡ (net == n) = grind (arith, nat_tests) in
+      taken_one taken net (omega (arith, lt)) is n own ∙ ap (λ (b : Bool). admits (taken_at taken n) own && (not b || joins own drive)) (sym same)

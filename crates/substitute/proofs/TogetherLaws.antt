@@ -8,8 +8,8 @@ use Rattle.checked_chain.proofs.ChoiceLaws.{numbered_at}
 use Rattle.phase_ports.specs.Ports.{unnamed}
 use Rattle.phase_ports.specs.declared.port_list.Port.{Port}
 use Rattle.whole_circuits.specs.Acyclic.{AreAcyclic}
-use Rattle.substitution_laws.specs.Chosen.{IsSoftTrial}
-use Rattle.trial_cycles.proofs.TrialLaws.{allowed_are_chosen, carried_clocks_are_known}
+use Rattle.substitution_laws.specs.Chosen.{IsTrial}
+use Rattle.trial_cycles.proofs.TrialLaws.{any_allowed_are_chosen, carried_clocks_are_known}
 use Rattle.trial_cycles.specs.TrialCycles.{AreClocksCarried, IsChoiceOfAllowed}
 use Rattle.vrt_model.proofs.Filtered.{filter_among}
 use Rattle.vrt_model.proofs.Lists.{map_among}
@@ -61,12 +61,11 @@ module _ (t : Top) (blif : Blif) (facts : List CellFacts) (tables : Tables) (are
       let as_many = count t blif facts tables are in
       end.decided i (omega (arith, low, last_is, as_many)) p there
 
-  pub soft_trial : IsSoftTrial cut blif facts
-  soft_trial = record {
+  pub all_trial : IsTrial cut blif facts
+  all_trial = record {
     netlist = are.ground.netlist;
     read = are.ground.read;
     told = are.ground.told;
-    soft = are.ground.soft;
     tried = λ i p there chosen. (choice i p there).0 chosen;
   }
 
@@ -113,9 +112,9 @@ module _ (t : Top) (blif : Blif) (facts : List CellFacts) (tables : Tables) (are
       refl,
       record {
         chosen =
-            allowed_are_chosen cut blif facts circuit choice
+            any_allowed_are_chosen cut blif facts circuit choice
             (record {
-              trial = soft_trial;
+              trial = all_trial;
               formed = subst IsCircuit are.flat_is are.ground.formed;
               circuit = made;
               clocks = λ phase lt. carried_clocks_are_known cut blif facts circuit phase made carried;

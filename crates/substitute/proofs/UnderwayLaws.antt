@@ -1,7 +1,7 @@
 -- Instances that are tried one after the other.
-use Rattle.std.proofs.Common.{◌≡◌, ℕ, zero, suc, ◌+◌, ◌<◌, ◌&&◌, ◌||◌, ◌++◌, Bool, true, false, All, Global, Vec, List, [], cond, length, map, replicate, Option, Some, None, arith, ap, ap₂, refl, subst, sym, ◌∙◌}
+use Rattle.std.proofs.Common.{◌≡◌, ℕ, zero, suc, ◌+◌, ◌*◌, ◌<◌, ◌&&◌, ◌||◌, ◌++◌, Bool, true, false, All, Global, Vec, List, [], length, map, replicate, Option, Some, None, arith, ap, ap₂, refl, subst, sym, ◌∙◌}
 use Rattle.std.specs.Prelude.{◌==◌, flat_map}
-use Rattle.std.specs.List.{enumerate_from, slice_index}
+use Rattle.std.specs.List.{enumerate_from}
 use Rattle.std.proofs.lemmas.Bool.{and_parts, eq-eqb, eqb-true, false_from_ne_true, false≢true}
 use Rattle.std.proofs.lemmas.Bool.Decides.{nat_tests}
 use Rattle.std.proofs.lemmas.List.{length-map, length-replicate}
@@ -17,12 +17,15 @@ use Rattle.phase_ports.specs.declared.port_list.Port.{Port}
 use Rattle.replaced_instances.proofs.StepPorts.{enumerated_at}
 use Rattle.whole_circuits.proofs.WholeLaws.{at_ports}
 use Rattle.whole_circuits.specs.Insides.{AreMarkedBefore, IsCutAt}
-use Rattle.whole_circuits.specs.Outputs.{AreCounts, AreTaken, changed, output_at, own_outputs}
+use Rattle.whole_circuits.specs.Counts.{AreChanged, AreCounts, channels_of}
+use Rattle.whole_circuits.specs.Outputs.{output_at, own_outputs}
 use Rattle.whole_circuits.specs.Pins.{AreDrivesOf, IsAtPorts}
+use Rattle.whole_circuits.specs.Taken.{AreTaken, admits, taken_at}
 use Rattle.whole_circuits.specs.WholeCells.{IsPlacedWhole}
 use Rattle.whole_circuits.specs.declared.outputs.NetMarks.{NetMarks}
+use Rattle.whole_circuits.specs.declared.taken.Taken.{Taken}
+use Rattle.whole_circuits.specs.declared.taken.Taken.TheVariants.{Free}
 use Rattle.whole_circuits.specs.declared.whole_cell.WholeCell.{WholeCell}
-use Rattle.substitution_laws.proofs.ChosenLaws.{pin_soft}
 use Rattle.vrt_model.proofs.Lists.{at_there, filter_none, map_among, map_at, none_marked, one_at}
 use Rattle.vrt_model.proofs.Members.{all_by, any_among}
 use Rattle.vrt_model.specs.Checked.{with_one}
@@ -32,11 +35,12 @@ use Rattle.vrt_model.specs.Cut.{Cut, NumberedPlace, is_inside, is_inside_whole, 
 use Rattle.vrt_model.specs.Lists.{Among, At, mark_at}
 use Rattle.vrt_model.specs.Unrolled.{Place as FlatPlace, Top, all_places}
 use Rattle.vrt_model.specs.Unsupported.{comparison_of}
-use Rattle.vrt_model.specs.WholeInstances.{OutputAt, all_outputs, channels_at, driven_pins, outputs_of_place, pins_of}
+use Rattle.vrt_model.specs.WholeInstances.{OutputAt, all_outputs, driven_pins, outputs_of_place}
 use Rattle.vrt_model.specs.declared.blif.Blif.{Blif}
 use Rattle.vrt_model.specs.declared.circuit.Device.{Device}
 use Rattle.vrt_model.specs.declared.ids.Net.{Net}
 use Rattle.vrt_model.specs.declared.whole.CellFacts.{CellFacts}
+use Rattle.vrt_model.specs.declared.whole.Drive.{Drive}
 use Rattle.vrt_model.specs.declared.whole.WholePin.{WholePin}
 use Rattle.whole_cells.proofs.EnteredLaws.{entered_are_apart, entered_are_whole_cells}
 use Rattle.whole_cells.specs.Entered.{AreEntered}
@@ -45,12 +49,12 @@ use Rattle.substitute.proofs.ChosenLaws.{marked_is_with_one, one_more_brings_its
 use Rattle.substitute.proofs.InsideLaws.{marks_stay}
 use Rattle.substitute.proofs.GoneLaws.{counts_settled, counts_without}
 use Rattle.substitute.proofs.RightLaws.{allowed_of, inside_is_left_out, open_of, refused_is_left_out, with_model}
-use Rattle.substitute.proofs.TakenLaws.{taken_grow}
+use Rattle.substitute.proofs.TakenLaws.{none_taken, taken_grow}
 use Rattle.substitute.specs.Candidates.{IsCandidate}
 use Rattle.substitute.specs.Chosen.{IsRightly, MarksOneMore, MayBeChosen, cut_of}
-use Rattle.substitute.specs.Ranges.{devices_gone, with_chosen}
+use Rattle.substitute.specs.Ranges.{AreSettled, devices_gone, with_chosen}
 use Rattle.substitute.specs.Right.{AreItsOutputsOpen, IsNext}
-use Rattle.substitute.specs.Taken.{has_pin}
+use Rattle.substitute.specs.Taken.{TakesPins}
 use Rattle.substitute.specs.Underway.{AreChosen, AreChosenBy, AreCountsOf, AreReached, AreTables, HasEntry, IsNextTrial, IsOutside}
 use Rattle.substitute.specs.declared.choice.Chosen.{Chosen}
 use Rattle.substitute.specs.declared.tables.Tables.{Tables}
@@ -141,7 +145,7 @@ module _ (asked : Bool) (t : Top) (blif : Blif) (facts : List CellFacts) (tables
       subst (λ (v : Vec Bool Global). AreChosenBy asked t blif facts tables i (suc i) v.items new.inside.items new.nets.held.items new.nets.taken.items new.nets.channels.items) (sym whole)
       (subst (λ (v : Vec Bool Global). AreChosenBy asked t blif facts tables i (suc i) old.whole.items v.items new.nets.held.items new.nets.taken.items new.nets.channels.items) (sym inside)
       (subst (λ (v : Vec Bool Global). AreChosenBy asked t blif facts tables i (suc i) old.whole.items old.inside.items v.items new.nets.taken.items new.nets.channels.items) (sym held)
-      (subst (λ (v : Vec Bool Global). AreChosenBy asked t blif facts tables i (suc i) old.whole.items old.inside.items old.nets.held.items v.items new.nets.channels.items) (sym taken)
+      (subst (λ (v : Vec Taken Global). AreChosenBy asked t blif facts tables i (suc i) old.whole.items old.inside.items old.nets.held.items v.items new.nets.channels.items) (sym taken)
       (record {
         tables_are = is.tables_are;
         each = is.each;
@@ -207,16 +211,16 @@ module _ (asked : Bool) (t : Top) (blif : Blif) (facts : List CellFacts) (tables
       left_out chosen is (without_entry t blif facts tables is.tables_are asked chosen.whole.items i place here (subst (At tables.cells.now place.cell) (sym (found entry.0 entry.1)) entry.1))
 
   -- its output pins as the code makes them
-  pub next_trial : (chosen : Chosen) (own : WholeCell) (out : IsOutside asked t blif facts tables i chosen own) (place : Place) (ports : List Port) (nets : List Net) (made pins : List WholePin)
-      → At tables.unrolled.now.places (suc i) place → ports ≡ own.ports.items → nets ≡ place.ports → pins ≡ made
-      → ((fs : List CellFacts) (k : Comparison) (at : FlatPlace) → IsAtPorts k at ports nets → AreDrivesOf fs at.cell [] → made ≡ driven_pins fs k at)
+  pub next_trial : (chosen : Chosen) (own : WholeCell) (out : IsOutside asked t blif facts tables i chosen own) (place : Place) (ports : List Port) (nets : List Net) (drives : List Drive) (made pins : List WholePin)
+      → At tables.unrolled.now.places (suc i) place → ports ≡ own.ports.items → nets ≡ place.ports → drives ≡ own.drives → pins ≡ made
+      → ((fs : List CellFacts) (k : Comparison) (at : FlatPlace) → IsAtPorts k at ports nets → AreDrivesOf fs at.cell drives → made ≡ driven_pins fs k at)
       → IsNextTrial asked t blif facts tables i chosen own pins
-  next_trial chosen own out place ports nets made pins here ports_is nets_is pins_is gives =
+  next_trial chosen own out place ports nets drives made pins here ports_is nets_is drives_is pins_is gives =
       let same = ap (λ (x : Place). x.ports) (one_at tables.unrolled.now.places (suc i) out.has.place place out.has.here here) ∙ sym nets_is in
       record {
         is = out;
-        pins_are = λ k at stand drives.
-            pins_is ∙ gives facts k at (subst (λ (ps : List Port). IsAtPorts k at ps nets) (sym ports_is) (subst (λ (ns : List Net). IsAtPorts k at own.ports.items ns) same stand)) drives;
+        pins_are = λ k at stand told.
+            pins_is ∙ gives facts k at (subst (λ (ps : List Port). IsAtPorts k at ps nets) (sym ports_is) (subst (λ (ns : List Net). IsAtPorts k at own.ports.items ns) same stand)) (subst (AreDrivesOf facts at.cell) (sym drives_is) told);
       }
 
 -- ---- an instance of a cell with an entry
@@ -268,16 +272,16 @@ module _ (asked : Bool) (t : Top) (blif : Blif) (facts : List CellFacts) (tables
   or_on true c e = refl
   or_on false c e = e
 
-  placed : IsPlacedWhole t blif facts p has.place
+  placed : IsPlacedWhole t blif p has.place
   placed =
       let found = (entered_are_whole_cells one blif facts tables.unrolled.now tables.cells.now are.entered entered).cells_are (suc i) has.place p has.here numbered_here.1
       (or_on (mark_at whole (suc i)) (i == i) (eq-eqb i i refl)) in
       found.3
 
   -- its output pins are those that the code makes
-  pub pins_are : (pins : List WholePin) → ((x : Comparison) (at : FlatPlace) → IsAtPorts x at own.ports.items has.place.ports → AreDrivesOf facts at.cell [] → pins ≡ driven_pins facts x at)
+  pub pins_are : (pins : List WholePin) → ((x : Comparison) (at : FlatPlace) → IsAtPorts x at own.ports.items has.place.ports → AreDrivesOf facts at.cell own.drives → pins ≡ driven_pins facts x at)
       → pins ≡ driven_pins facts k p.at
-  pins_are pins made = made k p.at (at_ports one blif facts p own entry.cell has.place placed) placed.soft
+  pins_are pins made = made k p.at (at_ports one blif facts p own entry.cell has.place placed) entry.cell.drives
 
   -- they are at nets of the circuit, where it is rightly chosen
   pub pins_within : (pins : List WholePin) → pins ≡ driven_pins facts k p.at → IsRightly asked old blif facts i true → All (λ (q : WholePin). q.net.0 < length chosen.nets.taken.items) pins
@@ -326,9 +330,9 @@ module _ (asked : Bool) (t : Top) (blif : Blif) (facts : List CellFacts) (tables
         ∙ ap (λ (c : Cut). all_outputs c blif facts) (sym now_is)
 
     -- where it is chosen
-    pub chosen_one : (pins : List WholePin) (inside held taken : List Bool) (counts : List ℕ) → length marks ≡ length whole → IsRightly asked old blif facts i true → pins ≡ driven_pins facts k p.at
+    pub chosen_one : (pins : List WholePin) (inside held : List Bool) (taken : List Taken) (counts : List ℕ) → length marks ≡ length whole → IsRightly asked old blif facts i true → pins ≡ driven_pins facts k p.at
         → inside ≡ chosen.inside.items → held ≡ chosen.nets.held.items → length taken ≡ length chosen.nets.taken.items
-        → ((n : ℕ) → mark_at taken n ≡ (mark_at chosen.nets.taken.items n || has_pin n pins)) → AreCountsOf one (length tables.flat.now.nets) counts
+        → TakesPins pins chosen.nets.taken.items taken → AreCountsOf one (length tables.flat.now.nets) counts
         → AreChosenBy asked t blif facts tables (suc i) (suc (suc i)) marks inside held taken counts
     chosen_one pins inside held taken counts each right pins_same inside_same held_same room taken_more counted =
         let later = one_more_is_decided asked t blif facts i whole marks true has.chosen_are.none one_more right has.chosen_are.decided in
@@ -356,14 +360,12 @@ module _ (asked : Bool) (t : Top) (blif : Blif) (facts : List CellFacts) (tables
     p_outside = outside p.at (numbered_at t (suc i) p numbered_here.1).1
 
     pub without : (new : List ℕ) → length new ≡ length chosen.nets.channels.items
-        → ((n : ℕ) → n < length chosen.nets.channels.items → slice_index new n ≡ changed false (slice_index chosen.nets.channels.items n) (length (channels_at (devices_gone t i) n)))
-        → AreCountsOf one (length tables.flat.now.nets) new
+        → AreChanged false (λ n k. length (channels_of (4 + k) (devices_gone t i) n)) chosen.nets.channels.items new → AreCountsOf one (length tables.flat.now.nets) new
     without new each fewer =
         counts_without old i p are.ground.netlist.design has.chosen_are.none numbered_here.1 p_outside (length tables.flat.now.nets) chosen.nets.channels.items new has.chosen_are.counted each fewer
 
     pub settled : (right : Bool) (less new : List ℕ) → AreCountsOf one (length tables.flat.now.nets) less → length new ≡ length less
-        → ((n : ℕ) → n < length less → slice_index new n ≡ cond right (slice_index less n) (changed true (slice_index less n) (length (channels_at (devices_gone t i) n))))
-        → AreCountsOf (with_chosen right old i) (length tables.flat.now.nets) new
+        → AreSettled right (devices_gone t i) less new → AreCountsOf (with_chosen right old i) (length tables.flat.now.nets) new
     settled right less new counted each is =
         counts_settled old i p are.ground.netlist.design has.chosen_are.none numbered_here.1 p_outside (length tables.flat.now.nets) right less new counted each is
 
@@ -383,6 +385,7 @@ module _ (asked : Bool) (t : Top) (blif : Blif) (facts : List CellFacts) (tables
               (let there = cut_at own.whole.items (λ n. beside.one_more n ∙ ap₂ (λ (l : List Bool) (a : ℕ). mark_at l n || (a == n)) marks_same at_is) in
               record {
                 flat_is = are.flat_is;
+                formed = are.ground.formed;
                 cut_at = there;
                 marks = beside.are one there;
                 places = are.owners_are;
@@ -393,7 +396,6 @@ module _ (asked : Bool) (t : Top) (blif : Blif) (facts : List CellFacts) (tables
           counts = counted.are;
           taken = subst (AreTaken (all_outputs old blif facts)) (sym taken_same) has.chosen_are.taken;
           pins_are = pins_same;
-          soft_pins = λ pin on. pin_soft facts are.ground.soft p.at.cell 0 (pins_of k p.at) pin (subst (λ (ps : List WholePin). Among ps pin) pins_same on);
         }
 
 -- ---- as the code tries it
@@ -416,22 +418,20 @@ module _ (asked : Bool) (t : Top) (blif : Blif) (facts : List CellFacts) (tables
     more_here : (n : ℕ) → mark_at marks n ≡ (mark_at chosen.whole.items n || (suc i == n))
     more_here n = more n ∙ ap (λ (a : ℕ). mark_at chosen.whole.items n || (a == n)) at_is
 
-    pub trial_chosen : (inside held taken : List Bool) (counts : List ℕ) → length marks ≡ length chosen.whole.items → IsRightly asked (cut_of t chosen.whole.items) blif facts i true
+    pub trial_chosen : (inside held : List Bool) (taken : List Taken) (counts : List ℕ) → length marks ≡ length chosen.whole.items → IsRightly asked (cut_of t chosen.whole.items) blif facts i true
         → inside ≡ chosen.inside.items → held ≡ chosen.nets.held.items → length taken ≡ length chosen.nets.taken.items
-        → ((n : ℕ) → mark_at taken n ≡ (mark_at chosen.nets.taken.items n || has_pin n pins))
+        → TakesPins pins chosen.nets.taken.items taken
         → AreCountsOf (with_one (cut_of t chosen.whole.items) i) (length tables.flat.now.nets) counts
         → AreChosenBy asked t blif facts tables (suc i) (suc (suc i)) marks inside held taken counts
     trial_chosen inside held taken counts each right inside_same held_same room taken_more counted =
         chosen_one asked t blif facts tables i chosen own has_entry marks more_here pins inside held taken counts each right pins_same inside_same held_same room taken_more counted
 
   pub trial_without : (new : List ℕ) → length new ≡ length chosen.nets.channels.items
-      → ((n : ℕ) → n < length chosen.nets.channels.items → slice_index new n ≡ changed false (slice_index chosen.nets.channels.items n) (length (channels_at (devices_gone t i) n)))
-      → AreCountsOf (with_one (cut_of t chosen.whole.items) i) (length tables.flat.now.nets) new
+      → AreChanged false (λ n k. length (channels_of (4 + k) (devices_gone t i) n)) chosen.nets.channels.items new → AreCountsOf (with_one (cut_of t chosen.whole.items) i) (length tables.flat.now.nets) new
   trial_without = without asked t blif facts tables i chosen own has_entry trial.is.outside
 
   pub trial_settled : (right : Bool) (less new : List ℕ) → AreCountsOf (with_one (cut_of t chosen.whole.items) i) (length tables.flat.now.nets) less → length new ≡ length less
-      → ((n : ℕ) → n < length less → slice_index new n ≡ cond right (slice_index less n) (changed true (slice_index less n) (length (channels_at (devices_gone t i) n))))
-      → AreCountsOf (with_chosen right (cut_of t chosen.whole.items) i) (length tables.flat.now.nets) new
+      → AreSettled right (devices_gone t i) less new → AreCountsOf (with_chosen right (cut_of t chosen.whole.items) i) (length tables.flat.now.nets) new
   trial_settled = settled asked t blif facts tables i chosen own has_entry trial.is.outside
 
   pub trial_candidate : (marks : List Bool) (nets : NetMarks) → marks ≡ chosen.whole.items → nets.held.items ≡ chosen.nets.held.items → nets.taken.items ≡ chosen.nets.taken.items
@@ -453,8 +453,8 @@ module _ (asked : Bool) (t : Top) (blif : Blif) (facts : List CellFacts) (tables
   none_whole n zero = refl
   none_whole n (suc j) = none_marked n (suc j)
 
-  pub none_chosen : (whole inside held taken : List Bool) (counts : List ℕ) → whole ≡ nowhere (length tables.unrolled.now.places) → inside ≡ nowhere 1 → AreHeldMarks tables.flat.now held
-      → taken ≡ nowhere (length tables.flat.now.nets) → length counts ≡ length tables.flat.now.nets → AreCounts (length tables.flat.now.nets) tables.flat.now.devices counts
+  pub none_chosen : (whole inside held : List Bool) (taken : List Taken) (counts : List ℕ) → whole ≡ nowhere (length tables.unrolled.now.places) → inside ≡ nowhere 1 → AreHeldMarks tables.flat.now held
+      → taken ≡ replicate (length tables.flat.now.nets) Free → length counts ≡ 4 * length tables.flat.now.nets → AreCounts (length tables.flat.now.nets) tables.flat.now.devices counts
       → AreChosenBy asked t blif facts tables 0 1 whole inside held taken counts
   none_chosen whole inside held taken counts whole_is inside_is held_are taken_is each counts_are =
       let n = length tables.unrolled.now.places in
@@ -471,8 +471,8 @@ module _ (asked : Bool) (t : Top) (blif : Blif) (facts : List CellFacts) (tables
           are = λ m at lt there. ap (λ (l : List Bool). mark_at l m) inside_is ∙ none_marked 1 m ∙ sym (none_inside n at);
         };
         held = held_are;
-        taken = subst (λ (os : List OutputAt). AreTaken os taken) (sym (no_outputs n)) (λ m. ap (λ (l : List Bool). mark_at l m) taken_is ∙ none_marked (length tables.flat.now.nets) m);
-        room = ap (λ (l : List Bool). length l) taken_is ∙ length-replicate (length tables.flat.now.nets) false;
+        taken = subst (λ (os : List OutputAt). AreTaken os taken) (sym (no_outputs n)) (λ m drive. ap (λ (l : List Taken). admits (taken_at l m) drive) taken_is ∙ ap (λ (x : Taken). admits x drive) (none_taken (length tables.flat.now.nets) m));
+        room = ap (λ (l : List Taken). length l) taken_is ∙ length-replicate (length tables.flat.now.nets) Free;
         counted = record { each = each; are = subst (λ (ds : List Device). AreCounts (length tables.flat.now.nets) ds counts) (all_shown n) counts_are };
       })
     where

@@ -5,7 +5,6 @@ use Rattle.std.proofs.lemmas.Bool.{false≢true}
 use mathlib.Core.Path.{fun_ext}
 use Rattle.checked_chain.proofs.EndLaws.{chain_begins_flat}
 use Rattle.checked_cells.proofs.PlacesAlone.{ties_same}
-use Rattle.checked_cells.specs.Given.{ArePlainFacts}
 use Rattle.flat_sizes.proofs.PlaceLaws.{nets_counted}
 use Rattle.flatten.specs.Circuits.{IsFlatCircuit}
 use Rattle.known_nets.proofs.WiredLaws.{flat_wired}
@@ -22,7 +21,6 @@ use Rattle.whole_circuits.specs.Shown.{AreMarks, device_places}
 use Rattle.whole_circuits.specs.declared.marks.Marks.{Marks}
 use Rattle.whole_circuits.specs.declared.whole_cell.WholeCell.{WholeCell}
 use Rattle.substitution_laws.proofs.ChainLaws.{some_place}
-use Rattle.substitution_laws.proofs.ChosenLaws.{told_soft}
 use Rattle.vrt_model.specs.Checked.{IsChecked, IsChoice, IsCircuitWith}
 use Rattle.vrt_model.specs.Comparison.{phase_at}
 use Rattle.vrt_model.specs.Cut.{Cut}
@@ -46,7 +44,7 @@ use Rattle.substitute.proofs.UnderwayLaws.{count, cut_at_chosen}
 use Rattle.substitute.specs.Chosen.{cut_of}
 use Rattle.substitute.specs.Cycles.{IsTriedBy}
 use Rattle.substitute.specs.Underway.{AreChosen, AreChosenBelow, AreTables}
-use Rattle.substitute.specs.Whole.{AreEntriesOf, IsCellGround, IsWholeGround, WholeGives}
+use Rattle.substitute.specs.Whole.{AreEntriesOf, AreTrueFacts, IsCellGround, IsWholeGround, WholeGives}
 use Rattle.substitute.specs.declared.choice.Chosen.{Chosen}
 use Rattle.substitute.specs.declared.tables.Tables.{Tables}
 
@@ -76,6 +74,7 @@ module _ (asked : Bool) (t : Top) (blif : Blif) (facts : List CellFacts) (tables
       let cells = entered_are_whole_cells cut blif facts tables.unrolled.now tables.cells.now are.entered at_end.entered in
       record {
         flat_is = are.flat_is;
+        formed = are.ground.formed;
         cut_at = subst (IsCutAt cut tables.unrolled.now) (sym same) cut_at;
         marks = marks_are cut cut_at;
         places = are.owners_are;
@@ -159,12 +158,11 @@ module _ (t : Top) (blif : Blif) (facts : List CellFacts) (flat : Circuit) (is :
 
 -- the ground of a cell, by its flat circuit
 pub cell_ground : (design : Design) (blif : Blif) (rules : Rules) (cell : ℕ) (pairing : Pairing) (facts : List CellFacts) (flat : Circuit) → AreFiles design blif rules → cell < length design.cells
-    → ArePlainFacts design blif rules facts → IsFlatCircuit design rules cell pairing flat → IsCellGround (whole_of design rules cell pairing.ports) blif facts flat
-cell_ground design blif rules cell pairing facts flat files there plain is = record {
+    → AreTrueFacts design blif rules facts → IsFlatCircuit design rules cell pairing flat → IsCellGround (whole_of design rules cell pairing.ports) blif facts flat
+cell_ground design blif rules cell pairing facts flat files there told is = record {
   netlist = record { design = files.netlist; ordered = files.ordered; there = there; ties = ties_same (top_before design rules cell) pairing.ports ∙ is.structured.ties };
   read = record { names = files.names; models = files.models; valid = files.valid };
-  told = plain.told;
-  soft = plain.soft;
+  told = told;
   formed = is.formed;
   flat_is = is.is;
 }
@@ -172,7 +170,7 @@ cell_ground design blif rules cell pairing facts flat files there plain is = rec
 pub ground_without : (design : Design) (blif : Blif) (rules : Rules) (cell : ℕ) (roles : List PortRole) (facts : List CellFacts) (flat : Circuit)
     → IsCellGround (whole_of design rules cell roles) blif facts flat → AreAcyclic flat rules.phases → IsWholeGround design blif rules cell roles facts flat
 ground_without design blif rules cell roles facts flat is free = record {
-  ground = record { netlist = is.netlist; read = is.read; told = is.told; soft = is.soft; formed = is.formed; acyclic = free };
+  ground = record { netlist = is.netlist; read = is.read; told = is.told; formed = is.formed; acyclic = free };
   flat_is = is.flat_is;
 }
 
@@ -191,7 +189,6 @@ tables_of design blif rules cell roles facts tables is unrolled phases owners en
     cards = is.ground.netlist.ordered.cards;
     ties = is.ground.netlist.ties;
     unrolled_is = unrolled;
-    soft = told_soft facts is.ground.soft;
     entries = λ place entry among on. entry_of entry place (entries.are place entry among on);
   };
 }
@@ -199,7 +196,7 @@ tables_of design blif rules cell roles facts tables is unrolled phases owners en
     -- what an entry says does not depend on the checked cell
     entry_of : (entry : Option WholeCell) (place : Place) → IsEntry (top_before design rules place.cell) blif facts place.cell entry → IsEntry (whole_of design rules cell roles) blif facts place.cell entry
     entry_of None place is = is
-    entry_of (Some own) place is = record { cell = record { number = is.cell.number; paired = is.cell.paired; has = is.cell.has }; allowed = is.allowed; ports = is.ports }
+    entry_of (Some own) place is = record { cell = record { number = is.cell.number; paired = is.cell.paired; has = is.cell.has; drives = is.cell.drives }; allowed = is.allowed; ports = is.ports }
 
 -- ---- a slice of facts
 

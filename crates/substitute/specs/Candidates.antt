@@ -5,10 +5,10 @@ use Rattle.formed_cells.specs.Formed.{AreRead}
 use Rattle.known_nets.specs.Incidence.{AreHeldMarks}
 use Rattle.replaced_instances.specs.Steps.{IsSoundNetlist}
 use Rattle.whole_circuits.specs.Acyclic.{AreAcyclic}
-use Rattle.whole_circuits.specs.Outputs.{AreCounts, AreSoft as AreSoftPins, AreTaken}
+use Rattle.whole_circuits.specs.Counts.{AreCounts}
+use Rattle.whole_circuits.specs.Taken.{AreTaken}
 use Rattle.whole_circuits.specs.declared.marks.Marks.{Marks}
 use Rattle.whole_circuits.specs.declared.outputs.NetMarks.{NetMarks}
-use Rattle.substitution_laws.specs.Chosen.{AreSoft}
 use Rattle.vrt_model.specs.Checked.{is_cell_allowed, with_one}
 use Rattle.vrt_model.specs.CheckedParts.{checked_devices}
 use Rattle.vrt_model.specs.Circuits.{IsCircuit}
@@ -28,12 +28,11 @@ use Rattle.substitute.specs.Right.{IsNext}
 use Rattle.substitute.specs.Trial.{AreMarksBeside}
 use Rattle.substitute.specs.declared.tables.Tables.{Tables}
 
--- a sound netlist with models and rules as readers give them, true facts that tell no drive, and a well-formed flat circuit without cycles
+-- a sound netlist with models and rules as readers give them, true facts, and a well-formed flat circuit without cycles
 pub record IsGround (t : Top) (blif : Blif) (facts : List CellFacts) (flat : Circuit) : Type 0 where
   pub netlist : IsSoundNetlist t
   pub read : AreRead blif t.rules
   pub told : (cell : ℕ) (f : CellFacts) → At facts cell f → IsTrueOf t.design blif t.rules cell f
-  pub soft : AreSoft facts
   pub formed : IsCircuit flat
   pub acyclic : AreAcyclic flat t.rules.phases
 
@@ -52,4 +51,3 @@ pub record IsCandidate (asked : Bool) (cut : Cut) (blif : Blif) (facts : List Ce
   pub counts : AreCounts (length tables.flat.now.nets) (checked_devices (with_one cut i)) nets.channels.items
   pub taken : AreTaken (all_outputs cut blif facts) nets.taken.items
   pub pins_are : pins ≡ driven_pins facts (comparison_of cut.top.design blif cut.top.rules p.at.cell m) p.at
-  pub soft_pins : AreSoftPins pins

@@ -1,5 +1,7 @@
 -- An instance and what is inside it.
-use Rattle.std.specs.Prelude.{◌≡◌, ℕ, suc, ◌<◌, ◌≤◌, ◌==◌, Bool, true, false, ◌&&◌, List, filter, flat_map, length, map, nat_le, nat_lt}
+use Rattle.std.specs.Prelude.{◌≡◌, ℕ, suc, ◌+◌, ◌*◌, ◌<◌, ◌≤◌, ◌==◌, Bool, true, false, cond, ◌&&◌, List, filter, flat_map, length, map, nat_le, nat_lt}
+use Rattle.std.specs.List.{slice_index}
+use Rattle.whole_circuits.specs.Counts.{changed, channels_of}
 use Rattle.vrt_model.specs.Checked.{with_one}
 use Rattle.vrt_model.specs.Comparison.{cell_at}
 use Rattle.vrt_model.specs.Cut.{Cut, NumberedPlace, is_left_out, numbered_places}
@@ -21,6 +23,12 @@ pub record IsEnd (t : Top) (i e : ℕ) : Type 0 where
   pub behind : suc i < e
   pub within : e ≤ length (numbered_places t)
   pub range : (p : NumberedPlace) → Among (numbered_places t) p → is_left_out (alone t i) p ≡ (nat_le (suc i) p.number && nat_lt p.number e)
+
+-- the counts with those of some devices again, unless these stay out
+abbrev pub AreSettled : Bool → List Device → List ℕ → List ℕ → Type 0
+AreSettled out devices old new =
+    (n k : ℕ) → k < 4 → 4 * n + k < length old
+    → slice_index new (4 * n + k) ≡ cond out (slice_index old (4 * n + k)) (changed true (slice_index old (4 * n + k)) (length (channels_of (4 + k) devices n)))
 
 -- an instance is whole too, where it is chosen
 abbrev pub with_chosen : Bool → Cut → ℕ → Cut

@@ -1,17 +1,23 @@
 -- Nets at which pins are.
-use Rattle.std.specs.Prelude.{◌≡◌, ℕ, ◌==◌, Bool, ◌||◌, List, ◌++◌}
-use Rattle.std.specs.List.{list_any}
-use Rattle.whole_circuits.specs.Outputs.{AreTaken, own_outputs}
-use Rattle.vrt_model.specs.Lists.{mark_at}
+use Rattle.std.specs.Prelude.{◌≡◌, ℕ, ◌==◌, Bool, not, ◌&&◌, ◌||◌, List, ◌++◌}
+use Rattle.std.specs.List.{list_all}
+use Rattle.whole_circuits.specs.Outputs.{own_outputs}
+use Rattle.whole_circuits.specs.Taken.{AreTaken, admits, joins, taken_at}
+use Rattle.whole_circuits.specs.declared.taken.Taken.{Taken}
 use Rattle.vrt_model.specs.WholeInstances.{OutputAt}
+use Rattle.vrt_model.specs.declared.whole.Drive.{Drive}
 use Rattle.vrt_model.specs.declared.whole.WholePin.{WholePin}
 
--- one of the pins is at the net
-abbrev pub has_pin : ℕ → List WholePin → Bool
-has_pin n pins = list_any (λ (p : WholePin). p.net.0 == n) pins
+-- a pin is not at the net, or may be met there by an output of a drive
+abbrev pub may_meet_pin : ℕ → Drive → WholePin → Bool
+may_meet_pin n drive p = not (p.net.0 == n) || joins drive p.drive
 
--- The law: where the marks are at the outputs of some instances, and grow by those of the pins of one more, they are at the outputs of all.
+-- some pins come to their nets
+abbrev pub TakesPins : List WholePin → List Taken → List Taken → Type 0
+TakesPins pins old new = (n : ℕ) (drive : Drive) → admits (taken_at new n) drive ≡ (admits (taken_at old n) drive && list_all (may_meet_pin n drive) pins)
+
+-- The law: where a list has the outputs of some instances, and the pins of one more come to their nets, it has the outputs of all.
 abbrev pub TakenGrow : Type 0
 TakenGrow =
-    (earlier : List OutputAt) (number : ℕ) (pins : List WholePin) (old new : List Bool)
-    → AreTaken earlier old → ((n : ℕ) → mark_at new n ≡ (mark_at old n || has_pin n pins)) → AreTaken (earlier ++ own_outputs number pins) new
+    (earlier : List OutputAt) (number : ℕ) (pins : List WholePin) (old new : List Taken)
+    → AreTaken earlier old → TakesPins pins old new → AreTaken (earlier ++ own_outputs number pins) new

@@ -1,9 +1,11 @@
 -- The instances of a cell that are chosen so far.
-use Rattle.std.specs.Prelude.{◌≡◌, ℕ, suc, Bool, false, List, [], length, Some}
+use Rattle.std.specs.Prelude.{◌≡◌, ℕ, suc, ◌*◌, Bool, false, List, length, Some}
 use Rattle.known_nets.specs.Incidence.{AreHeldMarks}
 use Rattle.net_places.specs.declared.places.Place.{Place}
 use Rattle.whole_circuits.specs.Insides.{AreMarkedBefore}
-use Rattle.whole_circuits.specs.Outputs.{AreCounts, AreTaken}
+use Rattle.whole_circuits.specs.Counts.{AreCounts}
+use Rattle.whole_circuits.specs.Taken.{AreTaken}
+use Rattle.whole_circuits.specs.declared.taken.Taken.{Taken}
 use Rattle.whole_circuits.specs.Pins.{AreDrivesOf, IsAtPorts}
 use Rattle.whole_circuits.specs.Shown.{device_places}
 use Rattle.whole_circuits.specs.declared.whole_cell.WholeCell.{WholeCell}
@@ -34,12 +36,12 @@ pub record AreTables (t : Top) (blif : Blif) (facts : List CellFacts) (tables : 
 
 -- so many nets have counts of the channels that are not inside the whole instances of a cut
 pub record AreCountsOf (cut : Cut) (count : ℕ) (counts : List ℕ) : Type 0 where
-  pub each : length counts ≡ count
+  pub each : length counts ≡ 4 * count
   pub are : AreCounts count (checked_devices cut) counts
 
 -- the instances before a number are rightly chosen or not, and none is chosen from there on; the marks are at their places, at those inside them
--- of so many, and at the nets with holds and with their outputs; and the counts are those of the channels that are not inside them
-pub record AreChosenBy (asked : Bool) (t : Top) (blif : Blif) (facts : List CellFacts) (tables : Tables) (i reached : ℕ) (whole inside holds outputs : List Bool) (counts : List ℕ) : Type 0 where
+-- of so many, and at the nets with holds; the list of outputs has theirs; and the counts are those of the channels that are not inside them
+pub record AreChosenBy (asked : Bool) (t : Top) (blif : Blif) (facts : List CellFacts) (tables : Tables) (i reached : ℕ) (whole inside holds : List Bool) (outputs : List Taken) (counts : List ℕ) : Type 0 where
   pub tables_are : AreTables t blif facts tables
   pub each : length whole ≡ length tables.unrolled.now.places
   pub outermost : mark_at whole 0 ≡ false
@@ -81,4 +83,4 @@ pub record IsOutside (asked : Bool) (t : Top) (blif : Blif) (facts : List CellFa
 -- and it has these output pins
 pub record IsNextTrial (asked : Bool) (t : Top) (blif : Blif) (facts : List CellFacts) (tables : Tables) (i : ℕ) (chosen : Chosen) (own : WholeCell) (pins : List WholePin) : Type 0 where
   pub is : IsOutside asked t blif facts tables i chosen own
-  pub pins_are : (k : Comparison) (p : FlatPlace) → IsAtPorts k p own.ports.items is.has.place.ports → AreDrivesOf facts p.cell [] → pins ≡ driven_pins facts k p
+  pub pins_are : (k : Comparison) (p : FlatPlace) → IsAtPorts k p own.ports.items is.has.place.ports → AreDrivesOf facts p.cell own.drives → pins ≡ driven_pins facts k p

@@ -7,7 +7,6 @@ use Rattle.net_places.specs.Whole.{whole_of}
 use Rattle.net_places.specs.declared.places.Place.{Place}
 use Rattle.replaced_instances.specs.Steps.{IsSoundNetlist}
 use Rattle.whole_circuits.specs.declared.whole_cell.WholeCell.{WholeCell}
-use Rattle.substitution_laws.specs.Chosen.{AreSoft}
 use Rattle.vrt_model.specs.Checked.{IsChecked}
 use Rattle.vrt_model.specs.Circuits.{IsCircuit}
 use Rattle.vrt_model.specs.Cut.{Cut}
@@ -47,9 +46,12 @@ pub record IsCellGround (t : Top) (blif : Blif) (facts : List CellFacts) (flat :
   pub netlist : IsSoundNetlist t
   pub read : AreRead blif t.rules
   pub told : (cell : ℕ) (f : CellFacts) → At facts cell f → IsTrueOf t.design blif t.rules cell f
-  pub soft : AreSoft facts
   pub formed : IsCircuit flat
   pub flat_is : flat ≡ flat_circuit_of t
+
+-- what is told of cells is true
+abbrev pub AreTrueFacts : Design → Blif → Rules → List CellFacts → Type 0
+AreTrueFacts design blif rules facts = (cell : ℕ) (f : CellFacts) → At facts cell f → IsTrueOf design blif rules cell f
 
 -- the checked circuit of a cell whose ports have the roles of a pairing, or what stands in the way of its flat one
 abbrev pub WholeAnswers : Design → Blif → Rules → ℕ → Pairing → List CellFacts → Result Circuit FlatFault → Type 0

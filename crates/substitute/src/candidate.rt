@@ -14,9 +14,9 @@ use crate::tables::Tables;
 use crate::trial::marks_beside;
 use std::alloc::Global;
 use vrt_model::{NoMemory, WholePin};
-use whole_circuits::{NetMarks, are_free};
+use whole_circuits::{NetMarks, are_open};
 
-/// Whether a candidate is rightly chosen: its output pins meet gates alone, and, where cycles are asked for, the circuit in which it
+/// Whether a candidate is rightly chosen: its output pins are allowed, and, where cycles are asked for, the circuit in which it
 /// is whole too has none. The channels that are counted are those with it whole. Without a look at cycles it takes time in proportion to the square
 /// of its outputs.
 pub fn passes(
@@ -34,8 +34,8 @@ pub fn passes(
     requires candidate { (cut : Cut) × (blif : BlifValue) × (facts : List FactsValue) × (i : ℕ) × (p : NumberedPlace) × (m : ℕ) × IsCandidate asked cut blif facts i p m tables whole.now at nets.now pins.now }
     ensures { IfOk result (λ free. (cut : Cut) (blif : BlifValue) (facts : List FactsValue) (i : ℕ) (p : NumberedPlace) (m : ℕ) → IsCandidate asked cut blif facts i p m tables.entry whole.now at nets.now pins.now → IsRightly asked cut blif facts i free) }
 {
-    let bare = are_free(tables.flat, nets, pins);
-    if !bare {
+    let allowed = are_open(tables.flat, nets, pins);
+    if !allowed {
         return Ok(false);
     }
     if !asked {

@@ -1,12 +1,11 @@
 //! The checked circuit of a cell from nothing but its files and what is known of the cells below it.
 
 ghost use Rattle.std.specs.Prelude.{◌<◌, List, length, IfOk};
-ghost use Rattle.checked_cells.specs.Given.{ArePlainFacts};
 ghost use Rattle.net_places.specs.Whole.{whole_of};
 ghost use Rattle.prepared_tables.specs.Prepared.{ArePrepared};
 ghost use Rattle.vrt_model.specs.declared.pairing.PortRole.{PortRole as RoleValue};
 ghost use Rattle.whole_cells.specs.Own.{AreFiles};
-ghost use Rattle.substitute.specs.Whole.{IsCellGround, WholeAnswers, WholeGives};
+ghost use Rattle.substitute.specs.Whole.{AreTrueFacts, IsCellGround, WholeAnswers, WholeGives};
 
 use crate::with_tables::whole_with;
 use flatten::{FlatFault, flat_with};
@@ -54,7 +53,7 @@ pub fn whole(
 ) -> Result<Circuit, FlatFault>
     requires files { AreFiles design.now blif.now rules.now }
     requires there { cell < length design.now.cells }
-    requires plain { ArePlainFacts design.now blif.now rules.now facts.now }
+    requires told { AreTrueFacts design.now blif.now rules.now facts.now }
     ensures { WholeAnswers design.now blif.now rules.now cell pairing.now facts.now result }
 {
     let prepared = prepare(alloc, design, blif, rules)?;

@@ -1,23 +1,22 @@
 //! The instances of a cell that are left whole, tried one after the other.
 
-ghost use Rattle.std.specs.Prelude.{◌≡◌, ◌<◌, ◌+◌, ◌||◌, ◌==◌, ℕ, suc, List, Option, Bool, true, false, All, cond, length, replicate, IfOk, OnOk};
-ghost use Rattle.std.specs.List.{slice_index};
+ghost use Rattle.std.specs.Prelude.{◌≡◌, ◌<◌, ◌+◌, ◌*◌, ◌||◌, ◌==◌, ℕ, suc, List, Option, Bool, All, length, replicate, IfOk, OnOk};
 ghost use Rattle.std.specs.Option.{option_copied};
 ghost use Rattle.known_nets.specs.Incidence.{AreHeldMarks};
 ghost use Rattle.known_nets.specs.Wired.{IsWired};
 ghost use Rattle.net_places.specs.Instances.{AreSmall};
-ghost use Rattle.whole_circuits.specs.Outputs.{AreCounts, changed};
+ghost use Rattle.whole_circuits.specs.Counts.{AreCounts};
+ghost use Rattle.whole_circuits.specs.declared.taken.Taken.TheVariants.{Free as FreeNet};
 ghost use Rattle.whole_circuits.specs.declared.whole_cell.WholeCell.{WholeCell as CellValue};
 ghost use Rattle.vrt_model.specs.Circuits.{IsHold};
 ghost use Rattle.vrt_model.specs.Lists.{At, mark_at};
 ghost use Rattle.vrt_model.specs.Unrolled.{Top};
-ghost use Rattle.vrt_model.specs.WholeInstances.{channels_at};
 ghost use Rattle.vrt_model.specs.declared.blif.Blif.{Blif as BlifValue};
 ghost use Rattle.vrt_model.specs.declared.whole.CellFacts.{CellFacts as FactsValue};
 ghost use Rattle.vrt_model.specs.declared.whole.WholePin.{WholePin as PinValue};
 ghost use Rattle.substitute.specs.Chosen.{IsRightly, cut_of};
-ghost use Rattle.substitute.specs.Ranges.{with_chosen};
-ghost use Rattle.substitute.specs.Taken.{has_pin};
+ghost use Rattle.substitute.specs.Ranges.{AreSettled, with_chosen};
+ghost use Rattle.substitute.specs.Taken.{TakesPins};
 ghost use Rattle.substitute.specs.Underway.{AreChosen, AreChosenBelow, AreCountsOf, AreReached, AreTables, HasEntry, IsNextTrial, IsOutside};
 ghost use Rattle.substitute.specs.declared.tables.Tables.{Tables as TablesValue};
 
@@ -30,7 +29,8 @@ use net_places::Unrolled;
 use std::alloc::Global;
 use vrt_model::{Device, NoMemory, WholePin};
 use whole_circuits::{
-    NetMarks, WholeCell, add_inside, channel_counts, count_channels, driven_pins, place_at,
+    NetMarks, WholeCell, add_inside, channel_counts, count_channels, driven_pins, no_outputs,
+    place_at,
 };
 
 /// The instances that are chosen so far.
@@ -39,7 +39,7 @@ pub struct Chosen {
     pub whole: Vec<bool>,
     /// A mark for each place that has been tried, set where it is inside a chosen instance.
     pub inside: Vec<bool>,
-    /// Which nets have holds or outputs of chosen instances, and how many channels that are not inside chosen ones end at each.
+    /// Which nets have holds, which outputs of chosen instances are at each, and how many channels that are not inside chosen ones end there.
     pub nets: NetMarks,
 }
 
@@ -58,12 +58,12 @@ impl Drop for Chosen {
 fn bare_nets(alloc: Global, tables: Tables<'_>) -> Result<NetMarks, NoMemory>
     requires { IsWired tables.flat.now }
     ensures held { IfOk result (λ nets. AreHeldMarks tables.entry.flat.now nets.held.items) }
-    ensures taken { IfOk result (λ nets. nets.taken.items ≡ replicate (length tables.entry.flat.now.nets) false) }
-    ensures each { IfOk result (λ nets. length nets.channels.items ≡ length tables.entry.flat.now.nets) }
+    ensures taken { IfOk result (λ nets. nets.taken.items ≡ replicate (length tables.entry.flat.now.nets) FreeNet) }
+    ensures each { IfOk result (λ nets. length nets.channels.items ≡ 4 * length tables.entry.flat.now.nets) }
     ensures counts { IfOk result (λ nets. AreCounts (length tables.entry.flat.now.nets) tables.entry.flat.now.devices nets.channels.items) }
 {
     let count = tables.flat.nets.len();
-    let taken = no_marks(alloc, count)?;
+    let taken = no_outputs(alloc, count)?;
     let held = held_nets(alloc, tables.flat)?;
     let channels = channel_counts(alloc, count, tables.flat.devices.as_slice())?;
     Ok(NetMarks {
@@ -102,7 +102,7 @@ fn entry_of(cells: &[Option<WholeCell>], cell: usize) -> Option<&WholeCell>
 /// Counts the channels of some devices in again, unless they stay out.
 fn settle(channels: &mut Vec<usize>, out: bool, devices: &[Device]) -> Result<(), NoMemory>
     ensures len { OnOk result (length channels.new.items ≡ length channels.old.items) }
-    ensures is { OnOk result ((n : ℕ) → n < length channels.old.items → slice_index channels.new.items n ≡ cond out (slice_index channels.old.items n) (changed true (slice_index channels.old.items n) (length (channels_at devices.now n)))) }
+    ensures is { OnOk result (AreSettled out devices.now channels.old.items channels.new.items) }
 {
     if out {
         return Ok(());
@@ -156,7 +156,7 @@ fn choose(chosen: &mut Chosen, at: usize, pins: &[WholePin])
     ensures held { chosen.new.nets.held ≡ chosen.old.nets.held }
     ensures channels { chosen.new.nets.channels ≡ chosen.old.nets.channels }
     ensures room { length chosen.new.nets.taken.items ≡ length chosen.old.nets.taken.items }
-    ensures taken { (n : ℕ) → mark_at chosen.new.nets.taken.items n ≡ (mark_at chosen.old.nets.taken.items n || has_pin n pins.now) }
+    ensures taken { TakesPins pins.now chosen.old.nets.taken.items chosen.new.nets.taken.items }
 {
     mark(&mut chosen.whole, at);
     take_outputs(&mut chosen.nets.taken, pins);
@@ -178,7 +178,7 @@ fn try_outside(
     ensures { OnOk result ((t : Top) (blif : BlifValue) (facts : List FactsValue) (i : ℕ) → at ≡ suc i → IsOutside asked t blif facts tables.entry i chosen.old own.now → AreChosen asked t blif facts tables.entry (suc i) chosen.new) }
 {
     let nets = place_at(tables.unrolled, at).ports.as_slice();
-    let pins = driven_pins(alloc, own.ports.as_slice(), nets, &[])?;
+    let pins = driven_pins(alloc, own.ports.as_slice(), nets, own.drives.as_slice())?;
     let right = is_right(alloc, asked, tables, at, chosen, pins.as_slice())?;
     if right {
         choose(chosen, at, pins.as_slice());
@@ -256,7 +256,7 @@ fn try_instance(
 }
 
 /// The instances that are chosen, tried in the order of their places: each that is outside those chosen before it, of a cell whose
-/// instances may be left whole, with outputs that meet gates alone, and, where cycles are asked for, by which no arc leads around.
+/// instances may be left whole, with outputs that are allowed, and, where cycles are asked for, by which no arc leads around.
 /// Where cycles are asked for each trial takes time in proportion to the flat circuit, else in proportion to the instance that is tried: the places and
 /// devices inside it, and the square of its outputs.
 pub fn choose_all(alloc: Global, asked: bool, tables: Tables<'_>) -> Result<Chosen, NoMemory>

@@ -64,11 +64,11 @@ module _ (cut : Cut) (blif : Blif) (facts : List CellFacts) (unrolled : Unrolled
         ∙ length-map (ports_of (comparison_of cut.top.design blif cut.top.rules p.at.cell entry.cell.number)) unnamed
         ∙ ap (λ (n : ℕ). length (ports_of (comparison_of cut.top.design blif cut.top.rules p.at.cell n))) (one_model entry.cell.number m (sym entry.cell.paired ∙ paired))
 
-    placed : IsPlacedWhole cut.top blif facts p place
-    placed = record { shows = shows; tied = tied; soft = is.soft p.at.cell }
+    placed : IsPlacedWhole cut.top blif p place
+    placed = record { shows = shows; tied = tied }
 
   by_number : (n : ℕ) (place : Place) (p : NumberedPlace) → At unrolled.places n place → At (numbered_places cut.top) n p → is_whole cut.choice n ≡ true
-      → (own : WholeCell) × At cells place.cell (Some own) × IsWholeCell cut.top blif p.at.cell own × IsPlacedWhole cut.top blif facts p place
+      → (own : WholeCell) × At cells place.cell (Some own) × IsWholeCell cut.top blif facts p.at.cell own × IsPlacedWhole cut.top blif p place
   by_number zero place p here there e = absurd (false≢true e)
   by_number (suc i) place p here there e =
       let w = own i place p here there e in (w.0, w.1, (entry i place p here there e).cell, placed i place p here there e)

@@ -13,22 +13,15 @@ use Rattle.vrt_model.specs.Hierarchy.{bad_card}
 use Rattle.vrt_model.specs.Lists.{Among, At}
 use Rattle.vrt_model.specs.Unrolled.{Top}
 use Rattle.vrt_model.specs.Unsupported.{supply_tie}
-use Rattle.vrt_model.specs.WholeInstances.{drive_in}
 use Rattle.vrt_model.specs.declared.blif.Blif.{Blif}
 use Rattle.vrt_model.specs.declared.whole.CellFacts.{CellFacts}
-use Rattle.vrt_model.specs.declared.whole.Drive.TheVariants.{Soft}
 use Rattle.whole_cells.specs.Entries.{IsEntry}
-
--- no entry of the facts tells how strongly an output drives
-abbrev pub TellNoDrive : List CellFacts → Type 0
-TellNoDrive facts = (cell j : ℕ) → drive_in facts cell j ≡ Soft
 
 -- a cell unrolled, in which each port is tied to a net, and a table with the entry of the cell of each of its places
 pub record IsEntered (t : Top) (blif : Blif) (facts : List CellFacts) (unrolled : Unrolled) (cells : List (Option WholeCell)) : Type 0 where
   pub cards : bad_card t.design ≡ None
   pub ties : supply_tie t ≡ None
   pub unrolled_is : IsUnrolled t unrolled
-  pub soft : TellNoDrive facts
   pub entries :
       (place : Place) (entry : Option WholeCell) → Among unrolled.places place → At cells place.cell entry → IsEntry t blif facts place.cell entry
 

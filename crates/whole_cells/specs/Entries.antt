@@ -19,7 +19,7 @@ IsAllowed t blif facts cell m = is_cell_allowed t facts (comparison_of t.design 
 
 -- the instances of a cell may be left whole, and have this in common
 pub record IsWholeEntry (t : Top) (blif : Blif) (facts : List CellFacts) (number : ℕ) (own : WholeCell) : Type 0 where
-  pub cell : IsWholeCell t blif number own
+  pub cell : IsWholeCell t blif facts number own
   pub allowed : (m : ℕ) → paired_model t.design blif t.rules number ≡ Model m → IsAllowed t blif facts number m
   pub ports : length own.ports.items ≡ length (cell_at t.design number).ports
 

@@ -1,6 +1,6 @@
 //! What the instances of a cell have in common, if they may be left whole.
 
-ghost use Rattle.std.specs.Prelude.{◌≡◌, ◌&&◌, ◌<◌, ℕ, List, length, map, true, IfOk};
+ghost use Rattle.std.specs.Prelude.{◌≡◌, ◌&&◌, ◌<◌, length, map, true, IfOk};
 ghost use Rattle.flatten.specs.Structures.{IsStructured};
 ghost use Rattle.net_tables.specs.Tables.{AreNetTables};
 ghost use Rattle.phase_ports.specs.Comparisons.{ArePortsWithin, IsOfCell};
@@ -19,7 +19,7 @@ ghost use Rattle.vrt_model.specs.declared.whole.CellFacts.{CellFacts as FactsVal
 ghost use Rattle.whole_cells.specs.Entries.{IsEntry, IsOfOwn};
 ghost use Rattle.whole_cells.specs.Own.{AreFiles};
 
-use crate::known::is_known;
+use crate::known::{is_known, told_drives};
 use crate::links::all_links;
 use crate::own::{Own, cell_of, own_of};
 use crate::seen::observes_outputs;
@@ -29,7 +29,7 @@ use phase_ports::{Port, observed_nets, ports_by};
 use prepared_tables::{Prepared, model_of_with};
 use rule_index::RuleIndex;
 use std::alloc::Global;
-use vrt_model::{Blif, CellFacts, Circuit, Design, NoMemory, Rules};
+use vrt_model::{Blif, CellFacts, Circuit, Design, Drive, NoMemory, Rules, Seq};
 use whole_circuits::{WholeCell, copy_items, keeps_inputs_free, names_no_global};
 
 /// Whether a cell and the cells in it name no global net.
@@ -95,6 +95,7 @@ fn common(
     cell: u32,
     own: Own,
     ports: Vec<Port>,
+    drives: Seq<Drive>,
 ) -> Result<WholeCell, NoMemory>
     requires valid { AreRules rules.now }
     requires there { cell < length design.now.cells }
@@ -104,7 +105,8 @@ fn common(
     requires flat { IsFlat own.circuit }
     requires within { ArePortsWithin rules.now (cell_at design.now cell) own.circuit }
     requires model { IsFlatModel own.model }
-    ensures { IfOk result (λ whole. (k : Comparison) → IsOfCell design.now rules.now cell own.pairing k → k.circuit ≡ own.circuit → k.model ≡ own.model → ports.items ≡ map unnamed (ports_of k) → HasWholeCell k whole) }
+    ensures told { IfOk result (λ whole. whole.drives ≡ drives) }
+    ensures has { IfOk result (λ whole. (k : Comparison) → IsOfCell design.now rules.now cell own.pairing k → k.circuit ≡ own.circuit → k.model ≡ own.model → ports.items ≡ map unnamed (ports_of k) → HasWholeCell k whole) }
 {
     let circuit = &own.circuit;
     let roles = &own.pairing;
@@ -117,6 +119,7 @@ fn common(
         clocked,
         ports,
         observed,
+        drives,
         links,
     })
 }
@@ -128,6 +131,7 @@ fn cell_with(
     design: &Design,
     blif: &Blif,
     rules: &Rules,
+    facts: &[CellFacts],
     cell: u32,
     model: u32,
 ) -> Result<Option<WholeCell>, NoMemory>
@@ -135,7 +139,7 @@ fn cell_with(
     requires files { AreFiles design.now blif.now rules.now }
     requires there { cell < length design.now.cells }
     requires paired { paired_model design.now blif.now rules.now cell ≡ Model model }
-    ensures { IfOk result (λ entry. (facts : List FactsValue) → has_fact (λ (f : FactsValue). f.equal && f.stateless) facts cell ≡ true → IsEntry (top_before design.now rules.now cell) blif.now facts cell entry) }
+    ensures { IfOk result (λ entry. has_fact (λ (f : FactsValue). f.equal && f.stateless) facts.now cell ≡ true → IsEntry (top_before design.now rules.now cell) blif.now facts.now cell entry) }
 {
     let index = &prepared.index;
     let nets = &prepared.nets;
@@ -146,7 +150,8 @@ fn cell_with(
     if !free {
         return Ok(None);
     }
-    let whole = common(alloc, index, design, rules, cell, own, ports)?;
+    let drives = told_drives(alloc, facts, cell as usize)?;
+    let whole = common(alloc, index, design, rules, cell, own, ports, drives)?;
     Ok(Some(whole))
 }
 
@@ -171,7 +176,7 @@ pub fn whole_cell(
         return Ok(None);
     }
     match model_of_with(prepared, design, rules, cell) {
-        Some(model) => cell_with(alloc, prepared, design, blif, rules, cell, model),
+        Some(model) => cell_with(alloc, prepared, design, blif, rules, facts, cell, model),
         None => Ok(None),
     }
 }

@@ -10,7 +10,7 @@ mod seen;
 mod table;
 
 pub use entry::whole_cell;
-pub use known::is_known;
+pub use known::{is_known, told_drives};
 pub use laws::{entered_are_apart, entered_are_whole_cells};
 pub use own::{Own, own_of};
 pub use seen::observes_outputs;

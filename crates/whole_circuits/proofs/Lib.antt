@@ -1,9 +1,12 @@
 pub mod ArcLaws
 pub mod CellLaws
 pub mod ChosenLaws
+pub mod EndCounts
+pub mod EndLaws
 pub mod FlatLaws
 pub mod HoldLaws
 pub mod InsideLaws
+pub mod LevelLaws
 pub mod LinkLaws
 pub mod ListLaws
 pub mod OutputLaws
@@ -11,5 +14,6 @@ pub mod OwnerLaws
 pub mod PinLaws
 pub mod ShownLaws
 pub mod StepLaws
+pub mod TakenLaws
 pub mod WholeLaws
 pub mod ZipLaws

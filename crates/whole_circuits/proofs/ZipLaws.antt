@@ -37,7 +37,7 @@ module _ (cut : Cut) (unrolled : Unrolled) (whole : List Bool) (is : IsCutAt cut
   test p = is_whole cut.choice p.number
 
   -- the places before the next, by whether this one is whole
-  next_before : (n : ℕ) (p : NumberedPlace) → At (numbered_places cut.top) n p → (b : Bool) → mark_at whole n ≡ b → wholes_before cut (n + 1) ≡ wholes_before cut n ++ cond b (p ∷ []) []
+  pub next_before : (n : ℕ) (p : NumberedPlace) → At (numbered_places cut.top) n p → (b : Bool) → mark_at whole n ≡ b → wholes_before cut (n + 1) ≡ wholes_before cut n ++ cond b (p ∷ []) []
   next_before n p here b e =
       ap (filter test) (take_one (numbered_places cut.top) n p here) ∙ filter-append test (take n (numbered_places cut.top)) (p ∷ [])
       ∙ ap (λ (t : Bool). wholes_before cut n ++ cond t (p ∷ []) []) (ap (is_whole cut.choice) (numbered_at cut.top n p here).0 ∙ sym (is.marks n) ∙ e)

@@ -1,6 +1,8 @@
 pub mod Acyclic
 pub mod CellTests
 pub mod Chosen
+pub mod Counts
+pub mod Ends
 pub mod Insides
 pub mod Links
 pub mod MovedHolds
@@ -8,4 +10,5 @@ pub mod Outputs
 pub mod Pins
 pub mod Shown
 pub mod Steps
+pub mod Taken
 pub mod WholeCells

@@ -1,5 +1,5 @@
 -- What the instances of a cell have in common where they are left whole, and the place of one.
-use Rattle.std.specs.Prelude.{◌≡◌, ℕ, ◌+◌, true, List, [], Option, Some, filter, length, map, take}
+use Rattle.std.specs.Prelude.{◌≡◌, ℕ, ◌+◌, true, List, Option, Some, filter, length, map, take}
 use Rattle.std.specs.List.{AllZip}
 use Rattle.net_places.specs.Links.{bare, shown}
 use Rattle.net_places.specs.declared.places.Place.{Place}
@@ -28,25 +28,25 @@ pub record HasWholeCell (k : Comparison) (own : WholeCell) : Type 0 where
   pub observed : AreObserved k own.observed.items
   pub links : ArePhaseLinks k own.links
 
--- so of a cell that pairs with a model
-pub record IsWholeCell (t : Top) (blif : Blif) (cell : ℕ) (own : WholeCell) : Type 0 where
+-- so of a cell that pairs with a model, and the drives that are told of its outputs
+pub record IsWholeCell (t : Top) (blif : Blif) (facts : List CellFacts) (cell : ℕ) (own : WholeCell) : Type 0 where
   pub number : ℕ
   pub paired : paired_model t.design blif t.rules cell ≡ Model number
   pub has : HasWholeCell (comparison_of t.design blif t.rules cell number) own
+  pub drives : AreDrivesOf facts cell own.drives
 
--- a place of a table is this one, which ties each port of its cell to a net, and nothing is told of how strongly the cell drives
-pub record IsPlacedWhole (t : Top) (blif : Blif) (facts : List CellFacts) (p : NumberedPlace) (place : Place) : Type 0 where
+-- a place of a table is this one, which ties each port of its cell to a net
+pub record IsPlacedWhole (t : Top) (blif : Blif) (p : NumberedPlace) (place : Place) : Type 0 where
   pub shows : shown place ≡ bare p.at
   pub tied :
       (m : ℕ) → paired_model t.design blif t.rules p.at.cell ≡ Model m → length p.at.ports ≡ length (ports_of (comparison_of t.design blif t.rules p.at.cell m))
-  pub soft : AreDrivesOf facts p.at.cell []
 
 -- for each place that is left whole a table has what the instances of its cell have in common
 pub record AreWholeCells (cut : Cut) (blif : Blif) (facts : List CellFacts) (unrolled : Unrolled) (phases : List Phase) (cells : List (Option WholeCell)) : Type 0 where
   pub phases_are : cut.top.rules.phases ≡ phases
   pub cells_are :
       (n : ℕ) (place : Place) (p : NumberedPlace) → At unrolled.places n place → At (numbered_places cut.top) n p → is_whole cut.choice n ≡ true
-      → (own : WholeCell) × At cells place.cell (Some own) × IsWholeCell cut.top blif p.at.cell own × IsPlacedWhole cut.top blif facts p place
+      → (own : WholeCell) × At cells place.cell (Some own) × IsWholeCell cut.top blif facts p.at.cell own × IsPlacedWhole cut.top blif p place
 
 -- the places before one that are left whole
 abbrev pub wholes_before : Cut → ℕ → List NumberedPlace

@@ -6,13 +6,14 @@ ghost use Rattle.whole_circuits.specs.Insides.{IsCutAt};
 ghost use Rattle.whole_circuits.specs.Shown.{AreMarks, device_places};
 ghost use Rattle.whole_circuits.specs.WholeCells.{AreWholeCells};
 ghost use Rattle.vrt_model.specs.Checked.{IsCircuitWith};
-ghost use Rattle.vrt_model.specs.Circuits.{IsHold};
+ghost use Rattle.vrt_model.specs.Circuits.{IsCircuit, IsHold};
 ghost use Rattle.vrt_model.specs.Cut.{Cut};
 ghost use Rattle.vrt_model.specs.FlatCircuit.{flat_circuit_of};
 ghost use Rattle.vrt_model.specs.declared.blif.Blif.{Blif as BlifValue};
 ghost use Rattle.vrt_model.specs.declared.whole.CellFacts.{CellFacts as FactsValue};
 
 use crate::copies::copy_nets;
+use crate::ends::net_ends;
 use crate::holds::moved_holds;
 use crate::marks::Marks;
 use crate::shown::{shown_devices, shown_instances};
@@ -37,11 +38,13 @@ pub fn circuit_with(
 ) -> Result<Circuit, NoMemory>
     requires holds { All (IsHold flat.now) flat.now.holds }
     requires small { AreSmall unrolled.now.places }
-    ensures { IfOk result (λ circuit. (cut : Cut) (blif : BlifValue) (facts : List FactsValue) → IsCutAt cut unrolled.now marks.now.whole.items → AreMarks cut marks.now → flat.now ≡ flat_circuit_of cut.top → places.now ≡ device_places cut.top → AreWholeCells cut blif facts unrolled.now phases.now cells.now → IsCircuitWith cut blif facts circuit) }
+    ensures { IfOk result (λ circuit. (cut : Cut) (blif : BlifValue) (facts : List FactsValue) → IsCutAt cut unrolled.now marks.now.whole.items → AreMarks cut marks.now → flat.now ≡ flat_circuit_of cut.top → IsCircuit flat.now → places.now ≡ device_places cut.top → AreWholeCells cut blif facts unrolled.now phases.now cells.now → IsCircuitWith cut blif facts circuit) }
 {
     let whole = marks.whole.as_slice();
-    let wholes = wholes_of(alloc, phases, cells, whole, unrolled)?;
     let devices = shown_devices(alloc, marks, places, flat.devices.as_slice())?;
+    let count = flat.nets.len();
+    let ends = net_ends(alloc, count, devices.as_slice(), cells, whole, unrolled)?;
+    let wholes = wholes_of(alloc, phases, &ends, cells, whole, unrolled)?;
     let holds = moved_holds(alloc, marks, flat)?;
     let instances = shown_instances(alloc, marks, flat.instances.as_slice())?;
     let nets = copy_nets(alloc, flat.nets.as_slice())?;

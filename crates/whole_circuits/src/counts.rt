@@ -1,16 +1,15 @@
-//! How many channels end at each net.
+//! How many channels end at each net: four counts for each net, one for each level of devices, 4 to 7.
 
-ghost use Rattle.std.specs.Prelude.{◌≡◌, ◌<◌, ◌||◌, ◌==◌, ℕ, IfOk, OnOk, cond, length, replicate};
+ghost use Rattle.std.specs.Prelude.{◌≡◌, ◌<◌, ◌&&◌, ◌||◌, ◌==◌, ◌+◌, ◌*◌, ℕ, IfOk, OnOk, cond, length, replicate};
 ghost use Rattle.std.specs.List.{slice_index};
-ghost use Rattle.whole_circuits.specs.Outputs.{AreCounts, changed};
-ghost use Rattle.vrt_model.specs.WholeInstances.{channels_at};
+ghost use Rattle.whole_circuits.specs.Counts.{AreChanged, AreCounts, bears, bears_all, bears_at, changed, channels_of, is_of};
 
 use crate::owners::one_more;
 use std::alloc::Global;
-use vrt_model::{Device, NoMemory};
+use vrt_model::{Device, Drive, NoMemory};
 
 /// So many counts of nothing.
-fn no_counts(alloc: Global, count: usize) -> Result<Vec<usize>, NoMemory>
+pub(crate) fn no_counts(alloc: Global, count: usize) -> Result<Vec<usize>, NoMemory>
     ensures { IfOk result (λ counts. counts.items ≡ replicate count 0) }
 {
     match vec![in alloc; 0usize; count] {
@@ -19,11 +18,11 @@ fn no_counts(alloc: Global, count: usize) -> Result<Vec<usize>, NoMemory>
     }
 }
 
-/// The count of a net, 0 past the end.
-pub(crate) fn count_at(counts: &[usize], net: usize) -> usize
-    ensures { result ≡ slice_index counts.now net }
+/// The count at a place, 0 past the end.
+pub(crate) fn count_at(counts: &[usize], at: usize) -> usize
+    ensures { result ≡ slice_index counts.now at }
 {
-    if net < counts.len() { counts[net] } else { 0 }
+    if at < counts.len() { counts[at] } else { 0 }
 }
 
 /// A count with one more, or with one fewer.
@@ -37,38 +36,50 @@ fn changed(count: usize, more: bool) -> Result<usize, NoMemory>
     }
 }
 
-/// Counts one more at a net, or one fewer, if it is one of those with counts.
-fn count_net(counts: &mut Vec<usize>, more: bool, net: usize) -> Result<(), NoMemory>
+/// Counts one more at a place, or one fewer, if there is a count.
+pub(crate) fn count_place(counts: &mut Vec<usize>, more: bool, at: usize) -> Result<(), NoMemory>
     ensures len { OnOk result (length counts.new.items ≡ length counts.old.items) }
-    ensures is { OnOk result ((n : ℕ) → n < length counts.old.items → slice_index counts.new.items n ≡ changed more (slice_index counts.old.items n) (cond (net == n) 1 0)) }
+    ensures is { OnOk result ((e : ℕ) → e < length counts.old.items → slice_index counts.new.items e ≡ changed more (slice_index counts.old.items e) (cond (at == e) 1 0)) }
 {
-    if net < counts.len() {
-        let count = changed(counts[net], more)?;
-        counts[net] = count;
+    if at < counts.len() {
+        let count = changed(counts[at], more)?;
+        counts[at] = count;
     }
     Ok(())
+}
+
+/// Counts the end of a channel at a net in, or out, among those of its level.
+fn count_end(counts: &mut Vec<usize>, more: bool, net: u32, level: u8) -> Result<(), NoMemory>
+    ensures len { OnOk result (length counts.new.items ≡ length counts.old.items) }
+    ensures is { OnOk result (AreChanged more (λ n k. cond (net == n && level == 4 + k) 1 0) counts.old.items counts.new.items) }
+{
+    if level < 4 || 7 < level {
+        return Ok(());
+    }
+    let above = level - 4;
+    count_place(counts, more, 4 * net as usize + above as usize)
 }
 
 /// Counts the channel of a device in, or out, at the nets at which it ends.
 fn count_channel(counts: &mut Vec<usize>, more: bool, device: &Device) -> Result<(), NoMemory>
     ensures len { OnOk result (length counts.new.items ≡ length counts.old.items) }
-    ensures is { OnOk result ((n : ℕ) → n < length counts.old.items → slice_index counts.new.items n ≡ changed more (slice_index counts.old.items n) (cond (device.now.left.0 == n || device.now.right.0 == n) 1 0)) }
+    ensures is { OnOk result (AreChanged more (λ n k. cond (is_of (4 + k) n device.now) 1 0) counts.old.items counts.new.items) }
 {
-    count_net(counts, more, device.left.0 as usize)?;
+    count_end(counts, more, device.left.0, device.level)?;
     if device.left.0 == device.right.0 {
         return Ok(());
     }
-    count_net(counts, more, device.right.0 as usize)
+    count_end(counts, more, device.right.0, device.level)
 }
 
-/// Counts the channels of some devices in, or out, at the nets at which they end: at each net that has a count.
+/// Counts the channels of some devices in, or out, at the nets at which they end: at each net that has counts.
 pub fn count_channels(
     counts: &mut Vec<usize>,
     more: bool,
     devices: &[Device],
 ) -> Result<(), NoMemory>
     ensures len { OnOk result (length counts.new.items ≡ length counts.old.items) }
-    ensures is { OnOk result ((n : ℕ) → n < length counts.old.items → slice_index counts.new.items n ≡ changed more (slice_index counts.old.items n) (length (channels_at devices.now n))) }
+    ensures is { OnOk result (AreChanged more (λ n k. length (channels_of (4 + k) devices.now n)) counts.old.items counts.new.items) }
 {
     let mut rest = devices;
     'devices: while let Some((device, behind)) = rest.split_first() {
@@ -78,16 +89,69 @@ pub fn count_channels(
     Ok(())
 }
 
-/// For each of so many nets how many of the channels of some devices end there.
+/// Four counts for each net.
+fn four_times(count: usize) -> Result<usize, NoMemory>
+    ensures { IfOk result (λ size. size ≡ 4 * count) }
+{
+    match count.checked_mul(4) {
+        Some(size) => Ok(size),
+        None => Err(NoMemory),
+    }
+}
+
+/// For each of so many nets how many channels of some devices end there, by the levels of the devices.
 pub fn channel_counts(
     alloc: Global,
     count: usize,
     devices: &[Device],
 ) -> Result<Vec<usize>, NoMemory>
-    ensures len { IfOk result (λ counts. length counts.items ≡ count) }
+    ensures len { IfOk result (λ counts. length counts.items ≡ 4 * count) }
     ensures are { IfOk result (λ counts. AreCounts count devices.now counts.items) }
 {
-    let mut counts = no_counts(alloc, count)?;
+    let size = four_times(count)?;
+    let mut counts = no_counts(alloc, size)?;
     count_channels(&mut counts, true, devices)?;
     Ok(counts)
+}
+
+/// Whether an output of a drive may be where a channel of a device of this level ends.
+fn bears(drive: Drive, level: u8) -> bool
+    ensures { result ≡ bears drive level }
+{
+    match drive {
+        Drive::Soft => false,
+        Drive::Level(most) => level <= most,
+    }
+}
+
+/// Whether it may be at a net, as to the channels there of devices that are so far above level 4.
+fn bears_at(counts: &[usize], drive: Drive, net: u32, above: u8) -> bool
+    requires { above < 4 }
+    ensures { result ≡ bears_at counts.now drive net above }
+{
+    let none = count_at(counts, 4 * net as usize + above as usize) == 0;
+    let borne = bears(drive, 4 + above);
+    none || borne
+}
+
+/// Whether an output of a drive may be at a net, as to all channels there.
+pub(crate) fn bears_all(counts: &[usize], drive: Drive, net: u32) -> bool
+    ensures { result ≡ bears_all counts.now drive net }
+{
+    let weak = both(
+        bears_at(counts, drive, net, 0),
+        bears_at(counts, drive, net, 1),
+    );
+    let strong = both(
+        bears_at(counts, drive, net, 2),
+        bears_at(counts, drive, net, 3),
+    );
+    both(weak, strong)
+}
+
+/// Both of two tests.
+pub(crate) fn both(one: bool, other: bool) -> bool
+    ensures { result ≡ (one && other) }
+{
+    one && other
 }

@@ -1,22 +1,23 @@
-//! Whether the outputs of an instance meet gates alone.
+//! Whether the outputs of an instance are allowed where it would be whole.
 
 ghost use Rattle.std.specs.Prelude.{◌≡◌, ◌&&◌, ◌++◌, ◌↔◌, ℕ, List, true};
-ghost use Rattle.whole_circuits.specs.Outputs.{AreAround, AreOpen, AreSoft, are_free, free_pin, is_other_at, meets_other, own_outputs};
+ghost use Rattle.whole_circuits.specs.Outputs.{AreAround, AreOpen, joins_others, joins_own, are_open, open_pin, own_outputs};
 ghost use Rattle.vrt_model.specs.WholeInstances.{OutputAt};
 ghost use Rattle.vrt_model.specs.declared.circuit.Device.{Device as DeviceValue};
 
-use crate::counts::count_at;
+use crate::counts::{bears_all, both};
+use crate::taken::{Taken, admits, joins, taken_at};
 use known_nets::{is_marked, is_plain};
-use vrt_model::{Circuit, Net, WholePin};
+use vrt_model::{Circuit, WholePin};
 
-/// What stands at each net of the flat circuit where an instance would be whole: a mark or a count for each net.
+/// What stands at each net of the flat circuit where an instance would be whole.
 pub struct NetMarks {
-    /// The nets with holds.
+    /// A mark for each net, set where it has a hold.
     pub held: Vec<bool>,
-    /// How many channels that are not inside whole instances end at each net.
+    /// For each net four counts of the channels there that are not inside whole instances: of devices of level 4, 5, 6 and 7.
     pub channels: Vec<usize>,
-    /// The nets with outputs of the other whole instances.
-    pub taken: Vec<bool>,
+    /// For each net what outputs of the other whole instances are there.
+    pub taken: Vec<Taken>,
 }
 
 /// By hand, so that letting go of them is a call.
@@ -30,67 +31,63 @@ impl Drop for NetMarks {
     }
 }
 
-/// Both of two tests.
-fn both(one: bool, other: bool) -> bool
-    ensures { result ≡ (one && other) }
+/// Whether a pin is the one at a place, is at another net, or may be met there by the one at that place.
+fn joins_own(own: WholePin, at: usize, other: usize, pin: WholePin) -> bool
+    ensures { result ≡ joins_own own.net.0 at own.drive (other, pin) }
 {
-    one && other
+    let there = pin.net.0 == own.net.0;
+    let itself = other == at;
+    let joined = joins(own.drive, pin.drive);
+    let met = both(there, !itself);
+    !met || joined
 }
 
-/// Whether a pin is at a net, and is not the one at a place.
-fn is_other_at(net: Net, at: usize, other: usize, pin: WholePin) -> bool
-    ensures { result ≡ is_other_at net.0 at (other, pin) }
-{
-    let same = pin.net.0 == net.0;
-    let own = other == at;
-    both(same, !own)
-}
-
-/// Whether another of some pins than the one at a place is at a net.
-fn meets_other(pins: &[WholePin], net: Net, at: usize) -> bool
-    ensures { result ≡ meets_other pins.now net.0 at }
+/// Whether each of some pins is so.
+fn joins_others(pins: &[WholePin], own: WholePin, at: usize) -> bool
+    ensures { result ≡ joins_others pins.now own.net.0 at own.drive }
 {
     let mut other = 0;
     let mut rest = pins;
     'pins: while let Some((pin, behind)) = rest.split_first() {
-        if is_other_at(net, at, other, *pin) {
-            return true;
+        if !joins_own(own, at, other, *pin) {
+            return false;
         }
         other += 1;
         rest = behind;
     }
-    false
+    true
 }
 
-/// Whether a pin, at its place among the output pins of an instance, is at a plain net without hold, and meets gates alone.
-fn is_free_pin(
+/// Whether a pin, at its place among the output pins of an instance, is at a plain net without hold, and is allowed there.
+fn is_open_pin(
     circuit: &Circuit,
     marks: &NetMarks,
     pins: &[WholePin],
     at: usize,
     pin: WholePin,
 ) -> bool
-    ensures { result ≡ free_pin circuit.now marks.now pins.now (at, pin) }
+    ensures { result ≡ open_pin circuit.now marks.now pins.now (at, pin) }
 {
     let net = pin.net.0 as usize;
     let plain = is_plain(circuit, net);
     let held = is_marked(marks.held.as_slice(), net);
-    let unmet = count_at(marks.channels.as_slice(), net) == 0;
-    let taken = is_marked(marks.taken.as_slice(), net);
-    let other = meets_other(pins, pin.net, at);
+    let borne = bears_all(marks.channels.as_slice(), pin.drive, pin.net.0);
+    let there = taken_at(marks.taken.as_slice(), net);
+    let admitted = admits(there, pin.drive);
+    let others = joins_others(pins, pin, at);
     let own = both(plain, !held);
-    let alone = both(both(unmet, !taken), !other);
-    both(own, alone)
+    let allowed = both(both(borne, admitted), others);
+    both(own, allowed)
 }
 
 /// Whether all pins pass the test.
-fn all_free(circuit: &Circuit, marks: &NetMarks, pins: &[WholePin]) -> bool
-    ensures { result ≡ are_free circuit.now marks.now pins.now }
+fn all_open(circuit: &Circuit, marks: &NetMarks, pins: &[WholePin]) -> bool
+    ensures { result ≡ are_open circuit.now marks.now pins.now }
 {
     let mut at = 0;
     let mut rest = pins;
     'pins: while let Some((pin, behind)) = rest.split_first() {
-        if !is_free_pin(circuit, marks, pins, at, *pin) {
+        if !is_open_pin(circuit, marks, pins, at, *pin) {
             return false;
         }
         at += 1;
@@ -99,10 +96,11 @@ fn all_free(circuit: &Circuit, marks: &NetMarks, pins: &[WholePin]) -> bool
     true
 }
 
-/// Whether each of the output pins of an instance that would be whole is at a plain net without hold, and meets gates alone: no
-/// channel that stays, and no other output. It takes time in proportion to the square of their number.
-pub fn are_free(circuit: &Circuit, marks: &NetMarks, pins: &[WholePin]) -> bool
-    ensures { (devices : List DeviceValue) (earlier : List OutputAt) (number : ℕ) → AreAround circuit.now marks.now devices earlier number → AreSoft pins.now → (result ≡ true) ↔ AreOpen circuit.now devices (earlier ++ own_outputs number pins.now) (own_outputs number pins.now) }
+/// Whether each of the output pins of an instance that would be whole is at a plain net without hold, and is allowed there: it meets
+/// gates alone, or its drive is a level, no stronger device that stays has a channel there, and all other outputs there have
+/// that drive. It takes time in proportion to the square of their number.
+pub fn are_open(circuit: &Circuit, marks: &NetMarks, pins: &[WholePin]) -> bool
+    ensures { (devices : List DeviceValue) (earlier : List OutputAt) (number : ℕ) → AreAround circuit.now marks.now devices earlier number → (result ≡ true) ↔ AreOpen circuit.now devices (earlier ++ own_outputs number pins.now) (own_outputs number pins.now) }
 {
-    all_free(circuit, marks, pins)
+    all_open(circuit, marks, pins)
 }

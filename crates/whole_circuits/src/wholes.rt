@@ -2,20 +2,21 @@
 
 ghost use Rattle.std.specs.Prelude.{◌≡◌, ◌<◌, ◌^◌, ◌++◌, ◌∷◌, [], IfOk, OnOk, List, Some, length, slice_get};
 ghost use Rattle.std.specs.List.{AllZip};
-ghost use Rattle.std.specs.Option.{option_copied};
 ghost use Rattle.net_places.specs.Instances.{AreSmall};
+ghost use Rattle.whole_circuits.specs.Ends.{HasEnds};
 ghost use Rattle.whole_circuits.specs.Insides.{IsCutAt};
 ghost use Rattle.whole_circuits.specs.WholeCells.{AreWholeCells, GrowsTo, IsPlacedWhole, IsWholeCell};
-ghost use Rattle.whole_circuits.specs.declared.whole_cell.WholeCell.{WholeCell as CellValue};
 ghost use Rattle.vrt_model.specs.Cut.{Cut, NumberedPlace, whole_places};
-ghost use Rattle.vrt_model.specs.Lists.{At};
+ghost use Rattle.vrt_model.specs.Lists.{Among};
 ghost use Rattle.vrt_model.specs.WholeInstances.{IsWholeAt};
 ghost use Rattle.vrt_model.specs.declared.blif.Blif.{Blif as BlifValue};
+ghost use Rattle.vrt_model.specs.declared.circuit.Circuit.{Circuit as CircuitValue};
 ghost use Rattle.vrt_model.specs.declared.whole.CellFacts.{CellFacts as FactsValue};
 
+use crate::ends::NetEnds;
 use crate::instance::whole_at;
 use crate::places::place_at;
-use crate::whole_cell::WholeCell;
+use crate::whole_cell::{WholeCell, cell_of};
 use known_nets::is_marked;
 use net_places::{Place, Unrolled};
 use std::alloc::Global;
@@ -25,33 +26,24 @@ use vrt_model::{NoMemory, Phase, Seq, Whole};
 fn add_whole(
     alloc: Global,
     phases: &[Phase],
+    ends: &NetEnds,
     own: &WholeCell,
     place: &Place,
     wholes: &mut Seq<Whole>,
 ) -> Result<(), NoMemory>
     requires { place.now.cell < 2 ^ 32 }
-    ensures { OnOk result ((cut : Cut) (blif : BlifValue) (facts : List FactsValue) (p : NumberedPlace) (before : List NumberedPlace) → cut.top.rules.phases ≡ phases.now → IsWholeCell cut.top blif p.at.cell own.now → IsPlacedWhole cut.top blif facts p place.now → AllZip (IsWholeAt cut blif facts) before wholes.old → AllZip (IsWholeAt cut blif facts) (before ++ p ∷ []) wholes.new) }
+    ensures { OnOk result ((cut : Cut) (blif : BlifValue) (facts : List FactsValue) (c : CircuitValue) (p : NumberedPlace) (before : List NumberedPlace) → cut.top.rules.phases ≡ phases.now → HasEnds cut blif facts c ends.now → Among (whole_places cut) p → IsWholeCell cut.top blif facts p.at.cell own.now → IsPlacedWhole cut.top blif p place.now → AllZip (IsWholeAt cut blif facts) before wholes.old → AllZip (IsWholeAt cut blif facts) (before ++ p ∷ []) wholes.new) }
 {
-    let whole = whole_at(alloc, phases, own, place)?;
+    let whole = whole_at(alloc, phases, ends, own, place)?;
     wholes.append(whole)?;
     Ok(())
-}
-
-/// What the instances of the cell at a place have in common, if they may be left whole.
-fn cell_of<'a>(cells: &'a [Option<WholeCell>], place: &Place) -> Option<&'a WholeCell>
-    ensures { (own : CellValue) → At cells.entry.now place.now.cell (Some own) → option_copied result ≡ Some own }
-{
-    match cells.get(place.cell) {
-        Some(Some(own)) => Some(own),
-        Some(None) => None,
-        None => None,
-    }
 }
 
 /// Adds the instance at a place, if it is left whole.
 fn add_place(
     alloc: Global,
     phases: &[Phase],
+    ends: &NetEnds,
     cells: &[Option<WholeCell>],
     whole: &[bool],
     unrolled: &Unrolled,
@@ -60,7 +52,7 @@ fn add_place(
 ) -> Result<(), NoMemory>
     requires there { at < length unrolled.now.places }
     requires small { AreSmall unrolled.now.places }
-    ensures { OnOk result ((cut : Cut) (blif : BlifValue) (facts : List FactsValue) → IsCutAt cut unrolled.now whole.now → AreWholeCells cut blif facts unrolled.now phases.now cells.now → GrowsTo cut blif facts at wholes.old wholes.new) }
+    ensures { OnOk result ((cut : Cut) (blif : BlifValue) (facts : List FactsValue) (c : CircuitValue) → HasEnds cut blif facts c ends.now → IsCutAt cut unrolled.now whole.now → AreWholeCells cut blif facts unrolled.now phases.now cells.now → GrowsTo cut blif facts at wholes.old wholes.new) }
 {
     if !is_marked(whole, at) {
         return Ok(());
@@ -68,7 +60,7 @@ fn add_place(
     let place = place_at(unrolled, at);
     match cell_of(cells, place) {
         Some(own) => {
-            add_whole(alloc, phases, own, place, wholes)?;
+            add_whole(alloc, phases, ends, own, place, wholes)?;
             Ok(())
         }
         None => Ok(()),
@@ -77,19 +69,20 @@ fn add_place(
 
 /// The instances of an unrolled cell that are left whole, in their order, by a table of what the instances of each cell have
 /// in common.
-pub fn wholes_of(
+pub(crate) fn wholes_of(
     alloc: Global,
     phases: &[Phase],
+    ends: &NetEnds,
     cells: &[Option<WholeCell>],
     whole: &[bool],
     unrolled: &Unrolled,
 ) -> Result<Seq<Whole>, NoMemory>
     requires small { AreSmall unrolled.now.places }
-    ensures { IfOk result (λ wholes. (cut : Cut) (blif : BlifValue) (facts : List FactsValue) → IsCutAt cut unrolled.now whole.now → AreWholeCells cut blif facts unrolled.now phases.now cells.now → AllZip (IsWholeAt cut blif facts) (whole_places cut) wholes) }
+    ensures { IfOk result (λ wholes. (cut : Cut) (blif : BlifValue) (facts : List FactsValue) (c : CircuitValue) → HasEnds cut blif facts c ends.now → IsCutAt cut unrolled.now whole.now → AreWholeCells cut blif facts unrolled.now phases.now cells.now → AllZip (IsWholeAt cut blif facts) (whole_places cut) wholes) }
 {
     let mut wholes = Seq::new(alloc);
     for at in 0..unrolled.places.len() {
-        add_place(alloc, phases, cells, whole, unrolled, at, &mut wholes)?;
+        add_place(alloc, phases, ends, cells, whole, unrolled, at, &mut wholes)?;
     }
     Ok(wholes)
 }

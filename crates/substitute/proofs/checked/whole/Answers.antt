@@ -15,14 +15,14 @@ checked_of-requires-clause-ground c =
     let roles = c.args.pairing.now.ports in (
       roles,
       subst (λ (fs : List CellFacts). IsCellGround (whole_of design c.args.rules.now c.args.cell roles) c.args.blif.now fs c.in_ok-flat.flat) (sym c.as_slice.ensures)
-          (cell_ground design c.args.blif.now c.args.rules.now c.args.cell c.args.pairing.now c.args.facts.now c.in_ok-flat.flat c.requires.files c.requires.there c.requires.plain c.in_ok-flat.ensures),
+          (cell_ground design c.args.blif.now c.args.rules.now c.args.cell c.args.pairing.now c.args.facts.now c.in_ok-flat.flat c.requires.files c.requires.there c.requires.told c.in_ok-flat.ensures),
     )
 
 pub returns-in-Some : goal.returns-in-Some
 returns-in-Some c =
     let design = c.args.design.now in
     let t = whole_of design c.args.rules.now c.args.cell c.args.pairing.now.ports in
-    let ground = cell_ground design c.args.blif.now c.args.rules.now c.args.cell c.args.pairing.now c.args.facts.now c.in_ok-flat.flat c.requires.files c.requires.there c.requires.plain c.in_ok-flat.ensures in
+    let ground = cell_ground design c.args.blif.now c.args.rules.now c.args.cell c.args.pairing.now c.args.facts.now c.in_ok-flat.flat c.requires.files c.requires.there c.requires.told c.in_ok-flat.ensures in
     subst (WholeGives t c.args.blif.now c.args.facts.now c.in_ok-flat.flat) c.in-Some.is
     (found_of_cell t c.args.blif.now _ c.args.facts.now c.in_ok-flat.flat c.in_ok-found.found c.as_slice.ensures ground (c.in_ok-found.ensures c.args.pairing.now.ports))
 
@@ -30,6 +30,6 @@ pub returns : goal.returns
 returns c =
     let design = c.args.design.now in
     let t = whole_of design c.args.rules.now c.args.cell c.args.pairing.now.ports in
-    let ground = cell_ground design c.args.blif.now c.args.rules.now c.args.cell c.args.pairing.now c.args.facts.now c.in_ok-flat.flat c.requires.files c.requires.there c.requires.plain c.in_ok-flat.ensures in
+    let ground = cell_ground design c.args.blif.now c.args.rules.now c.args.cell c.args.pairing.now c.args.facts.now c.in_ok-flat.flat c.requires.files c.requires.there c.requires.told c.in_ok-flat.ensures in
     subst (WholeGives t c.args.blif.now c.args.facts.now c.in_ok-flat.flat) c.in-None.is
     (found_of_cell t c.args.blif.now _ c.args.facts.now c.in_ok-flat.flat c.in_ok-found.found c.as_slice.ensures ground (c.in_ok-found.ensures c.args.pairing.now.ports))

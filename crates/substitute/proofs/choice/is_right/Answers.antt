@@ -1,10 +1,9 @@
-use Rattle.std.proofs.Common.{◌≡◌, ◌<◌, Bool, true, false, List, ℕ, cond, length, refl, subst, sym}
-use Rattle.std.specs.List.{slice_index}
-use Rattle.whole_circuits.specs.Outputs.{changed}
-use Rattle.vrt_model.specs.WholeInstances.{channels_at}
+use Rattle.std.proofs.Common.{◌<◌, ◌+◌, Bool, false, List, ℕ, length, refl, subst, sym}
+use Rattle.whole_circuits.specs.Counts.{AreChanged, channels_of}
 use Rattle.vrt_model.specs.declared.circuit.Device.{Device}
 use Rattle.substitute.proofs.UnderwayLaws.{model_of_trial, place_of_trial, trial_candidate, trial_settled, trial_without}
 use Rattle.substitute.specs.Chosen.{cut_of}
+use Rattle.substitute.specs.Ranges.{AreSettled}
 use Rattle.substitute.proofs.choice.is_right.Goals as goal
 
 pub passes-requires-clause-there : goal.passes-requires-clause-there
@@ -20,7 +19,7 @@ passes-requires-clause-candidate c =
     let less = c.count_channels.new.counts.items in
     let gone = c.devices_gone-gone.ensures s.0 s.1 s.2 s.3 s.5 s.6.is.has.chosen_are.tables_are in
     let without = trial_without c.args.asked s.0 s.1 s.2 c.args.tables s.3 chosen s.4 c.args.pins.now s.6 c.args.at s.5 less c.in_ok-count_channels.ensures.len
-    (subst (λ (ds : List Device). (n : ℕ) → n < length channels → slice_index less n ≡ changed false (slice_index channels n) (length (channels_at ds n))) gone
+    (subst (λ (ds : List Device). AreChanged false (λ n k. length (channels_of (4 + k) ds n)) channels less) gone
     c.in_ok-count_channels.ensures.is) in (
       cut_of s.0 chosen.whole.items,
       s.1,
@@ -38,7 +37,7 @@ returns-clause-right c t blif facts i own e trial =
     let less = c.count_channels.new.counts.items in
     let gone = c.devices_gone-gone.ensures t blif facts i e trial.is.has.chosen_are.tables_are in
     let without = trial_without c.args.asked t blif facts c.args.tables i chosen own c.args.pins.now trial c.args.at e less c.in_ok-count_channels.ensures.len
-    (subst (λ (ds : List Device). (n : ℕ) → n < length channels → slice_index less n ≡ changed false (slice_index channels n) (length (channels_at ds n))) gone
+    (subst (λ (ds : List Device). AreChanged false (λ n k. length (channels_of (4 + k) ds n)) channels less) gone
     c.in_ok-count_channels.ensures.is) in
     c.in_ok-right.ensures (cut_of t chosen.whole.items) blif facts i (place_of_trial c.args.asked t blif facts c.args.tables i chosen own c.args.pins.now trial c.args.at e)
     (model_of_trial c.args.asked t blif facts c.args.tables i chosen own c.args.pins.now trial c.args.at e)
@@ -53,8 +52,8 @@ returns-clause-counts c t blif facts i own e trial =
     let right = c.in_ok-right.right in
     let gone = c.devices_gone-gone.ensures t blif facts i e trial.is.has.chosen_are.tables_are in
     let without = trial_without c.args.asked t blif facts c.args.tables i chosen own c.args.pins.now trial c.args.at e less c.in_ok-count_channels.ensures.len
-    (subst (λ (ds : List Device). (n : ℕ) → n < length channels → slice_index less n ≡ changed false (slice_index channels n) (length (channels_at ds n))) gone
+    (subst (λ (ds : List Device). AreChanged false (λ n k. length (channels_of (4 + k) ds n)) channels less) gone
     c.in_ok-count_channels.ensures.is) in
     trial_settled c.args.asked t blif facts c.args.tables i chosen own c.args.pins.now trial c.args.at e right less new without c.in_ok-settle.ensures.len
-    (subst (λ (ds : List Device). (n : ℕ) → n < length less → slice_index new n ≡ cond right (slice_index less n) (changed true (slice_index less n) (length (channels_at ds n)))) gone
+    (subst (λ (ds : List Device). AreSettled right ds less new) gone
     c.in_ok-settle.ensures.is)

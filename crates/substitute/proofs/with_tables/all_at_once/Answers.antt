@@ -1,8 +1,8 @@
 use Rattle.std.proofs.Common.{Bool, List, false, ap, sym, subst, ◌∙◌}
 use Rattle.std.specs.List.{list_any}
-use Rattle.substitution_laws.proofs.WholeRanges.{tried_circuits_are_wired}
+use Rattle.substitution_laws.proofs.WholeRanges.{trials_are_wired}
 use Rattle.vrt_model.specs.Circuits.{IsCircuit}
-use Rattle.substitute.proofs.TogetherLaws.{checked_tried, soft_trial, tried_none}
+use Rattle.substitute.proofs.TogetherLaws.{checked_tried, all_trial, tried_none}
 use Rattle.substitute.specs.Chosen.{cut_of}
 use Rattle.substitute.proofs.with_tables.all_at_once.Goals as goal
 
@@ -15,7 +15,7 @@ pub are_acyclic-requires : goal.are_acyclic-requires
 are_acyclic-requires c =
     let s = c.requires.tables in
     let all = c.in_ok-tried.ensures s.0 s.1 s.2 s.3 in
-    tried_circuits_are_wired (cut_of s.0 c.in_ok-tried.tried.whole.items) s.1 s.2 c.in_ok-circuit.circuit (soft_trial s.0 s.1 s.2 c.args.tables s.3 c.in_ok-tried.tried all)
+    trials_are_wired (cut_of s.0 c.in_ok-tried.tried.whole.items) s.1 s.2 c.in_ok-circuit.circuit (all_trial s.0 s.1 s.2 c.args.tables s.3 c.in_ok-tried.tried all)
     (subst IsCircuit s.3.flat_is s.3.ground.formed) (c.in_ok-circuit.ensures false s.0 s.1 s.2 s.3 all)
 
 pub returns : goal.returns

@@ -1,4 +1,4 @@
-use Rattle.std.proofs.Common.{◌≡◌, ◌&&◌, List, Option, true, sym, ◌∙◌}
+use Rattle.std.proofs.Common.{◌≡◌, ◌&&◌, Option, true, sym, ◌∙◌}
 use Rattle.std.proofs.lemmas.Result.{IfOk-weaker}
 use Rattle.whole_circuits.specs.declared.whole_cell.WholeCell.{WholeCell}
 use Rattle.vrt_model.specs.Checked.{has_fact}
@@ -21,9 +21,9 @@ pub returns-in-Some : goal.returns-in-Some
 returns-in-Some c =
     let a = c.args in
     IfOk-weaker c.cell_with.result
-    (λ (entry : Option WholeCell). (facts : List CellFacts) → has_fact (λ (f : CellFacts). f.equal && f.stateless) facts a.cell ≡ true → IsEntry (top_before a.design.now a.rules.now a.cell) a.blif.now facts a.cell entry)
+    (λ (entry : Option WholeCell). has_fact (λ (f : CellFacts). f.equal && f.stateless) a.facts.now a.cell ≡ true → IsEntry (top_before a.design.now a.rules.now a.cell) a.blif.now a.facts.now a.cell entry)
     (λ (entry : Option WholeCell). IsEntry (top_before a.design.now a.rules.now a.cell) a.blif.now a.facts.now a.cell entry)
-    (λ entry is. is a.facts.now (sym c.if-not-is_known.ensures)) c.cell_with.ensures
+    (λ entry is. is (sym c.if-not-is_known.ensures)) c.cell_with.ensures
 
 pub returns-in-None : goal.returns-in-None
 returns-in-None c =
