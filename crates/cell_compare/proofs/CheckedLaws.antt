@@ -44,8 +44,9 @@ use Rattle.vrt_model.specs.declared.verdict.Verdict.{Verdict}
 use Rattle.vrt_model.specs.declared.verdict.Verdict.TheVariants.{Equal, Skipped, Fault, Vacuous, Budget, Unsupported}
 use Rattle.vrt_model.specs.declared.whole.CellFacts.{CellFacts}
 use Rattle.substitute.specs.Whole.{IsWholeGround}
+use Rattle.vrt_model.specs.State.{output_pins}
 use Rattle.whole_steps.proofs.OrderLaws.{whole_table}
-use Rattle.whole_steps.specs.Tables.{AreDrivers, AreOrders, IsBefore, IsWholeTable}
+use Rattle.whole_steps.specs.Tables.{AreDrivers, AreOrders, IsWholeTable}
 use Rattle.whole_steps.specs.declared.table.OutputPlace.{OutputPlace}
 
 -- what is flattened of a cell may be looked through by its checked circuit
@@ -179,5 +180,5 @@ ready_with k cut blif facts c ready h =
 
 -- by the outputs of its whole instances and the orders of their models
 pub table_with : (k : Comparison) (cut : Cut) (blif : Blif) (facts : List CellFacts) (c : Circuit) (drivers : List (Option OutputPlace)) (orders : List ModelPlan) → IsCheckedSoftly k cut blif facts c
-    → AreDrivers c (IsBefore (length c.wholes) 0) drivers → AreOrders c.wholes (length c.wholes) orders → IsWholeTable c drivers orders
+    → AreDrivers c (output_pins c) drivers → AreOrders c.wholes (length c.wholes) orders → IsWholeTable c drivers orders
 table_with k cut blif facts c drivers orders h outputs plans = whole_table c drivers orders outputs plans (λ w on. checked_wholes_are_logic k cut blif facts c w h on)

@@ -1,29 +1,24 @@
 -- How many elements a model has, and how large the store of a comparison is.
-use Rattle.std.proofs.Common.{◌≡◌, ℕ, suc, ◌+◌, ◌<◌, ◌≤◌, List, [], ◌∷◌, ◌++◌, false, map, length, get_or, Some, None, arith, ap, subst, sym, refl, ◌∙◌, ◌⊎◌, inl, inr}
+use Rattle.std.proofs.Common.{◌≡◌, ℕ, suc, ◌+◌, ◌<◌, ◌≤◌, List, [], ◌∷◌, ◌++◌, map, length, Some, None, arith, ap, subst, sym, refl, ◌⊎◌, inl, inr}
 use Rattle.std.specs.Prelude.{All, cond, filter_map, flat_map}
 use Rattle.std.specs.List.{enumerate_from}
 use Rattle.std.proofs.lemmas.Bool.{cases_lt}
 use Rattle.std.proofs.lemmas.List.{length-append, length-map}
 use Rattle.std.proofs.lemmas.List.Elements.{All-head, All-tail}
-use Rattle.std.proofs.lemmas.Option.{slice_get-get_or, slice_get_within}
-use Rattle.bdd_core.proofs.Pigeon.{pigeon}
+use Rattle.std.proofs.lemmas.Option.{slice_get_within}
 use Rattle.cell_compare.specs.Sizes.{AreWithinTo, elements_in}
 use Rattle.cell_compare.specs.Works.{AreVars}
-use Rattle.path_fixpoint.proofs.PinLaws.{pin_ranges}
-use Rattle.path_fixpoint.specs.Parts.{pins_of}
 use Rattle.phase_open.specs.Given.{AreFew}
 use Rattle.phase_terms.specs.Ready.{IsReady}
 use Rattle.phase_terms.specs.Stores.{counts_of, most_model_words}
 use Rattle.phase_terms.specs.declared.words.WordCounts.{WordCounts}
-use Rattle.vrt_model.proofs.Lists.{at_map, at_there, one_at}
+use Rattle.vrt_model.proofs.Lists.{at_there, one_at}
 use Rattle.vrt_model.proofs.Members.{all_among, all_by}
 use Rattle.vrt_model.specs.Circuits.{IsCircuit, IsWhole}
 use Rattle.vrt_model.specs.Comparison.{Comparison}
 use Rattle.vrt_model.specs.Elements.{element_count, element_names, names_by_kind, signal_name}
 use Rattle.vrt_model.specs.Held.{sources_of}
 use Rattle.vrt_model.specs.Lists.{At}
-use Rattle.vrt_model.specs.Networks.{HasRanges}
-use Rattle.vrt_model.specs.State.{OutputPin, output_pins}
 use Rattle.vrt_model.specs.Variables.{is_free, is_input, places, variables_of}
 use Rattle.vrt_model.specs.declared.blif.LatchKind.{LatchKind}
 use Rattle.vrt_model.specs.declared.blif.LatchKind.TheVariants.{Re, Fe, Ah, Al}
@@ -36,10 +31,7 @@ use Rattle.vrt_model.specs.declared.groups.Source.{Source}
 use Rattle.vrt_model.specs.declared.groups.Source.TheVariants.{Input, Element, Group}
 use Rattle.vrt_model.specs.declared.groups.Vars.{Vars}
 use Rattle.vrt_model.specs.declared.ids.Net.{Net}
-use Rattle.vrt_model.specs.declared.whole.Drive.TheVariants.{Soft}
 use Rattle.vrt_model.specs.declared.whole.Whole.{Whole}
-use Rattle.vrt_model.specs.declared.whole.WholePin.{WholePin}
-use Rattle.whole_steps.specs.FreeOutputs.{HasFreeOutputs}
 
 -- ---- elements
 
@@ -70,32 +62,6 @@ models_few (w ∷ ws) few =
     let here = All-head (λ (x : Whole). length x.model.signals ≤ 20000) w ws few in
     let rest = models_few ws (All-tail (λ (x : Whole). length x.model.signals ≤ 20000) w ws few) in
     omega (arith, here, rest)
-
--- ---- outputs of whole instances
-
-abbrev blank_pin : WholePin
-blank_pin = record { net = record { 0 = 0 }; signal = 0; drive = Soft; observed = false }
-
-net_same : (a b : Net) → a.0 ≡ b.0 → a ≡ b
-net_same a b e = let build : ℕ → Net = λ n. record { 0 = n } in ap build e
-
--- no net has two, so that there are no more than nets
-pub free_pins : (c : Circuit) → HasRanges c → HasFreeOutputs c → length (pins_of c) ≤ length c.nets
-free_pins c ranges free =
-    let pin : ℕ → WholePin = λ j. get_or (pins_of c) j blank_pin in
-    let there : (j : ℕ) → j < length (pins_of c) → At (pins_of c) j (pin j) = λ j lt. slice_get-get_or (pins_of c) j blank_pin lt in
-    pigeon (length c.nets) (length (pins_of c)) (λ j. (pin j).net.0) (λ j lt. (pin_ranges c (pin j) ranges (j, there j lt)).0)
-    (λ i j lt lt' same.
-    let one = at_map (λ (out : OutputPin). out.pin) (output_pins c) i (pin i) (there i lt) in
-    let two = at_map (λ (out : OutputPin). out.pin) (output_pins c) j (pin j) (there j lt') in
-    let net : (pin i).net ≡ (pin j).net = net_same (pin i).net (pin j).net same in
-    free.one i j one.0 two.0 one.1 two.1 (ap (λ (p : WholePin). p.net) one.2 ∙ net ∙ sym (ap (λ (p : WholePin). p.net) two.2)))
-
-pub ready_pins : (k : Comparison) → IsReady k → length (pins_of k.circuit) ≤ 20000
-ready_pins k ready =
-    let wholes = ready.wholes 0 ready.rules.some_phase in
-    let limit = ready.circuit.net_limit in
-    omega (arith, free_pins k.circuit wholes.ranges wholes.free, limit)
 
 -- ---- variables
 
@@ -131,10 +97,10 @@ module _ (k : Comparison) (vars : List Vars) (are : AreVars k (length k.rules.ph
       omega (arith, few, low)
 
   -- and all counts are within the limits
-  pub few_counts : IsReady k → (variables : ℕ) (counts : WordCounts) → variables ≤ 1000 → counts ≡ counts_of k variables → AreFew counts
-  few_counts ready variables counts few is =
+  pub few_counts : IsReady k → (variables : ℕ) (counts : WordCounts) → variables ≤ 1000 → counts ≡ counts_of k variables → counts.pins ≤ 20000 → AreFew counts
+  few_counts ready variables counts few is pins =
       subst AreFew (sym is)
-      (ready.circuit.net_limit, ready_pins k ready, models_few k.circuit.wholes (whole_signals k.circuit ready.circuit), ready.model.signal_limit, (let low = few_elements ready.rules.some_phase in omega (arith, low)), few)
+      (ready.circuit.net_limit, subst (λ (c : WordCounts). c.pins ≤ 20000) is pins, models_few k.circuit.wholes (whole_signals k.circuit ready.circuit), ready.model.signal_limit, (let low = few_elements ready.rules.some_phase in omega (arith, low)), few)
 
 -- ---- the greatest count
 

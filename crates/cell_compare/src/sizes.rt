@@ -57,30 +57,40 @@ fn model_elements(model: &FlatModel) -> Result<u32, NoMemory>
     elements_of(model.latches.as_slice())
 }
 
-/// How many outputs the whole instances of a circuit have.
-fn pin_count(circuit: &Circuit) -> u32
-    requires few { length (pins_of circuit.now) ≤ 20000 }
-    ensures { result ≡ length (pins_of circuit.now) }
+/// So many and as many more, where these are 20,000 at most; else there is no room for them.
+fn more_pins(count: u32, outputs: usize) -> Result<u32, NoMemory>
+    requires { count ≤ 20000 }
+    ensures { IfOk result (λ all. (all ≡ count + outputs) × (all ≤ 20000)) }
+{
+    if outputs > (20000 - count) as usize {
+        return Err(NoMemory);
+    }
+    Ok(count + outputs as u32)
+}
+
+/// How many outputs the whole instances of a circuit have, 20,000 at most; there is no room for the words of more.
+fn pin_count(circuit: &Circuit) -> Result<u32, NoMemory>
+    ensures { IfOk result (λ count. (count ≡ length (pins_of circuit.now)) × (count ≤ 20000)) }
 {
     let mut count = 0;
     for whole in circuit.wholes.as_slice() {
-        let outputs = whole.outputs.len() as u32;
-        count += outputs;
+        count = more_pins(count, whole.outputs.len())?;
     }
-    count
+    Ok(count)
 }
 
 /// The words of a comparison, for so many variables.
 pub(crate) fn counts_with(compared: Comparison<'_>, variables: u32) -> Result<WordCounts, NoMemory>
     requires circuit { IsCircuit compared.circuit.now }
     requires model { IsFlatModel compared.model.now }
-    requires pins { length (pins_of compared.circuit.now) ≤ 20000 }
-    ensures { IfOk result (λ counts. counts ≡ counts_of (comparison_in compared.entry) variables) }
+    ensures is { IfOk result (λ counts. counts ≡ counts_of (comparison_in compared.entry) variables) }
+    ensures few { IfOk result (λ counts. counts.pins ≤ 20000) }
 {
+    let pins = pin_count(compared.circuit)?;
     let elements = model_elements(compared.model)?;
     Ok(WordCounts {
         nets: compared.circuit.nets.len() as u32,
-        pins: pin_count(compared.circuit),
+        pins,
         models: most_model_words(compared.circuit.wholes.as_slice()),
         signals: compared.model.signals.len() as u32,
         elements,

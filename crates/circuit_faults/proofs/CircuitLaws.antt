@@ -6,19 +6,21 @@ use Rattle.std.proofs.lemmas.Option.{none-some, same_Some, slice_get_within}
 use Rattle.bdd_core.proofs.Meaning.{meaning_one, meaning_zero}
 use Rattle.bdd_core.specs.Diagram.{Valuation, meaning}
 use Rattle.bdd_core.specs.Store.{Diagrams, IsLive, function_of}
-use Rattle.bdd_core.specs.Words.{IsApart, IsFilled, Writes, shows, word_at, WritesTwo}
+use Rattle.bdd_core.specs.Words.{IsApart, IsFilled, Writes, shows, word_at}
 use Rattle.bdd_core.specs.declared.handle.H.{H}
-use Rattle.bdd_core.proofs.Frames.{IsWithinSpan, two_filled, two_span, two_word}
+use Rattle.bdd_core.proofs.Frames.{IsWithinSpan}
 use Rattle.circuit_faults.specs.Ordered.{IsWholePart}
-use Rattle.circuit_faults.proofs.PartNetworks.{bit_there, fault_alone, fault_there}
+use Rattle.circuit_faults.proofs.PartNetworks.{HasRootsAt, bit_there, fault_alone, fault_there}
 use Rattle.circuit_faults.proofs.Solutions.{given_bit, given_no_float, known_bit}
+use Rattle.circuit_faults.proofs.SoundWholes.{output_plain, wired_wholes}
+use Rattle.circuit_faults.proofs.ThreeSpans.{net_beside, three_span, three_word}
 use Rattle.circuit_faults.proofs.WholeParts.{inside_number, number_inside, number_place, place_number}
 use Rattle.circuit_faults.specs.Cases.{CaseIn, HasStepFault, StandsAt}
 use Rattle.circuit_faults.specs.Faults.{HasFault, HasFixedBits, IsSettingAt, IsSolvedAt, ShowsFault}
-use Rattle.circuit_faults.specs.Results.{AreClearSteps, HasCircuitSpans, IsClearCircuit, IsFirstFault, first_word, root_at}
-use Rattle.circuit_faults.specs.Scans.{IsInEarlier, IsInside, IsPartClear, IsPartFault}
+use Rattle.circuit_faults.specs.Results.{AreClearSteps, HasCircuitSpans, IsClearCircuit, IsFirstFault, WritesThree, first_word, output_span, root_at}
+use Rattle.circuit_faults.specs.Scans.{IsInside, IsPartClear, IsPartFault}
 use Rattle.circuit_faults.specs.Steps.{AreOrderedSteps, InPhase, IsInStepBefore, IsPartAt, part_step, phase_of, step_of, steps_of}
-use Rattle.circuit_faults.specs.Wholes.{HasFreeWholes}
+use Rattle.circuit_faults.specs.Wholes.{HasSoundWholes}
 use Rattle.circuit_faults.specs.declared.steps.CircuitStep.{CircuitStep}
 use Rattle.circuit_faults.specs.declared.steps.CircuitStep.TheVariants.{Part as PartStep, Instance as InstanceStep}
 use Rattle.circuit_faults.specs.declared.net.CircuitFault.{CircuitFault}
@@ -40,12 +42,13 @@ use Rattle.vrt_model.proofs.Lists.{at_map, map_at, map_among}
 use Rattle.vrt_model.proofs.Members.{all_among}
 use Rattle.vrt_model.proofs.Tests.{some_or_none}
 use Rattle.vrt_model.specs.Circuits.{IsHold}
-use Rattle.vrt_model.specs.Known.{IsDriven, IsKnown}
+use Rattle.vrt_model.specs.Known.{IsKnown}
 use Rattle.vrt_model.specs.Lists.{At, Among}
 use Rattle.vrt_model.specs.Path.{Network}
 use Rattle.vrt_model.specs.Reading.{bare}
 use Rattle.vrt_model.specs.Response.{Fight as Fights, Float as Floats, IsResponse, Reaches, Shows}
-use Rattle.vrt_model.specs.State.{Setting}
+use Rattle.vrt_model.specs.Solution.{Agrees}
+use Rattle.vrt_model.specs.State.{IsState, OutputPin, Setting, State, output_pins}
 use Rattle.vrt_model.specs.declared.circuit.Circuit.{Circuit}
 use Rattle.vrt_model.specs.declared.circuit.Device.{Device}
 use Rattle.vrt_model.specs.declared.circuit.FlatNet.{FlatNet}
@@ -72,14 +75,6 @@ pub inside_or_not : (part : Part) (n : ℕ) → IsInside part n ⊎ (¬ IsInside
 inside_or_not part n =
     elim (net_in part.nets n) [ inl h ↦ inl (h.0, (h.1, h.2, h.3)) | inr none ↦ inr (λ inside. none inside.0 inside.1.0 inside.1.1 inside.1.2) ]
 
--- a net of a part before the next place is in one before this place, or in the one here
-pub earlier_or_last : (parts : List Part) (k : ℕ) (part : Part) → At parts k part → (n : ℕ) → IsInEarlier parts (k + 1) n → IsInEarlier parts k n ⊎ IsInside part n
-earlier_or_last parts k part here n e =
-    elim (cases_eq e.0 k) [
-      | inl same ↦ inr (let p : e.1 ≡ part = same_Some e.1 part (sym e.3 ∙ ap (slice_get parts) same ∙ here) in subst (λ (q : Part). IsInside q n) p e.4)
-      | inr ne ↦ inl (e.0, e.1, (let lt = e.2 in omega (arith, lt, ne)), e.3, e.4)
-    ]
-
 -- a constant shows its bit
 pub constant_shows : (d : Diagrams) (b : Bool) (v : Valuation) → meaning d.nodes (cond b 1 0) v ≡ b
 constant_shows d true v = meaning_one d.nodes v
@@ -101,13 +96,19 @@ IsDone w k n = IsGiven w.circuit n ⊎ ((b : Bool) × IsKnown w.circuit (phase_o
 abbrev pub IsClearStep : InPhase → H → Span → Diagrams → Step → Type 0
 IsClearStep w care roots first x = IsClearOf (StandsAt w (root_at first roots)) (λ (v : CaseIn w (root_at first roots)). function_of first care v.valuation) (spots_of x)
 
--- in the care set, at a solution, the nets of the parts before it have their bits, and the steps before it no faults
+-- in the care set, at a solution, the nets of the parts before it have their bits, the outputs at these nets theirs, and the steps
+-- before it no faults
 pub record IsSolvedBefore (w : InPhase) (care : H) (roots gates : Span) (k : ℕ) (first now : Diagrams) : Type 0 where
   pub bits :
       (v : Valuation) (setting : Setting) (a : ℕ → Option Bool) → function_of first care v ≡ true
       → IsSolvedAt w.circuit (phase_of w) w.observed (root_at first roots v) setting a
       → (n : ℕ) → w.observed n ≡ true → IsDone w k n → a n ≡ Some (shows now gates n v)
   pub clear : (j : ℕ) (step : CircuitStep) → j < k → At w.steps j step → IsClearStep w care roots first (step_of w.parts step)
+  pub driven :
+      (v : Valuation) (setting : Setting) (a : ℕ → Option Bool) → function_of first care v ≡ true
+      → IsSolvedAt w.circuit (phase_of w) w.observed (root_at first roots v) setting a
+      → (at : ℕ) (out : OutputPin) → At (output_pins w.circuit) at out → IsInStepBefore w k out.pin.net.0
+      → (s : State) → IsState w.circuit (phase_of w) setting.inputs s → Agrees w.observed a s.reading → s.driven at ≡ root_at now roots v (length w.circuit.nets + at)
 
 -- the number of a step
 abbrev number_of : CircuitStep → ℕ
@@ -124,8 +125,14 @@ one_part w j k p q e one two =
 pub step_is : (w : InPhase) (number : ℕ) (part : Part) → At w.parts number part → step_of w.parts (PartStep number) ≡ part_step part
 step_is w number part e = ap (λ (o : Option Part). unwrap_or (option_map part_step o) (OfPart 0 [])) e
 
+-- in each state that agrees with a solution the outputs at a part have the bits of their roots
+abbrev pub AreDrivenAt : InPhase → H → Span → Part → Diagrams → Diagrams → Type 0
+AreDrivenAt w care roots part first now =
+    (v : Valuation) (setting : Setting) (a : ℕ → Option Bool) → function_of first care v ≡ true → IsSolvedAt w.circuit (phase_of w) w.observed (root_at first roots v) setting a
+    → HasRootsAt w.circuit (phase_of w) w.observed setting a part (root_at now roots v)
+
 module _ (w : InPhase) (care : H) (roots gates : Span)
-    (wholes : HasFreeWholes w.circuit (phase_of w) w.observed) (seen : AreObserved w.circuit w.observed) (are : AreOrderedSteps w) (roots_len : length w.circuit.nets + length (pins_of w.circuit) ≤ roots.len) (gates_len : gates.len ≡ length w.circuit.nets) where
+    (wholes : HasSoundWholes w.circuit (phase_of w) w.observed) (seen : AreObserved w.circuit w.observed) (are : AreOrderedSteps w) (roots_len : length w.circuit.nets + length (pins_of w.circuit) ≤ roots.len) (gates_len : gates.len ≡ length w.circuit.nets) where
   abbrev c : Circuit
   c = w.circuit
 
@@ -189,6 +196,7 @@ module _ (w : InPhase) (care : H) (roots gates : Span)
         ]
       ];
       clear = λ j step lt e. absurd (omega (arith, lt));
+      driven = λ v setting a met at number out e step s is agrees. absurd (none_earlier out.pin.net.0 step);
     }
 
   -- ---- what is found at a step
@@ -205,7 +213,7 @@ module _ (w : InPhase) (care : H) (roots gates : Span)
 
   -- ---- one part more
 
-  module _ (k : ℕ) (part : Part) (here : IsPartAt w k part) (undriven : (n : ℕ) → IsInside part n → ¬ IsDriven c n) (first now : Diagrams) (before : Before k first now)
+  module _ (k : ℕ) (part : Part) (here : IsPartAt w k part) (first now : Diagrams) (before : Before k first now) (driven : AreDrivenAt w care roots part first now)
       (fixed : (v : Valuation) → HasFixedBits c phase (root_at first roots v)) (care_live : IsLive first care) (live : IsFilled now gates)
       (kept_care : (v : Valuation) → function_of now care v ≡ function_of first care v)
       (kept_roots : (n : ℕ) (v : Valuation) → n < length c.nets → shows now roots n v ≡ shows first roots n v) where
@@ -244,15 +252,15 @@ module _ (w : InPhase) (care : H) (roots gates : Span)
 
       pub to_alone : (kind : FaultKind) (n : ℕ) → IsInside part n → HasFault c phase observed setting a kind n → ShowsFault observed (alone v) kind n
       to_alone kind n i f =
-          fault_alone c phase observed wholes seen (root_at now roots v) (fixed_now v) setting (setting_now v setting at.given) a at.solves part whole undriven (λ m. shows now gates m v) gates_are kind n i f
+          fault_alone c phase observed wholes seen (root_at now roots v) (fixed_now v) setting (setting_now v setting at.given) a at.solves part whole (driven v setting a met at) (λ m. shows now gates m v) gates_are kind n i f
 
       pub from_alone : (kind : FaultKind) (n : ℕ) → IsInside part n → ShowsFault observed (alone v) kind n → HasFault c phase observed setting a kind n
       from_alone kind n i f =
-          fault_there c phase observed wholes seen (root_at now roots v) (fixed_now v) setting (setting_now v setting at.given) a at.solves part whole undriven (λ m. shows now gates m v) gates_are kind n i f
+          fault_there c phase observed wholes seen (root_at now roots v) (fixed_now v) setting (setting_now v setting at.given) a at.solves part whole (driven v setting a met at) (λ m. shows now gates m v) gates_are kind n i f
 
       pub bit_of_net : (n : ℕ) (b : Bool) → IsInside part n → observed n ≡ true → IsResponse (alone v) n (Shows b) → a n ≡ Some b
       bit_of_net n b i o shown =
-          bit_there c phase observed wholes seen (root_at now roots v) (fixed_now v) setting (setting_now v setting at.given) a at.solves part whole undriven (λ m. shows now gates m v) gates_are n b i o shown
+          bit_there c phase observed wholes seen (root_at now roots v) (fixed_now v) setting (setting_now v setting at.given) a at.solves part whole (driven v setting a met at) (λ m. shows now gates m v) gates_are n b i o shown
 
     earlier_or_here : (n : ℕ) → IsInStepBefore w (k + 1) n → IsInStepBefore w k n ⊎ IsInside part n
     earlier_or_here n e =
@@ -262,8 +270,9 @@ module _ (w : InPhase) (care : H) (roots gates : Span)
         ]
 
     pub solved_more : (new : Diagrams) → IsPartClear c part observed care roots gates now new
+        → ((n : ℕ) (v : Valuation) → n < length (output_pins c) → root_at new roots v (length c.nets + n) ≡ root_at now roots v (length c.nets + n))
         → ((h : ℕ) (v : Valuation) → h < length now.nodes → meaning new.nodes h v ≡ meaning now.nodes h v) → Before (k + 1) first new
-    solved_more new p kept = record {
+    solved_more new p outputs kept = record {
       bits = λ v setting a met at n o done. elim (inside_or_not part n) [
         | inl i ↦ bit_of_net v setting a met at n (shows new gates n v) i o (shown v met n i o)
         | inr out ↦ before.bits v setting a met at n o (not_here n out done) ∙ ap (λ (b : Bool). Some b) (sym (stays v n o out))
@@ -274,6 +283,13 @@ module _ (w : InPhase) (care : H) (roots gates : Span)
             subst (λ (s : CircuitStep). IsClearStep w care roots first (step_of w.parts s)) is
             (subst (IsClearStep w care roots first) (sym (step_is w here.0 part here.2)) part_clear)
         | inr ne ↦ before.clear j step (omega (arith, lt, ne)) e
+      ];
+      driven = λ v setting a met at number out e step s is agrees. elim (inside_or_not part out.pin.net.0) [
+        | inl i ↦ driven v setting a met at number out e i s is agrees ∙ sym (outputs number v (slice_get_within (output_pins c) number out e))
+        | inr away ↦ elim (earlier_or_here out.pin.net.0 step) [
+          | inl low ↦ before.driven v setting a met at number out e low s is agrees ∙ sym (outputs number v (slice_get_within (output_pins c) number out e))
+          | inr i ↦ absurd (away i)
+        ]
       ];
     }
       where
@@ -360,6 +376,8 @@ module _ (w : InPhase) (care : H) (roots gates : Span)
   solved_all first now s = record {
     bits = λ v setting a met at n o. s.bits v setting a met at n o (done n o);
     clear = clear_listed Step (Case first) (Stands first) (cared first) spots_of (steps_of w) clear_at;
+    driven = λ v setting a met at number out e solved is agrees.
+        s.driven v setting a met at number out e (are.all out.pin.net.0 (output_plain c (wired_wholes c phase observed wholes) number out e)) solved is agrees;
   }
     where
       done : (n : ℕ) → observed n ≡ true → Done (length w.steps) n
@@ -376,6 +394,7 @@ module _ (w : InPhase) (care : H) (roots gates : Span)
   clear_circuit first now fixed s = record {
     bits = s.bits;
     clear = λ v setting a met at kind n f. no_fault v setting a met at kind n f;
+    driven = s.driven;
   }
     where
       none : (v : Case first) → cared first v ≡ true → (kind : FaultKind) (n : ℕ) → Among (Fight ∷ Float ∷ []) kind → IsInStepBefore w (length w.steps) n
@@ -412,16 +431,16 @@ pub apart_inner : (a out : Span) (len : ℕ) → len ≤ out.len → IsApart a o
 apart_inner a out len le (inl low) = inl low
 apart_inner a out len le (inr high) = inr (omega (arith, high, le))
 
--- the spans stand after a step that writes two of them
-pub spans_kept : (c : Circuit) (parts : List Part) (roots gates out : Span) (first now : Diagrams) → WritesTwo gates out first now
-    → HasCircuitSpans c parts roots gates out first → HasCircuitSpans c parts roots gates out now
-spans_kept c parts roots gates out first now wr spans = record {
-  roots_span = two_span gates out roots first now wr spans.roots_span;
+-- the spans stand after steps that write three of them, and live handles of the outputs
+pub spans_kept : (c : Circuit) (parts : List Part) (roots gates out : Span) (first now : Diagrams) → WritesThree (output_span c roots) gates out first now
+    → IsFilled now roots → HasCircuitSpans c parts roots gates out first → HasCircuitSpans c parts roots gates out now
+spans_kept c parts roots gates out first now wr live spans = record {
+  roots_span = three_span (output_span c roots) gates out roots first now wr spans.roots_span;
   roots_len = spans.roots_len;
-  roots_live = two_filled gates out roots first now wr spans.roots_gates spans.roots_out spans.roots_live;
-  gates_span = two_span gates out gates first now wr spans.gates_span;
+  roots_live = live;
+  gates_span = three_span (output_span c roots) gates out gates first now wr spans.gates_span;
   gates_len = spans.gates_len;
-  out_span = two_span gates out out first now wr spans.out_span;
+  out_span = three_span (output_span c roots) gates out out first now wr spans.out_span;
   room = spans.room;
   roots_gates = spans.roots_gates;
   roots_out = spans.roots_out;
@@ -453,24 +472,32 @@ module _ (c : Circuit) (parts : List Part) (roots gates out : Span) (now : Diagr
       room : 10 * length part.nets ≤ out.len
       room = spans.room part member
 
-module _ (w : InPhase) (care : H) (roots gates out : Span) (wholes : HasFreeWholes w.circuit (phase_of w) w.observed) (seen : AreObserved w.circuit w.observed) (are : AreOrderedSteps w)
+-- the bits of the nets' roots stay
+pub net_roots_kept : (c : Circuit) (parts : List Part) (roots gates out : Span) (first now : Diagrams) → WritesThree (output_span c roots) gates out first now
+    → HasCircuitSpans c parts roots gates out first → (n : ℕ) (v : Valuation) → n < length c.nets → shows now roots n v ≡ shows first roots n v
+net_roots_kept c parts roots gates out first now wr spans n v lt =
+    let within : n < roots.len = (let len = spans.roots_len in omega (arith, lt, len)) in
+    ap (λ (h : ℕ). meaning now.nodes h v)
+    (three_word (output_span c roots) gates out roots first now n wr (net_beside c roots n lt) spans.roots_gates spans.roots_out within)
+    ∙ wr.adds.kept (word_at first roots n) (spans.roots_live n within) v
+
+module _ (w : InPhase) (care : H) (roots gates out : Span) (wholes : HasSoundWholes w.circuit (phase_of w) w.observed) (seen : AreObserved w.circuit w.observed) (are : AreOrderedSteps w)
     (first : Diagrams) (spans : HasCircuitSpans w.circuit w.parts roots gates out first)
     (care_live : IsLive first care) (fixed : (v : Valuation) → HasFixedBits w.circuit (phase_of w) (root_at first roots v))
-    (k : ℕ) (part : Part) (here : IsPartAt w k part) (undriven : (n : ℕ) → IsInside part n → ¬ IsDriven w.circuit n) (now new : Diagrams) (before : WritesTwo gates out first now) (live : IsFilled now gates)
-    (solved : IsSolvedBefore w care roots gates k first now) where
+    (k : ℕ) (part : Part) (here : IsPartAt w k part) (now new : Diagrams) (before : WritesThree (output_span w.circuit roots) gates out first now) (live : IsFilled now gates)
+    (solved : IsSolvedBefore w care roots gates k first now) (driven : AreDrivenAt w care roots part first now) where
   care_kept : (v : Valuation) → function_of now care v ≡ function_of first care v
   care_kept v = before.adds.kept care.0 care_live v
 
   roots_kept : (n : ℕ) (v : Valuation) → n < length w.circuit.nets → shows now roots n v ≡ shows first roots n v
-  roots_kept n v lt =
-      let within : n < roots.len = omega (arith, lt, spans.roots_len) in
-      ap (λ (h : ℕ). meaning now.nodes h v) (two_word gates out roots first now before spans.roots_gates spans.roots_out n within) ∙ before.adds.kept (word_at first roots n) (spans.roots_live n within) v
+  roots_kept n v lt = net_roots_kept w.circuit w.parts roots gates out first now before spans n v lt
 
-  pub part_clear_next : IsPartClear w.circuit part w.observed care roots gates now new → ((h : ℕ) (v : Valuation) → h < length now.nodes → meaning new.nodes h v ≡ meaning now.nodes h v)
-      → IsSolvedBefore w care roots gates (k + 1) first new
-  part_clear_next p kept =
-      solved_more w care roots gates wholes seen are spans.roots_len spans.gates_len k part here undriven first now solved fixed care_live live care_kept roots_kept new p kept
+  pub part_clear_next : IsPartClear w.circuit part w.observed care roots gates now new
+      → ((n : ℕ) (v : Valuation) → n < length (output_pins w.circuit) → root_at new roots v (length w.circuit.nets + n) ≡ root_at now roots v (length w.circuit.nets + n))
+      → ((h : ℕ) (v : Valuation) → h < length now.nodes → meaning new.nodes h v ≡ meaning now.nodes h v) → IsSolvedBefore w care roots gates (k + 1) first new
+  part_clear_next p outputs kept =
+      solved_more w care roots gates wholes seen are spans.roots_len spans.gates_len k part here first now solved driven fixed care_live live care_kept roots_kept new p outputs kept
 
   pub part_fault_first : (fault : CircuitFault) → IsPartFault w.circuit part w.observed care roots gates fault now new → IsFirstFault w care roots fault first new
   part_fault_first fault f =
-      fault_found w care roots gates wholes seen are spans.roots_len spans.gates_len k part here undriven first now solved fixed care_live live care_kept roots_kept new fault f
+      fault_found w care roots gates wholes seen are spans.roots_len spans.gates_len k part here first now solved driven fixed care_live live care_kept roots_kept new fault f

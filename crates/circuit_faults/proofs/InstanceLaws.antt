@@ -2,7 +2,7 @@
 use Rattle.std.proofs.Common.{◌≡◌, ℕ, ◌+◌, ◌<◌, Bool, true, false, cond, [], ◌∷◌, Some, None, length, arith, ap, refl, sym, subst, ◌∙◌, inl, inr, ◌≤◌}
 use Rattle.std.specs.Prelude.{◌↔◌, slice_get}
 use Rattle.std.proofs.lemmas.Bool.{cases_eq, false≢true}
-use Rattle.std.proofs.lemmas.Option.{none-some, same_Some}
+use Rattle.std.proofs.lemmas.Option.{none-some, same_Some, slice_get_within}
 use Rattle.node_pool.specs.declared.region.Span.{Span}
 use Rattle.bdd_core.proofs.Frames.{word_added}
 use Rattle.bdd_core.specs.Diagram.{Function, Valuation, meaning}
@@ -14,7 +14,7 @@ use Rattle.circuit_faults.proofs.CircuitLaws.{IsClearStep, IsDone, IsSolvedBefor
 use Rattle.circuit_faults.specs.Cases.{CaseIn, StandsAt}
 use Rattle.circuit_faults.specs.Results.{BrokenGives, IsFirstFault, broken_of, root_at}
 use Rattle.circuit_faults.specs.Steps.{AreOrderedSteps, InPhase, IsInStepBefore, IsInstanceAt, IsReadyInstance, named_at, phase_of, step_of}
-use Rattle.circuit_faults.specs.Wholes.{HasFreeWholes}
+use Rattle.circuit_faults.specs.Wholes.{HasSoundWholes}
 use Rattle.circuit_faults.specs.declared.net.CircuitFault.{CircuitFault}
 use Rattle.circuit_faults.specs.declared.steps.CircuitStep.{CircuitStep}
 use Rattle.circuit_faults.specs.declared.steps.CircuitStep.TheVariants.{Part as PartStep, Instance as InstanceStep}
@@ -31,6 +31,7 @@ use Rattle.vrt_model.specs.Faults.{BreaksConstraint}
 use Rattle.path_fixpoint.specs.Parts.{pins_of}
 use Rattle.vrt_model.specs.Lists.{Among}
 use Rattle.vrt_model.specs.Reading.{Partial}
+use Rattle.vrt_model.specs.State.{output_pins}
 use Rattle.vrt_model.specs.declared.circuit.FlatInstance.{FlatInstance}
 use Rattle.vrt_model.specs.declared.verdict.FaultKind.{FaultKind}
 use Rattle.vrt_model.specs.declared.verdict.FaultKind.TheVariants.{Constraint}
@@ -44,7 +45,7 @@ broken_where care held v = by_test (held v)
     by_test false = (λ e. (e, refl), λ h. h.0)
 
 module _ (w : InPhase) (care : H) (roots gates : Span)
-    (wholes : HasFreeWholes w.circuit (phase_of w) w.observed) (seen : AreObserved w.circuit w.observed) (are : AreOrderedSteps w) (roots_len : length w.circuit.nets + length (pins_of w.circuit) ≤ roots.len) (gates_len : gates.len ≡ length w.circuit.nets)
+    (wholes : HasSoundWholes w.circuit (phase_of w) w.observed) (seen : AreObserved w.circuit w.observed) (are : AreOrderedSteps w) (roots_len : length w.circuit.nets + length (pins_of w.circuit) ≤ roots.len) (gates_len : gates.len ≡ length w.circuit.nets)
     (k at : ℕ) (i : FlatInstance) (here : IsInstanceAt w k at i) (ready : IsReadyInstance w i) (first now new : Diagrams)
     (before : IsSolvedBefore w care roots gates k first now) (live : IsFilled now gates)
     (kept_care : (v : Valuation) → function_of now care v ≡ function_of first care v) where
@@ -115,8 +116,8 @@ module _ (w : InPhase) (care : H) (roots gates : Span)
       not_part : (number : ℕ) → PartStep number ≡ InstanceStep at → ⊥
       not_part number e = cc
 
-  pub instance_clear_next : AddsNodes now new → BrokenGives broken at new None → IsSolvedBefore w care roots gates (k + 1) first new
-  instance_clear_next adds none = record {
+  pub instance_clear_next : (fits : length w.circuit.nets + length (output_pins w.circuit) ≤ roots.len) → IsFilled now roots → AddsNodes now new → BrokenGives broken at new None → IsSolvedBefore w care roots gates (k + 1) first new
+  instance_clear_next fits filled adds none = record {
     bits = λ v setting a met solved n o done. before.bits v setting a met solved n o (not_here n done) ∙ ap (λ (b : Bool). Some b) (sym (stays v n o));
     clear = λ j step lt e. elim (cases_eq j k) [
       | inl same ↦
@@ -124,8 +125,18 @@ module _ (w : InPhase) (care : H) (roots gates : Span)
           subst (λ (s : CircuitStep). IsClearStep w care roots first (step_of w.parts s)) is clear_here
       | inr ne ↦ before.clear j step (omega (arith, lt, ne)) e
     ];
+    driven = λ v setting a met solved number out e step s is agrees.
+        before.driven v setting a met solved number out e (earlier out.pin.net.0 step) s is agrees
+        ∙ sym (root_stays v number (slice_get_within (output_pins w.circuit) number out e));
   }
     where
+      root_stays : (v : Valuation) (number : ℕ) → number < length (output_pins w.circuit)
+          → root_at new roots v (length w.circuit.nets + number) ≡ root_at now roots v (length w.circuit.nets + number)
+      root_stays v number lt =
+          let within : length w.circuit.nets + number < roots.len = omega (arith, lt, fits) in
+          ap (λ (h : ℕ). meaning new.nodes h v) (word_added roots now new (length w.circuit.nets + number) adds)
+          ∙ adds.kept (word_at now roots (length w.circuit.nets + number)) (filled (length w.circuit.nets + number) within) v
+
       not_here : (n : ℕ) → IsDone w (k + 1) n → IsDone w k n
       not_here n (inl g) = inl g
       not_here n (inr (inl b)) = inr (inl b)

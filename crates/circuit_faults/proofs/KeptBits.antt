@@ -1,22 +1,19 @@
 -- A net that shows a bit in the bare circuit does not float in the kept one: its path is there too, so some clear path is.
-use Rattle.std.proofs.Common.{◌≡◌, ℕ, ◌<◌, Bool, true, false, List, [], ◌∷◌, length, arith, ap, refl, sym, ◌∙◌, inl, inr}
+use Rattle.std.proofs.Common.{◌≡◌, ℕ, ◌<◌, Bool, true, false, List, [], ◌∷◌, length, arith, refl, inl, inr}
 use Rattle.circuit_faults.proofs.StrongReached.{strong_reached}
+use Rattle.path_fixpoint.proofs.PinLaws.{pin_level}
 use Rattle.vrt_model.proofs.Decidable.{strength_at, strength_at_is}
 use Rattle.vrt_model.proofs.Filtered.{among_devices, device_among}
-use Rattle.vrt_model.proofs.Lists.{at_map}
 use Rattle.vrt_model.proofs.Members.{all_among}
 use Rattle.vrt_model.proofs.Networks.{network_finite}
 use Rattle.vrt_model.proofs.SameNetwork.{IsPartOf, path_more}
 use Rattle.vrt_model.specs.Circuits.{IsDevice, IsHold}
 use Rattle.vrt_model.specs.Networks.{HasRanges}
-use Rattle.vrt_model.specs.Path.{Hop, IsPath, Network, Root, level_of, level_of_drive}
+use Rattle.vrt_model.specs.Path.{Hop, IsPath, Network, Root, level_of}
 use Rattle.vrt_model.specs.Reading.{bare, kept}
 use Rattle.vrt_model.specs.Response.{Float, IsResponse, Reaches, Shows}
-use Rattle.vrt_model.specs.State.{OutputPin, State, network_of, output_pins}
+use Rattle.vrt_model.specs.State.{State, network_of}
 use Rattle.vrt_model.specs.declared.circuit.Circuit.{Circuit}
-use Rattle.vrt_model.specs.declared.whole.Drive.{Drive}
-use Rattle.vrt_model.specs.declared.whole.WholePin.{WholePin}
-use Rattle.whole_steps.specs.FreeOutputs.{HasFreeOutputs}
 
 bare_in_kept : (c : Circuit) (held : ℕ → Bool) (s : State) → IsPartOf (network_of c bare held s) (network_of c kept held s)
 bare_in_kept c held s = record {
@@ -24,22 +21,21 @@ bare_in_kept c held s = record {
   devices = λ d on. (among_devices kept c d (device_among bare c d on.0).0 refl, on.1);
 }
 
--- each path has a level, where outputs of whole instances are soft
-level_some : (c : Circuit) (held : ℕ → Bool) (s : State) → HasRanges c → HasFreeOutputs c → (root : Root) (hops : List Hop) → IsPath (network_of c kept held s) root hops → 0 < level_of root hops
-level_some c held s ranges free root [] p =
+-- each path has a level
+level_some : (c : Circuit) (held : ℕ → Bool) (s : State) → HasRanges c → (root : Root) (hops : List Hop) → IsPath (network_of c kept held s) root hops → 0 < level_of root hops
+level_some c held s ranges root [] p =
     elim p [
       | inl g ↦ (let is : root.level ≡ 8 = g.3 in omega (arith, is))
       | inr other ↦ elim other [
         | inl h ↦ (let is = h.4 in let some = (all_among (IsHold c) c.holds h.1 ranges.holds (h.0, h.2)).size.0 in omega (arith, is, some))
         | inr o ↦
-            let out = at_map (λ (x : OutputPin). x.pin) (output_pins c) o.0 o.1 o.2 in
-            let soft : level_of_drive 8 o.1.drive ≡ 8 = ap (λ (x : WholePin). level_of_drive 8 x.drive) (sym out.2) ∙ ap (λ (d : Drive). level_of_drive 8 d) (free.soft o.0 out.0 out.1) in
+            let some = (pin_level c o.1 ranges (o.0, o.2)).0 in
             let is = o.4 in
-            omega (arith, soft, is)
+            omega (arith, some, is)
       ]
     ]
-level_some c held s ranges free root (hop ∷ hops) p =
-    let before = level_some c held s ranges free root hops p.0 in
+level_some c held s ranges root (hop ∷ hops) p =
+    let before = level_some c held s ranges root hops p.0 in
     let some = (all_among (IsDevice c) c.devices hop.device ranges.devices (device_among kept c hop.device p.1.0).0).level.0 in
     omega (arith, before, some)
 
@@ -47,14 +43,14 @@ shown_value : (w : Network) (n : ℕ) (v : Bool) → IsResponse w n (Shows v) �
 shown_value w n true h = (true, h.0)
 shown_value w n false h = (false, h.0)
 
-pub kept_no_float : (c : Circuit) (held : ℕ → Bool) (s : State) (n : ℕ) (v : Bool) → HasRanges c → HasFreeOutputs c → IsResponse (network_of c bare held s) n (Shows v)
+pub kept_no_float : (c : Circuit) (held : ℕ → Bool) (s : State) (n : ℕ) (v : Bool) → HasRanges c → IsResponse (network_of c bare held s) n (Shows v)
     → IsResponse (network_of c kept held s) n Float → ⊥
-kept_no_float c held s n v ranges free shows floats =
+kept_no_float c held s n v ranges shows floats =
     let w = network_of c kept held s in
     let finite = network_finite c kept held s ranges in
     let r = (shown_value (network_of c bare held s) n v shows).1 in
     let path = path_more (network_of c bare held s) w (bare_in_kept c held s) r.0 r.1 r.2 in
-    let some = level_some c held s ranges free r.0 r.1 path in
+    let some = level_some c held s ranges r.0 r.1 path in
     let low = (strength_at_is w (length c.nets) 8 finite n).0 r.0 r.1 path r.4 in
     elim (strong_reached w (strength_at w (length c.nets) 8 finite) (strength_at_is w (length c.nets) 8 finite) 8 finite.most n (omega (arith, some, low))) [
       | inl one ↦ floats.0 one

@@ -2,7 +2,7 @@
 use Rattle.std.proofs.Common.{◌≡◌, ◌≢◌, ℕ, ◌+◌, ◌*◌, ◌<◌, ◌⊎◌, Bool, true, false, not, List, Option, Some, None, length, arith, ap, refl, sym, subst, ◌∙◌, inl, inr}
 use Rattle.std.specs.List.{list_any}
 use Rattle.std.proofs.lemmas.Bool.{and_parts, cases_Bool, cases_lt, false≢true}
-use Rattle.std.proofs.lemmas.Option.{slice_get_within}
+use Rattle.std.proofs.lemmas.Option.{none-some, slice_get_within}
 use Rattle.bdd_core.specs.Diagram.{Function, Valuation}
 use Rattle.bdd_core.specs.Store.{Diagrams, IsLive, function_of}
 use Rattle.bdd_core.specs.Words.{shows}
@@ -11,16 +11,18 @@ use Rattle.channel_parts.specs.OneSolution.{AreObserved}
 use Rattle.channel_parts.specs.PartLists.{AreParts}
 use Rattle.channel_parts.specs.declared.part.Part.{Part}
 use Rattle.channel_parts.specs.declared.part.Parts.{Parts}
-use Rattle.circuit_faults.proofs.KeptMeaning.{faulty_stands, idle_clear, no_fight, response_is, settled_clear, shown_value, stands_faulty}
+use Rattle.circuit_faults.proofs.FreeParts.{first_free, free_here}
+use Rattle.circuit_faults.proofs.KeptMeaning.{IsFreeNet, faulty_stands, idle_clear, no_fight, response_is, settled_clear, shown_value, stands_faulty}
 use Rattle.circuit_faults.proofs.KeptSpots.{fight_spot, spot, spot_place, unsettled_spot}
 use Rattle.circuit_faults.proofs.KeptWords.{gates_shown}
 use Rattle.circuit_faults.specs.Ordered.{IsWholePart}
 use Rattle.blif_eval.specs.declared.plan.ModelPlan.{ModelPlan}
 use Rattle.circuit_faults.proofs.DrivenAlone.{driven_alone}
 use Rattle.circuit_faults.specs.Scans.{IsInside}
-use Rattle.circuit_faults.specs.Wholes.{HasFreeWholes}
+use Rattle.circuit_faults.specs.Wholes.{HasSoundWholes}
 use Rattle.vrt_model.proofs.Tests.{some_or_none}
-use Rattle.whole_steps.specs.Tables.{IsWholeTable, driver_at}
+use Rattle.whole_steps.proofs.FreeOutputLaws.{marked_free}
+use Rattle.whole_steps.specs.Tables.{IsWholeTable, free_at}
 use Rattle.whole_steps.specs.declared.table.OutputPlace.{OutputPlace}
 use Rattle.circuit_faults.proofs.PartNetworks.{responds}
 use Rattle.circuit_faults.proofs.WholeParts.{number_inside, whole_part}
@@ -28,9 +30,9 @@ use Rattle.circuit_faults.specs.Faults.{HasFixedBits}
 use Rattle.circuit_faults.specs.Faults.{SolvedCase}
 use Rattle.circuit_faults.specs.KeptFaults.{HasKeptFault, HasNoKeeper, kept_spots}
 use Rattle.circuit_faults.specs.KeptResults.{HasKeptSpans, IsFirstKept, KeptGives, WritesKept}
-use Rattle.circuit_faults.specs.KeptScans.{IsFaultyAt, IsKeptFaulty, IsLoose, IsReachedIn, IsSettledAt, KeptScanGives, reach_at, wanted_at}
+use Rattle.circuit_faults.specs.KeptScans.{IsFaultyAt, IsInSolved, IsKeptFaulty, IsLoose, IsReachedIn, IsSettledAt, KeptScanGives, reach_at, wanted_at}
 use Rattle.circuit_faults.specs.Results.{IsClearCircuit, root_at}
-use Rattle.circuit_faults.specs.Scans.{IsInEarlier}
+use Rattle.circuit_faults.specs.Scans.{IsInEarlier, free_part}
 use Rattle.circuit_faults.specs.declared.kept_net.KeptFault.{KeptFault}
 use Rattle.circuit_faults.specs.declared.spans.KeptSpans.{KeptSpans}
 use Rattle.fault_places.specs.Searches.{Spot}
@@ -39,7 +41,7 @@ use Rattle.path_fixpoint.specs.Parts.{IsPart}
 use Rattle.path_fixpoint.specs.Solved.{network_at}
 use Rattle.vrt_model.proofs.Filtered.{device_among}
 use Rattle.vrt_model.proofs.Members.{among_any, any_among}
-use Rattle.vrt_model.specs.Known.{IsDriven, IsPlain}
+use Rattle.vrt_model.specs.Known.{IsPlain}
 use Rattle.vrt_model.specs.Networks.{HasRanges}
 use Rattle.vrt_model.specs.Lists.{At, Among}
 use Rattle.vrt_model.specs.Reading.{kept}
@@ -67,6 +69,23 @@ module _ (c : Circuit) (phase : Phase) (parts : Parts) (are : AreParts c phase k
   plain_inside n p =
       let there = are.all n p in
       (there.1.0, there.0, slice_get_within parts.list there.1.0 there.0 there.1.1, there.1.1, number_inside there.0 n there.2)
+
+-- a loose net is in a part that is solved
+pub loose_inside : (c : Circuit) (drivers : List (Option OutputPlace)) (plans : List ModelPlan) → IsWholeTable c drivers plans → (phase : Phase) (parts : Parts) → AreParts c phase kept (λ n. 0) parts
+    → HasRanges c → (n : ℕ) → IsLoose c drivers n → IsInSolved drivers parts.list (length parts.list) n
+loose_inside c drivers plans table phase parts are ranges n loose =
+    let there = plain_inside c phase parts are n loose.0 in
+    (there.0, there.1, there.2, there.3, there.4, not_free there.1 (there.0, there.3) there.4)
+  where
+    not_free : (part : Part) → Among parts.list part → IsInside part n → free_part drivers part ≡ None
+    not_free part m i = elim (some_or_none (free_part drivers part)) [
+      | inl place ↦
+          let whole = whole_part c phase kept (λ k. 0) ranges part (are.each part m) in
+          let out = free_here c drivers table.outputs part whole.plain place.0 place.1 in
+          let same : n ≡ out.0.pin.net.0 = driven_alone c phase kept (λ k. 0) ranges place.0.number out.0 out.2 part (are.each part m) n (0, (out.0.pin.net, out.3, refl)) i in
+          absurd (none-some place.0 (sym loose.1 ∙ ap (free_at drivers) same ∙ sym (first_free drivers part out.0.pin.net out.3) ∙ place.1))
+      | inr none ↦ none
+    ]
 
 -- ---- the place of a fault
 
@@ -127,7 +146,7 @@ module _ (care wanted zero one : Function) (seen : Bool) where
 
 -- ---- where the bare circuit is clear
 
-module _ (c : Circuit) (phase : Phase) (observed : ℕ → Bool) (wholes : HasFreeWholes c phase observed) (drivers : List (Option OutputPlace)) (plans : List ModelPlan) (table : IsWholeTable c drivers plans)
+module _ (c : Circuit) (phase : Phase) (observed : ℕ → Bool) (wholes : HasSoundWholes c phase observed) (drivers : List (Option OutputPlace)) (plans : List ModelPlan) (table : IsWholeTable c drivers plans)
     (seen : AreObserved c observed) (care : H) (spans : KeptSpans) (old : Diagrams)
     (fixed : (v : Valuation) → HasFixedBits c phase (root_at old spans.roots v)) (clear : IsClearCircuit c phase observed care spans.roots spans.gates old old) where
   abbrev Case : Type 0
@@ -136,12 +155,12 @@ module _ (c : Circuit) (phase : Phase) (observed : ℕ → Bool) (wholes : HasFr
   abbrev StandsIn : Case → FaultKind → ℕ → Type 0
   StandsIn v kind n = HasKeptFault c phase observed v.setting v.solution kind n
 
-  -- a net has an output of a whole instance, or the table has none
-  driven_or_not : (n : ℕ) → (driver_at drivers n ≡ None) ⊎ IsDriven c n
-  driven_or_not n = elim (some_or_none (driver_at drivers n)) [
+  -- a plain net has a free output of a whole instance, or the table has marked none
+  driven_or_not : (n : ℕ) → IsPlain c n → (free_at drivers n ≡ None) ⊎ IsFreeNet c n
+  driven_or_not n p = elim (some_or_none (free_at drivers n)) [
     | inl place ↦
-        let there = table.sound n place.0 place.1 in
-        inr (there.0, there.1, (place.0.whole, there.2.whole), (place.0.output, there.2.output), there.3)
+        let there = marked_free c drivers table.outputs n p place.0 place.1 in
+        inr (place.0.number, there.0, there.1.number, there.2, there.3)
     | inr none ↦ inl none
   ]
 
@@ -155,7 +174,7 @@ module _ (c : Circuit) (phase : Phase) (observed : ℕ → Bool) (wholes : HasFr
 
   module _ (gates_seen : (d : Device) → Among c.devices d → observed d.gate.0 ≡ true) (parts : Parts) (are : AreParts c phase kept (λ n. 0) parts) (mid : Diagrams)
       (has : HasKeptSpans c parts.list spans old) (written : WritesKept spans old mid) (care_live : IsLive old care)
-      (reached : (n : ℕ) → IsInEarlier parts.list (length parts.list) n → IsReachedIn c parts.list spans (length parts.list) old mid n) where
+      (reached : (n : ℕ) → IsInSolved drivers parts.list (length parts.list) n → IsReachedIn c parts.list spans (length parts.list) old mid n) where
     -- ---- in one case
 
     module _ (v : Case) (met : function_of old care v.valuation ≡ true) where
@@ -171,12 +190,11 @@ module _ (c : Circuit) (phase : Phase) (observed : ℕ → Bool) (wholes : HasFr
       responds_so : (n : ℕ) → IsLoose c drivers n
           → AlwaysResponds c phase observed v.setting v.solution kept n (response_by (reach_at mid spans false n v.valuation) (reach_at mid spans true n v.valuation))
       responds_so n p =
-          let r = reached n (plain_inside c phase parts are n p.0) in
+          let r = reached n (loose_inside c drivers plans table phase parts are wholes.ranges n p) in
           let part : Part = r.1 in
           let whole : IsWholePart kept c phase part = whole_part c phase kept (λ m. 0) wholes.ranges part (are.each part (r.0, r.3)) in
-          let undriven : (m : ℕ) → IsInside part m → ¬ IsDriven c m =
-          λ m i driven. table.full n p.1 (subst (IsDriven c) (sym (driven_alone c phase kept (λ k. 0) wholes.ranges wholes.free part (are.each part (r.0, r.3)) m n i driven r.4)) driven) in
-          (responds kept c phase observed wholes seen (λ d m. gates_seen d (device_among kept c d m).0) (root_at old spans.roots v.valuation) (fixed v.valuation) v.setting v.solved.given v.solution v.solved.solves part whole undriven
+          (responds kept c phase observed wholes seen (λ d m. gates_seen d (device_among kept c d m).0) (root_at old spans.roots v.valuation) (fixed v.valuation) v.setting v.solved.given v.solution v.solved.solves part whole
+          (λ at out e i s is agrees. clear.driven v.valuation v.setting v.solution met v.solved at out e s is agrees)
           (λ m. shows old spans.gates m v.valuation)
           (λ d m. clear.bits v.valuation v.setting v.solution met v.solved d.gate.0 (gates_seen d (device_among kept c d (whole.devices d m).0).0)) n
           (response_by (reach_at mid spans false n v.valuation) (reach_at mid spans true n v.valuation)) r.4).1

@@ -9,7 +9,6 @@ use Rattle.bdd_core.specs.Words.{shows}
 use Rattle.bdd_core.specs.declared.handle.H.{H}
 use Rattle.channel_parts.specs.OneSolution.{AreObserved}
 use Rattle.circuit_faults.proofs.KeptBits.{kept_no_float}
-use Rattle.circuit_faults.proofs.DrivenAlone.{pin_among}
 use Rattle.circuit_faults.proofs.Solutions.{given_bit, given_shows, some_state, some_state_agrees, some_state_is}
 use Rattle.circuit_faults.specs.Faults.{HasFixedBits, IsSolvedAt}
 use Rattle.circuit_faults.specs.KeptFaults.{HasKeptFault, HasNoKeeper, NeverKeeps}
@@ -18,16 +17,18 @@ use Rattle.hold_keep.specs.Kept.{fight_of, is_bit, is_fight, response_by}
 use Rattle.known_nets.proofs.NetKinds.{given_or_plain}
 use Rattle.vrt_model.proofs.GatesGiven.{IsGiven, kept_response}
 use Rattle.vrt_model.proofs.Laws.{one_response}
-use Rattle.circuit_faults.specs.Wholes.{HasFreeWholes}
-use Rattle.vrt_model.specs.Known.{IsDriven, IsPlain}
+use Rattle.circuit_faults.specs.Wholes.{HasSoundWholes}
+use Rattle.vrt_model.specs.Known.{IsPlain}
+use Rattle.vrt_model.specs.Lists.{At}
 use Rattle.whole_steps.proofs.FreeOutputLaws.{free_outputs_show}
-use Rattle.whole_steps.specs.Tables.{driver_at}
+use Rattle.whole_steps.specs.FreeOutputs.{IsFreeOutput}
+use Rattle.whole_steps.specs.Tables.{free_at}
 use Rattle.whole_steps.specs.declared.table.OutputPlace.{OutputPlace}
 use Rattle.vrt_model.specs.Path.{Network}
 use Rattle.vrt_model.specs.Reading.{bare, kept}
 use Rattle.vrt_model.specs.Response.{Fight as Fights, Float as Floats, IsResponse, Reaches, Response, Shows}
 use Rattle.vrt_model.specs.Solution.{Agrees, AlwaysResponds}
-use Rattle.vrt_model.specs.State.{IsState, Setting, State, network_of}
+use Rattle.vrt_model.specs.State.{IsState, OutputPin, Setting, State, network_of, output_pins}
 use Rattle.vrt_model.specs.declared.circuit.Circuit.{Circuit}
 use Rattle.vrt_model.specs.declared.rules.Phase.{Phase}
 use Rattle.vrt_model.specs.declared.verdict.FaultKind.{FaultKind}
@@ -68,7 +69,11 @@ not_true false e = refl
 
 -- ---- at one solution
 
-module _ (c : Circuit) (phase : Phase) (observed : ℕ → Bool) (wholes : HasFreeWholes c phase observed) (seen : AreObserved c observed) (root : ℕ → Bool) (fixed : HasFixedBits c phase root)
+-- a free output of a whole instance is at the net
+abbrev pub IsFreeNet : Circuit → ℕ → Type 0
+IsFreeNet c n = (at : ℕ) × (out : OutputPin) × At (output_pins c) at out × IsFreeOutput c at out × (out.pin.net.0 ≡ n)
+
+module _ (c : Circuit) (phase : Phase) (observed : ℕ → Bool) (wholes : HasSoundWholes c phase observed) (seen : AreObserved c observed) (root : ℕ → Bool) (fixed : HasFixedBits c phase root)
     (setting : Setting) (a : ℕ → Option Bool) (solved : IsSolvedAt c phase observed root setting a) where
   abbrev Always : ℕ → Response → Type 0
   Always n r = AlwaysResponds c phase observed setting a kept n r
@@ -96,15 +101,15 @@ module _ (c : Circuit) (phase : Phase) (observed : ℕ → Bool) (wholes : HasFr
       never agreeing agreeing_is agreeing_agrees (root n) (given_bit c phase observed wholes seen root fixed setting solved.given a solved.solves n o g)
       (given_shows kept c phase observed wholes seen root fixed setting solved.given agreeing agreeing_is n g)
 
-  -- a net with an output of a whole instance shows the bit that drives it, and keeps it
-  module _ (n : ℕ) (driven : IsDriven c n) where
+  -- a net with a free output of a whole instance shows the bit that drives it, and keeps it
+  module _ (n : ℕ) (driven : IsFreeNet c n) where
     abbrev place : ℕ
-    place = (pin_among c driven.0 driven.1 driven.2 driven.3).0
+    place = driven.0
 
     driven_shows : (which : Bool) → IsResponse (network_of c which setting.held agreeing) n (Shows (agreeing.driven place))
     driven_shows which =
         subst (λ (m : ℕ). IsResponse (network_of c which setting.held agreeing) m (Shows (agreeing.driven place))) driven.4
-        (free_outputs_show c which setting.held agreeing wholes.ranges wholes.free place (record { whole = driven.0; pin = driven.1 }) (pin_among c driven.0 driven.1 driven.2 driven.3).1)
+        (free_outputs_show c which setting.held agreeing wholes.ranges place driven.1 driven.2 driven.3)
 
     driven_keeps : (b : Bool) → observed n ≡ true → a n ≡ Some b → ¬ NeverKeeps c phase observed setting a n
     driven_keeps b o bit never =
@@ -149,26 +154,31 @@ module _ (c : Circuit) (phase : Phase) (observed : ℕ → Bool) (wholes : HasFr
   shows_one n true false wanted o bit always e = always
   shows_one n false true wanted o bit always e = always
   shows_one n false false wanted o bit always e =
-      absurd (kept_no_float c setting.held agreeing n wanted wholes.ranges wholes.free ((solved.solves n wanted o).0 bit agreeing agreeing_is agreeing_agrees) (always agreeing agreeing_is agreeing_agrees))
+      absurd (kept_no_float c setting.held agreeing n wanted wholes.ranges ((solved.solves n wanted o).0 bit agreeing agreeing_is agreeing_agrees) (always agreeing agreeing_is agreeing_agrees))
 
   -- ---- what the functions of a net say
 
   module _ (care wanted zero one : Function) (v : Valuation) (met : care v ≡ true) (n : ℕ) (bits : observed n ≡ true → a n ≡ Some (wanted v)) where
     -- a net that is settled where it is loose has no fault
-    pub settled_clear : (drivers : List (Option OutputPlace)) → (driver_at drivers n ≡ None) ⊎ IsDriven c n → (IsLoose c drivers n → IsSettledNet care wanted zero one (observed n))
+    pub settled_clear : (drivers : List (Option OutputPlace)) → (IsPlain c n → (free_at drivers n ≡ None) ⊎ IsFreeNet c n) → (IsLoose c drivers n → IsSettledNet care wanted zero one (observed n))
         → (IsLoose c drivers n → Always n (response_by (zero v) (one v))) → (kind : FaultKind)
         → ¬ HasKeptFault c phase observed setting a kind n
-    settled_clear drivers (inl none) settled always FightKept f =
-        false≢true (sym ((settled (f.0, none)).fight v) ∙ and_from (care v) (is_fight (response_by (zero v) (one v))) met ((fights n (zero v) (one v) (always (f.0, none))).1 f.1))
-    settled_clear drivers (inl none) settled always Unsettled f =
+    settled_clear drivers either settled always FightKept f =
+        elim (either f.0) [
+          | inl none ↦
+              false≢true (sym ((settled (f.0, none)).fight v) ∙ and_from (care v) (is_fight (response_by (zero v) (one v))) met ((fights n (zero v) (one v) (always (f.0, none))).1 f.1))
+          | inr driven ↦ driven_no_fight n driven f.1
+        ]
+    settled_clear drivers either settled always Unsettled f =
         elim (given_or_plain c n (seen.nets n f.0)) [
           | inl g ↦ given_keeps n g f.0 f.1
-          | inr p ↦ false≢true (sym ((settled (p, none)).keeps f.0 v)
-              ∙ and_from (care v) (not (is_bit (wanted v) (response_by (zero v) (one v)))) met
-              (not_false (is_bit (wanted v) (response_by (zero v) (one v))) (never_then n (zero v) (one v) (always (p, none)) (wanted v) (bits f.0) f.1)))
+          | inr p ↦ elim (either p) [
+            | inl none ↦ false≢true (sym ((settled (p, none)).keeps f.0 v)
+                ∙ and_from (care v) (not (is_bit (wanted v) (response_by (zero v) (one v)))) met
+                (not_false (is_bit (wanted v) (response_by (zero v) (one v))) (never_then n (zero v) (one v) (always (p, none)) (wanted v) (bits f.0) f.1)))
+            | inr driven ↦ driven_keeps n driven (wanted v) f.0 (bits f.0) f.1
+          ]
         ]
-    settled_clear drivers (inr driven) settled always FightKept f = driven_no_fight n driven f.1
-    settled_clear drivers (inr driven) settled always Unsettled f = driven_keeps n driven (wanted v) f.0 (bits f.0) f.1
     settled_clear drivers either settled always Fight f = f
     settled_clear drivers either settled always Float f = f
     settled_clear drivers either settled always Constraint f = f

@@ -1,17 +1,18 @@
 -- The parts of the kept circuit, one after the other: what their words say stays.
-use Rattle.std.proofs.Common.{◌≡◌, ℕ, zero, suc, ◌+◌, ◌<◌, Bool, true, List, [], ◌∷◌, Option, length, arith, ap, sym, subst, ◌∙◌, inl, inr}
-use Rattle.std.specs.Prelude.{slice_get}
+use Rattle.std.proofs.Common.{◌≡◌, ℕ, zero, suc, ◌+◌, ◌<◌, Bool, true, List, [], ◌∷◌, Option, None, ◌⊎◌, length, arith, ap, sym, subst, ◌∙◌, inl, inr}
+use Rattle.std.specs.Prelude.{is_some, slice_get}
+use Rattle.std.proofs.lemmas.Bool.{cases_eq, false≢true}
 use Rattle.std.proofs.lemmas.Option.{same_Some, slice_get_within}
 use Rattle.bdd_core.specs.Diagram.{IsWithin, Valuation, meaning}
 use Rattle.bdd_core.specs.Store.{Diagrams}
 use Rattle.bdd_core.specs.Words.{shows, word_at}
 use Rattle.bdd_ops.proofs.WithinLaws.{within_same}
 use Rattle.channel_parts.specs.declared.part.Part.{Part}
-use Rattle.circuit_faults.proofs.CircuitLaws.{earlier_or_last, inside_or_not}
+use Rattle.circuit_faults.proofs.CircuitLaws.{inside_or_not}
 use Rattle.circuit_faults.proofs.KeptWords.{gates_shown, inside_range, roots_shown}
 use Rattle.circuit_faults.specs.KeptResults.{HasKeptSpans, WritesKept}
-use Rattle.circuit_faults.specs.KeptScans.{IsPartReached, IsReached, IsReachedIn, ReadWithin, reach_span}
-use Rattle.circuit_faults.specs.Scans.{IsInEarlier, IsInside}
+use Rattle.circuit_faults.specs.KeptScans.{IsInSolved, IsPartReached, IsReached, IsReachedIn, ReadWithin, reach_span}
+use Rattle.circuit_faults.specs.Scans.{IsInside, free_part}
 use Rattle.circuit_faults.specs.declared.spans.KeptSpans.{KeptSpans}
 use Rattle.node_pool.specs.declared.region.Span.{Span}
 use Rattle.path_fixpoint.proofs.Spreading.{device_ranges}
@@ -26,6 +27,7 @@ use Rattle.vrt_model.specs.Reading.{conducts_at}
 use Rattle.vrt_model.specs.Response.{Reaches}
 use Rattle.vrt_model.specs.declared.circuit.Circuit.{Circuit}
 use Rattle.vrt_model.specs.declared.circuit.Hold.{Hold}
+use Rattle.whole_steps.specs.declared.table.OutputPlace.{OutputPlace}
 
 -- ---- networks of a part in two stores
 
@@ -67,13 +69,31 @@ one_part parts part m other (zero, e) = subst (Among parts) (same_Some part othe
 one_part parts part m other (suc i, e) = absurd (at_none i other e)
 
 -- the nets of parts are nets of the circuit
-pub earlier_range : (c : Circuit) (parts : List Part) → ((part : Part) → Among parts part → IsPart c part) → (k n : ℕ) → IsInEarlier parts k n → n < length c.nets
-earlier_range c parts are k n e = inside_range c e.1 (are e.1 (e.0, e.3)) n e.4
+pub solved_range : (c : Circuit) (drivers : List (Option OutputPlace)) (parts : List Part) → ((part : Part) → Among parts part → IsPart c part) → (k n : ℕ) → IsInSolved drivers parts k n → n < length c.nets
+solved_range c drivers parts are k n e = inside_range c e.1 (are e.1 (e.0, e.3)) n e.4
 
-module _ (c : Circuit) (parts : List Part) (spans : KeptSpans) (ranges : HasRanges c) (first now new : Diagrams) (has : HasKeptSpans c parts spans first)
+-- a net of a part before the next place that is solved is in one before this place, or in the one here
+pub solved_or_last : (drivers : List (Option OutputPlace)) (parts : List Part) (k : ℕ) (part : Part) → At parts k part → (n : ℕ) → IsInSolved drivers parts (k + 1) n
+    → IsInSolved drivers parts k n ⊎ (IsInside part n × (free_part drivers part ≡ None))
+solved_or_last drivers parts k part here n e =
+    elim (cases_eq e.0 k) [
+      | inl same ↦ inr (
+          let p : e.1 ≡ part = same_Some e.1 part (sym e.3 ∙ ap (slice_get parts) same ∙ here) in
+          subst (λ (q : Part). IsInside q n × (free_part drivers q ≡ None)) p (e.4, e.5)
+          )
+      | inr ne ↦ inl (e.0, e.1, (let lt = e.2 in omega (arith, lt, ne)), e.3, e.4, e.5)
+    ]
+
+-- where the part here is not solved, nothing is added
+pub solved_skipped : (drivers : List (Option OutputPlace)) (parts : List Part) (k : ℕ) (part : Part) → At parts k part → is_some (free_part drivers part) ≡ true
+    → (n : ℕ) → IsInSolved drivers parts (k + 1) n → IsInSolved drivers parts k n
+solved_skipped drivers parts k part here some n e =
+    elim (solved_or_last drivers parts k part here n e) [ inl low ↦ low | inr last ↦ absurd (false≢true (sym (ap (λ (o : Option OutputPlace). is_some o) last.1) ∙ some)) ]
+
+module _ (c : Circuit) (drivers : List (Option OutputPlace)) (parts : List Part) (spans : KeptSpans) (ranges : HasRanges c) (first now new : Diagrams) (has : HasKeptSpans c parts spans first)
     (before : WritesKept spans first now) (step : WritesKept spans now new) (k : ℕ) (part : Part) (here : At parts k part)
-    (in_range : (n : ℕ) → IsInEarlier parts k n → n < length c.nets)
-    (reached : (n : ℕ) → IsInEarlier parts k n → IsReachedIn c parts spans k first now n) (solved : IsPartReached c part spans now new) where
+    (in_range : (n : ℕ) → IsInSolved drivers parts k n → n < length c.nets)
+    (reached : (n : ℕ) → IsInSolved drivers parts k n → IsReachedIn c parts spans k first now n) (solved : IsPartReached c part spans now new) where
   -- at a net of the part, as the first store has it
   net_first : (n : ℕ) → IsInside part n → IsReached c part spans n first new
   net_first n inside =
@@ -100,28 +120,28 @@ module _ (c : Circuit) (parts : List Part) (spans : KeptSpans) (ranges : HasRang
         (λ e. t.0 (sym same ∙ e), λ q. same ∙ t.1 q);
   }
 
-  pub reached_more : (n : ℕ) → IsInEarlier parts (k + 1) n → IsReachedIn c parts spans (k + 1) first new n
+  pub reached_more : (n : ℕ) → IsInSolved drivers parts (k + 1) n → IsReachedIn c parts spans (k + 1) first new n
   reached_more n e =
       elim (inside_or_not part n) [
         | inl inside ↦ (k, part, omega arith, here, inside, net_first n inside)
-        | inr away ↦ elim (earlier_or_last parts k part here n e) [
+        | inr away ↦ elim (solved_or_last drivers parts k part here n e) [
           | inl low ↦ (let r = reached n low in (r.0, r.1, (let lt = r.2 in omega (arith, lt)), r.3, r.4, net_stays n r.1 (in_range n low) away r.5))
-          | inr inside ↦ absurd (away inside)
+          | inr last ↦ absurd (away last.0)
         ]
       ]
 
   -- the handles of these nets
-  pub within_more : (u : ℕ) → ReadWithin u spans (IsInEarlier parts k) now → ReadWithin u spans (IsInside part) new → ReadWithin u spans (IsInEarlier parts (k + 1)) new
+  pub within_more : (u : ℕ) → ReadWithin u spans (IsInSolved drivers parts k) now → ReadWithin u spans (IsInside part) new → ReadWithin u spans (IsInSolved drivers parts (k + 1)) new
   within_more u low inside n value e =
       elim (inside_or_not part n) [
         | inl i ↦ inside n value i
-        | inr away ↦ elim (earlier_or_last parts k part here n e) [
+        | inr away ↦ elim (solved_or_last drivers parts k part here n e) [
           | inl m ↦
               let same : word_at new (reach_span spans value) n ≡ word_at now (reach_span spans value) n = solved.others n value (in_range n m) away in
               let r = reached n m in
               subst (λ (h : ℕ). IsWithin u (meaning new.nodes h)) (sym same)
               (within_same u (meaning now.nodes (word_at now (reach_span spans value) n)) (meaning new.nodes (word_at now (reach_span spans value) n))
               (step.adds.kept (word_at now (reach_span spans value) n) (r.5.live value)) (low n value m))
-          | inr i ↦ absurd (away i)
+          | inr last ↦ absurd (away last.0)
         ]
       ]

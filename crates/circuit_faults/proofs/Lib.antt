@@ -27,5 +27,10 @@ pub mod Solutions
 pub mod StepLaws
 pub mod StepLists
 pub mod StrongReached
-pub mod Undriven
 pub mod WholeParts
+pub mod SoundWholes
+pub mod ThreeSpans
+pub mod PinSteps
+pub mod FreeParts
+pub mod WiredWork
+pub mod OutputWords

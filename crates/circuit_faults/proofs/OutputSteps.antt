@@ -1,58 +1,54 @@
--- A step over a net with an output of a whole instance: no fault stands there, and its handle becomes its bit.
-use Rattle.std.proofs.Common.{◌≡◌, ℕ, ◌+◌, ◌<◌, ◌⊎◌, Bool, true, [], ◌∷◌, Option, Some, length, arith, ap, refl, sym, subst, ◌∙◌, inl, inr}
+-- A step over a net with a free output of a whole instance: no fault stands there, and its handle becomes that of the output.
+use Rattle.std.proofs.Common.{◌≡◌, ℕ, ◌+◌, ◌<◌, ◌⊎◌, Bool, true, [], ◌∷◌, Option, Some, length, arith, ap, sym, subst, ◌∙◌, inl, inr, ◌≤◌}
 use Rattle.std.specs.Prelude.{slice_get}
 use Rattle.std.proofs.lemmas.Bool.{cases_eq}
-use Rattle.std.proofs.lemmas.Option.{none-some, same_Some}
+use Rattle.std.proofs.lemmas.Option.{same_Some, slice_get_within}
 use Rattle.node_pool.specs.declared.region.Span.{Span}
 use Rattle.bdd_core.specs.Diagram.{Valuation, meaning}
 use Rattle.bdd_core.specs.Store.{Diagrams, function_of}
 use Rattle.bdd_core.specs.Words.{IsFilled, shows, word_at}
 use Rattle.bdd_core.specs.declared.handle.H.{H}
-use Rattle.channel_parts.proofs.DriveLaws.{gives_same}
 use Rattle.channel_parts.specs.OneSolution.{AreObserved}
 use Rattle.channel_parts.specs.PartLists.{net_numbers}
 use Rattle.channel_parts.specs.declared.part.Part.{Part}
-use Rattle.circuit_faults.proofs.CircuitLaws.{IsClearStep, IsDone, IsSolvedBefore, inside_or_not, one_part, step_is}
+use Rattle.circuit_faults.proofs.CircuitLaws.{AreDrivenAt, IsClearStep, IsDone, IsSolvedBefore, inside_or_not, one_part, step_is}
 use Rattle.circuit_faults.proofs.Solutions.{some_state, some_state_agrees, some_state_is}
+use Rattle.circuit_faults.proofs.ThreeSpans.{output_word}
 use Rattle.circuit_faults.proofs.WholeParts.{number_inside}
 use Rattle.circuit_faults.specs.Cases.{CaseIn, StandsAt}
 use Rattle.circuit_faults.specs.Faults.{HasFault, HasFixedBits, IsSolvedAt}
 use Rattle.circuit_faults.specs.Results.{root_at}
 use Rattle.circuit_faults.specs.Scans.{IsInside}
-use Rattle.circuit_faults.specs.Steps.{AreOrderedSteps, InPhase, IsInStepBefore, IsPartAt, part_step, phase_of, step_of}
-use Rattle.circuit_faults.specs.Wholes.{AreOutputsOrdered, HasFreeWholes}
+use Rattle.circuit_faults.specs.Steps.{InPhase, IsInStepBefore, IsPartAt, part_step, phase_of, step_of}
+use Rattle.circuit_faults.specs.Wholes.{AreOutputsOrdered, HasSoundWholes, IsCopied}
 use Rattle.circuit_faults.specs.declared.steps.CircuitStep.{CircuitStep}
 use Rattle.circuit_faults.specs.declared.steps.CircuitStep.TheVariants.{Part as PartStep}
 use Rattle.fault_places.proofs.ListedSpots.{clear_both, clear_listed}
 use Rattle.fault_places.specs.PhaseSpots.{spots_at}
 use Rattle.fault_places.specs.Searches.{Spot}
-use Rattle.known_nets.proofs.NetKinds.{given_or_plain}
-use Rattle.known_nets.proofs.WiredLaws.{pin_of_whole}
-use Rattle.known_nets.specs.KnownTables.{known_at}
 use Rattle.vrt_model.proofs.Laws.{one_response, shows_no_float}
-use Rattle.vrt_model.proofs.Tests.{some_or_none}
-use Rattle.vrt_model.specs.Known.{IsDriven, IsPlain, IsUnknown}
-use Rattle.vrt_model.specs.Lists.{At, Among}
+use Rattle.vrt_model.specs.Lists.{At}
 use Rattle.vrt_model.specs.Reading.{bare}
 use Rattle.vrt_model.specs.Response.{Fight as Fights, Float as Floats, IsResponse, Response, Shows}
 use Rattle.vrt_model.specs.Solution.{Agrees, AlwaysResponds}
 use Rattle.vrt_model.specs.State.{IsState, OutputPin, Setting, State, network_of, output_pins}
 use Rattle.vrt_model.specs.declared.verdict.FaultKind.TheVariants.{Fight, Float}
 use Rattle.whole_steps.proofs.FreeOutputLaws.{free_outputs_show}
-use Rattle.whole_steps.specs.Tables.{OutputGives}
+use Rattle.whole_steps.specs.FreeOutputs.{IsFreeOutput}
+use Rattle.whole_steps.specs.declared.table.OutputPlace.{OutputPlace}
 
 -- a net that shows a bit does not fight
 shows_no_fight : (v : Bool) → Shows v ≡ Fights → ⊥
 shows_no_fight v e = cc
 
 module _ (w : InPhase) (care : H) (roots gates : Span)
-    (wholes : HasFreeWholes w.circuit (phase_of w) w.observed) (seen : AreObserved w.circuit w.observed) (are : AreOrderedSteps w) (ordered : AreOutputsOrdered w)
-    (gates_len : gates.len ≡ length w.circuit.nets)
-    (k at : ℕ) (part : Part) (here : IsPartAt w k part) (out : OutputPin) (pin : At (output_pins w.circuit) at out) (inside : IsInside part out.pin.net.0)
-    (first now new : Diagrams) (before : IsSolvedBefore w care roots gates k first now) (live : IsFilled now gates)
-    (fixed : (v : Valuation) → HasFixedBits w.circuit (phase_of w) (root_at first roots v))
-    (gives : OutputGives (phase_of w) out.whole out.pin gates now new)
-    (kept : (h : ℕ) (v : Valuation) → h < length now.nodes → meaning new.nodes h v ≡ meaning now.nodes h v) where
+    (wholes : HasSoundWholes w.circuit (phase_of w) w.observed) (seen : AreObserved w.circuit w.observed) (ordered : AreOutputsOrdered w)
+    (gates_len : gates.len ≡ length w.circuit.nets) (fits : length w.circuit.nets + length (output_pins w.circuit) ≤ roots.len)
+    (k : ℕ) (part : Part) (here : IsPartAt w k part) (place : OutputPlace) (out : OutputPin) (pin : At (output_pins w.circuit) place.number out) (free : IsFreeOutput w.circuit place.number out)
+    (inside : IsInside part out.pin.net.0) (first now new : Diagrams) (before : IsSolvedBefore w care roots gates k first now) (driven : AreDrivenAt w care roots part first now)
+    (live : IsFilled now gates) (roots_live : IsFilled now roots) (fixed : (v : Valuation) → HasFixedBits w.circuit (phase_of w) (root_at first roots v))
+    (copied : IsCopied w.circuit place out.pin.net.0 roots gates now new) (kept : (h : ℕ) (v : Valuation) → h < length now.nodes → meaning new.nodes h v ≡ meaning now.nodes h v)
+    (outputs : (n : ℕ) (v : Valuation) → n < length (output_pins w.circuit) → root_at new roots v (length w.circuit.nets + n) ≡ root_at now roots v (length w.circuit.nets + n)) where
   abbrev net : ℕ
   net = out.pin.net.0
 
@@ -68,43 +64,28 @@ module _ (w : InPhase) (care : H) (roots gates : Span)
   abbrev bit : Valuation → Bool
   bit v = shows new gates net v
 
-  driven : IsDriven w.circuit net
-  driven = let from = pin_of_whole w.circuit out (at, pin) in (out.whole, out.pin, from.0, from.1, refl)
-
   -- the net is alone in its part
   only : (n : ℕ) → IsInside part n → n ≡ net
-  only n i = ordered.alone k part net n here inside driven i
+  only n i = ordered.alone k place.number part out n here pin free inside i
+
+  -- its handle is that of the output
+  bit_is : (v : Valuation) → root_at now roots v (length w.circuit.nets + place.number) ≡ bit v
+  bit_is v =
+      let number = slice_get_within (output_pins w.circuit) place.number out pin in
+      let word : word_at new gates net ≡ word_at now roots (length w.circuit.nets + place.number) = copied.here ∙ output_word w.circuit roots now place.number in
+      sym (kept (word_at now roots (length w.circuit.nets + place.number)) v (roots_live (length w.circuit.nets + place.number) (omega (arith, number, fits))))
+      ∙ ap (λ (h : ℕ). meaning new.nodes h v) (sym word)
 
   module _ (v : Valuation) (setting : Setting) (a : ℕ → Option Bool) (met : function_of first care v ≡ true)
       (solved : IsSolvedAt w.circuit (phase_of w) w.observed (root_at first roots v) setting a) where
-    -- an observed net is given or known, or it is in a part before where plain nets that are not known are
-    done_before : (n : ℕ) → w.observed n ≡ true → (IsPlain w.circuit n → IsUnknown w.circuit (phase_of w) n → IsInStepBefore w k n) → IsDone w k n
-    done_before n seen_here earlier =
-        elim (given_or_plain w.circuit n (seen.nets n seen_here)) [
-          | inl g ↦ inl g
-          | inr p ↦ elim (some_or_none (known_at w.known n)) [
-            | inl b ↦ inr (inl (b.0, (are.table n b.0).0 b.1))
-            | inr none ↦ inr (inr (earlier p (λ b is. none-some b (sym none ∙ (are.table n b).1 is))))
-          ]
-        ]
-
-    -- in each state that agrees with the solution the model gives the output the bit of the handle
-    drives : (s : State) → IsState w.circuit (phase_of w) setting.inputs s → Agrees w.observed a s.reading → s.driven at ≡ bit v
-    drives s is agrees =
-        gives_same w.circuit (phase_of w) w.observed wholes.determined s.reading (λ n. shows now gates n v) out (s.driven at) (bit v) (at, pin) (is.driven at out pin) (gives.bit v)
-        (λ input m linked seen_here.
-        agrees input.net.0 (shows now gates input.net.0 v) seen_here
-        (before.bits v setting a met solved input.net.0 seen_here
-        (done_before input.net.0 seen_here (λ plain unknown.
-        ordered.inputs k from.0 part out input here (at, pin) inside from.1 m linked seen_here plain unknown))))
-      where
-        from : Among out.whole.outputs out.pin
-        from = (pin_of_whole w.circuit out (at, pin)).1
+    -- in each state that agrees with the solution the output has the bit of the handle
+    drives : (s : State) → IsState w.circuit (phase_of w) setting.inputs s → Agrees w.observed a s.reading → s.driven place.number ≡ bit v
+    drives s is agrees = driven v setting a met solved place.number out pin inside s is agrees ∙ bit_is v
 
     shown : (s : State) → IsState w.circuit (phase_of w) setting.inputs s → Agrees w.observed a s.reading → IsResponse (network_of w.circuit bare setting.held s) net (Shows (bit v))
     shown s is agrees =
         subst (λ (b : Bool). IsResponse (network_of w.circuit bare setting.held s) net (Shows b)) (drives s is agrees)
-        (free_outputs_show w.circuit bare setting.held s wholes.ranges wholes.free at out pin)
+        (free_outputs_show w.circuit bare setting.held s wholes.ranges place.number out pin free)
 
     output_bit : w.observed net ≡ true → a net ≡ Some (bit v)
     output_bit o = (solved.solves net (bit v) o).1 shown
@@ -144,6 +125,13 @@ module _ (w : InPhase) (care : H) (roots gates : Span)
           (subst (IsClearStep w care roots first) (sym (step_is w here.0 part here.2)) part_clear)
       | inr ne ↦ before.clear j step (omega (arith, lt, ne)) e
     ];
+    driven = λ v setting a met solved number o e step s is agrees. elim (inside_or_not part o.pin.net.0) [
+      | inl i ↦ driven v setting a met solved number o e i s is agrees ∙ sym (outputs number v (slice_get_within (output_pins w.circuit) number o e))
+      | inr away ↦ elim (earlier_or_here o.pin.net.0 step) [
+        | inl low ↦ before.driven v setting a met solved number o e low s is agrees ∙ sym (outputs number v (slice_get_within (output_pins w.circuit) number o e))
+        | inr i ↦ absurd (away i)
+      ]
+    ];
   }
     where
       earlier_or_here : (n : ℕ) → IsInStepBefore w (k + 1) n → IsInStepBefore w k n ⊎ IsInside part n
@@ -161,7 +149,7 @@ module _ (w : InPhase) (care : H) (roots gates : Span)
       stays : (v : Valuation) (n : ℕ) → w.observed n ≡ true → (¬ IsInside part n) → shows new gates n v ≡ shows now gates n v
       stays v n o beside =
           let lt : n < gates.len = (let within = seen.nets n o in omega (arith, within, gates_len)) in
-          ap (λ (h : ℕ). meaning new.nodes h v) (gives.others n lt (λ e. beside (subst (IsInside part) (sym e) inside))) ∙ kept (word_at now gates n) v (live n lt)
+          ap (λ (h : ℕ). meaning new.nodes h v) (copied.others n (λ e. beside (subst (IsInside part) (sym e) inside))) ∙ kept (word_at now gates n) v (live n lt)
 
       none_fights : (n : ℕ) → IsInside part n → (v : Case) → cared v ≡ true → ¬ HasFault w.circuit (phase_of w) w.observed v.setting v.solution Fight n
       none_fights n i v met f =

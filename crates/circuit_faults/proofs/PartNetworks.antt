@@ -9,8 +9,7 @@ use Rattle.vrt_model.specs.Networks.{Covers, HasLevels}
 use Rattle.channel_parts.specs.OneSolution.{AreObserved}
 use Rattle.channel_parts.specs.declared.part.Part.{Part}
 use Rattle.known_nets.proofs.NetKinds.{given_or_plain}
-use Rattle.known_nets.proofs.WiredLaws.{pin_of_whole}
-use Rattle.circuit_faults.specs.Wholes.{HasFreeWholes}
+use Rattle.circuit_faults.specs.Wholes.{HasSoundWholes}
 use Rattle.vrt_model.proofs.Lists.{at_map}
 use Rattle.vrt_model.specs.declared.whole.WholePin.{WholePin}
 use Rattle.path_fixpoint.proofs.PinLaws.{pin_level}
@@ -21,7 +20,7 @@ use Rattle.vrt_model.proofs.GatesGiven.{IsGiven}
 use Rattle.vrt_model.proofs.Bounded.{response_inside}
 use Rattle.vrt_model.proofs.Members.{all_among}
 use Rattle.vrt_model.specs.Circuits.{IsDevice, IsHold}
-use Rattle.vrt_model.specs.Known.{IsChannel, IsDriven, IsPlain}
+use Rattle.vrt_model.specs.Known.{IsChannel, IsPlain}
 use Rattle.vrt_model.specs.Lists.{At, Among}
 use Rattle.vrt_model.specs.Path.{IsOn, Joins, Network}
 use Rattle.vrt_model.specs.Reading.{bare, conducts_at, devices_of}
@@ -34,6 +33,12 @@ use Rattle.vrt_model.specs.declared.circuit.Hold.{Hold}
 use Rattle.vrt_model.specs.declared.rules.Phase.{Phase}
 use Rattle.vrt_model.specs.declared.verdict.FaultKind.{FaultKind}
 use Rattle.vrt_model.specs.declared.verdict.FaultKind.TheVariants.{Fight, FightKept, Float, Unsettled, Constraint, Differs, Next, Apart, Enter}
+
+-- in each state that agrees with a solution the outputs at a part have the bits of their roots, behind those of the nets
+abbrev pub HasRootsAt : Circuit → Phase → (ℕ → Bool) → Setting → (ℕ → Option Bool) → Part → (ℕ → Bool) → Type 0
+HasRootsAt c phase observed setting a part root =
+    (at : ℕ) (out : OutputPin) → At (output_pins c) at out → IsInside part out.pin.net.0 → (s : State) → IsState c phase setting.inputs s → Agrees observed a s.reading
+    → s.driven at ≡ root (length c.nets + at)
 
 -- the network of a part, where the gates have these bits and the roots those
 abbrev pub part_network : Circuit → Part → (ℕ → Bool) → (ℕ → Bool) → Network
@@ -49,10 +54,10 @@ part_network c part bit root = record {
   driven = λ at. root (length c.nets + at);
 }
 
-module _ (which : Bool) (c : Circuit) (phase : Phase) (observed : ℕ → Bool) (wholes : HasFreeWholes c phase observed) (seen : AreObserved c observed)
+module _ (which : Bool) (c : Circuit) (phase : Phase) (observed : ℕ → Bool) (wholes : HasSoundWholes c phase observed) (seen : AreObserved c observed)
     (seen_gates : (d : Device) → Among (devices_of which c) d → observed d.gate.0 ≡ true) (root : ℕ → Bool) (fixed : HasFixedBits c phase root)
     (setting : Setting) (here : IsSettingAt c root setting) (a : ℕ → Option Bool) (solves : IsSolution c phase observed setting a)
-    (part : Part) (whole : IsWholePart which c phase part) (undriven : (n : ℕ) → IsInside part n → ¬ IsDriven c n) (bit : ℕ → Bool)
+    (part : Part) (whole : IsWholePart which c phase part) (driven : HasRootsAt c phase observed setting a part root) (bit : ℕ → Bool)
     (gates : (d : Device) → Among (part_devices c part) d → a d.gate.0 ≡ Some (bit d.gate.0)) where
   abbrev pub alone : Network
   alone = part_network c part bit root
@@ -89,13 +94,6 @@ module _ (which : Bool) (c : Circuit) (phase : Phase) (observed : ℕ → Bool) 
         | inr p ↦ inl (whole.closed d m n channel j i p)
       ]
 
-  -- the net of an output pin has an output
-  driven_here : (at : ℕ) (pin : WholePin) → At (pins_of c) at pin → (n : ℕ) → n ≡ pin.net.0 → IsDriven c n
-  driven_here at pin e n net =
-      let from = at_map (λ (out : OutputPin). out.pin) (output_pins c) at pin e in
-      let there = pin_of_whole c from.0 (at, from.1) in
-      (from.0.whole, from.0.pin, there.0, there.1, ap (λ (p : WholePin). p.net.0) from.2 ∙ sym net)
-
   module _ (s : State) (is : IsState c phase setting.inputs s) (agrees : Agrees observed a s.reading) where
     channel : (d : Device) → IsOn (circuit_at s) d → IsChannel c phase which d
     channel d on = (
@@ -103,6 +101,12 @@ module _ (which : Bool) (c : Circuit) (phase : Phase) (observed : ℕ → Bool) 
       λ v k. subst (λ (b : Bool). conducts_at d.kind b ≡ true)
           (agrees d.gate.0 v (seen_gates d on.0) (known_bit c phase observed wholes seen root fixed setting here a solves d.gate.0 v (seen_gates d on.0) k)) on.1,
     )
+
+    -- an output at the part has the bit of its root
+    driven_bit : (at : ℕ) (pin : WholePin) (n : ℕ) → At (pins_of c) at pin → n ≡ pin.net.0 → IsInside part n → s.driven at ≡ root (length c.nets + at)
+    driven_bit at pin n e net i =
+        let from = at_map (λ (out : OutputPin). out.pin) (output_pins c) at pin e in
+        driven at from.0 from.1 (subst (IsInside part) (net ∙ ap (λ (p : WholePin). p.net.0) (sym from.2)) i) s is agrees
 
     gate_bit : (d : Device) → Among (part_devices c part) d → s.reading d.gate.0 ≡ bit d.gate.0
     gate_bit d m = agrees d.gate.0 (bit d.gate.0) (seen_gates d (whole.devices d m).0) (gates d m)
@@ -118,7 +122,7 @@ module _ (which : Bool) (c : Circuit) (phase : Phase) (observed : ℕ → Bool) 
             | inr e ↦ absurd (let small = (all_among (IsHold c) c.holds h.1 wholes.ranges.holds (h.0, h.2)).size.1 in let top : r.level ≡ 8 = e.1 in let is = h.4 in omega (arith, small, top, is))
           ]
           | inr o ↦ elim in_it [
-            | inl i ↦ absurd (undriven r.net i (driven_here o.0 o.1 o.2 r.net o.3))
+            | inl i ↦ inr (inr (o.0, o.1, o.2, o.3, o.4, o.5 ∙ driven_bit o.0 o.1 r.net o.2 o.3 i))
             | inr e ↦ absurd (no_output which c phase observed wholes seen root fixed setting here s o.0 o.1 o.2 (subst (IsGiven c) o.3 e.0))
           ]
         ]
@@ -141,7 +145,7 @@ module _ (which : Bool) (c : Circuit) (phase : Phase) (observed : ℕ → Bool) 
             | inr e ↦ absurd (let small = (all_among (IsHold c) c.holds h.1 wholes.ranges.holds (h.0, h.2)).size.1 in let top : r.level ≡ 8 = e.1 in let is = h.4 in omega (arith, small, top, is))
           ]
           | inr o ↦ elim in_it [
-            | inl i ↦ absurd (undriven r.net i (driven_here o.0 o.1 o.2 r.net o.3))
+            | inl i ↦ inr (inr (o.0, o.1, o.2, o.3, o.4, o.5 ∙ sym (driven_bit o.0 o.1 r.net o.2 o.3 i)))
             | inr e ↦ absurd (no_output which c phase observed wholes seen root fixed setting here s o.0 o.1 o.2 (subst (IsGiven c) o.3 e.0))
           ]
         ]
@@ -170,12 +174,12 @@ module _ (which : Bool) (c : Circuit) (phase : Phase) (observed : ℕ → Bool) 
     λ h s is agrees. response_there s is agrees n r i h,
   )
 
-module _ (c : Circuit) (phase : Phase) (observed : ℕ → Bool) (wholes : HasFreeWholes c phase observed) (seen : AreObserved c observed) (root : ℕ → Bool) (fixed : HasFixedBits c phase root)
+module _ (c : Circuit) (phase : Phase) (observed : ℕ → Bool) (wholes : HasSoundWholes c phase observed) (seen : AreObserved c observed) (root : ℕ → Bool) (fixed : HasFixedBits c phase root)
     (setting : Setting) (here : IsSettingAt c root setting) (a : ℕ → Option Bool) (solves : IsSolution c phase observed setting a)
-    (part : Part) (whole : IsWholePart bare c phase part) (undriven : (n : ℕ) → IsInside part n → ¬ IsDriven c n) (bit : ℕ → Bool)
+    (part : Part) (whole : IsWholePart bare c phase part) (driven : HasRootsAt c phase observed setting a part root) (bit : ℕ → Bool)
     (gates : (d : Device) → Among (part_devices c part) d → a d.gate.0 ≡ Some (bit d.gate.0)) where
   bare_responds : (n : ℕ) (r : Response) → IsInside part n → AlwaysResponds c phase observed setting a bare n r ↔ IsResponse (part_network c part bit root) n r
-  bare_responds n r i = responds bare c phase observed wholes seen seen.gates root fixed setting here a solves part whole undriven bit gates n r i
+  bare_responds n r i = responds bare c phase observed wholes seen seen.gates root fixed setting here a solves part whole driven bit gates n r i
 
   -- the faults of a net of the part are those that it shows in the network of the part
   pub fault_alone : (kind : FaultKind) (n : ℕ) → IsInside part n → HasFault c phase observed setting a kind n → ShowsFault observed (part_network c part bit root) kind n

@@ -7,7 +7,8 @@ use Rattle.channel_parts.specs.OneSolution.{AreObserved}
 use Rattle.known_nets.proofs.KnownShow.{known_in_solution}
 use Rattle.known_nets.specs.Wired.{IsWired}
 use Rattle.channel_parts.proofs.DriveLaws.{driven_by, driven_gives}
-use Rattle.circuit_faults.specs.Wholes.{HasFreeWholes}
+use Rattle.circuit_faults.proofs.SoundWholes.{output_plain, wired_wholes}
+use Rattle.circuit_faults.specs.Wholes.{HasSoundWholes}
 use Rattle.vrt_model.proofs.GatesGiven.{IsGiven, plain_any}
 use Rattle.vrt_model.proofs.GivenNets.{clear_from_source, source_strength}
 use Rattle.vrt_model.proofs.Laws.{shows_from, shows_no_float}
@@ -39,7 +40,7 @@ given_found : (o : Option FlatNet) → given_in o ≡ true → (net : FlatNet) �
 given_found None f = absurd (false≢true f)
 given_found (Some net) f = (net, refl, f)
 
-module _ (which : Bool) (c : Circuit) (phase : Phase) (observed : ℕ → Bool) (wholes : HasFreeWholes c phase observed) (seen : AreObserved c observed) (root : ℕ → Bool) (fixed : HasFixedBits c phase root)
+module _ (which : Bool) (c : Circuit) (phase : Phase) (observed : ℕ → Bool) (wholes : HasSoundWholes c phase observed) (seen : AreObserved c observed) (root : ℕ → Bool) (fixed : HasFixedBits c phase root)
     (setting : Setting) (here : IsSettingAt c root setting) where
   -- the bare or the kept circuit in a state
   abbrev pub circuit_in : State → Network
@@ -49,7 +50,7 @@ module _ (which : Bool) (c : Circuit) (phase : Phase) (observed : ℕ → Bool) 
   pub no_output : (s : State) (at : ℕ) (pin : WholePin) → At (circuit_in s).outputs at pin → ¬ IsGiven c pin.net.0
   no_output s at pin e g =
       let from = at_map (λ (out : OutputPin). out.pin) (output_pins c) at pin e in
-      let plain = wholes.free.plain at from.0 from.1 in
+      let plain = output_plain c (wired_wholes c phase observed wholes) at from.0 from.1 in
       let same : plain.0 ≡ g.0 = one_at c.nets pin.net.0 plain.0 g.0 (subst (λ (p : WholePin). At c.nets p.net.0 plain.0) from.2 plain.1) g.1 in
       false≢true (sym (ap is_given plain.2) ∙ ap (λ (net : FlatNet). is_given net.kind) same ∙ g.2)
 
@@ -103,7 +104,7 @@ module _ (which : Bool) (c : Circuit) (phase : Phase) (observed : ℕ → Bool) 
           let ends : r.net ≡ n = subst (λ (hs : List Hop). end_of r hs ≡ n) none e in
           sym value ∙ own_value r path ends strong
 
-module _ (c : Circuit) (phase : Phase) (observed : ℕ → Bool) (wholes : HasFreeWholes c phase observed) (seen : AreObserved c observed) (root : ℕ → Bool) (fixed : HasFixedBits c phase root)
+module _ (c : Circuit) (phase : Phase) (observed : ℕ → Bool) (wholes : HasSoundWholes c phase observed) (seen : AreObserved c observed) (root : ℕ → Bool) (fixed : HasFixedBits c phase root)
     (setting : Setting) (here : IsSettingAt c root setting) where
   -- ---- solutions
 
@@ -112,7 +113,7 @@ module _ (c : Circuit) (phase : Phase) (observed : ℕ → Bool) (wholes : HasFr
     given_bit n o g = (solves n (root n) o).1 (λ s is agrees. given_shows bare c phase observed wholes seen root fixed setting here s is n g)
 
     wired : IsWired c
-    wired = record { ranges = wholes.ranges; outputs = λ w pin m out. (wholes.determined w m).plain pin out }
+    wired = wired_wholes c phase observed wholes
 
     pub known_bit : (n : ℕ) (v : Bool) → observed n ≡ true → IsKnown c phase n v → a n ≡ Some v
     known_bit n v o k = known_in_solution c phase wired observed setting a solves seen.gates n v k o

@@ -28,7 +28,6 @@ use Rattle.vrt_model.specs.declared.ids.Net.{Net}
 use Rattle.vrt_model.specs.declared.whole.WholePin.{WholePin}
 use Rattle.known_nets.proofs.WiredLaws.{pin_of_whole}
 use Rattle.circuit_faults.specs.Wholes.{AreOutputsOrdered}
-use Rattle.whole_steps.specs.FreeOutputs.{HasFreeOutputs}
 use Rattle.vrt_model.specs.Lists.{At, Among}
 use Rattle.vrt_model.specs.Networks.{HasRanges}
 use Rattle.vrt_model.specs.Places.{comes_before, greatest_rank, is_named, named_nets, named_nets_from, of_instance, of_net}
@@ -246,9 +245,9 @@ module _ (k : Comparison) (phase : ℕ) (rank : ℕ → ℕ) (parts : Parts) (st
       (out.whole, linked.0, ((pin_of_whole k.circuit out among).0, linked.1, linked.2, net, (out.pin, there, together k.circuit (phase_at k.rules phase) true rank ranges part of out.pin.net.0 inside_part))) in
       lower_before q part input.net.0 here plain (ranks.above input.net.0 (least_of part) (inl (inr arc, unknown)))
 
-  pub ordered_outputs : HasFreeOutputs k.circuit → AreOutputsOrdered w
-  ordered_outputs free = record {
-    alone = λ q part n m here i driven j.
-        driven_alone k.circuit (phase_at k.rules phase) true rank ranges free part (are.each part (here.0, here.2)) n m i driven j;
+  pub ordered_outputs : AreOutputsOrdered w
+  ordered_outputs = record {
+    alone = λ q at part out m here e free i j.
+        driven_alone k.circuit (phase_at k.rules phase) true rank ranges at out free part (are.each part (here.0, here.2)) m i j;
     inputs = λ q place part out input here among i pin m linked seen plain unknown. linked_before q place part out input here among i pin linked plain unknown;
   }

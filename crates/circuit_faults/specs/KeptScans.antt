@@ -8,7 +8,7 @@ use Rattle.bdd_core.specs.declared.handle.H.{H}
 use Rattle.bdd_core.specs.declared.handle.Spent.{Spent}
 use Rattle.bdd_ops.specs.Counting.{Counts}
 use Rattle.channel_parts.specs.declared.part.Part.{Part}
-use Rattle.circuit_faults.specs.Scans.{IsInside}
+use Rattle.circuit_faults.specs.Scans.{IsInside, free_part}
 use Rattle.circuit_faults.specs.declared.spans.KeptSpans.{KeptSpans}
 use Rattle.circuit_faults.specs.declared.kept_net.KeptFault.{KeptFault}
 use Rattle.hold_keep.specs.Kept.{fight_of, unsettled_of}
@@ -21,7 +21,7 @@ use Rattle.vrt_model.specs.Lists.{At}
 use Rattle.vrt_model.specs.Response.{Reaches}
 use Rattle.vrt_model.specs.declared.circuit.Circuit.{Circuit}
 use Rattle.vrt_model.specs.declared.ids.Net.{Net}
-use Rattle.whole_steps.specs.Tables.{driver_at}
+use Rattle.whole_steps.specs.Tables.{free_at}
 use Rattle.whole_steps.specs.declared.table.OutputPlace.{OutputPlace}
 use Rattle.vrt_model.specs.declared.verdict.FaultKind.{FaultKind}
 use Rattle.vrt_model.specs.declared.verdict.FaultKind.TheVariants.{Fight, FightKept, Float, Unsettled, Constraint, Differs, Next, Apart, Enter}
@@ -52,6 +52,10 @@ pub record IsReached (c : Circuit) (part : Part) (spans : KeptSpans) (n : ℕ) (
 pub record IsPartReached (c : Circuit) (part : Part) (spans : KeptSpans) (old new : Diagrams) : Type 0 where
   pub nets : (n : ℕ) → IsInside part n → IsReached c part spans n old new
   pub others : (n : ℕ) (value : Bool) → n < length c.nets → (¬ IsInside part n) → word_at new (reach_span spans value) n ≡ word_at old (reach_span spans value) n
+
+-- the net is in a part before a place in the list, which is solved: no output at its first net is marked as free
+abbrev pub IsInSolved : List (Option OutputPlace) → List Part → ℕ → ℕ → Type 0
+IsInSolved drivers parts k n = (j : ℕ) × (part : Part) × (j < k) × At parts j part × IsInside part n × (free_part drivers part ≡ None)
 
 -- the net is in a part before a place in the list, and its words say where the values reach it there
 abbrev pub IsReachedIn : Circuit → List Part → KeptSpans → ℕ → Diagrams → Diagrams → ℕ → Type 0
@@ -113,9 +117,9 @@ reach_at d spans value n = λ v. shows d (reach_span spans value) n v
 abbrev pub IsSettledAt : (ℕ → Bool) → H → KeptSpans → Diagrams → ℕ → Type 0
 IsSettledAt observed care spans d n = IsSettledNet (function_of d care) (wanted_at d spans n) (reach_at d spans false n) (reach_at d spans true n) (observed n)
 
--- a plain net at which no output of a whole instance stands
+-- a plain net at which no output of a whole instance is marked as free
 abbrev pub IsLoose : Circuit → List (Option OutputPlace) → ℕ → Type 0
-IsLoose c drivers n = IsPlain c n × (driver_at drivers n ≡ None)
+IsLoose c drivers n = IsPlain c n × (free_at drivers n ≡ None)
 
 -- the first fault of a net, which has one only where it is one of these
 abbrev pub PlainNetGives : (ℕ → Type 0) → H → KeptSpans → Bool → Net → Diagrams → Diagrams → Option KeptFault → Type 0

@@ -22,11 +22,11 @@ part_operations part = 400 * (length part.nets + 1) * (length part.devices + 1) 
 abbrev pub circuit_operations : List Part → ℕ
 circuit_operations parts = sum_by part_operations parts
 
--- of a part of the kept circuit: to solve it
+-- of a part with outputs of whole instances: to solve it
 abbrev pub kept_part_operations : Circuit → Part → ℕ
 kept_part_operations c part = 400 * (length part.nets + 1) * (length part.devices + pins_at part (pins_of c) + 1)
 
--- all parts of the kept circuit, and twenty for each net
+-- of the kept circuit: all its parts, and twenty for each net
 abbrev pub kept_operations : Circuit → List Part → ℕ
 kept_operations c parts = sum_by (kept_part_operations c) parts + 20 * length c.nets
 

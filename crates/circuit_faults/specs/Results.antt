@@ -1,9 +1,9 @@
 -- What is found in a whole circuit.
-use Rattle.std.specs.Prelude.{◌≡◌, ◌≢◌, ℕ, ◌*◌, ◌≤◌, ◌⊎◌, Bool, true, false, cond, List, flat_map, length, Option, Some, None, ◌+◌}
+use Rattle.std.specs.Prelude.{◌≡◌, ◌≢◌, ℕ, ◌*◌, ◌≤◌, ◌⊎◌, Bool, true, false, cond, List, flat_map, length, Option, Some, None, ◌+◌, slice_index}
 use Rattle.node_pool.specs.declared.region.Span.{Span}
 use Rattle.bdd_core.specs.Diagram.{Function, Valuation}
-use Rattle.bdd_core.specs.Store.{AddsNodes, Diagrams, IsLive, IsSpan, Means, function_of}
-use Rattle.bdd_core.specs.Words.{IsApart, IsFilled, shows}
+use Rattle.bdd_core.specs.Store.{Adds, AddsNodes, Diagrams, IsLive, IsSpan, Means, function_of}
+use Rattle.bdd_core.specs.Words.{IsApart, IsBeside, IsFilled, shows}
 use Rattle.bdd_core.specs.declared.handle.H.{H}
 use Rattle.channel_parts.specs.declared.part.Part.{Part}
 use Rattle.circuit_faults.specs.Cases.{CaseIn, StandsAt}
@@ -19,7 +19,8 @@ use Rattle.fault_places.specs.Searches.{IsClearOf, IsFoundIn}
 use Rattle.path_fixpoint.specs.Parts.{pins_of}
 use Rattle.path_fixpoint.specs.Strengths.{net_words}
 use Rattle.vrt_model.specs.Lists.{At, Among}
-use Rattle.vrt_model.specs.State.{Setting}
+use Rattle.vrt_model.specs.Solution.{Agrees}
+use Rattle.vrt_model.specs.State.{IsState, OutputPin, Setting, State, output_pins}
 use Rattle.vrt_model.specs.declared.circuit.Circuit.{Circuit}
 use Rattle.vrt_model.specs.declared.circuit.FlatInstance.{FlatInstance}
 use Rattle.vrt_model.specs.declared.rules.Phase.{Phase}
@@ -29,6 +30,23 @@ use Rattle.vrt_model.specs.declared.verdict.FaultKind.TheVariants.{Fight, Float,
 -- the bits of the roots at a valuation
 abbrev pub root_at : Diagrams → Span → Valuation → ℕ → Bool
 root_at d roots v n = shows d roots n v
+
+-- the words of the outputs of whole instances, behind those of the nets
+abbrev pub output_span : Circuit → Span → Span
+output_span c roots = record { start = roots.start + length c.nets; len = length (output_pins c) }
+
+-- nodes were only added, and words of three spans alone changed
+pub record WritesThree (a b c : Span) (old new : Diagrams) : Type 0 where
+  pub adds : Adds old new new.words
+  pub len : length new.words ≡ length old.words
+  pub others : (j : ℕ) → IsBeside a j → IsBeside b j → IsBeside c j → slice_index new.words j ≡ slice_index old.words j
+
+-- in each state that agrees with a solution of the care set each output of a whole instance has the bit of its handle
+abbrev pub HasDrivenBits : Circuit → Phase → (ℕ → Bool) → H → Span → Diagrams → Diagrams → Type 0
+HasDrivenBits c phase observed care roots old new =
+    (v : Valuation) (setting : Setting) (a : ℕ → Option Bool) → function_of old care v ≡ true → IsSolvedAt c phase observed (root_at old roots v) setting a
+    → (at : ℕ) (out : OutputPin) → At (output_pins c) at out → (s : State) → IsState c phase setting.inputs s → Agrees observed a s.reading
+    → s.driven at ≡ root_at new roots v (length c.nets + at)
 
 -- the handle with which a net begins: the constant of its known bit, or else that of its root
 abbrev pub first_word : Option Bool → ℕ → ℕ
@@ -49,7 +67,8 @@ pub record HasCircuitSpans (c : Circuit) (parts : List Part) (roots gates out : 
   pub roots_out : IsApart roots out
   pub gates_out : IsApart gates out
 
--- in the care set, each solution gives the observed nets the bits of their handles, and no fault stands
+-- in the care set, each solution gives the observed nets the bits of their handles and the outputs of whole instances theirs, and no
+-- fault stands
 pub record IsClearCircuit (c : Circuit) (phase : Phase) (observed : ℕ → Bool) (care : H) (roots gates : Span) (old new : Diagrams) : Type 0 where
   pub bits :
       (v : Valuation) (setting : Setting) (a : ℕ → Option Bool) → function_of old care v ≡ true → IsSolvedAt c phase observed (root_at old roots v) setting a
@@ -57,17 +76,19 @@ pub record IsClearCircuit (c : Circuit) (phase : Phase) (observed : ℕ → Bool
   pub clear :
       (v : Valuation) (setting : Setting) (a : ℕ → Option Bool) → function_of old care v ≡ true → IsSolvedAt c phase observed (root_at old roots v) setting a
       → (kind : FaultKind) (n : ℕ) → ¬ HasFault c phase observed setting a kind n
+  pub driven : HasDrivenBits c phase observed care roots old new
 
 -- ---- the search over steps
 
--- in the care set, each solution gives the observed nets the bits of their handles, and no fault stands at a place of the
--- steps
+-- in the care set, each solution gives the observed nets the bits of their handles and the outputs of whole instances theirs, and no
+-- fault stands at a place of the steps
 pub record AreClearSteps (w : InPhase) (care : H) (roots gates : Span) (old new : Diagrams) : Type 0 where
   pub bits :
       (v : Valuation) (setting : Setting) (a : ℕ → Option Bool) → function_of old care v ≡ true
       → IsSolvedAt w.circuit (phase_of w) w.observed (root_at old roots v) setting a
       → (n : ℕ) → w.observed n ≡ true → a n ≡ Some (shows new gates n v)
   pub clear : IsClearOf (StandsAt w (root_at old roots)) (λ (v : CaseIn w (root_at old roots)). function_of old care v.valuation) (flat_map spots_of (steps_of w))
+  pub driven : HasDrivenBits w.circuit (phase_of w) w.observed care roots old new
 
 -- The first fault that stands anywhere in the care set, by the places of the steps. The handle is live, not that of the
 -- constant 0, and says where: exactly there, for each solution, there is care and the fault stands.

@@ -1,5 +1,5 @@
 -- What is found at the nets of one part, from the words that say which values reach them.
-use Rattle.std.specs.Prelude.{◌≡◌, ◌≢◌, ℕ, ◌<◌, ◌⊎◌, ◌↔◌, ◌&&◌, ◌||◌, Bool, true, false, cond, List, length, Option, Some, None}
+use Rattle.std.specs.Prelude.{◌≡◌, ◌≢◌, ℕ, ◌<◌, ◌⊎◌, ◌↔◌, ◌&&◌, ◌||◌, Bool, true, false, cond, List, length, option_and_then, slice_get, Option, Some, None}
 use Rattle.node_pool.specs.declared.region.Span.{Span}
 use Rattle.bdd_core.specs.Diagram.{Function, Valuation}
 use Rattle.bdd_core.specs.Store.{Diagrams, IsLive, Means, function_of}
@@ -16,6 +16,8 @@ use Rattle.vrt_model.specs.Lists.{At}
 use Rattle.vrt_model.specs.Response.{Reaches}
 use Rattle.vrt_model.specs.declared.circuit.Circuit.{Circuit}
 use Rattle.vrt_model.specs.declared.ids.Net.{Net}
+use Rattle.whole_steps.specs.Tables.{free_at}
+use Rattle.whole_steps.specs.declared.table.OutputPlace.{OutputPlace}
 use Rattle.vrt_model.specs.declared.verdict.FaultKind.{FaultKind}
 use Rattle.vrt_model.specs.declared.verdict.FaultKind.TheVariants.{Fight, FightKept, Float, Unsettled, Constraint, Differs, Next, Apart, Enter}
 
@@ -26,6 +28,10 @@ IsInside part n = (i : ℕ) × IsPlace part i n
 -- the net is in a part before a place in the list
 abbrev pub IsInEarlier : List Part → ℕ → ℕ → Type 0
 IsInEarlier parts k n = (j : ℕ) × (part : Part) × (j < k) × At parts j part × IsInside part n
+
+-- the output at the first net of a part that is marked as free, if one is
+abbrev pub free_part : List (Option OutputPlace) → Part → Option OutputPlace
+free_part drivers part = option_and_then (λ (net : Net). free_at drivers net.0) (slice_get part.nets 0)
 
 -- ---- one net
 

@@ -1,43 +1,55 @@
--- Circuits in which whole instances may stand whose outputs meet gates alone, and steps over the parts with outputs.
-use Rattle.std.specs.Prelude.{◌≡◌, ℕ, ◌+◌, ◌<◌, Bool, true, List, Option, None, Some, length, option_and_then, option_map, slice_get, sum_by, unwrap_or}
+-- Circuits in which whole instances may stand, and steps over the parts with their outputs.
+use Rattle.std.specs.Prelude.{◌≡◌, ◌≢◌, ℕ, ◌+◌, ◌*◌, ◌<◌, ◌==◌, Bool, true, List, Option, None, Some, Result, IfOk, cond, length, option_map, slice_get, sum_by, unwrap_or}
 use Rattle.node_pool.specs.declared.region.Span.{Span}
+use Rattle.bdd_core.specs.Diagram.{Valuation}
 use Rattle.bdd_core.specs.Store.{Diagrams}
+use Rattle.bdd_core.specs.Words.{IsFilled, WritesTwo, shows, word_at}
 use Rattle.bdd_core.specs.declared.handle.H.{H}
+use Rattle.bdd_core.specs.declared.handle.Spent.{Spent}
+use Rattle.bdd_ops.specs.Counting.{Counts, IsSpanWithin}
 use Rattle.blif_eval.specs.declared.plan.ModelPlan.{ModelPlan}
 use Rattle.channel_parts.specs.OneSolution.{AreDetermined}
 use Rattle.channel_parts.specs.declared.part.Part.{Part}
 use Rattle.circuit_faults.specs.Operations.{step_operations}
-use Rattle.circuit_faults.specs.Results.{StepGives}
-use Rattle.circuit_faults.specs.Scans.{IsInside, PartGives}
+use Rattle.circuit_faults.specs.Results.{StepGives, output_span}
+use Rattle.circuit_faults.specs.Scans.{IsInside, PartGives, free_part}
 use Rattle.circuit_faults.specs.Steps.{InPhase, IsInStepBefore, IsPartAt, phase_of}
 use Rattle.circuit_faults.specs.declared.net.CircuitFault.{CircuitFault}
 use Rattle.circuit_faults.specs.declared.steps.CircuitStep.{CircuitStep}
 use Rattle.circuit_faults.specs.declared.steps.CircuitStep.TheVariants.{Part as PartStep, Instance as InstanceStep}
+use Rattle.path_fixpoint.specs.Parts.{pins_at, pins_of}
 use Rattle.vrt_model.specs.Determined.{IsLinkedTo}
-use Rattle.vrt_model.specs.Known.{IsDriven, IsPlain, IsUnknown}
+use Rattle.vrt_model.specs.Known.{IsPlain, IsUnknown}
 use Rattle.vrt_model.specs.Lists.{At, Among}
 use Rattle.vrt_model.specs.Networks.{HasRanges}
-use Rattle.vrt_model.specs.State.{OutputPin, output_pins}
+use Rattle.vrt_model.specs.State.{ModelGives, OutputPin, output_pins}
 use Rattle.vrt_model.specs.declared.circuit.Circuit.{Circuit}
 use Rattle.vrt_model.specs.declared.ids.Net.{Net}
 use Rattle.vrt_model.specs.declared.rules.Phase.{Phase}
 use Rattle.vrt_model.specs.declared.whole.Whole.{Whole}
 use Rattle.vrt_model.specs.declared.whole.WholePin.{WholePin}
-use Rattle.whole_steps.specs.FreeOutputs.{HasFreeOutputs}
-use Rattle.whole_steps.specs.Tables.{IsOutput, IsWholeTable, OutputGives, driver_at, output_operations}
+use Rattle.whole_steps.specs.FreeOutputs.{HasFreeOutputs, IsFreeOutput}
+use Rattle.whole_steps.specs.Tables.{IsOutput, IsWholeTable, output_operations}
 use Rattle.whole_steps.specs.declared.table.OutputPlace.{OutputPlace}
 
--- the numbers of a circuit are in range; each output of a whole instance follows from the observed inputs that are linked to it, and
--- is at a net that meets gates alone
+-- the numbers of a circuit are in range, and each output of a whole instance is at a plain net and follows from the observed inputs
+-- that are linked to it
+pub record HasSoundWholes (c : Circuit) (phase : Phase) (observed : ℕ → Bool) : Type 0 where
+  pub ranges : HasRanges c
+  pub determined : AreDetermined c phase observed
+
+-- the same, and each output is soft and at a net that meets gates alone
 pub record HasFreeWholes (c : Circuit) (phase : Phase) (observed : ℕ → Bool) : Type 0 where
   pub ranges : HasRanges c
   pub determined : AreDetermined c phase observed
   pub free : HasFreeOutputs c
 
--- A net with an output of a whole instance is alone in its part, and the inputs that are linked to the output, where they are plain
--- and not known, are in parts of steps before that.
+-- The net of a free output is alone in its part. The inputs that are linked to an output at a net of a part, where they are plain and
+-- not known, are in parts of steps before that.
 pub record AreOutputsOrdered (w : InPhase) : Type 0 where
-  pub alone : (k : ℕ) (part : Part) (n m : ℕ) → IsPartAt w k part → IsInside part n → IsDriven w.circuit n → IsInside part m → m ≡ n
+  pub alone :
+      (k at : ℕ) (part : Part) (out : OutputPin) (m : ℕ) → IsPartAt w k part → At (output_pins w.circuit) at out → IsFreeOutput w.circuit at out
+      → IsInside part out.pin.net.0 → IsInside part m → m ≡ out.pin.net.0
   pub inputs :
       (k place : ℕ) (part : Part) (out : OutputPin) (input : WholePin) → IsPartAt w k part → Among (output_pins w.circuit) out → IsInside part out.pin.net.0
       → At out.whole.outputs place out.pin → Among out.whole.inputs input → IsLinkedTo (phase_of w) out.whole input place → w.observed input.net.0 ≡ true
@@ -46,41 +58,72 @@ pub record AreOutputsOrdered (w : InPhase) : Type 0 where
 -- a circuit in a phase with what is made of its whole instances: the outputs by net, and the orders of the models; the phase is there
 -- where there is a whole instance
 pub record IsReadyWholes (w : InPhase) (drivers : List (Option OutputPlace)) (plans : List ModelPlan) : Type 0 where
-  pub wholes : HasFreeWholes w.circuit (phase_of w) w.observed
+  pub wholes : HasSoundWholes w.circuit (phase_of w) w.observed
   pub table : IsWholeTable w.circuit drivers plans
   pub ordered : AreOutputsOrdered w
   pub phase : (x : Whole) → Among w.circuit.wholes x → w.phase < length w.rules.phases
 
--- ---- one step
+-- ---- the outputs at a part
 
--- the output at the first net of a part, if there is one
-abbrev pub part_driver : List (Option OutputPlace) → Part → Option OutputPlace
-part_driver drivers part = option_and_then (λ (net : Net). driver_at drivers net.0) (slice_get part.nets 0)
+-- the words of these outputs have the bits that the models give them at the bits of the nets; those of other outputs stay
+pub record OutputsGive (w : InPhase) (Written : ℕ → OutputPin → Type 0) (roots gates : Span) (old new : Diagrams) : Type 0 where
+  pub bits :
+      (at : ℕ) (out : OutputPin) → At (output_pins w.circuit) at out → Written at out → (v : Valuation)
+      → ModelGives (phase_of w) out (λ n. shows old gates n v) (shows new (output_span w.circuit roots) at v)
+  pub others :
+      (at : ℕ) (out : OutputPin) → At (output_pins w.circuit) at out → (¬ Written at out)
+      → word_at new (output_span w.circuit roots) at ≡ word_at old (output_span w.circuit roots) at
 
--- the first fault of a part; a part with an output has none, and the handle of its net becomes the bit that the model gives
-abbrev pub DrivenGives : InPhase → H → Span → Span → Diagrams → Diagrams → Part → Option CircuitFault → Option OutputPlace → Type 0
-DrivenGives w care roots gates old new part found None = PartGives w.circuit part w.observed care roots gates old new found
-DrivenGives w care roots gates old new part found (Some place) =
-    (found ≡ None) × ((x : Whole) (pin : WholePin) → IsOutput w.circuit place x pin → OutputGives (phase_of w) x pin gates old new)
+-- the handle of a net becomes that of an output at it; those of other nets stay
+pub record IsCopied (c : Circuit) (place : OutputPlace) (n : ℕ) (roots gates : Span) (old new : Diagrams) : Type 0 where
+  pub here : word_at new gates n ≡ word_at old (output_span c roots) place.number
+  pub others : (k : ℕ) → k ≢ n → word_at new gates k ≡ word_at old gates k
+
+-- the first fault of a part whose outputs have their bits; at a net of a free output none stands, and its handle is that of the output
+abbrev pub SolvedGives : InPhase → H → Span → Span → Diagrams → Diagrams → Part → Option CircuitFault → Option OutputPlace → Type 0
+SolvedGives w care roots gates old new part found None = PartGives w.circuit part w.observed care roots gates old new found
+SolvedGives w care roots gates old new part found (Some place) =
+    (found ≡ None) × ((out : OutputPin) → IsOutput w.circuit (output_pins w.circuit) place out → IsCopied w.circuit place out.pin.net.0 roots gates old new)
+
+-- the outputs at a part get their bits, and then it is looked through
+pub record DrivenGives (w : InPhase) (drivers : List (Option OutputPlace)) (care : H) (roots gates out : Span) (old new : Diagrams) (part : Part) (found : Option CircuitFault) : Type 0 where
+  pub mid : Diagrams
+  pub first : WritesTwo (output_span w.circuit roots) out old mid
+  pub live : IsFilled mid roots
+  pub outputs : OutputsGive w (λ at o. IsInside part o.pin.net.0) roots gates old mid
+  pub second : WritesTwo gates out mid new
+  pub solved : SolvedGives w care roots gates mid new part found (free_part drivers part)
 
 -- the first fault of a step
-abbrev pub WiredGives : List (Option OutputPlace) → InPhase → H → Span → Span → Diagrams → Diagrams → CircuitStep → Option CircuitFault → Type 0
-WiredGives drivers w care roots gates old new (PartStep number) found =
-    (part : Part) → At w.parts number part → DrivenGives w care roots gates old new part found (part_driver drivers part)
-WiredGives drivers w care roots gates old new (InstanceStep at) found = StepGives w care roots gates old new (InstanceStep at) found
+abbrev pub WiredGives : List (Option OutputPlace) → InPhase → H → Span → Span → Span → Diagrams → Diagrams → CircuitStep → Option CircuitFault → Type 0
+WiredGives drivers w care roots gates out old new (PartStep number) found =
+    (part : Part) → At w.parts number part → DrivenGives w drivers care roots gates out old new part found
+WiredGives drivers w care roots gates out old new (InstanceStep at) found = StepGives w care roots gates old new (InstanceStep at) found
 
 -- ---- operations
 
--- of an output: those of its instance's model
-abbrev pub driver_operations : Circuit → Option OutputPlace → ℕ
-driver_operations c None = 0
-driver_operations c (Some place) = unwrap_or (option_map output_operations (slice_get c.wholes place.whole)) 0
+-- at most so many operations; where they were not refused, the handles of two spans read only the first u variables
+pub record SpendsWired {A : Type 0} (u operations : ℕ) (gates roots : Span) (old new : Diagrams) (result : Result A Spent) : Type 0 where
+  pub counts : Counts u operations old new result
+  pub within : IfOk result (λ _. IsSpanWithin u new gates × IsSpanWithin u new roots)
 
--- of a step: those of its part or of its instance, and of the output at the part
-abbrev pub wired_operations : List (Option OutputPlace) → InPhase → CircuitStep → ℕ
-wired_operations drivers w (PartStep number) =
-    step_operations w (PartStep number) + unwrap_or (option_map (λ (part : Part). driver_operations w.circuit (part_driver drivers part)) (slice_get w.parts number)) 0
-wired_operations drivers w (InstanceStep at) = step_operations w (InstanceStep at)
+-- of the outputs at a net: those of the models of their instances
+abbrev pub output_work : ℕ → OutputPin → ℕ
+output_work n out = cond (out.pin.net.0 == n) (output_operations out.whole) 0
 
-abbrev pub all_operations : List (Option OutputPlace) → InPhase → ℕ
-all_operations drivers w = sum_by (wired_operations drivers w) w.steps
+abbrev pub net_operations : Circuit → ℕ → ℕ
+net_operations c n = sum_by (output_work n) (output_pins c)
+
+-- of the outputs at a part: those of the models, and to solve the part with them
+abbrev pub driven_operations : Circuit → Part → ℕ
+driven_operations c part =
+    400 * (length part.nets + 1) * pins_at part (pins_of c) + sum_by (λ (net : Net). net_operations c net.0) part.nets
+
+-- of a step: those of its part or of its instance, and of the outputs at the part
+abbrev pub wired_operations : InPhase → CircuitStep → ℕ
+wired_operations w (PartStep number) =
+    step_operations w (PartStep number) + unwrap_or (option_map (driven_operations w.circuit) (slice_get w.parts number)) 0
+wired_operations w (InstanceStep at) = step_operations w (InstanceStep at)
+
+abbrev pub all_operations : InPhase → ℕ
+all_operations w = sum_by (wired_operations w) w.steps

@@ -1,38 +1,40 @@
 //! The whole circuit of a phase, step by step.
 
-ghost use Rattle.std.specs.Prelude.{◌≡◌, ℕ, ◌*◌, ◌<◌, ◌≤◌, All, length, slice_get, IfErr, IfOk, None, Some};
+ghost use Rattle.std.specs.Prelude.{◌≡◌, ℕ, ◌+◌, ◌*◌, ◌<◌, ◌≤◌, All, length, slice_get, IfErr, IfOk, None, Some};
 ghost use Rattle.bdd_core.specs.Diagram.{IsWithin, Valuation};
-ghost use Rattle.bdd_core.specs.Store.{IsLive, IsSpan, function_of};
+ghost use Rattle.bdd_core.specs.Store.{AddsNodes, IsLive, IsSpan, function_of};
 ghost use Rattle.bdd_core.specs.Words.{IsApart, IsFilled, Writes, word_at, WritesTwo};
 ghost use Rattle.bdd_ops.specs.Counting.{IsSpanWithin};
 ghost use Rattle.channel_parts.specs.OneSolution.{AreObserved};
 ghost use Rattle.circuit_faults.specs.Faults.{HasFixedBits};
-ghost use Rattle.circuit_faults.specs.Operations.{IsUsedUp, part_operations, step_operations};
-ghost use Rattle.circuit_faults.specs.Results.{CircuitGives, HasCircuitSpans, StepGives, first_word, root_at};
+ghost use Rattle.circuit_faults.specs.Operations.{IsUsedUp, kept_part_operations, step_operations};
+ghost use Rattle.circuit_faults.specs.Results.{CircuitGives, HasCircuitSpans, StepGives, WritesThree, first_word, output_span, root_at};
 ghost use Rattle.circuit_faults.specs.Steps.{AreOrderedSteps, IsReadyInstance, IsThere, in_phase, phase_of};
 ghost use Rattle.circuit_faults.specs.declared.steps.CircuitStep.TheVariants.{Part as PartStep, Instance as InstanceStep};
 ghost use Rattle.known_nets.specs.KnownTables.{known_at};
 ghost use Rattle.path_fixpoint.specs.Spending.{HasOneHold, Spends};
 ghost use Rattle.path_fixpoint.specs.Strengths.{net_words};
-ghost use Rattle.circuit_faults.specs.Scans.{PartGives};
-ghost use Rattle.circuit_faults.specs.Wholes.{IsReadyWholes, WiredGives, all_operations, part_driver, wired_operations};
-ghost use Rattle.path_fixpoint.specs.Parts.{AreSoftInside, IsPart, pins_at, pins_of};
-ghost use Rattle.vrt_model.specs.Lists.{Among, mark_at};
+ghost use Rattle.circuit_faults.specs.Scans.{PartGives, free_part};
+ghost use Rattle.circuit_faults.specs.Wholes.{IsCopied, IsReadyWholes, SpendsWired, WiredGives, all_operations, wired_operations};
+ghost use Rattle.path_fixpoint.specs.Parts.{AreSoftInside, IsPart};
+ghost use Rattle.vrt_model.specs.Lists.{Among, At, mark_at};
 ghost use Rattle.vrt_model.specs.Networks.{HasRanges};
-ghost use Rattle.vrt_model.specs.declared.whole.Whole.{Whole as WholeValue};
-ghost use Rattle.vrt_model.specs.declared.whole.WholePin.{WholePin as PinValue};
-ghost use Rattle.whole_steps.specs.Tables.{HasModelRoom, IsOutput, IsWholeTable, OutputGives, output_operations};
+ghost use Rattle.vrt_model.specs.State.{OutputPin, output_pins};
+ghost use Rattle.vrt_model.specs.declared.ids.Net.{Net as NetValue};
+ghost use Rattle.whole_steps.specs.Tables.{HasModelRoom, IsOutput};
 
 use crate::instance::check_instance;
 use crate::net::CircuitFault;
-use crate::phased::{CircuitSpans, PhasedCircuit, instance_at, part_at, phase_at};
+use crate::outputs::write_outputs;
+use crate::phased::{CircuitSpans, PhasedCircuit, instance_at, part_at};
 use crate::solve::check_part;
 use crate::steps::CircuitStep;
 use bdd_core::{H, Spent, Store};
 use channel_parts::Part;
 use node_pool::Span;
 use path_fixpoint::net_words;
-use whole_steps::{OutputPlace, WholeTable, driver_of, write_output};
+use vrt_model::Circuit;
+use whole_steps::{OutputPlace, WholeTable, free_driver};
 
 /// The handle with which a net begins: the constant of a known net, else that of its root.
 fn first_handle(known: Option<bool>, root: u32) -> u32
@@ -73,17 +75,17 @@ pub(crate) fn words_of(part: &Part, out: Span) -> Span
     }
 }
 
-/// The output of a whole instance at the first net of a part, if there is one.
-fn part_driver(wholes: WholeTable<'_>, part: &Part) -> Option<OutputPlace>
-    ensures { result ≡ part_driver wholes.entry.drivers.now part.now }
+/// The output at the first net of a part that is marked as free, if one is.
+pub(crate) fn part_driver(wholes: WholeTable<'_>, part: &Part) -> Option<OutputPlace>
+    ensures { result ≡ free_part wholes.entry.drivers.now part.now }
 {
     match part.nets.get(0) {
-        Some(net) => driver_of(wholes, *net),
+        Some(net) => free_driver(wholes, *net),
         None => None,
     }
 }
 
-/// The first fault of a part without outputs of whole instances.
+/// The first fault of a part whose outputs of whole instances have their bits.
 fn check_solved(
     store: &mut Store,
     phased: PhasedCircuit<'_>,
@@ -94,7 +96,6 @@ fn check_solved(
     requires circuit { HasRanges phased.circuit.now }
     requires part { Among phased.parts.now.list part.now × IsPart phased.circuit.now part.now }
     requires soft { AreSoftInside phased.circuit.now part.now }
-    requires undriven { pins_at part.now (pins_of phased.circuit.now) ≡ 0 }
     requires observed { length phased.observed.now ≡ length phased.circuit.now.nets }
     requires care { IsLive store.old care }
     requires spans { HasCircuitSpans phased.circuit.now phased.parts.now.list spans.roots spans.gates spans.out store.old }
@@ -102,7 +103,7 @@ fn check_solved(
     ensures writes { WritesTwo spans.gates spans.out store.old store.new }
     ensures live { IsFilled store.new spans.gates }
     ensures gives { IfOk result (λ found. PartGives phased.entry.circuit.now part.now (mark_at phased.entry.observed.now) care spans.roots spans.gates store.old store.new found) }
-    ensures few { HasOneHold phased.entry.circuit.now → (u : ℕ) → IsWithin u (function_of store.old care) → IsSpanWithin u store.old spans.gates → IsSpanWithin u store.old spans.roots → Spends u (part_operations part.now) spans.gates store.old store.new result }
+    ensures few { HasOneHold phased.entry.circuit.now → (u : ℕ) → IsWithin u (function_of store.old care) → IsSpanWithin u store.old spans.gates → IsSpanWithin u store.old spans.roots → Spends u (kept_part_operations phased.entry.circuit.now part.now + 4 * length part.now.nets) spans.gates store.old store.new result }
 {
     let words = words_of(part, spans.out);
     check_part(
@@ -117,42 +118,30 @@ fn check_solved(
     )
 }
 
-/// Writes the bit of the net of an output; there is no fault.
-fn check_output(
+/// Makes the handle of the net of a part that of the free output at it.
+fn copy_output(
     store: &mut Store,
-    phased: PhasedCircuit<'_>,
-    wholes: WholeTable<'_>,
+    circuit: &Circuit,
+    part: &Part,
     place: OutputPlace,
     spans: CircuitSpans,
-) -> Result<Option<CircuitFault>, Spent>
-    requires circuit { HasRanges phased.circuit.now }
-    requires wholes { IsWholeTable phased.circuit.now wholes.drivers.now wholes.plans.now }
-    requires phase { phased.phase < length phased.rules.now.phases }
-    requires place { (x : WholeValue) × (pin : PinValue) × IsOutput phased.circuit.now place x pin }
-    requires spans { HasCircuitSpans phased.circuit.now phased.parts.now.list spans.roots spans.gates spans.out store.old }
-    requires room { HasModelRoom phased.circuit.now spans.out }
-    requires live { IsFilled store.old spans.gates }
-    ensures writes { WritesTwo spans.gates spans.out store.old store.new }
-    ensures live { IsFilled store.new spans.gates }
-    ensures gives { IfOk result (λ found. (found ≡ None) × ((x : WholeValue) (pin : PinValue) → IsOutput phased.entry.circuit.now place x pin → OutputGives (phase_of (in_phase phased.entry)) x pin spans.gates store.old store.new)) }
-    ensures few { (x : WholeValue) (pin : PinValue) → IsOutput phased.entry.circuit.now place x pin → (u : ℕ) → IsSpanWithin u store.old spans.gates → Spends u (output_operations x) spans.gates store.old store.new result }
+)
+    requires place { (o : OutputPin) × IsOutput circuit.now (output_pins circuit.now) place o × At part.now.nets 0 o.pin.net }
+    requires roots { IsSpan store.old spans.roots × IsFilled store.old spans.roots × (length circuit.now.nets + length (output_pins circuit.now) ≤ spans.roots.len) }
+    requires gates { IsSpan store.old spans.gates × IsFilled store.old spans.gates × (spans.gates.len ≡ length circuit.now.nets) }
+    requires net { (n : NetValue) → At part.now.nets 0 n → n.0 < length circuit.now.nets }
+    ensures writes { Writes spans.gates store.old store.new }
+    ensures rest { store.new ≡ record store.old { words = store.new.words } }
+    ensures copied { (n : NetValue) → At part.now.nets 0 n → IsCopied circuit.now place n.0 spans.roots spans.gates store.old store.new }
+    ensures within { (u : ℕ) → IsSpanWithin u store.old spans.gates → IsSpanWithin u store.old spans.roots → IsSpanWithin u store.new spans.gates }
 {
-    let phase = phase_at(phased.rules, phased.phase);
-    match write_output(
-        store,
-        phased.circuit,
-        wholes,
-        phase,
-        place,
-        spans.gates,
-        spans.out,
-    ) {
-        Ok(()) => Ok(None),
-        Err(spent) => Err(spent),
-    }
+    store.sound();
+    let net = part.nets.as_slice()[0];
+    let root = store.read(spans.roots, circuit.nets.len() as u32 + place.number as u32);
+    store.write(spans.gates, net.0, root);
 }
 
-/// The first fault of the part of a number.
+/// The first fault of the part of a number, once its outputs of whole instances have their bits.
 fn check_part_step(
     store: &mut Store,
     phased: PhasedCircuit<'_>,
@@ -165,19 +154,26 @@ fn check_part_step(
     requires room { HasModelRoom phased.circuit.now spans.out }
     requires steps { AreOrderedSteps (in_phase phased) }
     requires there { number < length phased.parts.now.list }
-    requires listed { Among (in_phase phased).steps (PartStep number) }
     requires observed { length phased.observed.now ≡ length phased.circuit.now.nets }
     requires care { IsLive store.old care }
     requires spans { HasCircuitSpans phased.circuit.now phased.parts.now.list spans.roots spans.gates spans.out store.old }
     requires live { IsFilled store.old spans.gates }
-    ensures writes { WritesTwo spans.gates spans.out store.old store.new }
+    ensures writes { WritesThree (output_span phased.entry.circuit.now spans.roots) spans.gates spans.out store.old store.new }
     ensures live { IsFilled store.new spans.gates }
-    ensures gives { IfOk result (λ found. WiredGives wholes.entry.drivers.now (in_phase phased.entry) care spans.roots spans.gates store.old store.new (PartStep number) found) }
-    ensures few { HasOneHold phased.entry.circuit.now → (u : ℕ) → IsWithin u (function_of store.old care) → IsSpanWithin u store.old spans.gates → IsSpanWithin u store.old spans.roots → Spends u (wired_operations wholes.entry.drivers.now (in_phase phased.entry) (PartStep number)) spans.gates store.old store.new result }
+    ensures roots { IsFilled store.new spans.roots }
+    ensures gives { IfOk result (λ found. WiredGives wholes.entry.drivers.now (in_phase phased.entry) care spans.roots spans.gates spans.out store.old store.new (PartStep number) found) }
+    ensures few { HasOneHold phased.entry.circuit.now → (u : ℕ) → IsWithin u (function_of store.old care) → IsSpanWithin u store.old spans.gates → IsSpanWithin u store.old spans.roots → SpendsWired u (wired_operations (in_phase phased.entry) (PartStep number)) spans.gates spans.roots store.old store.new result }
 {
     let part = part_at(phased.parts, number);
+    match write_outputs(store, phased, wholes, part, spans) {
+        Ok(()) => {}
+        Err(spent) => return Err(spent),
+    }
     match part_driver(wholes, part) {
-        Some(place) => check_output(store, phased, wholes, place, spans),
+        Some(place) => {
+            copy_output(store, phased.circuit, part, place, spans);
+            Ok(None)
+        }
         None => check_solved(store, phased, part, care, spans),
     }
 }
@@ -196,6 +192,7 @@ fn check_instance_step(
     requires spans { HasCircuitSpans phased.circuit.now phased.parts.now.list spans.roots spans.gates spans.out store.old }
     requires live { IsFilled store.old spans.gates }
     ensures writes { WritesTwo spans.gates spans.out store.old store.new }
+    ensures adds { AddsNodes store.old store.new }
     ensures live { IsFilled store.new spans.gates }
     ensures gives { IfOk result (λ found. StepGives (in_phase phased.entry) care spans.roots spans.gates store.old store.new (InstanceStep at) found) }
     ensures few { HasOneHold phased.entry.circuit.now → (u : ℕ) → IsWithin u (function_of store.old care) → IsSpanWithin u store.old spans.gates → IsSpanWithin u store.old spans.roots → Spends u (step_operations (in_phase phased.entry) (InstanceStep at)) spans.gates store.old store.new result }
@@ -218,15 +215,15 @@ fn check_step(
     requires steps { AreOrderedSteps (in_phase phased) }
     requires instances { All (IsReadyInstance (in_phase phased)) phased.circuit.now.instances }
     requires there { IsThere (in_phase phased) step }
-    requires listed { Among (in_phase phased).steps step }
     requires observed { length phased.observed.now ≡ length phased.circuit.now.nets }
     requires care { IsLive store.old care }
     requires spans { HasCircuitSpans phased.circuit.now phased.parts.now.list spans.roots spans.gates spans.out store.old }
     requires live { IsFilled store.old spans.gates }
-    ensures writes { WritesTwo spans.gates spans.out store.old store.new }
+    ensures writes { WritesThree (output_span phased.entry.circuit.now spans.roots) spans.gates spans.out store.old store.new }
     ensures live { IsFilled store.new spans.gates }
-    ensures gives { IfOk result (λ found. WiredGives wholes.entry.drivers.now (in_phase phased.entry) care spans.roots spans.gates store.old store.new step found) }
-    ensures few { HasOneHold phased.entry.circuit.now → (u : ℕ) → IsWithin u (function_of store.old care) → IsSpanWithin u store.old spans.gates → IsSpanWithin u store.old spans.roots → Spends u (wired_operations wholes.entry.drivers.now (in_phase phased.entry) step) spans.gates store.old store.new result }
+    ensures roots { IsFilled store.new spans.roots }
+    ensures gives { IfOk result (λ found. WiredGives wholes.entry.drivers.now (in_phase phased.entry) care spans.roots spans.gates spans.out store.old store.new step found) }
+    ensures few { HasOneHold phased.entry.circuit.now → (u : ℕ) → IsWithin u (function_of store.old care) → IsSpanWithin u store.old spans.gates → IsSpanWithin u store.old spans.roots → SpendsWired u (wired_operations (in_phase phased.entry) step) spans.gates spans.roots store.old store.new result }
 {
     match step {
         CircuitStep::Part(number) => check_part_step(store, phased, wholes, number, care, spans),
@@ -242,17 +239,18 @@ fn step_at(steps: &[CircuitStep], place: usize) -> CircuitStep
     steps[place]
 }
 
-/// The first fault of the bare circuit in the care set, where whole instances may stand whose outputs meet gates alone: step by
-/// step, in a part net by net, a fight before a float, and at an instance that a constraint of its cell is broken. A net with an
-/// output has none; it gets the bit that the model of the instance gives it. `spans.roots` has the bits of the given nets and of the
-/// holds, as functions. Where no fault stands anywhere, the handles of the observed nets in `spans.gates` are their bits in the
-/// solution, at each valuation of the care set.
+/// The first fault of the bare circuit in the care set, where whole instances may stand: step by step, in a part net by net, a fight
+/// before a float, and at an instance that a constraint of its cell is broken. Before a part is looked through, its outputs of whole
+/// instances get the bits that the models give them, in the words of `spans.roots` behind those of the nets; a net with a free output
+/// alone has no fault. `spans.roots` has the bits of the given nets and of the holds, as functions. Where no fault stands anywhere, the
+/// handles of the observed nets in `spans.gates` are their bits in the solution, and those of the outputs theirs, at each valuation of
+/// the care set.
 ///
-/// Handles from before keep their functions, and words outside `spans.gates` and `spans.out` stay as they are, also where
-/// the budget is used up. `spans.out` has the words of the nets of the greatest part, and those of the greatest model.
+/// Handles from before keep their functions, and words outside those of the outputs, `spans.gates` and `spans.out` stay as they are,
+/// also where the budget is used up. `spans.out` has the words of the nets of the greatest part, and those of the greatest model.
 ///
-/// Where the handles read only the first `u` variables and no net has two holds, a part of p nets and q devices takes at
-/// most 400 (p + 1) (q + 1) + 4 p operations of `2 ^ u` nodes, an output 20 (s + 1) more for s literals and rows of its model, and
+/// Where the handles read only the first `u` variables and no net has two holds, a part of p nets and q devices with r outputs takes at
+/// most 400 (p + 1) (q + r + 1) + 4 p operations of `2 ^ u` nodes, an output 20 (s + 1) more for s literals and rows of its model, and
 /// an instance 20 for each operator and name of its lines and 2 more; the handles that are written read only these variables too. `Spent` comes only where the budget is less
 /// than all these with the nodes that were there, and has the budget.
 pub fn wired_fault(
@@ -270,10 +268,11 @@ pub fn wired_fault(
     requires observed { AreObserved phased.circuit.now (mark_at phased.observed.now) }
     requires care { IsLive store.old care }
     requires spans { HasCircuitSpans phased.circuit.now phased.parts.now.list spans.roots spans.gates spans.out store.old }
-    ensures writes { WritesTwo spans.gates spans.out store.old store.new }
+    ensures writes { WritesThree (output_span phased.entry.circuit.now spans.roots) spans.gates spans.out store.old store.new }
     ensures live { IsFilled store.new spans.gates }
+    ensures roots { IsFilled store.new spans.roots }
     ensures gives { IfOk result (λ found. ((v : Valuation) → HasFixedBits phased.entry.circuit.now (phase_of (in_phase phased.entry)) (root_at store.old spans.roots v)) → CircuitGives (in_phase phased.entry) care spans.roots spans.gates store.old store.new found) }
-    ensures few { HasOneHold phased.entry.circuit.now → (u : ℕ) → IsWithin u (function_of store.old care) → IsSpanWithin u store.old spans.roots → Spends u (all_operations wholes.entry.drivers.now (in_phase phased.entry)) spans.gates store.old store.new result }
+    ensures few { HasOneHold phased.entry.circuit.now → (u : ℕ) → IsWithin u (function_of store.old care) → IsSpanWithin u store.old spans.roots → Spends u (all_operations (in_phase phased.entry)) spans.gates store.old store.new result }
     ensures spent { HasOneHold phased.entry.circuit.now → IfErr result (IsUsedUp store.old store.new) }
 {
     store.sound();

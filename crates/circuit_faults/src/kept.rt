@@ -14,10 +14,10 @@ ghost use Rattle.circuit_faults.specs.KeptScans.{IsLoose, KeptScanGives, PlainNe
 ghost use Rattle.circuit_faults.specs.Operations.{IsUsedUp, kept_operations};
 ghost use Rattle.circuit_faults.specs.Results.{IsClearCircuit, root_at};
 ghost use Rattle.path_fixpoint.specs.Spending.{HasOneHold};
-ghost use Rattle.circuit_faults.specs.Wholes.{HasFreeWholes};
+ghost use Rattle.circuit_faults.specs.Wholes.{HasSoundWholes};
 ghost use Rattle.vrt_model.specs.Lists.{mark_at};
 ghost use Rattle.vrt_model.specs.Networks.{HasRanges};
-ghost use Rattle.whole_steps.specs.FreeOutputs.{HasFreeOutputs};
+ghost use Rattle.known_nets.specs.Wired.{IsWired};
 ghost use Rattle.whole_steps.specs.Tables.{IsWholeTable};
 ghost use Rattle.vrt_model.specs.declared.circuit.Device.{Device as DeviceValue};
 ghost use Rattle.vrt_model.specs.declared.rules.Phase.{Phase};
@@ -30,7 +30,7 @@ use bdd_core::{H, Spent, Store};
 use channel_parts::Parts;
 use known_nets::is_plain;
 use vrt_model::{Circuit, Device, Net};
-use whole_steps::{WholeTable, driver_of};
+use whole_steps::{WholeTable, free_driver};
 
 /// Whether some device is a keeper.
 fn has_keeper(devices: &[Device]) -> bool
@@ -44,20 +44,20 @@ fn has_keeper(devices: &[Device]) -> bool
     false
 }
 
-/// Whether a net is plain and has no output of a whole instance.
+/// Whether a net is plain and no output of a whole instance there is marked as free.
 fn is_loose(circuit: &Circuit, wholes: WholeTable<'_>, net: Net) -> bool
     ensures { (result ≡ true) ↔ IsLoose circuit.now wholes.entry.drivers.now net.0 }
 {
     if !is_plain(circuit, net.0 as usize) {
         return false;
     }
-    match driver_of(wholes, net) {
+    match free_driver(wholes, net) {
         Some(_) => false,
         None => true,
     }
 }
 
-/// The first fault of a net, by the words that say its bit and the values that reach it. A net that is not plain, or has an output
+/// The first fault of a net, by the words that say its bit and the values that reach it. A net that is not plain, or has a free output
 /// of a whole instance, has none.
 fn check_kept_net(
     store: &mut Store,
@@ -87,7 +87,7 @@ fn check_kept_net(
     kept_net_fault(store, net, care, wanted, zero, one, seen)
 }
 
-/// The first fault of the plain nets without outputs of whole instances by number, by the words that say their bits and the values that reach them.
+/// The first fault of the plain nets without free outputs of whole instances by number, by the words that say their bits and the values that reach them.
 fn scan_kept(
     store: &mut Store,
     circuit: &Circuit,
@@ -119,8 +119,8 @@ fn scan_kept(
     Ok(None)
 }
 
-/// The first fault of the kept circuit in the care set, where whole instances may stand whose outputs meet gates alone, and where the bare circuit has none and its observed nets have the
-/// bits of `gates`: net by net by number, at each plain net a fight, and where a net is observed, that the kept response
+/// The first fault of the kept circuit in the care set, where whole instances may stand, and where the bare circuit has none, its observed
+/// nets have the bits of `gates` and the outputs of whole instances those of `roots` behind the nets: net by net by number, at each plain net a fight, and where a net is observed, that the kept response
 /// is not its bit. `kept` are the parts of a phase with the keepers, and `spans.roots` has the bits of the given nets and
 /// of the holds, as functions. Where no device is a keeper, nothing is done and there is none.
 ///
@@ -140,7 +140,7 @@ pub fn wired_kept(
     spans: KeptSpans,
 ) -> Result<Option<KeptFault>, Spent>
     requires circuit { HasRanges circuit.now }
-    requires free { HasFreeOutputs circuit.now }
+    requires wired { IsWired circuit.now }
     requires wholes { IsWholeTable circuit.now wholes.drivers.now wholes.plans.now }
     requires parts { (phase : Phase) × IsPartList circuit.now phase false kept.now }
     requires marks { length observed.now ≡ length circuit.now.nets }
@@ -148,7 +148,7 @@ pub fn wired_kept(
     requires care { IsLive store.old care }
     requires spans { HasKeptSpans circuit.now kept.now.list spans store.old }
     ensures writes { WritesKept spans store.old store.new }
-    ensures gives { IfOk result (λ found. (phase : Phase) → HasFreeWholes circuit.now phase (mark_at observed.now) → IsPartList circuit.now phase false kept.now → ((v : Valuation) → HasFixedBits circuit.now phase (root_at store.old spans.roots v)) → IsClearCircuit circuit.now phase (mark_at observed.now) care spans.roots spans.gates store.old store.old → KeptGives circuit.now phase (mark_at observed.now) care spans.roots store.old store.new found) }
+    ensures gives { IfOk result (λ found. (phase : Phase) → HasSoundWholes circuit.now phase (mark_at observed.now) → IsPartList circuit.now phase false kept.now → ((v : Valuation) → HasFixedBits circuit.now phase (root_at store.old spans.roots v)) → IsClearCircuit circuit.now phase (mark_at observed.now) care spans.roots spans.gates store.old store.old → KeptGives circuit.now phase (mark_at observed.now) care spans.roots store.old store.new found) }
     ensures idle { HasNoKeeper circuit.now → (result ≡ Ok None) × (store.new ≡ store.old) }
     ensures few { HasOneHold circuit.now → (u : ℕ) → IsWithin u (function_of store.old care) → IsSpanWithin u store.old spans.gates → IsSpanWithin u store.old spans.roots → Counts u (kept_operations circuit.now kept.now.list) store.old store.new result }
     ensures spent { HasOneHold circuit.now → IfErr result (IsUsedUp store.old store.new) }
@@ -157,7 +157,7 @@ pub fn wired_kept(
     if !has_keeper(circuit.devices.as_slice()) {
         return Ok(None);
     }
-    match solve_parts(store, circuit, kept.list.as_slice(), spans) {
+    match solve_parts(store, circuit, wholes, kept.list.as_slice(), spans) {
         Ok(()) => {}
         Err(spent) => return Err(spent),
     }

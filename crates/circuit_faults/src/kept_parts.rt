@@ -1,14 +1,14 @@
 //! The parts of the kept circuit, solved at every valuation at once; what they say of the nets is copied to the nets.
 
-ghost use Rattle.std.specs.Prelude.{◌≡◌, ◌≢◌, ℕ, ◌+◌, ◌*◌, ◌^◌, ◌<◌, ◌≤◌, [], ◌∷◌, All, length, IfOk, false, true, slice_set, sum_by};
+ghost use Rattle.std.specs.Prelude.{◌≡◌, ◌≢◌, ℕ, ◌+◌, ◌*◌, ◌^◌, ◌<◌, ◌≤◌, [], ◌∷◌, All, length, IfOk, false, is_some, true, slice_set, sum_by};
 ghost use Rattle.bdd_core.specs.Store.{IsSpan};
 ghost use Rattle.bdd_core.specs.Words.{IsApart, IsFilled, word_at};
 ghost use Rattle.bdd_ops.specs.Counting.{IsSpanWithin};
 ghost use Rattle.channel_parts.specs.declared.part.Part.{Part};
 ghost use Rattle.circuit_faults.specs.KeptResults.{HasKeptSpans, WritesKept};
-ghost use Rattle.circuit_faults.specs.KeptScans.{IsCopiedTo, IsPartReached, IsReachedIn, SpendsReach};
+ghost use Rattle.circuit_faults.specs.KeptScans.{IsCopiedTo, IsInSolved, IsPartReached, IsReachedIn, SpendsReach};
 ghost use Rattle.circuit_faults.specs.Operations.{kept_part_operations};
-ghost use Rattle.circuit_faults.specs.Scans.{IsInEarlier, IsInside};
+ghost use Rattle.circuit_faults.specs.Scans.{IsInside, free_part};
 ghost use Rattle.path_fixpoint.specs.Parts.{AreSoftInside, IsPart, IsPlace};
 ghost use Rattle.path_fixpoint.specs.Reaching.{slot_of};
 ghost use Rattle.path_fixpoint.specs.Spending.{HasOneHold};
@@ -16,13 +16,14 @@ ghost use Rattle.path_fixpoint.specs.Strengths.{net_words, word_of};
 ghost use Rattle.vrt_model.specs.Lists.{Among};
 ghost use Rattle.vrt_model.specs.Networks.{HasRanges};
 
-use crate::circuit::words_of;
+use crate::circuit::{part_driver, words_of};
 use crate::spans::KeptSpans;
 use bdd_core::{Spent, Store};
 use channel_parts::Part;
 use node_pool::Span;
 use path_fixpoint::{reached, solve_part};
 use vrt_model::{Circuit, Net};
+use whole_steps::WholeTable;
 
 /// Copies the handle that says where a value reaches the net at a place of a part to the word of the net.
 fn copy_word(store: &mut Store, net: Net, place: usize, value: bool, out: Span, to: Span)
@@ -79,10 +80,19 @@ fn solve_kept(
     Ok(())
 }
 
-/// Solves all parts of the kept circuit, and writes to the words of their nets where 0 and where 1 reach them.
+/// Whether an output at the first net of a part is marked as free.
+fn has_free(wholes: WholeTable<'_>, part: &Part) -> bool
+    ensures { result ≡ is_some (free_part wholes.entry.drivers.now part.now) }
+{
+    part_driver(wholes, part).is_some()
+}
+
+/// Solves all parts of the kept circuit but those of free outputs of whole instances, and writes to the words of their nets where 0 and
+/// where 1 reach them.
 pub(crate) fn solve_parts(
     store: &mut Store,
     circuit: &Circuit,
+    wholes: WholeTable<'_>,
     parts: &[Part],
     spans: KeptSpans,
 ) -> Result<(), Spent>
@@ -91,11 +101,14 @@ pub(crate) fn solve_parts(
     requires soft { (part : Part) → AreSoftInside circuit.now part }
     requires spans { HasKeptSpans circuit.now parts.now spans store.old }
     ensures writes { WritesKept spans store.old store.new }
-    ensures gives { IfOk result (λ _. (n : ℕ) → IsInEarlier parts.now (length parts.now) n → IsReachedIn circuit.now parts.now spans (length parts.now) store.old store.new n) }
-    ensures few { HasOneHold circuit.now → (u : ℕ) → IsSpanWithin u store.old spans.gates → IsSpanWithin u store.old spans.roots → SpendsReach u (sum_by (kept_part_operations circuit.now) parts.now) spans (IsInEarlier parts.now (length parts.now)) store.old store.new result }
+    ensures gives { IfOk result (λ _. (n : ℕ) → IsInSolved wholes.entry.drivers.now parts.now (length parts.now) n → IsReachedIn circuit.now parts.now spans (length parts.now) store.old store.new n) }
+    ensures few { HasOneHold circuit.now → (u : ℕ) → IsSpanWithin u store.old spans.gates → IsSpanWithin u store.old spans.roots → SpendsReach u (sum_by (kept_part_operations circuit.now) parts.now) spans (IsInSolved wholes.entry.drivers.now parts.now (length parts.now)) store.old store.new result }
 {
     store.sound();
     for part in parts {
+        if has_free(wholes, part) {
+            continue;
+        }
         match solve_kept(store, circuit, part, spans) {
             Ok(()) => {}
             Err(spent) => return Err(spent),

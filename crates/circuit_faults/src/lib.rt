@@ -11,6 +11,7 @@ mod kept_net;
 mod kept_parts;
 mod listing;
 mod net;
+mod outputs;
 mod part_lists;
 mod phased;
 mod ranking;

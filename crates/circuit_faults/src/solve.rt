@@ -1,13 +1,13 @@
 //! One part: solved at every valuation at once, and looked through.
 
-ghost use Rattle.std.specs.Prelude.{◌≡◌, ℕ, length, IfOk};
+ghost use Rattle.std.specs.Prelude.{◌≡◌, ℕ, ◌+◌, ◌*◌, length, IfOk};
 ghost use Rattle.bdd_core.specs.Diagram.{IsWithin};
 ghost use Rattle.bdd_core.specs.Store.{IsLive, function_of};
 ghost use Rattle.bdd_core.specs.Words.{IsApart, IsFilled, WritesTwo};
 ghost use Rattle.bdd_ops.specs.Counting.{IsSpanWithin};
-ghost use Rattle.circuit_faults.specs.Operations.{part_operations};
+ghost use Rattle.circuit_faults.specs.Operations.{kept_part_operations};
 ghost use Rattle.circuit_faults.specs.Scans.{PartGives};
-ghost use Rattle.path_fixpoint.specs.Parts.{AreSoftInside, IsPart, pins_at, pins_of};
+ghost use Rattle.path_fixpoint.specs.Parts.{AreSoftInside, IsPart};
 ghost use Rattle.path_fixpoint.specs.Solved.{HasRootSpans};
 ghost use Rattle.path_fixpoint.specs.Spending.{HasOneHold, Spends};
 ghost use Rattle.vrt_model.specs.Lists.{mark_at};
@@ -23,7 +23,7 @@ use vrt_model::Circuit;
 
 /// The first fault of a part in the care set, at the valuations at which its devices have the bits of `gates`. Where
 /// there is none, the handles of its nets among `gates` become their bits. `roots` has the bits of the given nets and of
-/// the holds. No output of a whole instance stands at a net of the part.
+/// the holds, and behind the nets those of the outputs of whole instances.
 pub(crate) fn check_part(
     store: &mut Store,
     circuit: &Circuit,
@@ -39,11 +39,10 @@ pub(crate) fn check_part(
     requires observed { length observed.now ≡ length circuit.now.nets }
     requires care { IsLive store.old care }
     requires soft { AreSoftInside circuit.now part.now }
-    requires undriven { pins_at part.now (pins_of circuit.now) ≡ 0 }
     requires spans { HasRootSpans circuit.now part.now gates roots out store.old }
     ensures writes { WritesTwo gates out store.old store.new }
     ensures live { IsFilled store.new gates }
-    ensures few { HasOneHold circuit.now → (u : ℕ) → IsWithin u (function_of store.old care) → IsSpanWithin u store.old gates → IsSpanWithin u store.old roots → Spends u (part_operations part.now) gates store.old store.new result }
+    ensures few { HasOneHold circuit.now → (u : ℕ) → IsWithin u (function_of store.old care) → IsSpanWithin u store.old gates → IsSpanWithin u store.old roots → Spends u (kept_part_operations circuit.now part.now + 4 * length part.now.nets) gates store.old store.new result }
     ensures gives { IfOk result (λ found. PartGives circuit.now part.now (mark_at observed.now) care roots gates store.old store.new found) }
 {
     match solve_part(store, circuit, part, gates, roots, out) {

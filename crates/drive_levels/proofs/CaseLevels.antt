@@ -6,8 +6,9 @@ use Rattle.bdd_core.specs.Words.{shows}
 use Rattle.bdd_core.specs.declared.handle.H.{H}
 use Rattle.channel_parts.specs.PartLists.{IsPartOf}
 use Rattle.channel_parts.specs.declared.part.Part.{Part}
-use Rattle.circuit_faults.proofs.DrivenAlone.{driven_alone}
+use Rattle.circuit_faults.proofs.DrivenAlone.{driven_alone, pin_among}
 use Rattle.circuit_faults.proofs.Solutions.{levels, some_state, some_state_agrees, some_state_is, source}
+use Rattle.circuit_faults.proofs.SoundWholes.{sound_wholes}
 use Rattle.circuit_faults.proofs.WholeParts.{whole_part}
 use Rattle.circuit_faults.specs.Ordered.{IsWholePart}
 use Rattle.circuit_faults.specs.Results.{root_at}
@@ -27,7 +28,7 @@ use Rattle.vrt_model.specs.Lists.{Among}
 use Rattle.vrt_model.specs.Reading.{devices_of}
 use Rattle.vrt_model.specs.Response.{IsStrength}
 use Rattle.vrt_model.specs.Solution.{Agrees, IsSolution}
-use Rattle.vrt_model.specs.State.{IsState, Setting, State, network_of}
+use Rattle.vrt_model.specs.State.{IsState, OutputPin, Setting, State, network_of}
 use Rattle.vrt_model.specs.declared.circuit.Circuit.{Circuit}
 use Rattle.vrt_model.specs.declared.circuit.Device.{Device}
 use Rattle.vrt_model.specs.declared.rules.Phase.{Phase}
@@ -48,9 +49,9 @@ module _ (c : Circuit) (phase : Phase) (observed : ℕ → Bool) (setting : Valu
       record {
         solution = one.bits;
         solves = one.solves;
-        state = some_state c phase observed solved.wholes solved.seen.0 (root_at d roots v) (solved.fixed v) (setting v) (solved.given v) one.bits one.solves;
-        is = some_state_is c phase observed solved.wholes solved.seen.0 (root_at d roots v) (solved.fixed v) (setting v) (solved.given v) one.bits one.solves;
-        agrees = some_state_agrees c phase observed solved.wholes solved.seen.0 (root_at d roots v) (solved.fixed v) (setting v) (solved.given v) one.bits one.solves;
+        state = some_state c phase observed (sound_wholes c phase observed solved.wholes) solved.seen.0 (root_at d roots v) (solved.fixed v) (setting v) (solved.given v) one.bits one.solves;
+        is = some_state_is c phase observed (sound_wholes c phase observed solved.wholes) solved.seen.0 (root_at d roots v) (solved.fixed v) (setting v) (solved.given v) one.bits one.solves;
+        agrees = some_state_agrees c phase observed (sound_wholes c phase observed solved.wholes) solved.seen.0 (root_at d roots v) (solved.fixed v) (setting v) (solved.given v) one.bits one.solves;
       }
 
   -- two levels that a net has there are one
@@ -63,15 +64,26 @@ module _ (c : Circuit) (phase : Phase) (observed : ℕ → Bool) (setting : Valu
   -- a given net has the greatest strength
   pub given_level : (which : Bool) (n : ℕ) → IsGiven c n → HasLevelOf c phase observed setting (function_of d care) which n 8
   given_level which n g v a s here solves is agrees =
-      source_strength (network_of c which (setting v).held s) (levels which c phase observed solved.wholes solved.seen.0 (root_at d roots v) (solved.fixed v) (setting v) (solved.given v) s) n
-      (source which c phase observed solved.wholes solved.seen.0 (root_at d roots v) (solved.fixed v) (setting v) (solved.given v) s n g)
+      source_strength (network_of c which (setting v).held s) (levels which c phase observed (sound_wholes c phase observed solved.wholes) solved.seen.0 (root_at d roots v) (solved.fixed v) (setting v) (solved.given v) s) n
+      (source which c phase observed (sound_wholes c phase observed solved.wholes) solved.seen.0 (root_at d roots v) (solved.fixed v) (setting v) (solved.given v) s n g)
 
   module _ (which : Bool) (rank : ℕ → ℕ) (part : Part) (of : IsPartOf c phase which rank part) (n : ℕ) (inside : IsInside part n) (loose : ¬ IsDriven c n) where
     whole : IsWholePart which c phase part
     whole = whole_part c phase which rank solved.wholes.ranges part of
 
     undriven : (m : ℕ) → IsInside part m → ¬ IsDriven c m
-    undriven m i driven = loose (subst (IsDriven c) (sym (driven_alone c phase which rank solved.wholes.ranges solved.wholes.free part of m n i driven inside)) driven)
+    undriven m i driven =
+        let among = pin_among c driven.0 driven.1 driven.2 driven.3 in
+        let one : OutputPin = record { whole = driven.0; pin = driven.1 } in
+        let there : IsInside part driven.1.net.0 = subst (IsInside part) (sym driven.4) i in
+        let same : n ≡ driven.1.net.0 =
+        driven_alone c phase which rank solved.wholes.ranges among.0 one (record {
+          soft = solved.wholes.free.soft among.0 one among.1;
+          plain = solved.wholes.free.plain among.0 one among.1;
+          channels = λ x l. solved.wholes.free.channels among.0 one x l among.1;
+          one = λ k other e. solved.wholes.free.one among.0 k one other among.1 e;
+        }) part of n there inside in
+        loose (driven.0, driven.1, driven.2, driven.3, sym same)
 
     gate_seen : (x : Device) → Among (devices_of which c) x → observed x.gate.0 ≡ true
     gate_seen x m = solved.seen.1 x (device_among which c x m).0
@@ -91,7 +103,7 @@ module _ (c : Circuit) (phase : Phase) (observed : ℕ → Bool) (setting : Valu
     case_strength : (v : Valuation) (a : ℕ → Option Bool) (s : State) → function_of d care v ≡ true → IsSolution c phase observed (setting v) a → IsState c phase (setting v).inputs s
         → Agrees observed a s.reading → IsStrength (network_of c which (setting v).held s) n (strength v)
     case_strength v a s here solves is agrees =
-        strength_there which c phase observed solved.wholes solved.seen.0 gate_seen (root_at d roots v) (solved.fixed v) (setting v) (solved.given v) a solves part whole undriven (λ m. shows d gates m v)
+        strength_there which c phase observed (sound_wholes c phase observed solved.wholes) solved.seen.0 gate_seen (root_at d roots v) (solved.fixed v) (setting v) (solved.given v) a solves part whole undriven (λ m. shows d gates m v)
         (λ x m. solved.bits v a here solves x.gate.0 (gate_seen x (whole.devices x m).0)) s is agrees n (strength v) inside (strength_is v)
 
     -- so the level in the part is the level at all solutions

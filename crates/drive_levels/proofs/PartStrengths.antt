@@ -9,7 +9,7 @@ use Rattle.circuit_faults.proofs.Solutions.{circuit_in, given_reading, known_bit
 use Rattle.circuit_faults.specs.Faults.{HasFixedBits, IsSettingAt}
 use Rattle.circuit_faults.specs.Ordered.{IsWholePart}
 use Rattle.circuit_faults.specs.Scans.{IsInside}
-use Rattle.circuit_faults.specs.Wholes.{HasFreeWholes}
+use Rattle.circuit_faults.specs.Wholes.{HasSoundWholes}
 use Rattle.known_nets.proofs.NetKinds.{given_or_plain}
 use Rattle.known_nets.proofs.WiredLaws.{pin_of_whole}
 use Rattle.path_fixpoint.proofs.PinLaws.{pin_level}
@@ -35,7 +35,7 @@ use Rattle.vrt_model.specs.declared.circuit.Hold.{Hold}
 use Rattle.vrt_model.specs.declared.rules.Phase.{Phase}
 use Rattle.vrt_model.specs.declared.whole.WholePin.{WholePin}
 
-module _ (which : Bool) (c : Circuit) (phase : Phase) (observed : ℕ → Bool) (wholes : HasFreeWholes c phase observed) (seen : AreObserved c observed)
+module _ (which : Bool) (c : Circuit) (phase : Phase) (observed : ℕ → Bool) (wholes : HasSoundWholes c phase observed) (seen : AreObserved c observed)
     (seen_gates : (d : Device) → Among (devices_of which c) d → observed d.gate.0 ≡ true) (root : ℕ → Bool) (fixed : HasFixedBits c phase root)
     (setting : Setting) (here : IsSettingAt c root setting) (a : ℕ → Option Bool) (solves : IsSolution c phase observed setting a)
     (part : Part) (whole : IsWholePart which c phase part) (undriven : (n : ℕ) → IsInside part n → ¬ IsDriven c n) (bit : ℕ → Bool)

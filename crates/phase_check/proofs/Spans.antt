@@ -150,6 +150,12 @@ module _ (c : WordCounts) (w : PhaseWords) (d : Diagrams) (h : HasPhaseWords c w
   pub ones_out : IsApart w.ones w.out
   ones_out = inl h.out_behind
 
+  pub inputs_roots : IsApart w.inputs w.roots
+  inputs_roots = inr (omega (arith, h.gates_behind, h.zeros_behind, h.ones_behind, h.out_behind, h.inputs_behind))
+
+  pub held_roots : IsApart w.held w.roots
+  held_roots = inr (omega (arith, h.gates_behind, h.zeros_behind, h.ones_behind, h.out_behind, h.inputs_behind, h.held_behind))
+
   pub inputs_gates : IsApart w.inputs w.gates
   inputs_gates = inr (omega (arith, h.zeros_behind, h.ones_behind, h.out_behind, h.inputs_behind))
 

@@ -1,15 +1,17 @@
 -- What stands in spans that a step does not write, and what a phase knows after such a step.
-use Rattle.std.proofs.Common.{◌≡◌, ℕ, ◌+◌, ◌<◌, Bool, List, Some, length, arith, ap, refl, sym, subst, ◌∙◌}
+use Rattle.std.proofs.Common.{◌≡◌, ℕ, ◌+◌, ◌<◌, ◌≤◌, Bool, List, Some, length, arith, ap, refl, sym, subst, ◌∙◌, inl, inr}
 use Rattle.std.proofs.lemmas.Option.{slice_get_within}
 use Rattle.node_pool.specs.declared.region.Span.{Span}
-use Rattle.bdd_core.proofs.Frames.{beside_of, two_word, word_beside}
+use Rattle.bdd_core.proofs.Frames.{beside_of, word_beside}
 use Rattle.bdd_core.specs.Diagram.{Valuation, meaning}
 use Rattle.bdd_core.specs.Store.{Adds, Diagrams}
-use Rattle.bdd_core.specs.Words.{IsApart, IsFilled, Writes, WritesTwo, shows, word_at}
+use Rattle.bdd_core.specs.Words.{IsApart, IsBeside, IsFilled, Writes, shows, word_at}
 use Rattle.bdd_core.specs.declared.handle.H.{H}
 use Rattle.bdd_ops.specs.Counting.{IsCounted}
 use Rattle.bdd_ops.specs.Ops.{bits_of}
+use Rattle.circuit_faults.proofs.ThreeSpans.{net_beside, three_word}
 use Rattle.circuit_faults.specs.KeptResults.{WritesKept}
+use Rattle.circuit_faults.specs.Results.{WritesThree, output_span}
 use Rattle.circuit_faults.specs.declared.spans.KeptSpans.{KeptSpans}
 use Rattle.fault_places.specs.Searches.{Spot}
 use Rattle.phase_laws.proofs.Observed.{observed_nets}
@@ -22,6 +24,8 @@ use Rattle.phase_terms.specs.Stores.{HasPhaseWords, IsPhaseStore, IsUsed, counts
 use Rattle.phase_terms.specs.declared.words.PhaseWords.{PhaseWords}
 use Rattle.vrt_model.specs.Comparison.{Comparison}
 use Rattle.vrt_model.specs.Held.{setting_of, sources_of}
+use Rattle.vrt_model.specs.State.{output_pins}
+use Rattle.vrt_model.specs.declared.circuit.Circuit.{Circuit}
 
 -- the words of a span and their functions stay
 pub record Stays (span : Span) (old new : Diagrams) : Type 0 where
@@ -39,27 +43,51 @@ stays_of span old new adds same = record {
 pub stays_one : (out span : Span) (old new : Diagrams) → Writes out old new → IsApart span out → Stays span old new
 stays_one out span old new w apart = stays_of span old new w.adds (λ n lt. word_beside out span old new n w apart lt)
 
-pub stays_two : (a b span : Span) (old new : Diagrams) → WritesTwo a b old new → IsApart span a → IsApart span b → Stays span old new
-stays_two a b span old new w apart_a apart_b = stays_of span old new w.adds (λ n lt. two_word a b span old new w apart_a apart_b n lt)
-
 pub stays_kept : (spans : KeptSpans) (span : Span) (old new : Diagrams) → WritesKept spans old new → IsApart span spans.zeros → IsApart span spans.ones → IsApart span spans.out → Stays span old new
 stays_kept spans span old new w zeros ones out =
     stays_of span old new w.adds
     (λ n lt. w.others (span.start + n) (beside_of span spans.zeros n zeros lt) (beside_of span spans.ones n ones lt) (beside_of span spans.out n out lt))
 
+pub stays_three : (c : Circuit) (roots gates out span : Span) (old new : Diagrams) → WritesThree (output_span c roots) gates out old new → length c.nets + length (output_pins c) ≤ roots.len
+    → IsApart span roots → IsApart span gates → IsApart span out → Stays span old new
+stays_three c roots gates out span old new w fits apart apart_gates apart_out =
+    stays_of span old new w.adds (λ n lt. three_word (output_span c roots) gates out span old new n w (beside n lt apart) apart_gates apart_out lt)
+  where
+    beside : (n : ℕ) → n < span.len → IsApart span roots → IsBeside (output_span c roots) (span.start + n)
+    beside n lt (inl low) = inl (omega (arith, low, lt))
+    beside n lt (inr high) = inr (omega (arith, high, fits))
+
+-- the bits of the roots at nets stay
+pub record NetsStay (count : ℕ) (roots : Span) (old new : Diagrams) : Type 0 where
+  pub live : IsFilled old roots → IsFilled new roots
+  pub shown : IsFilled old roots → (n : ℕ) (v : Valuation) → n < count → shows new roots n v ≡ shows old roots n v
+
+nets_of : (count : ℕ) (roots : Span) (old new : Diagrams) → count ≤ roots.len → Stays roots old new → NetsStay count roots old new
+nets_of count roots old new le s = record { live = s.live; shown = λ live n v lt. s.shown live n v (omega (arith, lt, le)) }
+
+pub roots_three : (c : Circuit) (roots gates out : Span) (old new : Diagrams) → WritesThree (output_span c roots) gates out old new → IsFilled new roots → length c.nets ≤ roots.len
+    → IsApart roots gates → IsApart roots out → NetsStay (length c.nets) roots old new
+roots_three c roots gates out old new w filled fits apart_gates apart_out = record {
+  live = λ _. filled;
+  shown = λ live n v lt.
+      let within : n < roots.len = omega (arith, lt, fits) in
+      ap (λ (h : ℕ). meaning new.nodes h v) (three_word (output_span c roots) gates out roots old new n w (net_beside c roots n lt) apart_gates apart_out within)
+      ∙ w.adds.kept (word_at old roots n) (live n within) v;
+}
+
 -- ---- what was opened
 
 module _ (k : Comparison) (phase : ℕ) (ready : IsReady k) (w : PhaseWords) (old new : Diagrams) (words : HasPhaseWords (counts_of k old.vars) w old) (adds : Adds old new new.words) where
-  roots_stay : Stays w.roots old new → AreRootsOpen k phase w.roots old → AreRootsOpen k phase w.roots new
+  roots_stay : NetsStay (length k.circuit.nets) w.roots old new → AreRootsOpen k phase w.roots old → AreRootsOpen k phase w.roots new
   roots_stay s o = record {
     live = s.live o.live;
-    fixed = λ v n b f. (let lt = slice_get_within k.circuit.nets n f.0 f.1 in s.shown o.live n v (omega (arith, lt, words.roots_len))) ∙ o.fixed v n b f;
+    fixed = λ v n b f. (let lt = slice_get_within k.circuit.nets n f.0 f.1 in s.shown o.live n v lt) ∙ o.fixed v n b f;
     setting = λ bits. record {
       inputs = λ n net e kind.
-          (o.setting bits).inputs n net e kind ∙ sym (let lt = slice_get_within k.circuit.nets n net e in s.shown o.live n (bits_of bits) (omega (arith, lt, words.roots_len)));
+          (o.setting bits).inputs n net e kind ∙ sym (let lt = slice_get_within k.circuit.nets n net e in s.shown o.live n (bits_of bits) lt);
       held = λ at hold e plain.
           (o.setting bits).held at hold e plain
-          ∙ sym (let lt = slice_get_within k.circuit.nets hold.net.0 plain.0 plain.1 in s.shown o.live hold.net.0 (bits_of bits) (omega (arith, lt, words.roots_len)));
+          ∙ sym (let lt = slice_get_within k.circuit.nets hold.net.0 plain.0 plain.1 in s.shown o.live hold.net.0 (bits_of bits) lt);
     };
   }
 
@@ -77,7 +105,7 @@ module _ (k : Comparison) (phase : ℕ) (ready : IsReady k) (w : PhaseWords) (ol
     elements = λ bits e lt. held.shown o.held_live e (bits_of bits) (omega (arith, lt, words.held_len)) ∙ o.elements bits e lt;
   }
 
-  pub open_stays : (care : H) → Stays w.roots old new → Stays w.inputs old new → Stays w.held old new → IsOpen k phase care w old → IsOpen k phase care w new
+  pub open_stays : (care : H) → NetsStay (length k.circuit.nets) w.roots old new → Stays w.inputs old new → Stays w.held old new → IsOpen k phase care w old → IsOpen k phase care w new
   open_stays care roots inputs held o = record {
     care_live = (let live = o.care_live in omega (arith, live, adds.longer));
     care_is = λ bits. adds.kept care.0 o.care_live (bits_of bits) ∙ o.care_is bits;
@@ -120,11 +148,17 @@ module _ (k : Comparison) (phase budget a b : ℕ) (w : PhaseWords) (old new : D
         used = store_used s.used;
       }
 
-  pub searched_next : IsReady k → (care : H) (spots more : List Spot) → Stays w.roots old new → Stays w.inputs old new → Stays w.held old new
+  -- where the words of outputs of whole instances may change
+  pub searched_more : IsReady k → (care : H) (spots more : List Spot) → NetsStay (length k.circuit.nets) w.roots old new → Stays w.inputs old new → Stays w.held old new
       → IsSearched k phase budget a spots care w old → IsClearAt k phase more → IsSearched k phase new.budget (a + b) more care w new
-  searched_next ready care spots more roots inputs held s clear = record {
+  searched_more ready care spots more roots inputs held s clear = record {
     store = store_next s.store;
     opened = open_stays k phase ready w old new s.store.words adds care roots inputs held s.opened;
     met = s.met;
     clear = clear;
   }
+
+  pub searched_next : IsReady k → (care : H) (spots more : List Spot) → Stays w.roots old new → Stays w.inputs old new → Stays w.held old new
+      → IsSearched k phase budget a spots care w old → IsClearAt k phase more → IsSearched k phase new.budget (a + b) more care w new
+  searched_next ready care spots more roots inputs held s clear =
+      searched_more ready care spots more (nets_of (length k.circuit.nets) w.roots old new (let len = s.store.words.roots_len in omega (arith, len)) roots) inputs held s clear

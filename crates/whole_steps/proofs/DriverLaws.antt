@@ -1,76 +1,226 @@
 -- A table of the outputs of whole instances by net: one output more.
-use Rattle.std.proofs.Common.{◌≡◌, ◌≢◌, ℕ, ◌+◌, ◌⊎◌, List, Option, None, Some, length, arith, ap, subst, sym, ◌∙◌, inl, inr}
-use Rattle.std.specs.Prelude.{replicate}
-use Rattle.std.proofs.lemmas.Bool.{cases_eq}
-use Rattle.std.proofs.lemmas.List.{length-replicate}
-use Rattle.std.proofs.lemmas.Option.{none-some, same_Some, slice_get_within}
-use Rattle.vrt_model.proofs.Lists.{one_at}
-use Rattle.vrt_model.specs.Lists.{At}
+use Rattle.std.proofs.Common.{◌≡◌, ◌≢◌, ℕ, ◌+◌, ◌<◌, ◌≤◌, Bool, true, false, List, [], ◌∷◌, ◌++◌, Option, None, Some, length, map, take, arith, ap, refl, subst, sym, ◌∙◌, inl, inr}
+use Rattle.std.specs.Prelude.{flat_map, replicate}
+use Rattle.std.proofs.lemmas.Bool.{cases_eq, false≢true}
+use Rattle.std.proofs.lemmas.Grind.{flat_map-append}
+use Rattle.std.proofs.lemmas.List.{length-append, length-replicate, map-append, take_all}
+use Rattle.std.proofs.lemmas.Option.{slice_get_within}
+use Rattle.vrt_model.proofs.Lists.{at_front, at_last, at_split, one_at, take_one}
+use Rattle.vrt_model.proofs.Members.{at_none}
+use Rattle.vrt_model.specs.Lists.{At, Among, MarksGrow, mark_at}
+use Rattle.vrt_model.specs.Path.{Joins}
+use Rattle.vrt_model.specs.State.{OutputPin, output_pins}
 use Rattle.vrt_model.specs.declared.circuit.Circuit.{Circuit}
+use Rattle.vrt_model.specs.declared.circuit.Device.{Device}
+use Rattle.vrt_model.specs.declared.whole.Drive.TheVariants.{Soft}
 use Rattle.vrt_model.specs.declared.whole.Whole.{Whole}
 use Rattle.vrt_model.specs.declared.whole.WholePin.{WholePin}
 use Rattle.whole_steps.proofs.OutputLaws.{none_at}
-use Rattle.whole_steps.specs.Tables.{AreDrivers, IsBefore, IsOutput, driver_at}
+use Rattle.whole_steps.specs.Tables.{AreMet, AreNoted, IsLast, IsOutput, driver_at, outputs_before, outputs_of}
 use Rattle.whole_steps.specs.declared.table.OutputPlace.{OutputPlace}
 
--- nothing is noted
-pub drivers_none : (c : Circuit) → AreDrivers c (IsBefore 0 0) (replicate (length c.nets) None)
-drivers_none c = record {
-  size = length-replicate {A = Option OutputPlace} (length c.nets) None;
-  sound = λ n place e. absurd (none-some place (sym (none_at (length c.nets) n) ∙ e));
-  full = λ place w pin before is none. elim before [ inl lt ↦ omega (arith, lt) | inr at ↦ (let lt = at.1 in omega (arith, lt)) ];
+-- ---- nets that channels meet
+
+pub met_none : (c : Circuit) → AreMet c 0 (replicate (length c.nets) false)
+met_none c = record {
+  size = length-replicate {A = Bool} (length c.nets) false;
+  left = λ at d lt e. absurd (omega (arith, lt));
+  right = λ at d lt e. absurd (omega (arith, lt));
 }
 
--- the same outputs, in other words
-pub drivers_as : (c : Circuit) (Noted Others : OutputPlace → Type 0) (drivers : List (Option OutputPlace))
-    → ((place : OutputPlace) (w : Whole) (pin : WholePin) → IsOutput c place w pin → Others place → Noted place) → AreDrivers c Noted drivers → AreDrivers c Others drivers
-drivers_as c Noted Others drivers noted d = record { size = d.size; sound = d.sound; full = λ place w pin other is. d.full place w pin (noted place w pin is other) is }
+-- both ends of one device more are marked
+pub met_more : (c : Circuit) (number : ℕ) (d : Device) (old mid new : List Bool) → At c.devices number d → AreMet c number old
+    → length mid ≡ length old → mark_at mid d.left.0 ≡ true → MarksGrow old mid → length new ≡ length mid → mark_at new d.right.0 ≡ true → MarksGrow mid new → AreMet c (number + 1) new
+met_more c number d old mid new here before len left grows len' right grows' = record {
+  size = len' ∙ len ∙ before.size;
+  left = λ at x lt e. elim (cases_eq at number) [
+    | inl same ↦ subst (λ (y : Device). mark_at new y.left.0 ≡ true) (one_at c.devices number d x here (subst (λ (i : ℕ). At c.devices i x) same e)) (grows' d.left.0 left)
+    | inr ne ↦ grows' x.left.0 (grows x.left.0 (before.left at x (omega (arith, lt, ne)) e))
+  ];
+  right = λ at x lt e. elim (cases_eq at number) [
+    | inl same ↦ subst (λ (y : Device). mark_at new y.right.0 ≡ true) (one_at c.devices number d x here (subst (λ (i : ℕ). At c.devices i x) same e)) right
+    | inr ne ↦ grows' x.right.0 (grows x.right.0 (before.right at x (omega (arith, lt, ne)) e))
+  ];
+}
 
-module _ (c : Circuit) (k j : ℕ) (old new : List (Option OutputPlace)) (before : AreDrivers c (IsBefore k j) old) (place : OutputPlace) (whole : place.whole ≡ k) (output : place.output ≡ j)
-    (w : Whole) (pin : WholePin) (is : IsOutput c place w pin) (len : length new ≡ length old) (here : driver_at new pin.net.0 ≡ Some place)
-    (others : (n : ℕ) → n ≢ pin.net.0 → driver_at new n ≡ driver_at old n) where
-  -- one output more
-  pub drivers_more : AreDrivers c (IsBefore k (j + 1)) new
-  drivers_more = record {
-    size = len ∙ before.size;
-    sound = λ n other e. elim (cases_eq n pin.net.0) [
-      | inl same ↦
-          let one : place ≡ other = same_Some place other (sym here ∙ ap (driver_at new) (sym same) ∙ e) in
-          subst (λ (p : OutputPlace). (x : Whole) × (q : WholePin) × IsOutput c p x q × (q.net.0 ≡ n)) one (w, pin, is, sym same)
-      | inr ne ↦ before.sound n other (sym (others n ne) ∙ e)
-    ];
-    full = λ other x q noted there none. elim (cases_eq q.net.0 pin.net.0) [
-      | inl same ↦ none-some place (sym none ∙ ap (driver_at new) same ∙ here)
-      | inr ne ↦ elim (noted_before other noted) [
-        | inl low ↦ before.full other x q low there (sym (others q.net.0 ne) ∙ none)
-        | inr last ↦ ne (same_net other x q there last)
+-- no channel meets a net that is not marked
+pub met_apart : (c : Circuit) (met : List Bool) → AreMet c (length c.devices) met → (n : ℕ) → mark_at met n ≡ false → (d : Device) (m : ℕ) → Among c.devices d → ¬ Joins d m n
+met_apart c met are n off d m among (inl ends) =
+    false≢true (sym off ∙ ap (mark_at met) (sym ends.1) ∙ are.right among.0 d (slice_get_within c.devices among.0 d among.1) among.1)
+met_apart c met are n off d m among (inr ends) =
+    false≢true (sym off ∙ ap (mark_at met) (sym ends.0) ∙ are.left among.0 d (slice_get_within c.devices among.0 d among.1) among.1)
+
+-- ---- outputs
+
+-- nothing is noted
+pub noted_none : (c : Circuit) → AreNoted c [] (replicate (length c.nets) None)
+noted_none c = record {
+  size = (let len = length-replicate {A = Option OutputPlace} (length c.nets) None in let none : length {A = OutputPin} [] ≡ 0 = refl in omega (arith, len, none));
+  are = record {
+    last = λ n lt. subst (IsLast c [] n 0) (sym (none_at (length c.nets) n)) (λ at out e less. absurd (at_none at out e));
+    earlier = λ at out e. absurd (at_none at out e);
+  };
+}
+
+-- what was the last before a number is so still with one more behind
+module _ (c : Circuit) (pins : List OutputPin) (more : OutputPin) where
+  abbrev all : List OutputPin
+  all = pins ++ more ∷ []
+
+  before_there : (bound at : ℕ) (out : OutputPin) → bound ≤ length pins → At all at out → at < bound → At pins at out
+  before_there bound at out le e lt =
+      elim (at_split pins more at out e) [
+        | inl low ↦ low
+        | inr last ↦ absurd (let is = last.0 in omega (arith, is, le, lt))
       ]
-    ];
+
+  output_more : (place : OutputPlace) (out : OutputPin) → place.number ≤ length pins → IsOutput c pins place out → IsOutput c all place out
+  output_more place out le is = record {
+    whole = is.whole;
+    output = is.output;
+    number = at_front pins (more ∷ []) place.number out is.number;
+    free = λ e. (let f = is.free e in record {
+      soft = f.soft;
+      channels = f.channels;
+      first = λ at other there lt. f.first at other (before_there place.number at other le there lt) lt;
+    });
   }
-    where
-      noted_before : (other : OutputPlace) → IsBefore k (j + 1) other → IsBefore k j other ⊎ ((other.whole ≡ k) × (other.output ≡ j))
-      noted_before other (inl low) = inl (inl low)
-      noted_before other (inr at) = elim (cases_eq other.output j) [
-        | inl e ↦ inr (at.0, e)
-        | inr ne ↦ inl (inr (at.0, (let lt = at.1 in omega (arith, lt, ne))))
-      ]
 
-      same_net : (other : OutputPlace) (x : Whole) (q : WholePin) → IsOutput c other x q → (other.whole ≡ k) × (other.output ≡ j) → q.net.0 ≡ pin.net.0
-      same_net other x q there last =
-          let one : x ≡ w = one_at c.wholes place.whole x w (subst (λ (i : ℕ). At c.wholes i x) (last.0 ∙ sym whole) there.whole) is.whole in
-          let same : q ≡ pin = one_at w.outputs place.output q pin
-          (subst (λ (y : Whole). At y.outputs place.output q) one (subst (λ (i : ℕ). At x.outputs i q) (last.1 ∙ sym output) there.output)) is.output in
-          ap (λ (p : WholePin). p.net.0) same
+  pub last_more : (n bound : ℕ) (o : Option OutputPlace) → bound ≤ length pins → IsLast c pins n bound o → IsLast c all n bound o
+  last_more n bound None le none = λ at out e lt. none at out (before_there bound at out le e lt) lt
+  last_more n bound (Some place) le last = (
+    last.0,
+    output_more place last.0 (let lt = last.2 in omega (arith, lt, le)) last.1,
+    last.2,
+    last.3,
+    λ at other e above lt. last.4 at other (before_there bound at other le e lt) above lt,
+  )
 
--- all outputs of an instance are noted
-pub drivers_next : (c : Circuit) (k : ℕ) (w : Whole) (drivers : List (Option OutputPlace)) → At c.wholes k w → AreDrivers c (IsBefore k (length w.outputs)) drivers → AreDrivers c (IsBefore (k + 1) 0) drivers
-drivers_next c k w drivers here = drivers_as c (IsBefore k (length w.outputs)) (IsBefore (k + 1) 0) drivers earlier
-  where
-    earlier : (place : OutputPlace) (x : Whole) (pin : WholePin) → IsOutput c place x pin → IsBefore (k + 1) 0 place → IsBefore k (length w.outputs) place
-    earlier place x pin is (inl low) = elim (cases_eq place.whole k) [
-      | inl e ↦
-          let same : x ≡ w = one_at c.wholes k x w (subst (λ (i : ℕ). At c.wholes i x) e is.whole) here in
-          inr (e, slice_get_within w.outputs place.output pin (subst (λ (y : Whole). At y.outputs place.output pin) same is.output))
-      | inr ne ↦ inl (omega (arith, low, ne))
-    ]
-    earlier place x pin is (inr at) = absurd (let lt = at.1 in omega (arith, lt))
+  -- and up to the next number, where that is at another net
+  pub last_beside : (n : ℕ) (o : Option OutputPlace) → more.pin.net.0 ≢ n → IsLast c pins n (length pins) o → IsLast c all n (length pins + 1) o
+  last_beside n None ne none = λ at out e lt. elim (at_split pins more at out e) [
+    | inl low ↦ none at out low (slice_get_within pins at out low)
+    | inr last ↦ (λ same. ne (ap (λ (x : OutputPin). x.pin.net.0) (sym last.1) ∙ same))
+  ]
+  last_beside n (Some place) ne last = (
+    last.0,
+    output_more place last.0 (let lt = last.2 in omega (arith, lt)) last.1,
+    (let lt = last.2 in omega (arith, lt)),
+    last.3,
+    λ at other e above lt. elim (at_split pins more at other e) [
+      | inl low ↦ last.4 at other low above (slice_get_within pins at other low)
+      | inr end ↦ (λ same. ne (ap (λ (x : OutputPin). x.pin.net.0) (sym end.1) ∙ same))
+    ],
+  )
+
+-- nothing before a number is at the net
+last_none : (c : Circuit) (pins : List OutputPin) (n bound : ℕ) (o : Option OutputPlace) → o ≡ None → IsLast c pins n bound o → (at : ℕ) (out : OutputPin) → At pins at out → at < bound → out.pin.net.0 ≢ n
+last_none c pins n bound o e last = subst (IsLast c pins n bound) e last
+
+-- one output more
+module _ (c : Circuit) (met : List Bool) (are_met : AreMet c (length c.devices) met) (pins : List OutputPin) (old new : List (Option OutputPlace)) (before : AreNoted c pins old)
+    (place : OutputPlace) (more : OutputPin) (whole : At c.wholes place.whole more.whole) (output : At more.whole.outputs place.output more.pin)
+    (number : length c.nets + place.number ≡ length old) (soft : place.free ≡ true → more.pin.drive ≡ Soft) (apart : place.free ≡ true → mark_at met more.pin.net.0 ≡ false)
+    (first : place.free ≡ true → driver_at old more.pin.net.0 ≡ None) (inside : more.pin.net.0 < length c.nets)
+    (len : length new ≡ length old + 1) (here : driver_at new more.pin.net.0 ≡ Some place) (last : driver_at new (length old) ≡ driver_at old more.pin.net.0)
+    (others : (n : ℕ) → n < length old → n ≢ more.pin.net.0 → driver_at new n ≡ driver_at old n) where
+  number_is : place.number ≡ length pins
+  number_is = (let size = before.size in omega (arith, number, size))
+
+  more_there : At (pins ++ more ∷ []) place.number more
+  more_there = subst (λ (i : ℕ). At (pins ++ more ∷ []) i more) (sym number_is) (at_last pins more)
+
+  is_output : IsOutput c (pins ++ more ∷ []) place more
+  is_output = record {
+    whole = whole;
+    output = output;
+    number = more_there;
+    free = λ e. record {
+      soft = soft e;
+      channels = λ d n m. met_apart c met are_met more.pin.net.0 (apart e) d n m;
+      first = λ at other there lt.
+          last_none c (pins ++ more ∷ []) more.pin.net.0 (length pins) (driver_at old more.pin.net.0) (first e)
+          (last_more c pins more more.pin.net.0 (length pins) (driver_at old more.pin.net.0) (omega arith) (before.are.last more.pin.net.0 inside)) at other there (omega (arith, lt, number_is));
+    };
+  }
+
+  longer : length (pins ++ more ∷ []) ≡ length pins + 1
+  longer = length-append pins (more ∷ [])
+
+  at_net : IsLast c (pins ++ more ∷ []) more.pin.net.0 (length (pins ++ more ∷ [])) (Some place)
+  at_net = (
+    more,
+    is_output,
+    omega (arith, number_is, longer),
+    refl,
+    λ at other e above lt. absurd (omega (arith, number_is, longer, above, lt)),
+  )
+
+  pub noted_more : AreNoted c (pins ++ more ∷ []) new
+  noted_more = record {
+    size = (let size = before.size in omega (arith, size, len, longer));
+    are = record {
+      last = λ n lt. elim (cases_eq n more.pin.net.0) [
+        | inl same ↦
+            subst (λ (m : ℕ). IsLast c (pins ++ more ∷ []) m (length (pins ++ more ∷ [])) (driver_at new m)) (sym same)
+            (subst (IsLast c (pins ++ more ∷ []) more.pin.net.0 (length (pins ++ more ∷ []))) (sym here) at_net)
+        | inr ne ↦
+            subst (IsLast c (pins ++ more ∷ []) n (length (pins ++ more ∷ []))) (sym (others n (let size = before.size in omega (arith, lt, size)) ne))
+            (subst (λ (b : ℕ). IsLast c (pins ++ more ∷ []) n b (driver_at old n)) (sym longer)
+            (last_beside c pins more n (driver_at old n) (λ same. ne (sym same)) (before.are.last n lt)))
+      ];
+      earlier = λ at out e. elim (at_split pins more at out e) [
+        | inl low ↦
+            let lt = slice_get_within pins at out low in
+            let size = before.size in
+            let beside : length c.nets + at ≢ more.pin.net.0 = λ same. absurd (omega (arith, same, inside)) in
+            subst (IsLast c (pins ++ more ∷ []) out.pin.net.0 at) (sym (others (length c.nets + at) (omega (arith, lt, size)) beside))
+            (last_more c pins more out.pin.net.0 at (driver_at old (length c.nets + at)) (omega (arith, lt)) (before.are.earlier at out low))
+        | inr end ↦
+            let size = before.size in
+            let at_is = end.0 in
+            let entry : driver_at new (length c.nets + at) ≡ driver_at old more.pin.net.0 = ap (driver_at new) (omega (arith, size, at_is)) ∙ last in
+            let there : IsLast c (pins ++ more ∷ []) more.pin.net.0 (length pins) (driver_at old more.pin.net.0) =
+            last_more c pins more more.pin.net.0 (length pins) (driver_at old more.pin.net.0) (omega arith) (before.are.last more.pin.net.0 inside) in
+            subst (λ (x : OutputPin). IsLast c (pins ++ more ∷ []) x.pin.net.0 at (driver_at new (length c.nets + at))) (sym end.1)
+            (subst (IsLast c (pins ++ more ∷ []) more.pin.net.0 at) (sym entry)
+            (subst (λ (b : ℕ). IsLast c (pins ++ more ∷ []) more.pin.net.0 b (driver_at old more.pin.net.0)) (sym at_is) there))
+      ];
+    };
+  }
+
+-- ---- instance by instance
+
+abbrev pin_of : Whole → WholePin → OutputPin
+pin_of w p = record { whole = w; pin = p }
+
+-- the outputs of an instance before a place
+abbrev pub outputs_to : Circuit → ℕ → Whole → ℕ → List OutputPin
+outputs_to c number w output = outputs_before c number ++ map (λ (p : WholePin). let pin : OutputPin = record { whole = w; pin = p } in pin) (take output w.outputs)
+
+nothing_behind : (xs : List OutputPin) → xs ++ [] ≡ xs
+nothing_behind [] = refl
+nothing_behind (x ∷ xs) = ap (λ (ys : List OutputPin). x ∷ ys) (nothing_behind xs)
+
+joined_twice : (xs ys zs : List OutputPin) → xs ++ (ys ++ zs) ≡ (xs ++ ys) ++ zs
+joined_twice [] ys zs = refl
+joined_twice (x ∷ xs) ys zs = ap (λ (ws : List OutputPin). x ∷ ws) (joined_twice xs ys zs)
+
+pub none_to : (c : Circuit) (number : ℕ) (w : Whole) → outputs_to c number w 0 ≡ outputs_before c number
+none_to c number w = nothing_behind (outputs_before c number)
+
+pub one_to : (c : Circuit) (number : ℕ) (w : Whole) (output : ℕ) (pin : WholePin) → At w.outputs output pin → outputs_to c number w (output + 1) ≡ outputs_to c number w output ++ (record { whole = w; pin = pin }) ∷ []
+one_to c number w output pin here =
+    ap (λ (ps : List WholePin). outputs_before c number ++ map (λ (p : WholePin). let one : OutputPin = record { whole = w; pin = p } in one) ps) (take_one w.outputs output pin here)
+    ∙ ap (λ (os : List OutputPin). outputs_before c number ++ os) (map-append (λ (p : WholePin). let one : OutputPin = record { whole = w; pin = p } in one) (take output w.outputs) (pin ∷ []))
+    ∙ joined_twice (outputs_before c number) (map (λ (p : WholePin). let one : OutputPin = record { whole = w; pin = p } in one) (take output w.outputs)) ((record { whole = w; pin = pin }) ∷ [])
+
+pub all_to : (c : Circuit) (number : ℕ) (w : Whole) (output : ℕ) → At c.wholes number w → length w.outputs ≤ output → outputs_to c number w output ≡ outputs_before c (number + 1)
+all_to c number w output here le =
+    ap (λ (ps : List WholePin). outputs_before c number ++ map (λ (p : WholePin). let one : OutputPin = record { whole = w; pin = p } in one) ps) (take_all output w.outputs le)
+    ∙ ap (λ (os : List OutputPin). outputs_before c number ++ os) (sym (nothing_behind (outputs_of w)))
+    ∙ sym (flat_map-append outputs_of (take number c.wholes) (w ∷ []))
+    ∙ ap (λ (ws : List Whole). flat_map outputs_of ws) (sym (take_one c.wholes number w here))
+
+pub all_outputs : (c : Circuit) (number : ℕ) → length c.wholes ≤ number → outputs_before c number ≡ output_pins c
+all_outputs c number le = ap (λ (ws : List Whole). flat_map outputs_of ws) (take_all number c.wholes le)

@@ -1,6 +1,8 @@
 -- A net with a soft output of a whole instance shows the bit that drives it: it is a source, and no other root of that level is there.
-use Rattle.std.proofs.Common.{◌≡◌, ℕ, Bool, false, List, [], ◌∷◌, length, arith, ap, refl, sym, subst, ◌∙◌, inl, inr}
-use Rattle.std.proofs.lemmas.Bool.{false≢true}
+use Rattle.std.proofs.Common.{◌≡◌, ◌≢◌, ℕ, ◌<◌, Bool, true, false, List, [], ◌∷◌, Option, None, Some, length, arith, ap, refl, sym, subst, ◌∙◌, inl, inr}
+use Rattle.std.specs.Prelude.{option_and_then}
+use Rattle.std.proofs.lemmas.Bool.{cases_Bool, cases_eq, cases_lt, cond-false, cond-true, false≢true}
+use Rattle.std.proofs.lemmas.Option.{none-some, same_Some, slice_get_within}
 use Rattle.vrt_model.proofs.GivenNets.{clear_from_source, source_strength}
 use Rattle.vrt_model.proofs.Laws.{one_strength, shows_from}
 use Rattle.vrt_model.proofs.Lists.{at_map, map_at, one_at}
@@ -8,6 +10,7 @@ use Rattle.vrt_model.proofs.Members.{all_among, at_none}
 use Rattle.vrt_model.proofs.Networks.{network_levels}
 use Rattle.vrt_model.specs.Circuits.{IsHold}
 use Rattle.vrt_model.specs.FlatCircuit.{net_id}
+use Rattle.vrt_model.specs.Known.{IsPlain}
 use Rattle.vrt_model.specs.Lists.{At}
 use Rattle.vrt_model.specs.Networks.{HasLevels, HasRanges, IsSource}
 use Rattle.vrt_model.specs.Path.{Hop, IsPath, IsRoot, Network, Root, end_of, level_of_drive}
@@ -16,10 +19,13 @@ use Rattle.vrt_model.specs.Response.{IsClear, IsStrength, Reaches}
 use Rattle.vrt_model.specs.State.{OutputPin, State, network_of, output_pins}
 use Rattle.vrt_model.specs.declared.circuit.Circuit.{Circuit}
 use Rattle.vrt_model.specs.declared.circuit.FlatNet.{FlatNet}
+use Rattle.vrt_model.specs.declared.ids.Net.{Net}
 use Rattle.vrt_model.specs.declared.whole.Drive.{Drive}
 use Rattle.vrt_model.specs.declared.whole.Whole.{Whole}
 use Rattle.vrt_model.specs.declared.whole.WholePin.{WholePin}
-use Rattle.whole_steps.specs.FreeOutputs.{FreeOutputsShow, HasFreeOutputs}
+use Rattle.whole_steps.specs.FreeOutputs.{FreeOutputsShow, HasFreeOutputs, IsFreeOutput}
+use Rattle.whole_steps.specs.Tables.{AreDrivers, IsFirstFree, IsLast, IsOutput, driver_at, free_at, free_one}
+use Rattle.whole_steps.specs.declared.table.OutputPlace.{OutputPlace}
 
 -- a circuit without whole instances has no outputs
 pub flat_outputs_free : (c : Circuit) → c.wholes ≡ [] → HasFreeOutputs c
@@ -33,13 +39,69 @@ flat_outputs_free c none = record {
     no_pin : (at : ℕ) (out : OutputPin) → At (output_pins c) at out → ⊥
     no_pin at out e = at_none at out (subst (λ (ws : List Whole). At (output_pins (record c { wholes = ws })) at out) none e)
 
+-- an output at a plain net that is marked as free is so
+pub marked_free : (c : Circuit) (drivers : List (Option OutputPlace)) → AreDrivers c (output_pins c) drivers → (n : ℕ) → IsPlain c n → (place : OutputPlace) → free_at drivers n ≡ Some place
+    → (out : OutputPin) × IsOutput c (output_pins c) place out × IsFreeOutput c place.number out × (out.pin.net.0 ≡ n)
+marked_free c drivers are n plain place e = by_entry (driver_at drivers n) e (are.last n (slice_get_within c.nets n plain.0 plain.1))
+  where
+    alone : (p : OutputPlace) (out : OutputPin) → IsOutput c (output_pins c) p out → IsFirstFree c (output_pins c) p.number out → out.pin.net.0 ≡ n
+        → ((at : ℕ) (other : OutputPin) → At (output_pins c) at other → p.number < at → at < length (output_pins c) → other.pin.net.0 ≢ n)
+        → (k : ℕ) (other : OutputPin) → At (output_pins c) k other → out.pin.net ≡ other.pin.net → p.number ≡ k
+    alone p out is free net behind k other there same =
+        let number : other.pin.net.0 ≡ out.pin.net.0 = ap (λ (x : Net). x.0) (sym same) in
+        elim (cases_lt k p.number) [
+          | inl lt ↦ absurd (free.first k other there lt number)
+          | inr ge ↦ elim (cases_eq k p.number) [
+            | inl e ↦ sym e
+            | inr ne ↦ absurd (behind k other there (omega (arith, ge, ne)) (slice_get_within (output_pins c) k other there) (number ∙ net))
+          ]
+        ]
+
+    of_last : (p : OutputPlace) → p.free ≡ true → IsLast c (output_pins c) n (length (output_pins c)) (Some p)
+        → (out : OutputPin) × IsOutput c (output_pins c) p out × IsFreeOutput c p.number out × (out.pin.net.0 ≡ n)
+    of_last p on last =
+        let free = last.1.free on in (
+          last.0,
+          last.1,
+          record {
+            soft = free.soft;
+            plain = subst (IsPlain c) (sym last.3) plain;
+            channels = free.channels;
+            one = alone p last.0 last.1 free last.3 last.4;
+          },
+          last.3,
+        )
+
+    by_mark : (p : OutputPlace) → free_one p ≡ Some place → IsLast c (output_pins c) n (length (output_pins c)) (Some p)
+        → (out : OutputPin) × IsOutput c (output_pins c) place out × IsFreeOutput c place.number out × (out.pin.net.0 ≡ n)
+    by_mark p e last = elim (cases_Bool p.free) [
+      | inl on ↦
+          let same : p ≡ place = same_Some p place (sym (cond-true p.free (Some p) None on) ∙ e) in
+          subst (λ (q : OutputPlace). (out : OutputPin) × IsOutput c (output_pins c) q out × IsFreeOutput c q.number out × (out.pin.net.0 ≡ n)) same (of_last p on last)
+      | inr off ↦ absurd (none-some place (sym (cond-false p.free (Some p) None off) ∙ e))
+    ]
+
+    by_entry : (o : Option OutputPlace) → option_and_then free_one o ≡ Some place → IsLast c (output_pins c) n (length (output_pins c)) o
+        → (out : OutputPin) × IsOutput c (output_pins c) place out × IsFreeOutput c place.number out × (out.pin.net.0 ≡ n)
+    by_entry None e last = absurd (none-some place e)
+    by_entry (Some p) e last = by_mark p e last
+
+-- where all outputs are so, each is
+pub free_each : (c : Circuit) → HasFreeOutputs c → (at : ℕ) (out : OutputPin) → At (output_pins c) at out → IsFreeOutput c at out
+free_each c free at out here = record {
+  soft = free.soft at out here;
+  plain = free.plain at out here;
+  channels = λ d n m. free.channels at out d n here m;
+  one = λ k other there. free.one at k out other here there;
+}
+
 -- a path without hops is its root
 bare_root : (w : Network) (root : Root) (hops : List Hop) → hops ≡ [] → IsPath w root hops → IsClear w root hops → IsRoot w root × (end_of root hops ≡ root.net) × IsStrength w root.net root.level
 bare_root w root [] none p c = (p, refl, c)
 bare_root w root (hop ∷ hops) none p c = absurd (let more = ap (λ (hs : List Hop). length hs) none in omega (arith, more))
 
-module _ (c : Circuit) (which : Bool) (held : ℕ → Bool) (s : State) (ranges : HasRanges c) (free : HasFreeOutputs c)
-    (at : ℕ) (out : OutputPin) (here : At (output_pins c) at out) where
+module _ (c : Circuit) (which : Bool) (held : ℕ → Bool) (s : State) (ranges : HasRanges c)
+    (at : ℕ) (out : OutputPin) (here : At (output_pins c) at out) (free : IsFreeOutput c at out) where
   abbrev w : Network
   w = network_of c which held s
 
@@ -56,7 +118,7 @@ module _ (c : Circuit) (which : Bool) (held : ℕ → Bool) (s : State) (ranges 
   root_here = record { net = n; level = 8; value = s.driven at }
 
   is_root : IsRoot w root_here
-  is_root = inr (inr (at, out.pin, pin_here, refl, ap (λ (d : Drive). level_of_drive 8 d) (sym (free.soft at out here)), refl))
+  is_root = inr (inr (at, out.pin, pin_here, refl, ap (λ (d : Drive). level_of_drive 8 d) (sym free.soft), refl))
 
   -- it is a source
   pub output_source : IsSource w n
@@ -66,7 +128,7 @@ module _ (c : Circuit) (which : Bool) (held : ℕ → Bool) (s : State) (ranges 
   one_value : (root : Root) → IsRoot w root → root.net ≡ n → root.level ≡ 8 → root.value ≡ s.driven at
   one_value root from same top = elim from [
     | inl g ↦
-        let net = free.plain at out here in
+        let net = free.plain in
         let one : g.0 ≡ net.0 = one_at c.nets n g.0 net.0 (subst (λ (m : ℕ). At c.nets m g.0) same g.1) net.1 in
         let plain : is_given g.0.kind ≡ false = ap (λ (k : FlatNet). is_given k.kind) one ∙ ap is_given net.2 in
         absurd (false≢true (sym plain ∙ g.2))
@@ -79,7 +141,7 @@ module _ (c : Circuit) (which : Bool) (held : ℕ → Bool) (s : State) (ranges 
       | inr o ↦
           let from_pin = at_map (λ (q : OutputPin). q.pin) (output_pins c) o.0 o.1 o.2 in
           let net : out.pin.net.0 ≡ from_pin.0.pin.net.0 = sym same ∙ o.3 ∙ ap (λ (p : WholePin). p.net.0) (sym from_pin.2) in
-          let one : at ≡ o.0 = free.one at o.0 out from_pin.0 here from_pin.1 (ap net_id net) in
+          let one : at ≡ o.0 = free.one o.0 from_pin.0 from_pin.1 (ap net_id net) in
           o.5 ∙ ap s.driven (sym one)
     ]
   ]
@@ -93,13 +155,13 @@ module _ (c : Circuit) (which : Bool) (held : ℕ → Bool) (s : State) (ranges 
       sym r.5 ∙ one_value r.0 bare.0 net level
 
 pub free_outputs_show : FreeOutputsShow
-free_outputs_show c which held s ranges free at out here =
+free_outputs_show c which held s ranges at out here free =
     shows_from (network_of c which held s) out.pin.net.0 (s.driven at) (
       record { net = out.pin.net.0; level = 8; value = s.driven at },
       [],
-      is_root c which held s ranges free at out here,
-      source_strength (network_of c which held s) (network_levels c which held s ranges) out.pin.net.0 (output_source c which held s ranges free at out here),
+      is_root c which held s ranges at out here free,
+      source_strength (network_of c which held s) (network_levels c which held s ranges) out.pin.net.0 (output_source c which held s ranges at out here free),
       refl,
       refl,
     )
-    (λ v r. only c which held s ranges free at out here v r)
+    (λ v r. only c which held s ranges at out here free v r)

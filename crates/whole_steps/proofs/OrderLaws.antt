@@ -1,5 +1,5 @@
 -- The orders of the models of whole instances, one more; and with the outputs by net all that is made of the instances.
-use Rattle.std.proofs.Common.{◌≡◌, ℕ, ◌+◌, List, [], ◌∷◌, ◌++◌, length, arith, ap, refl, subst, sym, ◌∙◌, inl, inr}
+use Rattle.std.proofs.Common.{◌≡◌, ℕ, ◌+◌, List, [], ◌∷◌, ◌++◌, length, arith, refl, subst, sym, ◌∙◌, inl, inr}
 use Rattle.std.proofs.lemmas.Bool.{cases_eq}
 use Rattle.std.proofs.lemmas.List.{length-append}
 use Rattle.std.proofs.lemmas.Option.{slice_get_within}
@@ -7,10 +7,11 @@ use Rattle.blif_eval.specs.Plans.{IsPlan}
 use Rattle.blif_eval.specs.declared.plan.ModelPlan.{ModelPlan}
 use Rattle.vrt_model.proofs.Lists.{at_front, at_last, one_at}
 use Rattle.vrt_model.specs.Lists.{Among, At}
+use Rattle.vrt_model.specs.State.{output_pins}
 use Rattle.vrt_model.specs.declared.circuit.Circuit.{Circuit}
 use Rattle.vrt_model.specs.declared.whole.Whole.{Whole}
 use Rattle.whole_steps.specs.Logic.{IsLogicWhole, nothing_known}
-use Rattle.whole_steps.specs.Tables.{AreDrivers, AreOrders, IsBefore, IsWholeTable, driver_at}
+use Rattle.whole_steps.specs.Tables.{AreDrivers, AreOrders, IsWholeTable}
 use Rattle.whole_steps.specs.declared.table.OutputPlace.{OutputPlace}
 use Rattle.std.specs.Prelude.{Option}
 
@@ -31,13 +32,10 @@ orders_more wholes number orders w order here is before = record {
 }
 
 -- the outputs by net and the orders are the table of the whole instances
-pub whole_table : (c : Circuit) (drivers : List (Option OutputPlace)) (orders : List ModelPlan) → AreDrivers c (IsBefore (length c.wholes) 0) drivers → AreOrders c.wholes (length c.wholes) orders
+pub whole_table : (c : Circuit) (drivers : List (Option OutputPlace)) (orders : List ModelPlan) → AreDrivers c (output_pins c) drivers → AreOrders c.wholes (length c.wholes) orders
     → ((w : Whole) → Among c.wholes w → IsLogicWhole w) → IsWholeTable c drivers orders
 whole_table c drivers orders outputs plans logic = record {
-  sound = outputs.sound;
-  full = λ n none driven.
-      outputs.full (record { whole = driven.2.0; output = driven.3.0 }) driven.0 driven.1 (inl (slice_get_within c.wholes driven.2.0 driven.0 driven.2.1))
-      (record { whole = driven.2.1; output = driven.3.1 }) (ap (driver_at drivers) driven.4 ∙ none);
+  outputs = outputs;
   plans = λ k w at. plans.each k w (slice_get_within c.wholes k w at) at;
   logic = logic;
 }

@@ -1,4 +1,4 @@
--- Circuits whose whole instances drive nets that meet gates alone.
+-- Outputs of whole instances that drive nets that meet gates alone.
 use Rattle.std.specs.Prelude.{◌≡◌, ℕ, Bool}
 use Rattle.vrt_model.specs.Known.{IsPlain}
 use Rattle.vrt_model.specs.Lists.{At, Among}
@@ -17,8 +17,15 @@ pub record HasFreeOutputs (c : Circuit) : Type 0 where
   pub channels : (at : ℕ) (out : OutputPin) (d : Device) (n : ℕ) → At (output_pins c) at out → Among c.devices d → ¬ Joins d n out.pin.net.0
   pub one : (at k : ℕ) (out other : OutputPin) → At (output_pins c) at out → At (output_pins c) k other → out.pin.net ≡ other.pin.net → at ≡ k
 
--- The law: such a net shows the bit that drives it, in the bare circuit and in the kept one.
+-- one of them is so
+pub record IsFreeOutput (c : Circuit) (at : ℕ) (out : OutputPin) : Type 0 where
+  pub soft : out.pin.drive ≡ Soft
+  pub plain : IsPlain c out.pin.net.0
+  pub channels : (d : Device) (n : ℕ) → Among c.devices d → ¬ Joins d n out.pin.net.0
+  pub one : (k : ℕ) (other : OutputPin) → At (output_pins c) k other → out.pin.net ≡ other.pin.net → at ≡ k
+
+-- The law: the net of such an output shows the bit that drives it, in the bare circuit and in the kept one.
 abbrev pub FreeOutputsShow : Type 0
 FreeOutputsShow =
-    (c : Circuit) (which : Bool) (held : ℕ → Bool) (s : State) → HasRanges c → HasFreeOutputs c
-    → (at : ℕ) (out : OutputPin) → At (output_pins c) at out → IsResponse (network_of c which held s) out.pin.net.0 (Shows (s.driven at))
+    (c : Circuit) (which : Bool) (held : ℕ → Bool) (s : State) → HasRanges c
+    → (at : ℕ) (out : OutputPin) → At (output_pins c) at out → IsFreeOutput c at out → IsResponse (network_of c which held s) out.pin.net.0 (Shows (s.driven at))

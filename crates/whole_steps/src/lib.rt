@@ -17,4 +17,4 @@ pub use orders::model_orders;
 pub use output::output_bit;
 pub use plan::whole_plan;
 pub use step::write_output;
-pub use table::{OutputPlace, WholeTable, driver_of};
+pub use table::{OutputPlace, WholeTable, driver_of, earlier_of, free_driver};

@@ -1,13 +1,12 @@
-//! A step over an output of a whole instance: the bit that the model gives it is written as that of its net.
+//! The bit of an output of a whole instance, written to the word of the output.
 
 ghost use Rattle.std.specs.Prelude.{◌≡◌, ℕ, ◌≤◌, length, IfOk};
 ghost use Rattle.bdd_core.specs.Store.{IsSpan};
 ghost use Rattle.bdd_core.specs.Words.{IsApart, IsFilled, WritesTwo};
 ghost use Rattle.bdd_ops.specs.Counting.{Counts, IsSpanWithin};
 ghost use Rattle.vrt_model.specs.Networks.{HasRanges};
-ghost use Rattle.vrt_model.specs.declared.whole.Whole.{Whole as WholeValue};
-ghost use Rattle.vrt_model.specs.declared.whole.WholePin.{WholePin as PinValue};
-ghost use Rattle.whole_steps.specs.Tables.{HasModelRoom, IsOutput, IsWholeTable, OutputGives, output_operations};
+ghost use Rattle.vrt_model.specs.State.{OutputPin, output_pins};
+ghost use Rattle.whole_steps.specs.Tables.{HasModelRoom, IsOutput, IsWholeTable, OutputGives, output_operations, output_words};
 ghost use Rattle.whole_steps.specs.Words.{model_words};
 
 use crate::output::output_bit;
@@ -28,14 +27,16 @@ fn words_of(flat: &FlatModel, out: Span) -> Span
     }
 }
 
-/// Writes the bit that the model of a whole instance gives an output in a phase as that of the net at the output, where `gates` has
-/// for each net of the circuit the function of its bit. `out` has the words in which models are evaluated.
+/// Writes the bit that the model of a whole instance gives an output in a phase to the word of the output among `pins`, which begins
+/// with a word for each, where `gates` has for each net of the circuit the function of its bit. `out` has the words in which models
+/// are evaluated.
 ///
-/// Handles from before keep their functions, and words outside `gates` and `out` stay as they are, also where the budget is used up.
+/// Handles from before keep their functions, and words outside those of the outputs and `out` stay as they are, also where the budget
+/// is used up.
 ///
-/// Where the handles of `gates` read only the first `u` variables, so do they afterwards, and at most `2 ^ u * 20 * (s + 1)` nodes are
-/// added, for `s` literals and rows of the model. `Spent` comes only where the budget is less than these with the nodes that were
-/// there.
+/// Where the handles of `gates` and `pins` read only the first `u` variables, so do those of `pins` afterwards, and at most
+/// `2 ^ u * 20 * (s + 1)` nodes are added, for `s` literals and rows of the model. `Spent` comes only where the budget is less than
+/// these with the nodes that were there.
 pub fn write_output(
     store: &mut Store,
     circuit: &Circuit,
@@ -43,19 +44,21 @@ pub fn write_output(
     phase: &Phase,
     place: OutputPlace,
     gates: Span,
+    pins: Span,
     out: Span,
 ) -> Result<(), Spent>
     requires circuit { HasRanges circuit.now }
     requires wholes { IsWholeTable circuit.now wholes.drivers.now wholes.plans.now }
-    requires place { (w : WholeValue) × (pin : PinValue) × IsOutput circuit.now place w pin }
+    requires place { (o : OutputPin) × IsOutput circuit.now (output_pins circuit.now) place o }
     requires gates { IsSpan store.old gates × IsFilled store.old gates × (gates.len ≡ length circuit.now.nets) }
+    requires pins { IsSpan store.old pins × IsFilled store.old pins × (length (output_pins circuit.now) ≤ pins.len) }
     requires out { IsSpan store.old out × HasModelRoom circuit.now out }
-    requires apart { IsApart gates out }
-    ensures writes { WritesTwo gates out store.old store.new }
-    ensures live { IsFilled store.new gates }
-    ensures gives { IfOk result (λ _. (w : WholeValue) (pin : PinValue) → IsOutput circuit.now place w pin → OutputGives phase.now w pin gates store.old store.new) }
-    ensures within { IfOk result (λ _. (u : ℕ) → IsSpanWithin u store.old gates → IsSpanWithin u store.new gates) }
-    ensures counts { (w : WholeValue) (pin : PinValue) → IsOutput circuit.now place w pin → (u : ℕ) → IsSpanWithin u store.old gates → Counts u (output_operations w) store.old store.new result }
+    requires apart { IsApart gates out × IsApart pins out }
+    ensures writes { WritesTwo (output_words circuit.now pins) out store.old store.new }
+    ensures live { IsFilled store.new pins }
+    ensures gives { IfOk result (λ _. (o : OutputPin) → IsOutput circuit.now (output_pins circuit.now) place o → OutputGives phase.now place.number o gates pins store.old store.new) }
+    ensures within { IfOk result (λ _. (u : ℕ) → IsSpanWithin u store.old gates → IsSpanWithin u store.old pins → IsSpanWithin u store.new pins) }
+    ensures counts { (o : OutputPin) → IsOutput circuit.now (output_pins circuit.now) place o → (u : ℕ) → IsSpanWithin u store.old gates → Counts u (output_operations o.whole) store.old store.new result }
 {
     store.sound();
     let whole = whole_at(circuit, place.whole);
@@ -66,6 +69,6 @@ pub fn write_output(
         Ok(bit) => bit,
         Err(spent) => return Err(spent),
     };
-    store.write(gates, pin.net.0, bit.0);
+    store.write(pins, place.number as u32, bit.0);
     Ok(())
 }

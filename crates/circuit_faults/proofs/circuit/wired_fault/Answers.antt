@@ -7,16 +7,18 @@ use Rattle.bdd_ops.proofs.CountingLaws.{counted_more, counted_same, counted_then
 use Rattle.bdd_ops.proofs.WithinLaws.{within_same}
 use Rattle.circuit_faults.proofs.CircuitLaws.{IsSolvedBefore, clear_circuit, solved_all, solved_none, spans_kept}
 use Rattle.circuit_faults.proofs.ClearHere.{clear_here}
-use Rattle.circuit_faults.proofs.CountLaws.{opened_within, reads_variables, roots_within, sum_next, used_counted}
+use Rattle.circuit_faults.proofs.CountLaws.{opened_within, reads_variables, sum_next, used_counted}
 use Rattle.circuit_faults.proofs.StepLaws.{step_clear, step_fault}
-use Rattle.bdd_core.proofs.Frames.{two_first, two_then}
-use Rattle.circuit_faults.specs.Results.{AreClearSteps, first_word}
+use Rattle.circuit_faults.proofs.ThreeSpans.{three_second, three_then}
+use Rattle.circuit_faults.proofs.WiredWork.{wired_gates}
+use Rattle.bdd_core.proofs.Frames.{filled_beside, two_first}
+use Rattle.circuit_faults.specs.Results.{AreClearSteps, first_word, output_span}
 use Rattle.circuit_faults.specs.Steps.{InPhase, in_phase, phase_of}
 use Rattle.circuit_faults.specs.Wholes.{WiredGives, all_operations, wired_operations}
 use Rattle.circuit_faults.specs.declared.net.CircuitFault.{CircuitFault}
 use Rattle.circuit_faults.specs.declared.steps.CircuitStep.{CircuitStep}
 use Rattle.known_nets.specs.KnownTables.{known_at}
-use Rattle.path_fixpoint.proofs.SpendingLaws.{spends_behind, spends_more, spends_value}
+use Rattle.path_fixpoint.proofs.SpendingLaws.{span_beside, spends_behind, spends_more, spends_value}
 use Rattle.circuit_faults.proofs.circuit.wired_fault.Goals as goal
 
 pub loop-place-init : goal.loop-place-init
@@ -28,8 +30,9 @@ loop-place-init c =
     let opened : (n : ℕ) → n < spans.gates.len → word_at new spans.gates n ≡ first_word (known_at w.known n) (word_at old spans.roots n) =
     subst (λ (known : List (Option Bool)). (n : ℕ) → n < spans.gates.len → word_at new spans.gates n ≡ first_word (known_at known n) (word_at old spans.roots n)) c.as_slice.ensures c.write_first_handles.ensures.first in
     record {
-      writes = two_first spans.gates spans.out old new c.write_first_handles.ensures.writes;
+      writes = three_second (output_span w.circuit spans.roots) spans.gates spans.out old new (two_first spans.gates spans.out old new c.write_first_handles.ensures.writes);
       live = c.write_first_handles.ensures.writes.live;
+      roots = filled_beside spans.gates spans.roots old new c.write_first_handles.ensures.writes c.requires.spans.roots_gates c.requires.spans.roots_live;
       solved = λ fixed.
           solved_none w c.args.care spans.roots spans.gates c.requires.wholes.wholes c.requires.observed c.requires.steps c.requires.spans.roots_len c.requires.spans.gates_len old new
           c.requires.spans.roots_live c.write_first_handles.ensures.writes fixed opened;
@@ -37,7 +40,10 @@ loop-place-init c =
           let rest = c.write_first_handles.ensures.rest in
           let nodes : new.nodes ≡ old.nodes = ap (λ (d : Diagrams). d.nodes) rest in (
             counted_same u old new (ap (λ (d : Diagrams). d.budget) rest) nodes,
-            opened_within u spans.roots spans.gates (known_at w.known) old new (omega (arith, c.requires.spans.gates_len, c.requires.spans.roots_len)) nodes opened roots,
+            (
+              opened_within u spans.roots spans.gates (known_at w.known) old new (omega (arith, c.requires.spans.gates_len, c.requires.spans.roots_len)) nodes opened roots,
+              span_beside u spans.gates spans.roots old new c.write_first_handles.ensures.writes c.requires.spans.roots_gates c.requires.spans.roots_live roots,
+            ),
           );
     }
 
@@ -49,34 +55,31 @@ write_first_handles-requires-clause-len c =
 pub check_step-requires-clause-there : goal.check_step-requires-clause-there
 check_step-requires-clause-there c = c.requires.steps.there c.loop-place.place c.step_at-step.result c.step_at-step.ensures
 
-pub check_step-requires-clause-listed : goal.check_step-requires-clause-listed
-check_step-requires-clause-listed c = (c.loop-place.place, c.step_at-step.ensures)
-
 pub check_step-requires-clause-care : goal.check_step-requires-clause-care
 check_step-requires-clause-care c = omega (arith, c.requires.care, c.loop-place.invariant.writes.adds.longer)
 
 pub check_step-requires-clause-spans : goal.check_step-requires-clause-spans
 check_step-requires-clause-spans c =
     spans_kept c.args.phased.circuit.now c.args.phased.parts.now.list c.args.spans.roots c.args.spans.gates c.args.spans.out c.args.store.now c.loop-place.store
-    c.loop-place.invariant.writes c.requires.spans
+    c.loop-place.invariant.writes c.loop-place.invariant.roots c.requires.spans
 
 pub returns-in-Err-clause-writes : goal.returns-in-Err-clause-writes
 returns-in-Err-clause-writes c =
-    two_then c.args.spans.gates c.args.spans.out c.args.store.now c.loop-place.store c.check_step.new.store c.loop-place.invariant.writes c.check_step.ensures.writes
+    three_then (output_span c.args.phased.circuit.now c.args.spans.roots) c.args.spans.gates c.args.spans.out c.args.store.now c.loop-place.store c.check_step.new.store c.loop-place.invariant.writes c.check_step.ensures.writes
 
 pub returns-in-Some-clause-writes : goal.returns-in-Some-clause-writes
 returns-in-Some-clause-writes c =
-    two_then c.args.spans.gates c.args.spans.out c.args.store.now c.loop-place.store c.check_step.new.store c.loop-place.invariant.writes c.check_step.ensures.writes
+    three_then (output_span c.args.phased.circuit.now c.args.spans.roots) c.args.spans.gates c.args.spans.out c.args.store.now c.loop-place.store c.check_step.new.store c.loop-place.invariant.writes c.check_step.ensures.writes
 
 pub returns-in-Some-clause-gives : goal.returns-in-Some-clause-gives
 returns-in-Some-clause-gives c fixed =
     let w : InPhase = in_phase c.args.phased in
     let spans = c.args.spans in
     let step : CircuitStep = c.step_at-step.result in
-    let gives : WiredGives c.args.wholes.drivers.now w c.args.care spans.roots spans.gates c.loop-place.store c.check_step.new.store step (Some c.in-Some.fault) =
-    subst (λ (o : Option CircuitFault). WiredGives c.args.wholes.drivers.now w c.args.care spans.roots spans.gates c.loop-place.store c.check_step.new.store step o) c.in-Some.is c.in-Ok.ensures.gives in
+    let gives : WiredGives c.args.wholes.drivers.now w c.args.care spans.roots spans.gates spans.out c.loop-place.store c.check_step.new.store step (Some c.in-Some.fault) =
+    subst (λ (o : Option CircuitFault). WiredGives c.args.wholes.drivers.now w c.args.care spans.roots spans.gates spans.out c.loop-place.store c.check_step.new.store step o) c.in-Some.is c.in-Ok.ensures.gives in
     step_fault w c.args.wholes.drivers.now c.args.wholes.plans.now c.requires.wholes c.args.care spans.roots spans.gates spans.out c.requires.observed c.requires.steps c.requires.instances c.args.store.now c.requires.spans c.requires.care fixed
-    c.loop-place.place c.loop-place.store c.check_step.new.store c.loop-place.invariant.writes c.loop-place.invariant.live (c.loop-place.invariant.solved fixed)
+    c.loop-place.place c.loop-place.store c.check_step.new.store c.loop-place.invariant.writes c.loop-place.invariant.live c.loop-place.invariant.roots (c.loop-place.invariant.solved fixed)
     step c.step_at-step.ensures c.in-Some.fault gives
 
 pub loop-place-preserved : goal.loop-place-preserved
@@ -88,23 +91,23 @@ loop-place-preserved c =
     let new = c.check_step.new.store in
     let k = c.loop-place.place in
     let step : CircuitStep = c.step_at-step.result in
-    let gives : WiredGives c.args.wholes.drivers.now w c.args.care spans.roots spans.gates old new step None =
-    subst (λ (o : Option CircuitFault). WiredGives c.args.wholes.drivers.now w c.args.care spans.roots spans.gates old new step o) c.in_default.is c.in-Ok.ensures.gives in
+    let gives : WiredGives c.args.wholes.drivers.now w c.args.care spans.roots spans.gates spans.out old new step None =
+    subst (λ (o : Option CircuitFault). WiredGives c.args.wholes.drivers.now w c.args.care spans.roots spans.gates spans.out old new step o) c.in_default.is c.in-Ok.ensures.gives in
     record {
-      writes = two_then spans.gates spans.out first old new c.loop-place.invariant.writes c.check_step.ensures.writes;
+      writes = three_then (output_span w.circuit spans.roots) spans.gates spans.out first old new c.loop-place.invariant.writes c.check_step.ensures.writes;
       live = c.check_step.ensures.live;
+      roots = c.check_step.ensures.roots;
       solved = λ fixed.
           step_clear w c.args.wholes.drivers.now c.args.wholes.plans.now c.requires.wholes c.args.care spans.roots spans.gates spans.out c.requires.observed c.requires.steps c.requires.instances first c.requires.spans c.requires.care fixed
-          k old new c.loop-place.invariant.writes c.loop-place.invariant.live (c.loop-place.invariant.solved fixed)
-          step c.step_at-step.ensures gives (λ h v lt. c.check_step.ensures.writes.adds.kept h lt v);
+          k old new c.loop-place.invariant.writes c.loop-place.invariant.live c.loop-place.invariant.roots (c.loop-place.invariant.solved fixed)
+          step c.step_at-step.ensures gives;
       counted = λ one u care roots.
           let before = c.loop-place.invariant.counted one u care roots in
-          let now = c.in-Ok.ensures.few one u (within_same u (function_of first c.args.care) (function_of old c.args.care) (c.loop-place.invariant.writes.adds.kept c.args.care.0 c.requires.care) care) before.1
-          (roots_within u spans.gates spans.out spans.roots first old c.loop-place.invariant.writes c.requires.spans.roots_gates c.requires.spans.roots_out c.requires.spans.roots_live roots) in
-          let sums = sum_next (wired_operations c.args.wholes.drivers.now w) w.steps k step c.step_at-step.ensures in (
-            counted_more u (sum_by (wired_operations c.args.wholes.drivers.now w) (take k w.steps) + wired_operations c.args.wholes.drivers.now w step) (sum_by (wired_operations c.args.wholes.drivers.now w) (take (k + 1) w.steps)) first new (omega (arith, sums))
-                (counted_then u (sum_by (wired_operations c.args.wholes.drivers.now w) (take k w.steps)) (wired_operations c.args.wholes.drivers.now w step) first old new before.0 now.counts.added),
-            now.within,
+          let now = c.in-Ok.ensures.few one u (within_same u (function_of first c.args.care) (function_of old c.args.care) (c.loop-place.invariant.writes.adds.kept c.args.care.0 c.requires.care) care) before.1.0 before.1.1 in
+          let sums = sum_next (wired_operations w) w.steps k step c.step_at-step.ensures in (
+            counted_more u (sum_by (wired_operations w) (take k w.steps) + wired_operations w step) (sum_by (wired_operations w) (take (k + 1) w.steps)) first new (omega (arith, sums))
+                (counted_then u (sum_by (wired_operations w) (take k w.steps)) (wired_operations w step) first old new before.0 now.counts.added),
+            (now.within.0, now.within.1),
           );
     }
 
@@ -135,13 +138,12 @@ returns-in-Err-clause-few c one u care roots =
     let new = c.check_step.new.store in
     let k = c.loop-place.place in
     let step : CircuitStep = c.step_at-step.result in
-    let sums = sum_next (wired_operations c.args.wholes.drivers.now w) w.steps k step c.step_at-step.ensures in
-    let all = sum_by-take-le (wired_operations c.args.wholes.drivers.now w) w.steps (k + 1) in
+    let sums = sum_next (wired_operations w) w.steps k step c.step_at-step.ensures in
+    let all = sum_by-take-le (wired_operations w) w.steps (k + 1) in
     let before = c.loop-place.invariant.counted one u care roots in
-    let now = c.in-Err.ensures.few one u (within_same u (function_of first c.args.care) (function_of old c.args.care) (c.loop-place.invariant.writes.adds.kept c.args.care.0 c.requires.care) care) before.1
-    (roots_within u spans.gates spans.out spans.roots first old c.loop-place.invariant.writes c.requires.spans.roots_gates c.requires.spans.roots_out c.requires.spans.roots_live roots) in
-    spends_more u spans.gates (sum_by (wired_operations c.args.wholes.drivers.now w) (take k w.steps) + wired_operations c.args.wholes.drivers.now w step) (all_operations c.args.wholes.drivers.now w) first new (Err c.in-Err.spent) (omega (arith, sums, all))
-    (spends_behind u spans.gates (sum_by (wired_operations c.args.wholes.drivers.now w) (take k w.steps)) (wired_operations c.args.wholes.drivers.now w step) first old new (Err c.in-Err.spent) before.0 now)
+    let now = c.in-Err.ensures.few one u (within_same u (function_of first c.args.care) (function_of old c.args.care) (c.loop-place.invariant.writes.adds.kept c.args.care.0 c.requires.care) care) before.1.0 before.1.1 in
+    spends_more u spans.gates (sum_by (wired_operations w) (take k w.steps) + wired_operations w step) (all_operations w) first new (Err c.in-Err.spent) (omega (arith, sums, all))
+    (spends_behind u spans.gates (sum_by (wired_operations w) (take k w.steps)) (wired_operations w step) first old new (Err c.in-Err.spent) before.0 (wired_gates u spans.gates spans.roots (wired_operations w step) old new (Err c.in-Err.spent) now))
 
 pub returns-in-Some-clause-few : goal.returns-in-Some-clause-few
 returns-in-Some-clause-few c one u care roots =
@@ -152,25 +154,24 @@ returns-in-Some-clause-few c one u care roots =
     let new = c.check_step.new.store in
     let k = c.loop-place.place in
     let step : CircuitStep = c.step_at-step.result in
-    let sums = sum_next (wired_operations c.args.wholes.drivers.now w) w.steps k step c.step_at-step.ensures in
-    let all = sum_by-take-le (wired_operations c.args.wholes.drivers.now w) w.steps (k + 1) in
+    let sums = sum_next (wired_operations w) w.steps k step c.step_at-step.ensures in
+    let all = sum_by-take-le (wired_operations w) w.steps (k + 1) in
     let before = c.loop-place.invariant.counted one u care roots in
-    let now = c.in-Ok.ensures.few one u (within_same u (function_of first c.args.care) (function_of old c.args.care) (c.loop-place.invariant.writes.adds.kept c.args.care.0 c.requires.care) care) before.1
-    (roots_within u spans.gates spans.out spans.roots first old c.loop-place.invariant.writes c.requires.spans.roots_gates c.requires.spans.roots_out c.requires.spans.roots_live roots) in
-    spends_value u spans.gates (all_operations c.args.wholes.drivers.now w) first new c.in-Ok.found _
-    (spends_more u spans.gates (sum_by (wired_operations c.args.wholes.drivers.now w) (take k w.steps) + wired_operations c.args.wholes.drivers.now w step) (all_operations c.args.wholes.drivers.now w) first new (Ok c.in-Ok.found) (omega (arith, sums, all))
-    (spends_behind u spans.gates (sum_by (wired_operations c.args.wholes.drivers.now w) (take k w.steps)) (wired_operations c.args.wholes.drivers.now w step) first old new (Ok c.in-Ok.found) before.0 now))
+    let now = c.in-Ok.ensures.few one u (within_same u (function_of first c.args.care) (function_of old c.args.care) (c.loop-place.invariant.writes.adds.kept c.args.care.0 c.requires.care) care) before.1.0 before.1.1 in
+    spends_value u spans.gates (all_operations w) first new c.in-Ok.found _
+    (spends_more u spans.gates (sum_by (wired_operations w) (take k w.steps) + wired_operations w step) (all_operations w) first new (Ok c.in-Ok.found) (omega (arith, sums, all))
+    (spends_behind u spans.gates (sum_by (wired_operations w) (take k w.steps)) (wired_operations w step) first old new (Ok c.in-Ok.found) before.0 (wired_gates u spans.gates spans.roots (wired_operations w step) old new (Ok c.in-Ok.found) now)))
 
 pub returns-clause-few : goal.returns-clause-few
 returns-clause-few c one u care roots =
     let w : InPhase = in_phase c.args.phased in
     let k = c.loop-place.place in
-    let all = sum_by-take-le (wired_operations c.args.wholes.drivers.now w) w.steps k in
+    let all = sum_by-take-le (wired_operations w) w.steps k in
     let before = c.loop-place.invariant.counted one u care roots in
     record {
-      counts = counts_ok u (all_operations c.args.wholes.drivers.now w) c.args.store.now c.loop-place.store _
-          (counted_more u (sum_by (wired_operations c.args.wholes.drivers.now w) (take k w.steps)) (all_operations c.args.wholes.drivers.now w) c.args.store.now c.loop-place.store (omega (arith, all)) before.0);
-      within = before.1;
+      counts = counts_ok u (all_operations w) c.args.store.now c.loop-place.store _
+          (counted_more u (sum_by (wired_operations w) (take k w.steps)) (all_operations w) c.args.store.now c.loop-place.store (omega (arith, all)) before.0);
+      within = before.1.0;
     }
 
 -- every handle reads only the variables of the store
@@ -178,6 +179,6 @@ pub returns-in-Err-clause-spent : goal.returns-in-Err-clause-spent
 returns-in-Err-clause-spent c one =
     let d = c.args.store.now in
     let sound = c.sound.ensures.sound in
-    used_counted d.vars (all_operations c.args.wholes.drivers.now (in_phase c.args.phased)) d c.check_step.new.store (Err c.in-Err.spent)
+    used_counted d.vars (all_operations (in_phase c.args.phased)) d c.check_step.new.store (Err c.in-Err.spent)
     (returns-in-Err-clause-few c one d.vars (reads_variables d c.args.care.0 sound c.requires.care)
     (λ n lt. reads_variables d (word_at d c.args.spans.roots n) sound (c.requires.spans.roots_live n lt))).counts

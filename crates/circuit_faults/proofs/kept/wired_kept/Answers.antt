@@ -7,12 +7,11 @@ use Rattle.bdd_core.specs.Words.{word_at}
 use Rattle.bdd_ops.proofs.CountingLaws.{counts_err, counts_more, counts_then}
 use Rattle.bdd_ops.proofs.WithinLaws.{within_same}
 use Rattle.circuit_faults.proofs.CountLaws.{reads_variables, used_counted}
-use Rattle.circuit_faults.proofs.KeptCases.{keeper_none, keeper_some, kept_gives, kept_idle, kept_part, plain_inside}
-use Rattle.circuit_faults.proofs.Undriven.{soft_inside}
+use Rattle.circuit_faults.proofs.KeptCases.{keeper_none, keeper_some, kept_gives, kept_idle, kept_part, loose_inside}
+use Rattle.circuit_faults.proofs.SoundWholes.{soft_inside}
 use Rattle.circuit_faults.proofs.KeptWords.{gates_within, kept_added, kept_then, spans_later}
-use Rattle.circuit_faults.specs.KeptScans.{IsReachedIn, ReadWithin}
+use Rattle.circuit_faults.specs.KeptScans.{IsInSolved, IsReachedIn, ReadWithin}
 use Rattle.circuit_faults.specs.Operations.{kept_operations, kept_part_operations}
-use Rattle.circuit_faults.specs.Scans.{IsInEarlier}
 use Rattle.channel_parts.specs.declared.part.Part.{Part}
 use Rattle.path_fixpoint.specs.Parts.{IsPart}
 use Rattle.vrt_model.proofs.Members.{at_none}
@@ -23,9 +22,9 @@ use Rattle.circuit_faults.proofs.kept.wired_kept.Goals as goal
 -- ---- without keepers
 
 pub returns-then-not-has_keeper-clause-gives : goal.returns-then-not-has_keeper-clause-gives
-returns-then-not-has_keeper-clause-gives c phase free list fixed clear =
+returns-then-not-has_keeper-clause-gives c phase sound list fixed clear =
     let circuit = c.args.circuit.now in
-    kept_idle circuit phase (mark_at c.args.observed.now) free c.args.wholes.drivers.now c.args.wholes.plans.now c.requires.wholes c.requires.observed.0 c.args.care c.args.spans c.args.store.now fixed clear c.args.store.now
+    kept_idle circuit phase (mark_at c.args.observed.now) sound c.args.wholes.drivers.now c.args.wholes.plans.now c.requires.wholes c.requires.observed.0 c.args.care c.args.spans c.args.store.now fixed clear c.args.store.now
     (keeper_none circuit (subst (λ (ds : List Device). list_any (λ (d : Device). d.keeper) ds ≡ false) c.as_slice.ensures (sym c.has_keeper.ensures ∙ c.if-not-has_keeper.true)))
 
 pub returns-in-Err-clause-idle : goal.returns-in-Err-clause-idle
@@ -44,7 +43,7 @@ solve_parts-requires-clause-parts c =
     (kept_part c.args.circuit.now c.requires.parts.0 c.args.kept.now c.requires.parts.1 c.requires.circuit)
 
 pub solve_parts-requires-clause-soft : goal.solve_parts-requires-clause-soft
-solve_parts-requires-clause-soft c part = soft_inside c.args.circuit.now c.requires.free part
+solve_parts-requires-clause-soft c part = soft_inside c.args.circuit.now c.requires.wired part
 
 pub scan_kept-requires-clause-spans : goal.scan_kept-requires-clause-spans
 scan_kept-requires-clause-spans c =
@@ -54,9 +53,9 @@ pub scan_kept-requires-clause-live : goal.scan_kept-requires-clause-live
 scan_kept-requires-clause-live c n p value =
     let circuit = c.args.circuit.now in
     let list = c.args.kept.now.list in
-    let reached = subst (λ (ps : List Part). (m : ℕ) → IsInEarlier ps (length ps) m → IsReachedIn circuit ps c.args.spans (length ps) c.args.store.now c.solve_parts.new.store m) c.as_slice-2.ensures
+    let reached = subst (λ (ps : List Part). (m : ℕ) → IsInSolved c.args.wholes.drivers.now ps (length ps) m → IsReachedIn circuit ps c.args.spans (length ps) c.args.store.now c.solve_parts.new.store m) c.as_slice-2.ensures
     c.in-Ok.ensures.gives in
-    (reached n (plain_inside circuit c.requires.parts.0 c.args.kept.now c.requires.parts.1 n p.0)).5.live value
+    (reached n (loose_inside circuit c.args.wholes.drivers.now c.args.wholes.plans.now c.requires.wholes c.requires.parts.0 c.args.kept.now c.requires.parts.1 c.requires.circuit n p)).5.live value
 
 -- ---- what is found
 
@@ -67,10 +66,10 @@ returns-clause-writes c =
 pub returns-clause-gives : goal.returns-clause-gives
 returns-clause-gives c =
     let circuit = c.args.circuit.now in
-    let reached = subst (λ (ps : List Part). (m : ℕ) → IsInEarlier ps (length ps) m → IsReachedIn circuit ps c.args.spans (length ps) c.args.store.now c.solve_parts.new.store m) c.as_slice-2.ensures
+    let reached = subst (λ (ps : List Part). (m : ℕ) → IsInSolved c.args.wholes.drivers.now ps (length ps) m → IsReachedIn circuit ps c.args.spans (length ps) c.args.store.now c.solve_parts.new.store m) c.as_slice-2.ensures
     c.in-Ok.ensures.gives in
     if_ok_more _ _ c.scan_kept.result
-    (λ found s phase free list fixed clear. kept_gives circuit phase (mark_at c.args.observed.now) free c.args.wholes.drivers.now c.args.wholes.plans.now c.requires.wholes c.requires.observed.0 c.args.care c.args.spans c.args.store.now fixed clear
+    (λ found s phase sound list fixed clear. kept_gives circuit phase (mark_at c.args.observed.now) sound c.args.wholes.drivers.now c.args.wholes.plans.now c.requires.wholes c.requires.observed.0 c.args.care c.args.spans c.args.store.now fixed clear
     c.requires.observed.1 c.args.kept.now list c.solve_parts.new.store c.requires.spans c.in-Ok.ensures.writes c.requires.care reached c.scan_kept.new.store found s)
     c.scan_kept.ensures.gives
 
@@ -108,12 +107,12 @@ returns-clause-few c one u care gates roots =
     let writes = c.in-Ok.ensures.writes in
     let sums : sum_by (kept_part_operations circuit) slice ≡ sum_by (kept_part_operations circuit) list = ap (λ (ps : List Part). sum_by (kept_part_operations circuit) ps) c.as_slice-2.ensures in
     let solved = c.in-Ok.ensures.few one u gates roots in
-    let within = subst (λ (ps : List Part). ReadWithin u spans (IsInEarlier ps (length ps)) mid) c.as_slice-2.ensures solved.within in
+    let within = subst (λ (ps : List Part). ReadWithin u spans (IsInSolved c.args.wholes.drivers.now ps (length ps)) mid) c.as_slice-2.ensures solved.within in
     counts_more u (sum_by (kept_part_operations circuit) slice + 20 * length circuit.nets) (kept_operations circuit list) old new c.scan_kept.result (omega (arith, sums))
     (counts_then u (sum_by (kept_part_operations circuit) slice) (20 * length circuit.nets) old mid new c.scan_kept.result solved.counts.added
     (c.scan_kept.ensures.few u (within_same u (function_of old c.args.care) (function_of mid c.args.care) (writes.adds.kept c.args.care.0 c.requires.care) care)
     (gates_within circuit list spans old c.requires.spans mid writes u gates)
-    (λ n value p. within n value (plain_inside circuit c.requires.parts.0 c.args.kept.now c.requires.parts.1 n p.0))))
+    (λ n value p. within n value (loose_inside circuit c.args.wholes.drivers.now c.args.wholes.plans.now c.requires.wholes c.requires.parts.0 c.args.kept.now c.requires.parts.1 c.requires.circuit n p))))
 
 pub returns-clause-spent : goal.returns-clause-spent
 returns-clause-spent c one =

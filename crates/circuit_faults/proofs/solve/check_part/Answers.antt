@@ -1,13 +1,11 @@
-use Rattle.std.proofs.Common.{◌≡◌, ℕ, ◌+◌, ◌*◌, Err, ap, arith, length}
+use Rattle.std.proofs.Common.{◌+◌, ◌*◌, Err, arith, length}
 use Rattle.bdd_core.proofs.Results.{if_ok_more}
 use Rattle.bdd_core.specs.Store.{function_of}
 use Rattle.bdd_ops.proofs.CountingLaws.{counts_more}
 use Rattle.bdd_ops.proofs.WithinLaws.{within_same}
 use Rattle.circuit_faults.proofs.PartLaws.{part_gives}
-use Rattle.circuit_faults.specs.Operations.{part_operations}
-use Rattle.path_fixpoint.proofs.SpendingLaws.{span_beside, spends_behind, spends_more, spends_refused}
-use Rattle.path_fixpoint.specs.Parts.{pins_at, pins_of}
-use Rattle.channel_parts.specs.declared.part.Part.{Part}
+use Rattle.circuit_faults.specs.Operations.{kept_part_operations}
+use Rattle.path_fixpoint.proofs.SpendingLaws.{span_beside, spends_behind, spends_refused}
 use Rattle.vrt_model.specs.Lists.{mark_at}
 use Rattle.circuit_faults.proofs.solve.check_part.Goals as goal
 
@@ -18,34 +16,25 @@ returns-clause-gives c =
     c.requires.spans c.requires.care c.in-Ok.ensures.writes c.scan.ensures.writes (c.in-Ok.ensures.reaches c.requires.soft) found s)
     c.scan.ensures.gives
 
--- no output is at the part, so that no operation is for one
-solved_work : (part : Part) (r : ℕ) → r ≡ 0 → 400 * (length part.nets + 1) * (length part.devices + r + 1) + 4 * length part.nets ≡ part_operations part
-solved_work part r none =
-    let same : length part.devices + r + 1 ≡ length part.devices + 1 = omega (arith, none) in
-    ap (λ (k : ℕ). 400 * (length part.nets + 1) * k + 4 * length part.nets) same
-
 pub returns-in-Err-clause-few : goal.returns-in-Err-clause-few
 returns-in-Err-clause-few c one u care gates roots =
     let part = c.args.part.now in
-    let r = pins_at part (pins_of c.args.circuit.now) in
-    let first = 400 * (length part.nets + 1) * (length part.devices + r + 1) in
+    let first = kept_part_operations c.args.circuit.now part in
     let old = c.args.store.now in
     let new = c.solve_part.new.store in
-    spends_refused u c.args.gates (part_operations part) old new c.in-Err.spent
-    (counts_more u first (part_operations part) old new (Err c.in-Err.spent) (omega (arith, solved_work part r c.requires.undriven)) (c.in-Err.ensures.few one u gates roots).counts)
+    spends_refused u c.args.gates (first + 4 * length part.nets) old new c.in-Err.spent
+    (counts_more u first (first + 4 * length part.nets) old new (Err c.in-Err.spent) (omega arith) (c.in-Err.ensures.few one u gates roots).counts)
 
 pub returns-clause-few : goal.returns-clause-few
 returns-clause-few c one u care gates roots =
     let part = c.args.part.now in
-    let r = pins_at part (pins_of c.args.circuit.now) in
-    let first = 400 * (length part.nets + 1) * (length part.devices + r + 1) in
+    let first = kept_part_operations c.args.circuit.now part in
     let old = c.args.store.now in
     let mid = c.solve_part.new.store in
     let new = c.scan.new.store in
     let writes = c.in-Ok.ensures.writes in
     let spans = c.requires.spans in
     let solved = c.in-Ok.ensures.few one u gates roots in
-    spends_more u c.args.gates (first + 4 * length part.nets) (part_operations part) old new c.scan.result (omega (arith, solved_work part r c.requires.undriven))
-    (spends_behind u c.args.gates first (4 * length part.nets) old mid new c.scan.result solved.counts.added
+    spends_behind u c.args.gates first (4 * length part.nets) old mid new c.scan.result solved.counts.added
     (c.scan.ensures.few u (within_same u (function_of old c.args.care) (function_of mid c.args.care) (writes.adds.kept c.args.care.0 c.requires.care) care)
-    (span_beside u c.args.out c.args.gates old mid writes spans.spans.apart spans.spans.gates_live gates) solved.within))
+    (span_beside u c.args.out c.args.gates old mid writes spans.spans.apart spans.spans.gates_live gates) solved.within)
