@@ -17,8 +17,10 @@ from report import Report
 
 FILES = ("c.sp", "m.blif", "r.txt")
 
-# For trials of the simulator alone: with this set to `flat` no instance is left whole.
+# For trials of the simulator alone: with this set to `flat` no instance is left whole, with `levels` also such whose outputs meet channels,
+# which the program does not leave whole.
 LEAVES_WHOLE = os.environ.get("SIMULATED") != "flat"
+TELLS_LEVELS = os.environ.get("SIMULATED") == "levels"
 
 
 def write_files(design, folder):
@@ -67,13 +69,13 @@ class Comparing:
 
     def design(self, design, name, folder):
         """Compares what is printed for a design with what is simulated."""
-        report = Report(design, LEAVES_WHOLE)
+        report = Report(design, LEAVES_WHOLE, TELLS_LEVELS)
         lines = wanted = with_status(report.lines)
         if self.program:
             write_files(design, folder)
             lines = printed(self.program, folder)
         self.verdicts.update(kind_of(line) for line in report.lines)
-        self.wholes.update(designs=report.with_wholes > 0, cells=report.with_wholes, moved=report.moved)
+        self.wholes.update(designs=report.with_wholes > 0, cells=report.with_wholes, exposed=report.exposed, moved=report.moved)
         if lines != wanted or report.wrong:
             print(f"design {name}, files in {keep_files(design, f'simulated-{name}')}")
         if lines != wanted:
@@ -89,8 +91,8 @@ class Comparing:
         """Prints the counts; the last line says how many designs were compared."""
         for verdict, times in sorted(self.verdicts.items()):
             print(f"{times:8} {verdict}")
-        counts = [self.wholes[name] for name in ("designs", "cells", "moved")]
-        print("whole instances: {} designs, {} cells, in {} of them another first fault than in the flat circuit".format(*counts))
+        counts = [self.wholes[name] for name in ("designs", "cells", "exposed", "moved")]
+        print("whole instances: {} designs, {} cells, {} of them with outputs at channels, {} with another first fault than the flat circuit".format(*counts))
         if self.disagreeing:
             print(f"simulated: THE DEFINITIONS DISAGREE on flat circuits and whole instances in {self.disagreeing} designs")
         told = f"{self.wrong} of them not as simulated" if self.wrong else "all as simulated"

@@ -4,7 +4,7 @@ from designs import SUPPLIES
 from simulator import Cycle
 from standing import Agreement
 from verdicts import Comparison, PhaseCheck
-from whole import Inside, Undetermined, left_whole, with_wholes
+from whole import Undetermined, known_cell, left_whole, meets_gates_alone, with_wholes
 
 
 def supply_tie(design, cell, prefix=""):
@@ -27,11 +27,13 @@ class Report:
     too, and each fault that is found with instances left whole is to stand there.
     """
 
-    def __init__(self, design, leaves_whole=True):
+    def __init__(self, design, leaves_whole=True, tells_levels=False):
         self.design = design
         self.leaves_whole = leaves_whole
+        self.tells_levels = tells_levels  # so that instances may be left whole whose outputs meet channels
         self.known = {}  # cells that were found equal and keep nothing
         self.with_wholes = 0  # cells with an instance that is left whole
+        self.exposed = 0  # cells with an output of such an instance that meets more than gates
         self.moved = 0  # cells whose first fault is another one in the flat circuit
         self.wrong = []  # where the circuit with whole instances and the flat circuit disagree
         self.lines = [self.line(cell) for cell in design.order()]
@@ -63,13 +65,14 @@ class Report:
         else:
             told = next((line for line in (check.line() for check in checks) if line), None)
         if told is None and not comparison.circuit.holds and not comparison.model.latches:
-            self.known[comparison.cell] = Inside(comparison)
+            self.known[comparison.cell] = known_cell(comparison, with_wholes(comparison, wholes), self.tells_levels)
         return told or f"cell {comparison.cell} equal"
 
     def line_with_wholes(self, comparison, flat_checks, wholes):
         """The line of a cell with instances left whole, or None where it is equal."""
         self.with_wholes += 1
         checked = with_wholes(comparison, wholes)
+        self.exposed += any(not meets_gates_alone(checked, output) for whole in wholes for output in whole.outputs())
         for flat_check in flat_checks:
             check = PhaseCheck(checked, flat_check.phase, flat_check.next_phase)
             agreement = Agreement(flat_check, check)

@@ -215,8 +215,21 @@ class PhaseCircuit:
         given = [(net, SOURCE_LEVEL, bits[net]) for net in self.given if net in nets]
         given += [(net, self.circuit.holds[net].size, bit) for net, bit in held.items() if net in nets]
         for whole in self.wholes:
-            given += [(net, SOURCE_LEVEL, whole.bit(net, bits)) for net in whole.driven() if net in nets]
+            given += whole.roots(nets, bits)
         return given
+
+    def part_strengths(self, part, bits, held):
+        """The strength of each net of a part, where each gate of its devices has a bit."""
+        return strengths(self.roots(part.touched, bits, held), conducting(part.devices, bits))
+
+    def kept_strengths(self, bits, held):
+        """The strength of each net with the keepers."""
+        return strengths(self.roots(range(len(self.circuit.names)), bits, held), conducting(self.circuit.devices, bits))
+
+    def kept_parts(self):
+        """The nets of each part with the keepers. A device that is known not to conduct joins nothing."""
+        devices = [device for device in self.circuit.devices if device.gate not in self.known or device.conducts(self.known[device.gate])]
+        return joined(self.plain, [device.ends for device in devices])
 
     def part_responses(self, part, bits, held):
         """What the nets of a part show, where each gate of its devices has a bit."""

@@ -84,7 +84,7 @@ class Comparison:
     def in_phase(self, phase):
         """The circuit in a phase; raises Cycle where its gates lead around."""
         bits = {net: phase.bits[clock.name] ^ clock.inverted for net, clock in self.clock_nets.items()}
-        return PhaseCircuit(self.circuit, self.inputs, bits, [whole.in_phase(phase) for whole in self.wholes])
+        return PhaseCircuit(self.circuit, self.inputs, bits, [whole.in_phase(phase, self) for whole in self.wholes])
 
     def is_observed_port(self, port, phase):
         """An output port is compared in the phases of its `observe` line, and in all without one."""

@@ -1,7 +1,7 @@
 """Instances that are left whole, as docs/MODEL.md defines them: which are, how their ports are linked, and what they show.
 
-The model of its cell stands for such an instance, and all that is inside it is left out of the circuit. Nothing here is about
-levels of outputs: an output that meets a channel, or another whole output, is not allowed.
+The model of its cell stands for such an instance, and all that is inside it is left out of the circuit. An output that meets gates alone is a
+source; one that meets a channel, or another output, drives as strongly as its cell always does, where it has a drive at all.
 """
 
 from copy import copy
@@ -9,8 +9,9 @@ from dataclasses import dataclass
 from itertools import product
 
 from designs import SUPPLIES
+from drives import SOFT, drives_of
 from flat import Assignment, FlatCircuit
-from simulator import Cycle
+from simulator import SOURCE_LEVEL, Cycle
 
 
 class Undetermined(Exception):
@@ -26,11 +27,21 @@ class Link:
     is_named: bool
 
 
+@dataclass(frozen=True)
+class Output:
+    """An output of a whole instance: its port, its net, and its drive, a level or soft."""
+
+    port: str
+    net: int
+    drive: object
+
+
 class Inside:
     """A cell that was found equal and keeps nothing, as it is seen from above: what is said of its ports."""
 
-    def __init__(self, comparison):
+    def __init__(self, comparison, drives):
         self.comparison = comparison
+        self.drives = drives  # of the output ports
         self.links_of = {}  # the links in a phase, by its name
 
     def is_allowed(self):
@@ -95,37 +106,43 @@ class Whole:
     inside: Inside
 
     def outputs(self):
-        """The nets of its outputs, as often as there are outputs."""
-        return [self.instance.ports[port] for port in self.inside.comparison.outputs]
+        """Its outputs, with the drives that their cell has."""
+        return [Output(port, self.instance.ports[port], self.inside.drives[port]) for port in self.inside.comparison.outputs]
 
     def observed(self):
         """The nets of the inputs that are observed inside."""
         return {self.instance.ports[port] for port in self.inside.observed_inputs()}
 
-    def in_phase(self, phase):
-        """What it is in a phase."""
-        return WholeInPhase(self, phase)
+    def in_phase(self, phase, comparison):
+        """What it is in a phase, in the circuit of a comparison."""
+        return WholeInPhase(self, phase, comparison)
 
 
 class WholeInPhase:
     """A whole instance in a phase, with what a circuit around asks of it."""
 
-    def __init__(self, whole, phase):
+    def __init__(self, whole, phase, comparison):
         self.inside = whole.inside
         self.ports = whole.instance.ports
         self.phase = phase
-        self.outputs = {self.ports[port]: port for port in self.inside.comparison.outputs}
+        self.outputs = [(output, meets_gates_alone(comparison, output)) for output in whole.outputs()]
 
     def driven(self):
         """The nets of the outputs."""
-        return list(self.outputs)
+        return [output.net for output, _ in self.outputs]
+
+    def roots(self, nets, bits):
+        """Its outputs at some nets as roots: where one meets gates alone, of the level of a source, else of that of its drive."""
+        for output, is_alone in self.outputs:
+            if output.net in nets:
+                yield output.net, SOURCE_LEVEL if is_alone else output.drive, self.bit(output.port, bits)
 
     def links(self):
         """The links of its ports, between the nets of these."""
         return [Link(self.ports[port], self.ports[output], named) for port, output, named in self.inside.links(self.phase)]
 
-    def bit(self, net, bits):
-        """The bit that the model gives the output at a net; an input without a bit is to make no difference."""
+    def bit(self, port, bits):
+        """The bit that the model gives an output; an input without a bit is to make no difference."""
         k = self.inside.comparison
         clocks = k.rules.clocks_of(k.cell)
         nets = {name: self.ports[name] for name in k.model.inputs if name not in clocks}
@@ -135,7 +152,7 @@ class WholeInPhase:
         for values in product((0, 1), repeat=len(missing)):
             full = {**bits, **dict(zip(missing, values))}
             given = {**{name: full[tied] for name, tied in nets.items()}, **carried}
-            shown.add(Assignment(k.model, given, {}).bit(self.outputs[net]))
+            shown.add(Assignment(k.model, given, {}).bit(port))
         if len(shown) > 1:
             raise Undetermined
         return shown.pop()
@@ -157,12 +174,44 @@ def with_wholes(comparison, wholes):
     return changed
 
 
-def are_outputs_free(comparison, whole):
-    """Whether the outputs of a whole instance are plain nets without a charge, with neither channels nor other whole outputs."""
-    ends = {end for device in comparison.circuit.devices for end in device.ends}
-    others = [net for other in comparison.wholes for net in other.outputs()]
+def met_by(comparison, output):
+    """What an output of a whole instance meets beside gates: the levels of devices, and the drives of other outputs."""
+    levels = [device.level for device in comparison.circuit.devices if output.net in device.ends]
+    drives = [other.drive for whole in comparison.wholes for other in whole.outputs() if other.net == output.net]
+    drives.remove(output.drive)
+    return levels, drives
+
+
+def meets_gates_alone(comparison, output):
+    """Whether neither a channel nor another output is at the net of an output."""
+    levels, drives = met_by(comparison, output)
+    return not levels and not drives
+
+
+def is_output_allowed(comparison, output):
+    """Whether an output meets gates alone, or has a level, and meets devices of at most that level and outputs of that very drive."""
+    levels, drives = met_by(comparison, output)
+    if not levels and not drives:
+        return True
+    return output.drive != SOFT and all(level <= output.drive for level in levels) and all(drive == output.drive for drive in drives)
+
+
+def are_outputs_allowed(comparison, whole):
+    """Whether the outputs of a whole instance are plain nets without a charge, and each is allowed."""
     given = set(SUPPLIES.values()) | set(comparison.clock_nets) | set(comparison.inputs) | set(comparison.circuit.holds)
-    return all(net not in given and net not in ends and others.count(net) == 1 for net in whole.outputs())
+    return all(output.net not in given and is_output_allowed(comparison, output) for output in whole.outputs())
+
+
+def known_cell(flat, checked, tells_levels):
+    """What is known of a cell that was found equal and keeps nothing, from its flat and its checked circuit; each drive is soft where no levels are told."""
+    if not tells_levels:
+        return Inside(flat, dict.fromkeys(flat.outputs, SOFT))
+    drives = drives_of(flat, checked)
+    for port, net in checked.outputs.items():
+        standing = [output for whole in checked.wholes for output in whole.outputs() if output.net == net]
+        if drives[port] != SOFT and any(meets_gates_alone(checked, output) for output in standing):
+            drives[port] = standing[0].drive
+    return Inside(flat, drives)
 
 
 def is_acyclic(comparison):
@@ -187,6 +236,6 @@ def left_whole(comparison, known):
             continue
         one = Whole(number, instance, inside)
         tried = with_wholes(comparison, chosen + [one])
-        if are_outputs_free(tried, one) and is_acyclic(tried):
+        if are_outputs_allowed(tried, one) and is_acyclic(tried):
             chosen.append(one)
     return chosen
