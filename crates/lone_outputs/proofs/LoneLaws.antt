@@ -1,6 +1,6 @@
 -- The nets that are neither known nor shared, by counts of parts, are those that are alone; in all phases together these
 -- are the output ports that are alone inside their cell.
-use Rattle.std.proofs.Common.{◌≡◌, ◌≢◌, ◌↔◌, ℕ, zero, suc, ◌<◌, ◌≤◌, Bool, true, false, not, List, length, map, Option, Some, None, arith, ap, refl, sym, subst, ◌∙◌, inl, inr}
+use Rattle.std.proofs.Common.{◌≡◌, ◌≢◌, ◌&&◌, ℕ, ◌<◌, Bool, true, false, not, List, length, map, Option, Some, None, arith, ap, refl, sym, subst, ◌∙◌, inl, inr}
 use Rattle.std.specs.Prelude.{◌==◌, filter, is_none, nat_lt, slice_index}
 use Rattle.std.proofs.lemmas.Bool.{and_from, and_parts, cases_Bool, cases_eq, eq-eqb, eqb-true, false≢true}
 use Rattle.std.proofs.lemmas.Bool.Decides.{nat_tests}
@@ -14,7 +14,7 @@ use Rattle.known_nets.proofs.NetKinds.{is_plain_is, plain_is}
 use Rattle.known_nets.specs.KnownTables.{IsKnownTable, known_at}
 use Rattle.lone_outputs.proofs.FilterCounts.{PassesBeside, other_passes, two_count}
 use Rattle.lone_outputs.proofs.PortPlaces.{outputs_once}
-use Rattle.lone_outputs.specs.Lone.{AreLone, AreOutputNets, IsLone, lone_in_all}
+use Rattle.lone_outputs.specs.Lone.{AreLone, AreOutputNets, IsLone, LoneNetsAreKept, LonePortsAreAlone}
 use Rattle.lone_outputs.specs.Owners.{AreCounts, is_in_part, is_lone, is_shared}
 use Rattle.vrt_model.proofs.Lists.{at_map, map_at, one_at}
 use Rattle.vrt_model.proofs.Ranked.{together_first, together_plain}
@@ -141,35 +141,25 @@ module _ (k : Comparison) (nets : List Net) (are : AreOutputNets k nets) (j : �
         alone.alone phase x.0 lt (i, x.1) (λ e. apart (outputs_once k i j x.0 port x.1 here e)) (subst (IsTogether k.circuit (phase_at k.rules phase) kept port.net) (sym x.2) t);
   }
 
-  -- so the bits of all phases say whether it is
-  pub alone_by_bits : (lone : ℕ → List Bool) → ((phase : ℕ) → phase < length k.rules.phases → AreLone k.circuit (phase_at k.rules phase) numbers (lone phase))
-      → ((phase : ℕ) → phase < length k.rules.phases → mark_at (lone phase) j ≡ true) ↔ IsAloneInside k port
-  alone_by_bits lone bits = (
-    λ marked. alone_from (λ phase lt. ((bits phase lt).each j port.net (net_there j port here)).0 (marked phase lt)),
-    λ alone phase lt. ((bits phase lt).each j port.net (net_there j port here)).1 (alone_then alone phase lt),
-  )
-
--- the marks that are kept in all phases are those of each
-kept_from : (lone : ℕ → List Bool) (last j : ℕ) → lone_in_all lone last j ≡ true → (phase : ℕ) → phase ≤ last → mark_at (lone phase) j ≡ true
-kept_from lone zero j e phase le = subst (λ (p : ℕ). mark_at (lone p) j ≡ true) (omega (arith, le)) e
-kept_from lone (suc last) j e phase le =
-    let both = and_parts (mark_at (lone (suc last)) j) (lone_in_all lone last j) e in
-    elim (cases_eq phase (suc last)) [
-      | inl here ↦ subst (λ (p : ℕ). mark_at (lone p) j ≡ true) (sym here) both.0
-      | inr before ↦ kept_from lone last j both.1 phase (omega (arith, le, before))
-    ]
-
-kept_then : (lone : ℕ → List Bool) (last j : ℕ) → ((phase : ℕ) → phase ≤ last → mark_at (lone phase) j ≡ true) → lone_in_all lone last j ≡ true
-kept_then lone zero j each = each 0 (omega arith)
-kept_then lone (suc last) j each =
-    and_from (mark_at (lone (suc last)) j) (lone_in_all lone last j) (each (suc last) (omega arith)) (kept_then lone last j (λ phase le. each phase (omega (arith, le))))
-
 -- so they say which ports are alone inside their cell
-pub alone_by_kept : (k : Comparison) (nets : List Net) → AreOutputNets k nets → (j : ℕ) (port : CellPort) → At (output_ports k) j port → (lone : ℕ → List Bool)
-    → ((phase : ℕ) → phase < length k.rules.phases → AreLone k.circuit (phase_at k.rules phase) (map (λ (n : Net). n.0) nets) (lone phase)) → (last : ℕ) → length k.rules.phases ≡ suc last
-    → (lone_in_all lone last j ≡ true) ↔ IsAloneInside k port
-alone_by_kept k nets are j port here lone bits last all =
-    let by_bits = alone_by_bits k nets are j port here lone bits in (
-      λ e. by_bits.0 (λ phase lt. kept_from lone last j e phase (omega (arith, lt, all))),
-      λ alone. kept_then lone last j (λ phase le. by_bits.1 alone phase (omega (arith, le, all))),
-    )
+pub ports_alone : LonePortsAreAlone
+ports_alone k nets are j port here = (λ each. alone_from k nets are j port here each, λ alone. alone_then k nets are j port here alone)
+
+-- one phase more
+pub lone_kept : LoneNetsAreKept
+lone_kept k phase nets more old new before here kept = record {
+  count = kept.len ∙ before.count;
+  each = λ j n at.
+      let within = slice_get_within nets j n at in
+      let count = before.count in
+      let bit : mark_at new j ≡ (mark_at more j && mark_at old j) = kept.each j (omega (arith, within, count)) in (
+        λ e.
+            let both = and_parts (mark_at more j) (mark_at old j) (sym bit ∙ e) in
+            λ p lt. elim (cases_eq p phase) [
+              | inl same ↦ subst (λ (q : ℕ). IsLone k.circuit (phase_at k.rules q) nets j n) (sym same) ((here.each j n at).0 both.0)
+              | inr apart ↦ (before.each j n at).0 both.1 p (omega (arith, lt, apart))
+            ],
+        λ has.
+            bit ∙ and_from (mark_at more j) (mark_at old j) ((here.each j n at).1 (has phase (omega arith))) ((before.each j n at).1 (λ p lt. has p (omega (arith, lt)))),
+      );
+}

@@ -8,5 +8,5 @@ mod laws;
 mod lone;
 
 pub use keep::keep_lone;
-pub use laws::lone_ports_are_alone;
+pub use laws::{lone_nets_are_kept, lone_ports_are_alone};
 pub use lone::lone_outputs;
