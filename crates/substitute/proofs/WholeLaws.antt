@@ -5,6 +5,7 @@ use Rattle.std.proofs.lemmas.Bool.{false≢true}
 use mathlib.Core.Path.{fun_ext}
 use Rattle.checked_chain.proofs.EndLaws.{chain_begins_flat}
 use Rattle.checked_cells.proofs.PlacesAlone.{ties_same}
+use Rattle.checked_cells.specs.Given.{AreTrueFacts}
 use Rattle.flat_sizes.proofs.PlaceLaws.{nets_counted}
 use Rattle.flatten.specs.Circuits.{IsFlatCircuit}
 use Rattle.known_nets.proofs.WiredLaws.{flat_wired}
@@ -44,7 +45,7 @@ use Rattle.substitute.proofs.UnderwayLaws.{count, cut_at_chosen}
 use Rattle.substitute.specs.Chosen.{cut_of}
 use Rattle.substitute.specs.Cycles.{IsTriedBy}
 use Rattle.substitute.specs.Underway.{AreChosen, AreChosenBelow, AreTables}
-use Rattle.substitute.specs.Whole.{AreEntriesOf, AreTrueFacts, IsCellGround, IsWholeGround, WholeGives}
+use Rattle.substitute.specs.Whole.{AreEntriesOf, IsCellGround, IsWholeGround, WholeGives}
 use Rattle.substitute.specs.declared.choice.Chosen.{Chosen}
 use Rattle.substitute.specs.declared.tables.Tables.{Tables}
 
@@ -162,7 +163,7 @@ pub cell_ground : (design : Design) (blif : Blif) (rules : Rules) (cell : ℕ) (
 cell_ground design blif rules cell pairing facts flat files there told is = record {
   netlist = record { design = files.netlist; ordered = files.ordered; there = there; ties = ties_same (top_before design rules cell) pairing.ports ∙ is.structured.ties };
   read = record { names = files.names; models = files.models; valid = files.valid };
-  told = told;
+  told = told.told;
   formed = is.formed;
   flat_is = is.is;
 }

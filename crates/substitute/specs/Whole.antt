@@ -49,10 +49,6 @@ pub record IsCellGround (t : Top) (blif : Blif) (facts : List CellFacts) (flat :
   pub formed : IsCircuit flat
   pub flat_is : flat ≡ flat_circuit_of t
 
--- what is told of cells is true
-abbrev pub AreTrueFacts : Design → Blif → Rules → List CellFacts → Type 0
-AreTrueFacts design blif rules facts = (cell : ℕ) (f : CellFacts) → At facts cell f → IsTrueOf design blif rules cell f
-
 -- the checked circuit of a cell whose ports have the roles of a pairing, or what stands in the way of its flat one
 abbrev pub WholeAnswers : Design → Blif → Rules → ℕ → Pairing → List CellFacts → Result Circuit FlatFault → Type 0
 WholeAnswers design blif rules cell pairing facts (Ok c) = (cut : Cut) × (cut.top ≡ whole_of design rules cell pairing.ports) × IsChecked cut blif facts c

@@ -1,11 +1,12 @@
 //! The checked circuit of a cell from nothing but its files and what is known of the cells below it.
 
 ghost use Rattle.std.specs.Prelude.{◌<◌, List, length, IfOk};
+ghost use Rattle.checked_cells.specs.Given.{AreTrueFacts};
 ghost use Rattle.net_places.specs.Whole.{whole_of};
 ghost use Rattle.prepared_tables.specs.Prepared.{ArePrepared};
 ghost use Rattle.vrt_model.specs.declared.pairing.PortRole.{PortRole as RoleValue};
 ghost use Rattle.whole_cells.specs.Own.{AreFiles};
-ghost use Rattle.substitute.specs.Whole.{AreTrueFacts, IsCellGround, WholeAnswers, WholeGives};
+ghost use Rattle.substitute.specs.Whole.{IsCellGround, WholeAnswers, WholeGives};
 
 use crate::with_tables::whole_with;
 use flatten::{FlatFault, flat_with};
