@@ -1,7 +1,6 @@
-pub mod CardLaws
 pub mod Carried
 pub mod CountLaws
-pub mod LastCounts
+pub mod OwnLaws
 pub mod NameLaws
 pub mod PlaceLaws
 pub mod TotalLaws

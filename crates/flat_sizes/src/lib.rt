@@ -1,4 +1,4 @@
-//! How large the flat circuit of a cell is, counted without memory: no instance is unrolled.
+//! How large the flat circuit of a cell is, counted by its cells: no instance is unrolled.
 #![tactic(auto)]
 
 mod counts;

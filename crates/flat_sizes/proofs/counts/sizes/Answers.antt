@@ -5,7 +5,7 @@ use Rattle.flat_sizes.proofs.counts.sizes.Goals as goal
 
 pub returns : goal.returns
 returns c = record {
-  nets = c.all_nets.ensures;
-  devices = c.all_devices.ensures;
-  instances = c.inner_count.ensures ∙ ap carried (sym (instances_counted (top_before c.args.design.now c.args.rules.now c.args.cell)));
+  nets = c.in_ok-all_nets.ensures;
+  devices = c.in_ok-all_devices.ensures;
+  instances = c.in_ok-inner_count.ensures ∙ ap carried (sym (instances_counted (top_before c.args.design.now c.args.rules.now c.args.cell)));
 }
