@@ -1,20 +1,18 @@
 //! The counts of a flat circuit.
 
-ghost use Rattle.std.specs.Prelude.{◌≡◌, ◌<◌, ◌+◌, ◌*◌, IfOk, filter, is_none, length, nat_lt};
+ghost use Rattle.std.specs.Prelude.{◌≡◌, ◌<◌, ◌+◌, ◌*◌, filter, is_none, length, nat_lt};
 ghost use Rattle.flat_sizes.specs.Sizes.{AreSizes};
-ghost use Rattle.flat_sizes.specs.Totals.{AreInside, global_weight, inside, names_inside, weighed, weight_of};
+ghost use Rattle.flat_sizes.specs.Totals.{AreInside, global_weight, inside, names_inside, nets_weight, weighed, weight_of};
 ghost use Rattle.vrt_model.specs.CellRules.{supply_of};
 ghost use Rattle.vrt_model.specs.Comparison.{cell_at};
 ghost use Rattle.vrt_model.specs.FlatCircuit.{flat_devices, flat_nets};
 ghost use Rattle.vrt_model.specs.Inputs.{IsDesign};
-ghost use Rattle.vrt_model.specs.Unrolled.{own_nets};
 ghost use Rattle.vrt_model.specs.Unsupported.{carried, top_before};
 
+use crate::last_mentions::own_count;
 use crate::mentions::{names_global, net_count};
-use crate::own::own_count;
 use crate::totals::cells_inside;
-use std::alloc::Global;
-use vrt_model::{Design, NoMemory, Rules, Text};
+use vrt_model::{Design, Rules, Text};
 
 /// How many nets, devices and instances a flat circuit has; a count past the greatest number is that number.
 #[derive(Clone, Copy, Debug, PartialEq, Eq)]
@@ -39,12 +37,12 @@ pub(crate) enum Counted {
 }
 
 /// How many nets a cell has of its own, none where there is no cell.
-fn nets_of(alloc: Global, design: &Design, rules: &Rules, cell: usize) -> Result<u64, NoMemory>
-    ensures { IfOk result (λ count. count ≡ carried (length (own_nets design.now rules.now (cell_at design.now cell)))) }
+fn nets_of(design: &Design, rules: &Rules, cell: usize) -> u64
+    ensures { result ≡ carried (nets_weight design.now rules.now cell) }
 {
     match design.cells.get(cell) {
-        Some(found) => own_count(alloc, design, rules, found),
-        None => Ok(0),
+        Some(found) => own_count(design, rules, found),
+        None => 0,
     }
 }
 
@@ -59,71 +57,49 @@ fn devices_of(design: &Design, cell: usize) -> u64
 }
 
 /// What a cell counts of its own.
-fn own_weight(
-    alloc: Global,
-    design: &Design,
-    rules: &Rules,
-    cell: usize,
-    counted: Counted,
-) -> Result<u64, NoMemory>
-    ensures { IfOk result (λ weight. weight ≡ carried (weight_of counted design.now rules.now cell)) }
+fn own_weight(design: &Design, rules: &Rules, cell: usize, counted: Counted) -> u64
+    ensures { result ≡ carried (weight_of counted design.now rules.now cell) }
 {
     match counted {
-        Counted::Nets => nets_of(alloc, design, rules, cell),
-        Counted::Devices => Ok(devices_of(design, cell)),
-        Counted::Instances => Ok(1),
+        Counted::Nets => nets_of(design, rules, cell),
+        Counted::Devices => devices_of(design, cell),
+        Counted::Instances => 1,
     }
 }
 
 /// What a cell counts that stands so often. One that stands nowhere is not looked at.
-fn weight_at(
-    alloc: Global,
-    design: &Design,
-    rules: &Rules,
-    cell: usize,
-    counted: Counted,
-    count: u64,
-) -> Result<u64, NoMemory>
-    ensures { IfOk result (λ weight. weight ≡ carried (count * weight_of counted design.now rules.now cell)) }
+fn weight_at(design: &Design, rules: &Rules, cell: usize, counted: Counted, count: u64) -> u64
+    ensures { result ≡ carried (count * weight_of counted design.now rules.now cell) }
 {
     if count == 0 {
-        return Ok(0);
+        return 0;
     }
-    let weight = own_weight(alloc, design, rules, cell, counted)?;
-    Ok(weight.saturating_mul(count))
+    own_weight(design, rules, cell, counted).saturating_mul(count)
 }
 
 /// What cells count that stand so often.
-fn sum_of(
-    alloc: Global,
-    design: &Design,
-    rules: &Rules,
-    counted: Counted,
-    counts: &[u64; 4096],
-) -> Result<u64, NoMemory>
-    ensures { IfOk result (λ sum. sum ≡ carried (weighed (weight_of counted design.now rules.now) 0 counts.now)) }
+fn sum_of(design: &Design, rules: &Rules, counted: Counted, counts: &[u64; 4096]) -> u64
+    ensures { result ≡ carried (weighed (weight_of counted design.now rules.now) 0 counts.now) }
 {
     let mut sum = 0u64;
     for cell in 0..4096usize {
-        let weight = weight_at(alloc, design, rules, cell, counted, counts[cell])?;
-        sum = sum.saturating_add(weight);
+        sum = sum.saturating_add(weight_at(design, rules, cell, counted, counts[cell]));
     }
-    Ok(sum)
+    sum
 }
 
 /// What the cells in a cell count.
 fn inner_count(
-    alloc: Global,
     design: &Design,
     rules: &Rules,
     cell: usize,
     counted: Counted,
     counts: &[u64; 4096],
-) -> Result<u64, NoMemory>
+) -> u64
     requires { AreInside design.now cell counts.now }
-    ensures { IfOk result (λ count. count ≡ carried (inside design.now (weight_of counted design.now rules.now) cell)) }
+    ensures { result ≡ carried (inside design.now (weight_of counted design.now rules.now) cell) }
 {
-    sum_of(alloc, design, rules, counted, counts)
+    sum_of(design, rules, counted, counts)
 }
 
 /// Whether a card of a cell names a global net.
@@ -187,64 +163,71 @@ fn port_count(design: &Design, rules: &Rules, cell: usize) -> usize
     net_count(rules, design.cells.as_slice()[cell].ports.as_slice())
 }
 
-/// How many nets a cell has.
+/// How many nets a cell has, by the own nets of it and of the cells in it.
 fn all_nets(
-    alloc: Global,
     design: &Design,
     rules: &Rules,
     cell: usize,
     counts: &[u64; 4096],
-) -> Result<u64, NoMemory>
+    own: u64,
+    inner: u64,
+) -> u64
     requires there { cell < length design.now.cells }
     requires counts { AreInside design.now cell counts.now }
-    ensures { IfOk result (λ count. count ≡ carried (length (flat_nets (top_before design.now rules.now cell)))) }
+    requires own { own ≡ carried (nets_weight design.now rules.now cell) }
+    requires inner { inner ≡ carried (inside design.now (nets_weight design.now rules.now) cell) }
+    ensures { result ≡ carried (length (flat_nets (top_before design.now rules.now cell))) }
 {
     let ports = port_count(design, rules, cell) as u64;
     let globals = global_count(design, rules, cell, counts) as u64;
-    let own = nets_of(alloc, design, rules, cell)?;
-    let inner = inner_count(alloc, design, rules, cell, Counted::Nets, counts)?;
-    Ok(
-        ports
-            .saturating_add(globals)
-            .saturating_add(own)
-            .saturating_add(inner)
-            .saturating_add(2),
-    )
+    ports
+        .saturating_add(globals)
+        .saturating_add(own)
+        .saturating_add(inner)
+        .saturating_add(2)
 }
 
 /// How many devices a cell has.
-fn all_devices(
-    alloc: Global,
+fn all_devices(design: &Design, rules: &Rules, cell: usize, counts: &[u64; 4096]) -> u64
+    requires { AreInside design.now cell counts.now }
+    ensures { result ≡ carried (length (flat_devices (top_before design.now rules.now cell))) }
+{
+    let inner = inner_count(design, rules, cell, Counted::Devices, counts);
+    devices_of(design, cell).saturating_add(inner)
+}
+
+/// How many nets, devices and instances a cell has, by the own nets of it and of the cells in it.
+pub(crate) fn sizes_by(
     design: &Design,
     rules: &Rules,
     cell: usize,
     counts: &[u64; 4096],
-) -> Result<u64, NoMemory>
-    requires { AreInside design.now cell counts.now }
-    ensures { IfOk result (λ count. count ≡ carried (length (flat_devices (top_before design.now rules.now cell)))) }
+    own: u64,
+    inner: u64,
+) -> FlatSizes
+    requires there { cell < length design.now.cells }
+    requires counts { AreInside design.now cell counts.now }
+    requires own { own ≡ carried (nets_weight design.now rules.now cell) }
+    requires inner { inner ≡ carried (inside design.now (nets_weight design.now rules.now) cell) }
+    ensures { AreSizes (top_before design.now rules.now cell) result }
 {
-    let inner = inner_count(alloc, design, rules, cell, Counted::Devices, counts)?;
-    Ok(devices_of(design, cell).saturating_add(inner))
+    FlatSizes {
+        nets: all_nets(design, rules, cell, counts, own, inner),
+        devices: all_devices(design, rules, cell, counts),
+        instances: inner_count(design, rules, cell, Counted::Instances, counts),
+    }
 }
 
-/// How many nets, devices and instances the flat circuit of a cell has. It unrolls no instance: its time is in proportion
-/// to what the cards of the cells name, and to that times the count of global nets, and grows with the count of cells times
-/// that of cards; its memory to what the cards of one cell name.
-pub fn sizes(
-    alloc: Global,
-    design: &Design,
-    rules: &Rules,
-    cell: u32,
-) -> Result<FlatSizes, NoMemory>
+/// How many nets, devices and instances the flat circuit of a cell has. It takes no memory and unrolls no instance; its
+/// time grows with the square of what the cards of a cell name, and with the count of cells times that of cards.
+pub fn sizes(design: &Design, rules: &Rules, cell: u32) -> FlatSizes
     requires netlist { IsDesign design.now }
     requires there { cell < length design.now.cells }
-    ensures { IfOk result (λ sizes. AreSizes (top_before design.now rules.now cell) sizes) }
+    ensures { AreSizes (top_before design.now rules.now cell) result }
 {
     let cell = cell as usize;
     let counts = cells_inside(design, cell);
-    Ok(FlatSizes {
-        nets: all_nets(alloc, design, rules, cell, &counts)?,
-        devices: all_devices(alloc, design, rules, cell, &counts)?,
-        instances: inner_count(alloc, design, rules, cell, Counted::Instances, &counts)?,
-    })
+    let own = nets_of(design, rules, cell);
+    let inner = inner_count(design, rules, cell, Counted::Nets, &counts);
+    sizes_by(design, rules, cell, &counts, own, inner)
 }

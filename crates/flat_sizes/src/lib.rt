@@ -2,8 +2,11 @@
 #![tactic(auto)]
 
 mod counts;
+mod last_mentions;
+mod linear;
 mod mentions;
 mod own;
 mod totals;
 
 pub use counts::{FlatSizes, sizes};
+pub use linear::sizes_with;

@@ -6,7 +6,7 @@ ghost use Rattle.std.specs.Option.{option_copied};
 ghost use Rattle.flat_sizes.specs.Mentions.{card_nets, mentioned, tied};
 ghost use Rattle.vrt_model.specs.CellRules.{supply_of};
 ghost use Rattle.vrt_model.specs.Lists.{has_name as is_among};
-ghost use Rattle.vrt_model.specs.Unrolled.{is_global_in, mentions};
+ghost use Rattle.vrt_model.specs.Unrolled.{is_global_in, is_own, mentions};
 ghost use Rattle.vrt_model.specs.declared.design.DeviceCard.{DeviceCard as DeviceValue};
 ghost use Rattle.vrt_model.specs.declared.design.InstanceCard.{InstanceCard as InstanceValue};
 ghost use Rattle.vrt_model.specs.declared.rules.SupplyRule.{SupplyRule as RuleValue};
@@ -111,6 +111,15 @@ pub(crate) fn is_mentioned(devices: &[DeviceCard], instances: &[InstanceCard], n
     ensures { result ≡ is_among (mentioned devices.now instances.now) name.now }
 {
     some_device(devices, name) || is_tied(instances, name)
+}
+
+/// Whether a name is a net of the cell's own.
+pub(crate) fn is_own_net(design: &Design, rules: &Rules, cell: &Cell, name: &Text) -> bool
+    ensures { result ≡ is_own design.now rules.now cell.now name.now }
+{
+    !is_supply(rules, name)
+        && !has_name(cell.ports.as_slice(), name)
+        && !has_name(design.globals.as_slice(), name)
 }
 
 /// Whether a name is a global net in a cell.

@@ -16,7 +16,7 @@ use crate::faults::FlatFault;
 use crate::kinds::unrolled_without_kind;
 use crate::net_names::name_nets;
 use crate::ties::tied_apart;
-use flat_sizes::{FlatSizes, sizes};
+use flat_sizes::{FlatSizes, sizes_with};
 use names::Names;
 use rule_index::{ModelTable, RuleIndex, index_of};
 use std::alloc::Global;
@@ -169,7 +169,7 @@ fn test_whole(
     requires there { cell < length design.now.cells }
     ensures { StructureGives (top_before design.now rules.now cell) result }
 {
-    let counts = sizes(alloc, design, rules, cell)?;
+    let counts = sizes_with(alloc, design, rules, cell)?;
     if let Some(count) = first_large(counts) {
         return Err(FlatFault::Limit { count });
     }

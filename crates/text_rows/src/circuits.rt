@@ -2,7 +2,7 @@
 
 ghost use Rattle.vrt_model.specs.Inputs.{AreRules, IsDesign};
 
-use flatten::{FlatFault, FlatSizes, flat, sizes, structure};
+use flatten::{FlatFault, flat, sizes, structure};
 use hierarchy::order;
 use row_script::{Page, number};
 use vrt_model::{
@@ -205,16 +205,6 @@ pub(crate) fn tell_structure(page: &mut Page, design: &Design, rules: &Rules)
     }
 }
 
-/// Tells counts of nets, devices and instances.
-fn tell_counts(page: &mut Page, counts: &FlatSizes) {
-    page.display(&counts.nets);
-    page.word(" nets, ");
-    page.display(&counts.devices);
-    page.word(" devices, ");
-    page.display(&counts.instances);
-    page.word(" instances");
-}
-
 /// Tells how many nets, devices and instances the first cell has.
 pub(crate) fn tell_sizes(page: &mut Page, design: &Design, rules: &Rules)
     requires { IsDesign design.now }
@@ -222,8 +212,11 @@ pub(crate) fn tell_sizes(page: &mut Page, design: &Design, rules: &Rules)
     if design.cells.is_empty() {
         return page.word("no cell");
     }
-    match sizes(page.alloc(), design, rules, 0) {
-        Ok(counts) => tell_counts(page, &counts),
-        Err(_) => page.word("out of memory"),
-    }
+    let counts = sizes(design, rules, 0);
+    page.display(&counts.nets);
+    page.word(" nets, ");
+    page.display(&counts.devices);
+    page.word(" devices, ");
+    page.display(&counts.instances);
+    page.word(" instances");
 }
