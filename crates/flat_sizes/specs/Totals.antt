@@ -53,9 +53,13 @@ AddsAll design level old new = (weight : ℕ → ℕ) → carried (weighed weigh
 
 -- ---- what is counted
 
+-- its nets of its own
+abbrev pub nets_weight : Design → Rules → ℕ → ℕ
+nets_weight design rules k = length (own_nets design rules (cell_at design k))
+
 -- its nets of its own, its devices, or itself
 abbrev pub weight_of : Counted → Design → Rules → ℕ → ℕ
-weight_of Nets design rules k = length (own_nets design rules (cell_at design k))
+weight_of Nets design rules k = nets_weight design rules k
 weight_of Devices design rules k = length (cell_at design k).devices
 weight_of Instances design rules k = 1
 

@@ -2,16 +2,15 @@
 
 ghost use Rattle.std.specs.Prelude.{◌≡◌, ◌<◌, ◌+◌, ◌*◌, filter, is_none, length, nat_lt};
 ghost use Rattle.flat_sizes.specs.Sizes.{AreSizes};
-ghost use Rattle.flat_sizes.specs.Totals.{AreInside, global_weight, inside, names_inside, weighed, weight_of};
+ghost use Rattle.flat_sizes.specs.Totals.{AreInside, global_weight, inside, names_inside, nets_weight, weighed, weight_of};
 ghost use Rattle.vrt_model.specs.CellRules.{supply_of};
 ghost use Rattle.vrt_model.specs.Comparison.{cell_at};
 ghost use Rattle.vrt_model.specs.FlatCircuit.{flat_devices, flat_nets};
 ghost use Rattle.vrt_model.specs.Inputs.{IsDesign};
-ghost use Rattle.vrt_model.specs.Unrolled.{own_nets};
 ghost use Rattle.vrt_model.specs.Unsupported.{carried, top_before};
 
+use crate::last_mentions::own_count;
 use crate::mentions::{names_global, net_count};
-use crate::own::own_count;
 use crate::totals::cells_inside;
 use vrt_model::{Design, Rules, Text};
 
@@ -39,7 +38,7 @@ pub(crate) enum Counted {
 
 /// How many nets a cell has of its own, none where there is no cell.
 fn nets_of(design: &Design, rules: &Rules, cell: usize) -> u64
-    ensures { result ≡ carried (length (own_nets design.now rules.now (cell_at design.now cell))) }
+    ensures { result ≡ carried (nets_weight design.now rules.now cell) }
 {
     match design.cells.get(cell) {
         Some(found) => own_count(design, rules, found),
@@ -164,16 +163,23 @@ fn port_count(design: &Design, rules: &Rules, cell: usize) -> usize
     net_count(rules, design.cells.as_slice()[cell].ports.as_slice())
 }
 
-/// How many nets a cell has.
-fn all_nets(design: &Design, rules: &Rules, cell: usize, counts: &[u64; 4096]) -> u64
+/// How many nets a cell has, by the own nets of it and of the cells in it.
+fn all_nets(
+    design: &Design,
+    rules: &Rules,
+    cell: usize,
+    counts: &[u64; 4096],
+    own: u64,
+    inner: u64,
+) -> u64
     requires there { cell < length design.now.cells }
     requires counts { AreInside design.now cell counts.now }
+    requires own { own ≡ carried (nets_weight design.now rules.now cell) }
+    requires inner { inner ≡ carried (inside design.now (nets_weight design.now rules.now) cell) }
     ensures { result ≡ carried (length (flat_nets (top_before design.now rules.now cell))) }
 {
     let ports = port_count(design, rules, cell) as u64;
     let globals = global_count(design, rules, cell, counts) as u64;
-    let own = nets_of(design, rules, cell);
-    let inner = inner_count(design, rules, cell, Counted::Nets, counts);
     ports
         .saturating_add(globals)
         .saturating_add(own)
@@ -190,6 +196,28 @@ fn all_devices(design: &Design, rules: &Rules, cell: usize, counts: &[u64; 4096]
     devices_of(design, cell).saturating_add(inner)
 }
 
+/// How many nets, devices and instances a cell has, by the own nets of it and of the cells in it.
+pub(crate) fn sizes_by(
+    design: &Design,
+    rules: &Rules,
+    cell: usize,
+    counts: &[u64; 4096],
+    own: u64,
+    inner: u64,
+) -> FlatSizes
+    requires there { cell < length design.now.cells }
+    requires counts { AreInside design.now cell counts.now }
+    requires own { own ≡ carried (nets_weight design.now rules.now cell) }
+    requires inner { inner ≡ carried (inside design.now (nets_weight design.now rules.now) cell) }
+    ensures { AreSizes (top_before design.now rules.now cell) result }
+{
+    FlatSizes {
+        nets: all_nets(design, rules, cell, counts, own, inner),
+        devices: all_devices(design, rules, cell, counts),
+        instances: inner_count(design, rules, cell, Counted::Instances, counts),
+    }
+}
+
 /// How many nets, devices and instances the flat circuit of a cell has. It takes no memory and unrolls no instance; its
 /// time grows with the square of what the cards of a cell name, and with the count of cells times that of cards.
 pub fn sizes(design: &Design, rules: &Rules, cell: u32) -> FlatSizes
@@ -199,9 +227,7 @@ pub fn sizes(design: &Design, rules: &Rules, cell: u32) -> FlatSizes
 {
     let cell = cell as usize;
     let counts = cells_inside(design, cell);
-    FlatSizes {
-        nets: all_nets(design, rules, cell, &counts),
-        devices: all_devices(design, rules, cell, &counts),
-        instances: inner_count(design, rules, cell, Counted::Instances, &counts),
-    }
+    let own = nets_of(design, rules, cell);
+    let inner = inner_count(design, rules, cell, Counted::Nets, &counts);
+    sizes_by(design, rules, cell, &counts, own, inner)
 }

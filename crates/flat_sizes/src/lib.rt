@@ -1,9 +1,12 @@
-//! How large the flat circuit of a cell is, counted without memory: no instance is unrolled.
+//! How large the flat circuit of a cell is, counted by its cells: no instance is unrolled.
 #![tactic(auto)]
 
 mod counts;
+mod last_mentions;
+mod linear;
 mod mentions;
 mod own;
 mod totals;
 
 pub use counts::{FlatSizes, sizes};
+pub use linear::sizes_with;

@@ -2,6 +2,7 @@ pub mod CellFlat
 pub mod CellNets
 pub mod CellTests
 pub mod CircuitLaws
+pub mod FewNames
 pub mod FormLaws
 pub mod HoldNames
 pub mod NetLaws

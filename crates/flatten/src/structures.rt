@@ -1,6 +1,6 @@
 //! What stands in the way of a flat circuit.
 
-ghost use Rattle.std.specs.Prelude.{◌≡◌, ◌<◌, ◌+◌, [], None, length, nat_lt, option_map};
+ghost use Rattle.std.specs.Prelude.{◌≡◌, ◌<◌, ◌≤◌, ◌+◌, ◌*◌, ℕ, [], None, length, nat_lt, option_map};
 ghost use Rattle.flatten.specs.Structures.{CausesGive, StructureGives, TestGives, large_in};
 ghost use Rattle.flatten.specs.Walks.{AreNumbered, card_without_kind, tie_from, top_spot};
 ghost use Rattle.rule_index.specs.Tables.{AreIndexed, supply_in};
@@ -16,11 +16,11 @@ use crate::faults::FlatFault;
 use crate::kinds::unrolled_without_kind;
 use crate::net_names::name_nets;
 use crate::ties::tied_apart;
-use flat_sizes::{FlatSizes, sizes};
+use flat_sizes::{FlatSizes, sizes_with};
 use names::Names;
 use rule_index::{ModelTable, RuleIndex, index_of};
 use std::alloc::Global;
-use vrt_model::{Design, DeviceCard, Rules, Text};
+use vrt_model::{Cell, Design, DeviceCard, Rules, Text};
 
 /// How many nets there are: the two supplies, and those of the names.
 fn net_count(names: &Names) -> usize
@@ -34,6 +34,32 @@ fn is_too_large(count: usize) -> bool
     ensures { result ≡ nat_lt 20000 count }
 {
     count > 20_000
+}
+
+/// How many nets there are at most: the two supplies, and one for each port, for each `.global` name, and for each drain,
+/// gate and source.
+fn most_nets(globals: &[Text], cell: &Cell) -> usize
+    ensures { result ≡ carried (length cell.now.devices * 3 + length cell.now.ports + length globals.now + 2) }
+{
+    cell.devices
+        .len()
+        .saturating_mul(3)
+        .saturating_add(cell.ports.len())
+        .saturating_add(globals.len())
+        .saturating_add(2)
+}
+
+/// Tests the models of devices, where there are few nets.
+fn test_kinds(alloc: Global, models: &ModelTable, cards: &[DeviceCard]) -> Result<(), FlatFault>
+    ensures { (count : ℕ) → count ≤ 20000 → TestGives count models.now cards.now result }
+{
+    match without_kind(models, cards) {
+        Some(card) => {
+            let model = Text::from_bytes(alloc, card.model.as_bytes())?;
+            Err(FlatFault::DeviceModel { model })
+        }
+        None => Ok(()),
+    }
 }
 
 /// Tests the count of nets, then the models of the devices.
@@ -51,16 +77,11 @@ fn test(
             count: count as u64,
         });
     }
-    match without_kind(models, cards) {
-        Some(card) => {
-            let model = Text::from_bytes(alloc, card.model.as_bytes())?;
-            Err(FlatFault::DeviceModel { model })
-        }
-        None => Ok(()),
-    }
+    test_kinds(alloc, models, cards)
 }
 
-/// Tests a cell without instances, by the names of its nets, which are added first.
+/// Tests a cell without instances: by the names of its nets, which are added first, unless there are so few that their
+/// count cannot pass its limit.
 fn structure_by(
     alloc: Global,
     index: &RuleIndex,
@@ -75,8 +96,12 @@ fn structure_by(
     ensures { (rules : RulesValue) → AreIndexed design.now rules index.now → StructureGives (top_before design.now rules cell) result }
 {
     let cell = cell_of(design, cell);
-    name_nets(alloc, names, &index.supplies, design, cell)?;
     let cards = cell.devices.as_slice();
+    let globals = design.globals.as_slice();
+    if !is_too_large(most_nets(globals, cell)) {
+        return test_kinds(alloc, &index.models, cards);
+    }
+    name_nets(alloc, names, &index.supplies, design, cell)?;
     test(alloc, &index.models, names, cards)
 }
 
@@ -144,7 +169,8 @@ fn test_whole(
     requires there { cell < length design.now.cells }
     ensures { StructureGives (top_before design.now rules.now cell) result }
 {
-    if let Some(count) = first_large(sizes(design, rules, cell)) {
+    let counts = sizes_with(alloc, design, rules, cell)?;
+    if let Some(count) = first_large(counts) {
         return Err(FlatFault::Limit { count });
     }
     test_unrolled(alloc, index, design, cell)

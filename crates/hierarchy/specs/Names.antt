@@ -1,5 +1,5 @@
 -- Names in the rules, looked up in tables.
-use Rattle.std.specs.Prelude.{◌≡◌, ℕ, List, [], ◌∷◌, ◌++◌, Bool, false, ◌&&◌, cond, nat_lt, map, filter_map, bytes_eq, position, slice_get, unwrap_or, Option, Some, None, option_map}
+use Rattle.std.specs.Prelude.{◌≡◌, ℕ, List, [], ◌+◌, ◌∷◌, ◌++◌, Bool, false, ◌&&◌, cond, nat_lt, length, map, filter_map, bytes_eq, position, slice_get, unwrap_or, Option, Some, None, option_map}
 use Rattle.vrt_model.specs.Lists.{distinct, has_name}
 use Rattle.vrt_model.specs.Expressions.{names_in as expression_names}
 use Rattle.vrt_model.specs.Hierarchy.{Asked, Missing, asked, first_missing}
@@ -110,3 +110,12 @@ missing_of m = record { line = m.line; name = m.name.now }
 
 abbrev pub missing_in : Option MissingName → Option Missing
 missing_in found = option_map missing_of found
+
+-- ---- lines
+
+-- how many lines name what can be missing
+abbrev pub naming_lines : Rules → ℕ
+naming_lines rules =
+    length rules.strengths + length rules.clockports + length rules.pairs + length rules.ports
+    + length rules.holds + length rules.keepers + length rules.matches + length rules.instance_matches
+    + length rules.enters + length rules.observes + length rules.assumes

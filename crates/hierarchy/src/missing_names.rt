@@ -3,7 +3,8 @@
 ghost use Rattle.std.specs.Prelude.{◌≡◌, IfOk};
 ghost use Rattle.vrt_model.specs.Hierarchy.{missing_name};
 ghost use Rattle.vrt_model.specs.Inputs.{IsDesign};
-ghost use Rattle.hierarchy.specs.Names.{earliest, missing_in, names_before, names_between, names_missing};
+ghost use Rattle.vrt_model.specs.Unsupported.{carried};
+ghost use Rattle.hierarchy.specs.Names.{earliest, missing_in, names_before, names_between, names_missing, naming_lines};
 
 use crate::lines::{
     assume_names, clockport_names, earlier, enter_names, hold_names, instance_match_names,
@@ -47,9 +48,28 @@ fn last_name<'a>(tables: &Tables, rules: &'a Rules) -> Option<MissingName<'a>>
     earlier(first, assume_names(tables, rules.assumes.as_slice()))
 }
 
+/// How many lines name what can be missing.
+fn naming_lines(rules: &Rules) -> usize
+    ensures { result ≡ carried (naming_lines rules.now) }
+{
+    rules
+        .strengths
+        .len()
+        .saturating_add(rules.clockports.len())
+        .saturating_add(rules.pairs.len())
+        .saturating_add(rules.ports.len())
+        .saturating_add(rules.holds.len())
+        .saturating_add(rules.keepers.len())
+        .saturating_add(rules.matches.len())
+        .saturating_add(rules.instance_matches.len())
+        .saturating_add(rules.enters.len())
+        .saturating_add(rules.observes.len())
+        .saturating_add(rules.assumes.len())
+}
+
 /// The first rules line that names a cell, or a device, a net, a port or an instance of one, that the netlist has not, or
 /// that matches or enters a net without a `hold` line; and the first such name on it. The nets of `supply` lines are not
-/// asked. It takes time and memory in proportion to the cards and the rules.
+/// asked. It takes time and memory in proportion to the cards and the rules, and none where no such line is there.
 pub fn missing_name<'a>(
     alloc: Global,
     design: &Design,
@@ -58,6 +78,9 @@ pub fn missing_name<'a>(
     requires { IsDesign design.now }
     ensures { IfOk result (λ found. missing_in found ≡ missing_name design.now rules.entry.now) }
 {
+    if naming_lines(rules) == 0 {
+        return Ok(None);
+    }
     let mut tables = Tables::new(alloc);
     tables.fill(alloc, design, rules)?;
     Ok(last_name(&tables, rules))

@@ -1,16 +1,17 @@
 -- The places at which names stand.
-use Rattle.std.proofs.Common.{◌≡◌, ◌<◌, ◌+◌, ◌∷◌, ◌||◌, [], ℕ, zero, suc, not, List, Bool, true, false, cond, map, nat_lt, length, Some, None, option_map, refl, ap, ap₂, sym, ◌∙◌, arith}
-use Rattle.std.specs.Prelude.{bytes_eq, is_some}
+use Rattle.std.proofs.Common.{◌≡◌, ◌<◌, ◌+◌, ◌∷◌, ◌++◌, ◌||◌, [], ℕ, zero, suc, not, List, Bool, true, false, cond, map, nat_lt, length, get_or, Option, Some, None, option_map, refl, ap, ap₂, sym, ◌∙◌, arith}
+use Rattle.std.specs.Prelude.{bytes_eq, is_some, slice_get}
 use Rattle.std.specs.List.{list_any, position, position_or_len}
 use Rattle.std.proofs.lemmas.Bool.{or_right}
 use Rattle.std.proofs.lemmas.Bool.Decides.{nat_tests}
 use Rattle.std.proofs.lemmas.List.{length-map}
 use Rattle.std.proofs.lemmas.List.Quantifiers.{position-Some}
-use Rattle.std.proofs.lemmas.Option.{same_Some, slice_get_within}
+use Rattle.std.proofs.lemmas.Option.{same_Some, slice_get-get_or, slice_get_within}
 use Rattle.std.proofs.lemmas.Slice.Eq.{bytes_eq-Decides}
 use Rattle.vrt_model.proofs.Tests.{bytes_eq-sym}
 use Rattle.vrt_model.specs.Inputs.{AllApart}
 use Rattle.vrt_model.specs.Lists.{At, has_name}
+use Rattle.names.specs.Names.{with_name}
 use Rattle.names.proofs.ApartLaws.{apart_behind}
 
 -- the first place in a list with one item in front
@@ -112,3 +113,14 @@ any_placed p xs = any_within p xs ∙ by_test (nat_lt (position_or_len p xs) (le
   by_test : (b : Bool) (n : ℕ) → b ≡ is_some (cond b (Some n) None)
   by_test true n = refl
   by_test false n = refl
+
+-- a name that has a place is there, and stands at it
+pub placed_there : (names : List (List ℕ)) (name : List ℕ) (n : ℕ) → position (bytes_eq name) names ≡ Some n → names ≡ with_name names name
+placed_there names name n e =
+    let there : has_name names name ≡ true = any_placed (bytes_eq name) names ∙ ap (λ (o : Option ℕ). is_some o) e in
+    sym (ap (λ (b : Bool). cond b names (names ++ name ∷ [])) there)
+
+pub placed_at : (names : List (List ℕ)) (name : List ℕ) (n : ℕ) → position (bytes_eq name) names ≡ Some n → slice_get names n ≡ Some name
+placed_at names name n e =
+    let found = position-Some (bytes_eq name) names n name e in
+    slice_get-get_or names n name found.0 ∙ ap Some (sym ((bytes_eq-Decides name (get_or names n name)).0 found.1))

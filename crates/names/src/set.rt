@@ -130,9 +130,8 @@ impl Names {
         place_of_key(&self.set, name)
     }
 
-    /// The number of a name, which is added as the last if it is not there. Where memory is wanting, the names are as
-    /// they were.
-    pub fn number(&mut self, name: &[u8]) -> Result<usize, NoMemory>
+    /// Adds a name as the last, unless it is there, and gives its number.
+    fn add(&mut self, name: &[u8]) -> Result<usize, NoMemory>
         ensures names { OnOk result (self.new ≡ with_name self.old name.now) }
         ensures place { IfOk result (λ n. slice_get self.new n ≡ Some name.now) }
         ensures err { OnErr result (self.new ≡ self.old) }
@@ -141,6 +140,19 @@ impl Names {
             return Err(NoMemory);
         };
         add_key(&mut self.set, key)
+    }
+
+    /// The number of a name, which is added as the last if it is not there. Where memory is wanting, the names are as
+    /// they were. A name that is there takes no memory.
+    pub fn number(&mut self, name: &[u8]) -> Result<usize, NoMemory>
+        ensures names { OnOk result (self.new ≡ with_name self.old name.now) }
+        ensures place { IfOk result (λ n. slice_get self.new n ≡ Some name.now) }
+        ensures err { OnErr result (self.new ≡ self.old) }
+    {
+        if let Some(place) = self.place(name) {
+            return Ok(place);
+        }
+        self.add(name)
     }
 
     /// Adds those of some names that are not there, in their order.

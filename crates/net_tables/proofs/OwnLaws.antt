@@ -1,16 +1,24 @@
 -- Own nets that are gathered in groups.
-use Rattle.std.proofs.Common.{◌≡◌, ◌<◌, ◌≤◌, ◌+◌, ◌++◌, ◌∷◌, [], ℕ, List, Option, Some, None, cond, filter, flat_map, length, drop, get_or, refl, ap, ap₂, sym, ◌∙◌}
+use Rattle.std.proofs.Common.{◌≡◌, ◌<◌, ◌≤◌, ◌+◌, ◌++◌, ◌∷◌, [], ℕ, List, Bool, true, Option, Some, None, cond, filter, flat_map, length, drop, get_or, refl, ap, ap₂, sym, ◌∙◌}
 use Rattle.std.specs.Prelude.{is_none}
 use Rattle.std.proofs.lemmas.List.{drop_all, drop_more}
 use Rattle.names.specs.Names.{with_name, with_names}
 use Rattle.net_tables.specs.Names.{with_own, with_owns}
 use Rattle.net_tables.specs.declared.types.CellNet.{CellNet}
+use Rattle.vrt_model.specs.Lists.{has_name}
 
 module _ (other : List ℕ → Option CellNet) where
   -- more names, and more behind them
   with_owns-append : (names xs ys : List (List ℕ)) → with_owns other names (xs ++ ys) ≡ with_owns other (with_owns other names xs) ys
   with_owns-append names [] ys = refl
   with_owns-append names (x ∷ xs) ys = with_owns-append (with_own other names x) xs ys
+
+  -- a name that is there adds none
+  pub own_there : (names : List (List ℕ)) (name : List ℕ) → has_name names name ≡ true → names ≡ with_own other names name
+  own_there names name there = by_test (other name) where
+    by_test : (o : Option CellNet) → names ≡ elim o [ None ↦ with_name names name | Some net ↦ names ]
+    by_test None = sym (ap (λ (b : Bool). cond b names (names ++ name ∷ [])) there)
+    by_test (Some net) = refl
 
   -- those of some names that are nothing else, each once
   pub owns_are : (names xs : List (List ℕ)) → with_owns other names xs ≡ with_names names (filter (λ name. is_none (other name)) xs)

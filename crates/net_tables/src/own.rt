@@ -9,7 +9,7 @@ use crate::shared::SharedNames;
 use names::Names;
 use vrt_model::{Cell, DeviceCard, InstanceCard, NoMemory, Text};
 
-/// Adds a name, the last, unless it is there or is no own net.
+/// Adds a name, the last, unless it is there or is no own net. One that is there is looked up once.
 fn add_name(
     own: &mut Names,
     shared: &SharedNames,
@@ -18,6 +18,9 @@ fn add_name(
 ) -> Result<(), NoMemory>
     ensures { OnOk result (own.new ≡ with_own (shared_in shared.now ports.now) own.old name.now) }
 {
+    if own.contains(name) {
+        return Ok(());
+    }
     if shared.net(ports, name).is_none() {
         own.number(name)?;
     }

@@ -1,5 +1,5 @@
 -- How many words a card has: no more than its text has bytes, and a few.
-use Rattle.std.proofs.Common.{◌≡◌, ◌≤◌, ◌<◌, ◌+◌, ◌-◌, ◌++◌, ◌∷◌, ◌==◌, [], ℕ, List, Bool, true, false, cond, map, flat_map, take, length, refl, ap, sym, ◌∙◌, arith}
+use Rattle.std.proofs.Common.{◌≡◌, ◌≤◌, ◌<◌, ◌+◌, ◌-◌, ◌++◌, ◌∷◌, ◌==◌, [], ℕ, suc, List, Bool, true, false, cond, map, flat_map, take, length, refl, ap, sym, ◌∙◌, arith}
 use Rattle.std.specs.Prelude.{codes, filter, All}
 use Rattle.std.specs.List.{enumerate_from, join_with_byte, onto_first, slice_index, slice_split}
 use Rattle.std.specs.Str.Lines.{lines_of_parts, strip_carriage_return}
@@ -100,6 +100,28 @@ end_shorter (x ∷ xs) = by_test (is_blank_line (x ∷ xs)) (end_shorter xs) whe
   by_test : (b : Bool) → length (unpadded xs) ≤ length xs → length (cond b [] (x ∷ unpadded xs)) ≤ length (x ∷ xs)
   by_test true h = omega arith
   by_test false h = omega (arith, h)
+
+-- a part from which nothing is taken
+front_same : (xs : List ℕ) → length (without_blanks xs) ≡ length xs → without_blanks xs ≡ xs
+front_same [] e = refl
+front_same (x ∷ xs) e = by_test (is_blank x) e where
+  by_test : (b : Bool) → length (cond b (without_blanks xs) (x ∷ xs)) ≡ suc (length xs) → cond b (without_blanks xs) (x ∷ xs) ≡ x ∷ xs
+  by_test true h = absurd (omega (arith, h, front_shorter xs))
+  by_test false h = refl
+
+end_same : (xs : List ℕ) → length (unpadded xs) ≡ length xs → unpadded xs ≡ xs
+end_same [] e = refl
+end_same (x ∷ xs) e = by_test (is_blank_line (x ∷ xs)) e (end_same xs) where
+  by_test : (b : Bool) → length (cond b [] (x ∷ unpadded xs)) ≡ suc (length xs) → (length (unpadded xs) ≡ length xs → unpadded xs ≡ xs) → cond b [] (x ∷ unpadded xs) ≡ x ∷ xs
+  by_test true h more = absurd (omega (arith, h))
+  by_test false h more = ap (λ (ys : List ℕ). x ∷ ys) (more (omega (arith, h)))
+
+pub trimmed_same : (xs part : List ℕ) → part ≡ trimmed xs → length part ≡ length xs → trimmed xs ≡ xs
+trimmed_same xs part is e =
+    let size : length part ≡ length (trimmed xs) = ap (λ (ys : List ℕ). length ys) is in
+    let back = end_shorter (without_blanks xs) in
+    let front = front_shorter xs in
+    end_same (without_blanks xs) (omega (arith, e, size, back, front)) ∙ front_same xs (omega (arith, e, size, back, front))
 
 continued_shorter : (line : ℕ × List ℕ) → length (continued line) ≤ length line.1 + 1
 continued_shorter line =

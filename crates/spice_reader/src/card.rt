@@ -1,6 +1,6 @@
 //! A card, and what the bytes of its lines are.
 
-ghost use Rattle.std.specs.Prelude.{ℕ, List, Some, None, ◌≡◌, ◌<◌, ◌+◌, ◌++◌, ◌∷◌, [], length, map, IfOk, IfSome, IfNone, OnOk};
+ghost use Rattle.std.specs.Prelude.{ℕ, List, Some, None, ◌≡◌, ◌<◌, ◌+◌, ◌++◌, ◌∷◌, [], true, length, map, IfOk, IfSome, IfNone, OnOk};
 ghost use Rattle.spice_reader.specs.Cards.{joined_at_equals, trimmed, card_words, card_from};
 
 use crate::card_words::CardWords;
@@ -75,6 +75,16 @@ fn add_joined(out: &mut Text, text: &[u8]) -> Result<(), NoMemory>
     out.extend(without_blanks_around(rest))
 }
 
+/// Whether nothing is to be taken out of bytes: no `=` stands among them, and no blank at their ends.
+fn is_whole(text: &[u8]) -> bool
+    ensures { result ≡ true → joined_at_equals text.now ≡ text.now }
+{
+    match cut_equals(text) {
+        Some(_) => false,
+        None => without_blanks_around(text).len() == text.len(),
+    }
+}
+
 /// The words of the bytes of a card.
 #[tactic(auto, unfolding(crate::specs::Cards::card_words))]
 fn words_of_card(alloc: Global, bytes: &[u8]) -> Result<CardWords, NoMemory>
@@ -82,6 +92,9 @@ fn words_of_card(alloc: Global, bytes: &[u8]) -> Result<CardWords, NoMemory>
 {
     let mut lower = Text::new(alloc);
     add_lowered(&mut lower, bytes)?;
+    if is_whole(lower.as_bytes()) {
+        return CardWords::of_line(alloc, lower);
+    }
     let mut joined = Text::new(alloc);
     add_joined(&mut joined, lower.as_bytes())?;
     CardWords::of_line(alloc, joined)

@@ -1,7 +1,7 @@
 use Rattle.std.proofs.Common.{◌∙◌, ap, sym}
 use Rattle.flat_sizes.proofs.PlaceLaws.{instances_counted}
 use Rattle.vrt_model.specs.Unsupported.{carried, top_before}
-use Rattle.flat_sizes.proofs.counts.sizes.Goals as goal
+use Rattle.flat_sizes.proofs.counts.sizes_by.Goals as goal
 
 pub returns : goal.returns
 returns c = record {

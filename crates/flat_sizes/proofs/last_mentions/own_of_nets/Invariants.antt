@@ -2,7 +2,7 @@ use Rattle.std.proofs.Common.{◌≡◌, ◌+◌, ◌++◌, length}
 use Rattle.flat_sizes.specs.Mentions.{last_count, tied}
 use Rattle.vrt_model.specs.Unrolled.{is_own}
 use Rattle.vrt_model.specs.Unsupported.{carried}
-use Rattle.flat_sizes.proofs.own.own_of_nets.Given as goal
+use Rattle.flat_sizes.proofs.last_mentions.own_of_nets.Given as goal
 
 -- the count so far, with that of the nets that are left
 abbrev pub invariant-nets : goal.invariant-nets
