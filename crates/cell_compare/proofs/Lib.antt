@@ -7,6 +7,7 @@ pub mod GroundLaws
 pub mod InstanceLaws
 pub mod PairedInputs
 pub mod Passing
+pub mod PortLaws
 pub mod ReadyLaws
 pub mod SizeLaws
 pub mod StepLaws

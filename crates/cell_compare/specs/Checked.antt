@@ -1,9 +1,9 @@
 -- What is told of a comparison whose checked circuit is looked through.
-use Rattle.std.specs.Prelude.{◌≡◌, ℕ, ◌+◌, ◌*◌, ◌⊎◌, ◌&&◌, Bool, true, false, List, length, nat_lt, Option, option_map, slice_get, unwrap_or}
+use Rattle.std.specs.Prelude.{◌≡◌, ℕ, ◌+◌, ◌*◌, ◌⊎◌, ◌&&◌, Bool, true, false, List, length, nat_lt, Option, Some, None, option_map, slice_get, unwrap_or}
 use Rattle.cell_compare.specs.Works.{IsPlanned, IsToldWhy}
 use Rattle.checked_cells.specs.Given.{IsCheckedOf}
 use Rattle.substitution_laws.specs.Agreement.{IsCheckedSoftly}
-use Rattle.vrt_model.specs.Checked.{top_of}
+use Rattle.vrt_model.specs.Checked.{top_of, with_circuit}
 use Rattle.vrt_model.specs.CheckedVerdicts.{HasCheckedVerdict}
 use Rattle.vrt_model.specs.Comparison.{Comparison}
 use Rattle.vrt_model.specs.FlatCircuit.{flat_circuit_of}
@@ -33,6 +33,11 @@ CheckedGives k blif facts whole = WholeGives (top_of k) blif facts k.circuit who
 -- the comparison with another circuit that has the same groups of holds
 abbrev pub over : Comparison → Circuit → Comparison
 over k c = record k { circuit = c }
+
+-- the comparison with the checked circuit, where it is not the flat one
+abbrev pub compared_over : Comparison → Option Circuit → Comparison
+compared_over k None = k
+compared_over k (Some c) = with_circuit k c
 
 -- ---- the budget
 

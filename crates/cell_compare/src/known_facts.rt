@@ -10,7 +10,7 @@ use std::alloc::Global;
 use vrt_model::{CellFacts, Circuit, Drive, FlatModel, NoMemory, PortRole, Seq, Verdict};
 
 /// Whether a cell is equal.
-fn is_equal(verdict: &Verdict) -> bool
+pub(crate) fn is_equal(verdict: &Verdict) -> bool
     ensures { IsTrue result ↔ (verdict.now ≡ Equal) }
 {
     match verdict {

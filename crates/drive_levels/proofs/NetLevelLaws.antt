@@ -1,24 +1,20 @@
--- What tables of the bare and of the kept circuit say of a net's level in both; and the phases of a comparison together.
-use Rattle.std.proofs.Common.{◌≡◌, ◌↔◌, ℕ, ◌<◌, Bool, true, false, cond, Option, Some, None, List, length, refl, sym, subst, ◌∙◌, inl, inr}
+-- What tables of the bare and of the kept circuit say of a net's level in both.
+use Rattle.std.proofs.Common.{◌≡◌, ℕ, ◌<◌, Bool, true, false, cond, Option, Some, None, List, length, refl, sym, subst, ◌∙◌, inl, inr}
 use Rattle.std.specs.Prelude.{◌==◌}
 use Rattle.std.proofs.lemmas.Bool.{eq-eqb, eqb-true, false≢true}
-use Rattle.bdd_core.specs.Diagram.{Function, Valuation}
+use Rattle.bdd_core.specs.Diagram.{Valuation}
 use Rattle.bdd_core.specs.Store.{Diagrams, function_of}
 use Rattle.bdd_core.specs.declared.handle.H.{H}
 use Rattle.channel_parts.specs.declared.part.Part.{Part}
 use Rattle.drive_levels.proofs.CaseLevels.{given_level, one_level, part_gives}
-use Rattle.drive_levels.specs.NetLevels.{AreMet, ArePartsOf, HasLevelIn, HasLevelOf, IsSolvedPhase, NetGives, OneGives, level_by, same_level}
+use Rattle.drive_levels.specs.NetLevels.{ArePartsOf, HasLevelIn, HasLevelOf, IsSolvedPhase, NetGives, OneGives, level_by, same_level}
 use Rattle.known_nets.proofs.NetKinds.{given_or_plain, is_plain_is, plain_is}
 use Rattle.node_pool.specs.declared.region.Span.{Span}
 use Rattle.output_levels.specs.PartLevels.{IsInPart, IsToldIn, level_at}
-use Rattle.vrt_model.specs.Comparison.{Comparison, is_observed, phase_at}
-use Rattle.vrt_model.specs.Facts.{HasLevel}
-use Rattle.vrt_model.specs.Faults.{Solves}
 use Rattle.vrt_model.specs.Known.{IsDriven, is_plain_at}
 use Rattle.vrt_model.specs.Lists.{Among, mark_at}
 use Rattle.vrt_model.specs.Reading.{bare, kept}
-use Rattle.vrt_model.specs.Response.{IsStrength}
-use Rattle.vrt_model.specs.State.{IsState, Setting, network_of}
+use Rattle.vrt_model.specs.State.{Setting}
 use Rattle.vrt_model.specs.declared.circuit.Circuit.{Circuit}
 use Rattle.vrt_model.specs.declared.rules.Phase.{Phase}
 
@@ -73,24 +69,3 @@ module _ (c : Circuit) (phase : Phase) (observed : ℕ → Bool) (setting : Valu
             | inl g ↦ λ which. given_level c phase observed setting care roots gates d solved which n g
             | inr p ↦ absurd (false≢true (sym other ∙ is_plain_is c n p))
           ]
-
--- ---- all phases
-
-module _ (k : Comparison) (care : ℕ → Function) (setting : ℕ → Valuation → Setting) (are : AreMet k care setting) (n level : ℕ) where
-  abbrev HasInPhase : ℕ → Type 0
-  HasInPhase phase = HasLevelIn k.circuit (phase_at k.rules phase) (is_observed k phase) (setting phase) (care phase) n level
-
-  -- a level is always that of the net exactly where it is so in each phase
-  pub level_in_all : ((phase : ℕ) → phase < length k.rules.phases → HasInPhase phase) ↔ HasLevel k n level
-  level_in_all = (
-    λ each phase bits a s which lt meets solves is agrees.
-        let at = are.all phase bits lt meets in
-        let holds : HasInPhase phase = each phase lt in
-        let moved = holds which at.0 a s at.1 in
-        subst (λ (x : Setting). IsStrength (network_of k.circuit which x.held s) n level) at.2
-        (moved (subst (λ (x : Setting). Solves k phase x a) (sym at.2) solves) (subst (λ (x : Setting). IsState k.circuit (phase_at k.rules phase) x.inputs s) (sym at.2) is) agrees),
-    λ has phase lt which v a s here solves is agrees.
-        let at = are.met phase v lt here in
-        subst (λ (x : Setting). IsStrength (network_of k.circuit which x.held s) n level) (sym at.2)
-        (has phase at.0 a s which lt at.1 (subst (λ (x : Setting). Solves k phase x a) at.2 solves) (subst (λ (x : Setting). IsState k.circuit (phase_at k.rules phase) x.inputs s) at.2 is) agrees),
-  )

@@ -14,9 +14,6 @@ use Rattle.circuit_faults.specs.Scans.{IsInside}
 use Rattle.circuit_faults.specs.Wholes.{HasFreeWholes}
 use Rattle.node_pool.specs.declared.region.Span.{Span}
 use Rattle.output_levels.specs.PartLevels.{level_at, level_operations}
-use Rattle.vrt_model.specs.Comparison.{Comparison}
-use Rattle.vrt_model.specs.Constraints.{Meets}
-use Rattle.vrt_model.specs.Held.{setting_of}
 use Rattle.vrt_model.specs.Known.{IsDriven, IsPlain, is_plain_at}
 use Rattle.vrt_model.specs.Levels.{source_level}
 use Rattle.vrt_model.specs.Lists.{Among, mark_at}
@@ -90,13 +87,6 @@ LevelsGive c bare_parts kept_parts asked care gates d level =
     (phase : Phase) (observed : ℕ → Bool) (setting : Valuation → Setting) (roots : Span) → IsSolvedPhase c phase observed setting care roots gates d
     → ArePartsOf c phase bare bare_parts → ArePartsOf c phase kept kept_parts
     → (n : ℕ) → n < length c.nets → mark_at asked n ≡ true → (¬ IsDriven c n) → NetGives c phase observed setting (function_of d care) n (level n)
-
--- ---- all phases of a comparison
-
--- in each phase the valuations with care are those that meet the constraints, with their settings
-pub record AreMet (k : Comparison) (care : ℕ → Function) (setting : ℕ → Valuation → Setting) : Type 0 where
-  pub met : (phase : ℕ) (v : Valuation) → phase < length k.rules.phases → care phase v ≡ true → (bits : List Bool) × Meets k phase bits × (setting phase v ≡ setting_of k phase bits)
-  pub all : (phase : ℕ) (bits : List Bool) → phase < length k.rules.phases → Meets k phase bits → (v : Valuation) × (care phase v ≡ true) × (setting phase v ≡ setting_of k phase bits)
 
 -- ---- operations
 

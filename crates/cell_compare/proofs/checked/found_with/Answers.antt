@@ -2,7 +2,10 @@
 use Rattle.std.proofs.Common.{◌∙◌, List, length, subst, sym}
 use Rattle.std.specs.Prelude.{Option}
 use Rattle.cell_compare.proofs.CheckedLaws.{over_is, ready_with, table_with, vars_over}
+use Rattle.cell_compare.proofs.PortLaws.{ports_over}
+use Rattle.cell_compare.specs.Ports.{ArePortsOf, TellsPorts}
 use Rattle.cell_compare.specs.Works.{AreVars, IsChecked}
+use Rattle.checked_cells.proofs.CircuitLaws.{checked_circuits_share}
 use Rattle.checked_cells.proofs.WholeLaws.{checked_circuits_are_wired}
 use Rattle.phase_terms.specs.Ready.{IsReady, comparison_in}
 use Rattle.rule_index.specs.Tables.{AreRuleTables}
@@ -51,9 +54,25 @@ check_over-requires-clause-tables c =
     subst (λ (index : RuleIndex). AreRuleTables c.over.result.rules.now index) (sym c.over.ensures.index)
     (subst (λ (x : Comparison). AreRuleTables x.rules c.args.compared.index.now) (sym c.over.ensures.is) c.requires.tables)
 
-pub returns : goal.returns
-returns c =
+pub check_over-requires-clause-ports : goal.check_over-requires-clause-ports
+check_over-requires-clause-ports c =
     let k = comparison_in c.args.compared in
     let is = c.requires.checked in
     let h = c.requires.checkable.soft c.args.circuit.now c.requires.planned is in
-    subst (λ (x : Comparison). IsChecked x c.args.budget c.in_ok-found.found) (c.over.ensures.is ∙ sym (over_is k is.0 c.args.blif.now c.args.facts.now c.args.circuit.now h)) c.in_ok-found.ensures
+    subst (λ (x : Comparison). ArePortsOf x c.args.ports.now) (sym c.over.ensures.is)
+    (ports_over k c.args.circuit.now c.args.ports.now (checked_circuits_share k is.0 c.args.blif.now c.args.facts.now c.args.circuit.now h) c.requires.ports)
+
+pub returns-clause-ports : goal.returns-clause-ports
+returns-clause-ports c =
+    let k = comparison_in c.args.compared in
+    let is = c.requires.checked in
+    let h = c.requires.checkable.soft c.args.circuit.now c.requires.planned is in
+    subst (λ (x : Comparison). TellsPorts x c.args.ports.now.nets c.check_over.new.ports c.in_ok-found.found)
+    (c.over.ensures.is ∙ sym (over_is k is.0 c.args.blif.now c.args.facts.now c.args.circuit.now h)) c.in_ok-found.ensures.ports
+
+pub returns-clause-checked : goal.returns-clause-checked
+returns-clause-checked c =
+    let k = comparison_in c.args.compared in
+    let is = c.requires.checked in
+    let h = c.requires.checkable.soft c.args.circuit.now c.requires.planned is in
+    subst (λ (x : Comparison). IsChecked x c.args.budget c.in_ok-found.found) (c.over.ensures.is ∙ sym (over_is k is.0 c.args.blif.now c.args.facts.now c.args.circuit.now h)) c.in_ok-found.ensures.checked

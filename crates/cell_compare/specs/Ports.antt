@@ -1,0 +1,24 @@
+-- The levels of output ports in the phases of an equal comparison.
+use Rattle.std.specs.Prelude.{◌≡◌, ◌<◌, ℕ, All, List, Option, None, Some, length}
+use Rattle.drive_levels.specs.PhaseLevels.{ArePhaseLevels}
+use Rattle.drive_levels.specs.PortLevels.{ArePortLevels}
+use Rattle.drive_levels.specs.declared.table.NetLevels.{NetLevels}
+use Rattle.drive_levels.specs.declared.table.PortLevels.{PortLevels}
+use Rattle.vrt_model.specs.Comparison.{Comparison}
+use Rattle.vrt_model.specs.declared.ids.Net.{Net}
+use Rattle.vrt_model.specs.declared.verdict.Verdict.{Verdict}
+use Rattle.vrt_model.specs.declared.verdict.Verdict.TheVariants.{Equal}
+
+-- ports at nets of the circuit, with a place for the level of each
+pub record ArePortsOf (k : Comparison) (ports : PortLevels) : Type 0 where
+  pub within : All (λ (n : Net). n.0 < length k.circuit.nets) ports.nets
+  pub len : length ports.levels.items ≡ length ports.nets
+
+-- a phase that is equal has these levels
+abbrev pub TellsPhaseLevels : Comparison → ℕ → NetLevels → Option Verdict → Type 0
+TellsPhaseLevels k phase levels None = ArePhaseLevels k phase levels
+TellsPhaseLevels k phase levels (Some verdict) = Unit {0}
+
+-- where all are equal, ports at these nets have the levels of all phases
+abbrev pub TellsPorts : Comparison → List Net → PortLevels → Verdict → Type 0
+TellsPorts k nets ports verdict = verdict ≡ Equal → ArePortLevels k (length k.rules.phases) nets ports.levels.items
