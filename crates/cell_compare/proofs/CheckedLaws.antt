@@ -21,7 +21,7 @@ use Rattle.checked_cells.proofs.VerdictLaws.{checked_variables_are_same, flat_ve
 use Rattle.checked_cells.proofs.WholeLaws.{checked_circuits_are_wired, checked_wholes_are_determined, checked_wholes_are_logic}
 use Rattle.checked_cells.specs.Given.{ArePlainFacts, IsCheckedOf, IsReadCell}
 use Rattle.checked_cells.specs.Verdicts.{IsFoundIn}
-use Rattle.circuit_faults.specs.Wholes.{HasFreeWholes}
+use Rattle.circuit_faults.specs.Wholes.{HasSoundWholes}
 use Rattle.phase_terms.specs.Ready.{IsReady}
 use Rattle.substitution_laws.specs.Agreement.{IsCheckedSoftly}
 use Rattle.vrt_model.specs.Budget.{work_of}
@@ -165,7 +165,7 @@ vars_over k cut blif facts c upto vars h are = record {
 
 -- its whole instances are free
 free_wholes : (k : Comparison) (cut : Cut) (blif : Blif) (facts : List CellFacts) (c : Circuit) (phase : ℕ) → IsCheckedSoftly k cut blif facts c → phase < length k.rules.phases
-    → HasFreeWholes c (phase_at k.rules phase) (is_observed (with_circuit k c) phase)
+    → HasSoundWholes c (phase_at k.rules phase) (is_observed (with_circuit k c) phase)
 free_wholes k cut blif facts c phase h lt = record {
   ranges = (checked_circuits_are_wired k cut blif facts c h).ranges;
   determined = checked_wholes_are_determined k cut blif facts c phase h lt;
@@ -176,7 +176,7 @@ free_wholes k cut blif facts c phase h lt = record {
 pub ready_with : (k : Comparison) (cut : Cut) (blif : Blif) (facts : List CellFacts) (c : Circuit) → IsReady k → IsCheckedSoftly k cut blif facts c → IsReady (over k c)
 ready_with k cut blif facts c ready h =
     ready_over k c ready (checked_circuits_share k cut blif facts c h) (checked_circuits_are_formed k cut blif facts c h)
-    (λ phase lt. subst (λ (x : Comparison). HasFreeWholes c (phase_at k.rules phase) (is_observed x phase)) (over_is k cut blif facts c h) (free_wholes k cut blif facts c phase h lt))
+    (λ phase lt. subst (λ (x : Comparison). HasSoundWholes c (phase_at k.rules phase) (is_observed x phase)) (over_is k cut blif facts c h) (free_wholes k cut blif facts c phase h lt))
 
 -- by the outputs of its whole instances and the orders of their models
 pub table_with : (k : Comparison) (cut : Cut) (blif : Blif) (facts : List CellFacts) (c : Circuit) (drivers : List (Option OutputPlace)) (orders : List ModelPlan) → IsCheckedSoftly k cut blif facts c

@@ -12,7 +12,7 @@ use Rattle.circuit_faults.proofs.WholeParts.{is_part, number_inside}
 use Rattle.circuit_faults.specs.Faults.{HasFixedBits, IsSettingAt}
 use Rattle.circuit_faults.specs.KeptFaults.{AreKeptObserved}
 use Rattle.circuit_faults.specs.Results.{IsClearCircuit, root_at}
-use Rattle.circuit_faults.specs.Wholes.{HasFreeWholes}
+use Rattle.circuit_faults.specs.Wholes.{HasSoundWholes}
 use Rattle.drive_levels.proofs.NetLevelLaws.{one_level_in}
 use Rattle.drive_levels.specs.NetLevels.{ArePartsOf, HasLevelIn, IsSolvedPhase, NetGives}
 use Rattle.drive_levels.specs.PhaseLevels.{HasLevelAt, IsLevelAt}
@@ -49,7 +49,7 @@ listed_are_parts c phase which parts ranges are part m = is_part c phase which a
 
 -- and a clear circuit, with its bits in the handles, is a solved phase
 pub clear_phase : (c : Circuit) (phase : Phase) (observed : ℕ → Bool) (setting : Valuation → Setting) (care : H) (roots gates : Span) (d : Diagrams)
-    → HasFreeWholes c phase observed → AreKeptObserved c observed → ((v : Valuation) → HasFixedBits c phase (root_at d roots v)) → ((v : Valuation) → IsSettingAt c (root_at d roots v) (setting v))
+    → HasSoundWholes c phase observed → AreKeptObserved c observed → ((v : Valuation) → HasFixedBits c phase (root_at d roots v)) → ((v : Valuation) → IsSettingAt c (root_at d roots v) (setting v))
     → IsSolvedOnce c phase → IsClearCircuit c phase observed care roots gates d d → (v : Valuation) → function_of d care v ≡ true
     → IsSolvedPhase c phase observed setting care roots gates d
 clear_phase c phase observed setting care roots gates d wholes seen fixed given once clear v here = record {

@@ -11,7 +11,7 @@ use Rattle.circuit_faults.specs.Faults.{HasFixedBits, IsSettingAt}
 use Rattle.circuit_faults.specs.KeptFaults.{AreKeptObserved}
 use Rattle.circuit_faults.specs.Results.{root_at}
 use Rattle.circuit_faults.specs.Scans.{IsInside}
-use Rattle.circuit_faults.specs.Wholes.{HasFreeWholes}
+use Rattle.circuit_faults.specs.Wholes.{HasSoundWholes}
 use Rattle.node_pool.specs.declared.region.Span.{Span}
 use Rattle.output_levels.specs.PartLevels.{level_at, level_operations}
 use Rattle.vrt_model.specs.Known.{IsDriven, IsPlain, is_plain_at}
@@ -52,7 +52,7 @@ NetGives c phase observed setting care n None = (level : ℕ) → ¬ HasLevelIn 
 -- there is care each solution gives the observed nets the bits of their handles. Outputs of whole instances are soft, and meet
 -- gates alone.
 pub record IsSolvedPhase (c : Circuit) (phase : Phase) (observed : ℕ → Bool) (setting : Valuation → Setting) (care : H) (roots gates : Span) (d : Diagrams) : Type 0 where
-  pub wholes : HasFreeWholes c phase observed
+  pub wholes : HasSoundWholes c phase observed
   pub seen : AreKeptObserved c observed
   pub fixed : (v : Valuation) → HasFixedBits c phase (root_at d roots v)
   pub given : (v : Valuation) → IsSettingAt c (root_at d roots v) (setting v)

@@ -11,7 +11,7 @@ use Rattle.circuit_faults.proofs.StepLists.{ordered_outputs, ordered_steps}
 use Rattle.circuit_faults.specs.Cases.{CaseIn, HasStepFault, StandsAt}
 use Rattle.circuit_faults.specs.Results.{AreClearSteps, HasCircuitSpans, IsFirstFault, root_at}
 use Rattle.circuit_faults.specs.Steps.{AreOrderedSteps, InPhase, in_comparison, steps_of}
-use Rattle.circuit_faults.specs.Wholes.{HasFreeWholes, IsReadyWholes}
+use Rattle.circuit_faults.specs.Wholes.{HasSoundWholes, IsReadyWholes}
 use Rattle.circuit_faults.specs.declared.net.CircuitFault.{CircuitFault}
 use Rattle.fault_places.proofs.ListedSpots.{step_kinds}
 use Rattle.fault_places.proofs.SearchLaws.{earlier_stage}
@@ -58,7 +58,7 @@ module _ (k : Comparison) (phase : ℕ) (plan : PhasePlan) (ready : IsReady k) (
 
   -- ---- what is asked
 
-  wholes : HasFreeWholes k.circuit (phase_at k.rules phase) (is_observed k phase)
+  wholes : HasSoundWholes k.circuit (phase_at k.rules phase) (is_observed k phase)
   wholes = ready.wholes phase range
 
   pub ordered : AreOrderedSteps w

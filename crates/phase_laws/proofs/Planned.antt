@@ -10,7 +10,7 @@ use Rattle.circuit_faults.proofs.OrderLaws.{is_least}
 use Rattle.circuit_faults.proofs.WholeParts.{number_inside}
 use Rattle.circuit_faults.specs.KeptFaults.{kept_spots}
 use Rattle.circuit_faults.specs.Steps.{step_of}
-use Rattle.circuit_faults.specs.Wholes.{HasFreeWholes}
+use Rattle.circuit_faults.specs.Wholes.{HasSoundWholes}
 use Rattle.fault_places.proofs.CountedSites.{counted_sites}
 use Rattle.fault_places.proofs.ListedSpots.{spot, step_kinds}
 use Rattle.fault_places.proofs.PhaseOrder.{phase_spots}
@@ -225,7 +225,7 @@ module _ (k : Comparison) (phase : ℕ) (rank least : ℕ → ℕ) where
 -- ---- the places of a plan
 
 -- whole instances whose outputs are free have bits for these at each reading
-states_there : (c : Circuit) (phase : Phase) (observed : ℕ → Bool) → HasFreeWholes c phase observed → HasStates c phase
+states_there : (c : Circuit) (phase : Phase) (observed : ℕ → Bool) → HasSoundWholes c phase observed → HasStates c phase
 states_there c phase observed wholes = record {
   state = λ inputs reading reads. (
     driven_by c phase observed wholes.determined reading,
@@ -238,7 +238,7 @@ module _ (k : Comparison) (phase : ℕ) (plan : PhasePlan) (ready : IsReady k) (
   abbrev at : Phase
   at = phase_at k.rules phase
 
-  wholes : HasFreeWholes k.circuit at (is_observed k phase)
+  wholes : HasSoundWholes k.circuit at (is_observed k phase)
   wholes = ready.wholes phase range
 
   abbrev rank : ℕ → ℕ

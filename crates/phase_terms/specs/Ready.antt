@@ -1,7 +1,7 @@
 -- Which comparisons are looked through phase by phase.
 use Rattle.std.specs.Prelude.{◌≡◌, ◌≢◌, ℕ, ◌<◌, ◌⊎◌, All, ◌++◌, bytes_eq, length, Some}
 use Rattle.circuit_faults.specs.Keys.{HasAllPorts}
-use Rattle.circuit_faults.specs.Wholes.{HasFreeWholes}
+use Rattle.circuit_faults.specs.Wholes.{HasSoundWholes}
 use Rattle.constraints.specs.Obliged.{AreNamed}
 use Rattle.hold_groups.specs.Grouped.{AreGroups}
 use Rattle.phase_terms.specs.declared.compared.Comparison.{Comparison as CellComparison}
@@ -67,7 +67,7 @@ pub record IsReady (k : Comparison) : Type 0 where
   pub rules : AreRules k.rules
   pub cell : k.cell < length k.design.cells
   pub circuit : IsCircuit k.circuit
-  pub wholes : (phase : ℕ) → phase < length k.rules.phases → HasFreeWholes k.circuit (phase_at k.rules phase) (is_observed k phase)
+  pub wholes : (phase : ℕ) → phase < length k.rules.phases → HasSoundWholes k.circuit (phase_at k.rules phase) (is_observed k phase)
   pub model : IsFlatModel k.model
   pub roles : HasRoles k.rules (cell_at k.design k.cell) k.pairing
   pub ports : All (λ net. net < length k.circuit.nets) (port_nets k.rules (cell_at k.design k.cell).ports)
