@@ -25,7 +25,7 @@ zip_by R (x ∷ xs) [] len each = absurd (omega (arith, len))
 zip_by R (x ∷ xs) (y ∷ ys) len each = (each 0 x y refl refl, zip_by R xs ys (omega (arith, len)) (λ j a b e f. each (suc j) a b e f))
 
 pub port_drives_told : PortDrivesAreTold
-port_drives_told flat k cut blif facts lone ports drives circuit nets alone levels gates are =
+port_drives_told flat k cut blif facts lone ports drives circuit nets alone levels are =
     let outputs = all_outputs cut blif facts in
     let numbers = length-map ports.nets (λ (n : Net). n.0) in
     let others = length-map (output_ports flat) (λ (p : CellPort). p.net) in
@@ -43,7 +43,7 @@ port_drives_told flat k cut blif facts lone ports drives circuit nets alone leve
     (record {
       alone = (λ e. by_ports.0 (by_marks.0 e), λ inside. by_marks.1 (by_ports.1 inside));
       output = drives_found k cut blif facts port circuit;
-      joined = λ none. subst (λ (m : ℕ). IsLevelBefore k (length k.rules.phases) m (level_at ports.levels.items j)) n.2 (levels j n.0 n.1 (λ driven. gates n.0.0 driven (ap (λ (m : ℕ). whole_drive k.circuit (told_in facts k.circuit) m) n.2 ∙ none)));
+      joined = λ none. subst (λ (m : ℕ). IsLevelBefore k (length k.rules.phases) m (level_at ports.levels.items j)) n.2 (levels j n.0 n.1);
     }) in
     subst (IsDriveOf flat k outputs port)
     (one_at drives j (port_drive k.circuit (told_in facts k.circuit) lone ports j port.net) drive

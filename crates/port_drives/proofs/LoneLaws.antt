@@ -37,3 +37,7 @@ module _ (c : Circuit) (plans : List PhasePlan) (nets : List Net) where
       subst (λ (upto : ℕ). AreLoneBefore k upto (map (λ (n : Net). n.0) nets) new) (omega arith)
       (lone_kept k phase (map (λ (n : Net). n.0) nets) more old new (before k same known)
       (subst (λ (x : Circuit). AreLone x (phase_at k.rules phase) (map (λ (n : Net). n.0) nets) more) (sym same) (here (phase_at k.rules phase) table)) kept)
+
+  -- after the last phase that is said of all
+  pub all_phases : (upto : ℕ) (lone : List Bool) → AreLonePorts c plans nets upto lone → upto ≡ length plans → AreLonePorts c plans nets (length plans) lone
+  all_phases upto lone are all = subst (λ (n : ℕ). AreLonePorts c plans nets n lone) all are

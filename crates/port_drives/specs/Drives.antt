@@ -1,5 +1,5 @@
 -- The drives of the output ports of a cell, by what is found of each.
-use Rattle.std.specs.Prelude.{◌≡◌, ℕ, ◌<◌, Bool, List, None, flat_map, length, map}
+use Rattle.std.specs.Prelude.{◌≡◌, ℕ, Bool, List, flat_map, length, map}
 use Rattle.std.specs.List.{AllZip}
 use Rattle.drive_levels.specs.PortLevels.{ArePortLevels, drive_by}
 use Rattle.drive_levels.specs.declared.table.PortLevels.{PortLevels}
@@ -11,7 +11,6 @@ use Rattle.vrt_model.specs.Checked.{IsCircuitWith}
 use Rattle.vrt_model.specs.Comparison.{Comparison}
 use Rattle.vrt_model.specs.Cut.{Cut}
 use Rattle.vrt_model.specs.Facts.{IsDriveOf, output_ports}
-use Rattle.vrt_model.specs.Known.{IsDriven}
 use Rattle.vrt_model.specs.Lists.{At, mark_at}
 use Rattle.vrt_model.specs.WholeInstances.{all_outputs}
 use Rattle.vrt_model.specs.declared.blif.Blif.{Blif}
@@ -33,14 +32,10 @@ pub record ArePortDrives (c : Circuit) (facts : List CellFacts) (lone : List Boo
   pub count : length drives ≡ length ports.nets
   pub each : (j : ℕ) (n : Net) → At ports.nets j n → At drives j (port_drive c (told_in facts c) lone ports j n.0)
 
--- at each net with an output of a whole instance one meets gates alone
-abbrev pub AreOutputsAtGates : Circuit → List CellFacts → Type 0
-AreOutputsAtGates c facts = (n : ℕ) → IsDriven c n → ¬ (whole_drive c (told_in facts c) n ≡ None)
-
 -- The law: these are what the facts of the cell say, where its outputs are alone in the flat circuit by these marks, and have these
 -- levels in the checked one.
 abbrev pub PortDrivesAreTold : Type 0
 PortDrivesAreTold =
     (flat k : Comparison) (cut : Cut) (blif : Blif) (facts : List CellFacts) (lone : List Bool) (ports : PortLevels) (drives : List Drive) → IsCircuitWith cut blif facts k.circuit
     → AreOutputNets flat ports.nets → AreLoneBefore flat (length flat.rules.phases) (map (λ (n : Net). n.0) ports.nets) lone → ArePortLevels k (length k.rules.phases) ports.nets ports.levels.items
-    → AreOutputsAtGates k.circuit facts → ArePortDrives k.circuit facts lone ports drives → AllZip (IsDriveOf flat k (all_outputs cut blif facts)) (output_ports flat) drives
+    → ArePortDrives k.circuit facts lone ports drives → AllZip (IsDriveOf flat k (all_outputs cut blif facts)) (output_ports flat) drives

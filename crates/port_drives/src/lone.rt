@@ -34,7 +34,8 @@ pub fn lone_ports(
 {
     let mut all = all_marks(alloc, outputs.len())?;
     for plan in plans {
-        let lone = lone_outputs(alloc, circuit, plan.parts.known.as_slice(), outputs)?;
+        let known = plan.parts.known.as_slice();
+        let lone = lone_outputs(alloc, circuit, known, outputs)?;
         keep_lone(&mut all, lone.as_slice());
     }
     Ok(all)
