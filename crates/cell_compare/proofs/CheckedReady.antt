@@ -44,7 +44,7 @@ module _ (k : Comparison) (c : Circuit) (ready : IsReady k) (shares : SharesCirc
       let is = all_among (IsNamedInstance k) k.circuit.instances i ready.instances (shares.instances i on) in
       record { ports = is.ports; apart = is.apart; named = is.named }
 
-  -- its outputs are free
+  -- its whole instances are sound
   pub ready_over : IsCircuit c → ((phase : ℕ) → phase < length k.rules.phases → HasSoundWholes c (phase_at k.rules phase) (is_observed (over k c) phase)) → IsReady (over k c)
   ready_over circuit wholes = record {
     rules = ready.rules;

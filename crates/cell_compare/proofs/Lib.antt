@@ -3,6 +3,7 @@ pub mod CheckLaws
 pub mod CheckedLaws
 pub mod CheckedReady
 pub mod CompleteLaws
+pub mod DriveLaws
 pub mod GroundLaws
 pub mod InstanceLaws
 pub mod PairedInputs

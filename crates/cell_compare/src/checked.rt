@@ -3,7 +3,7 @@
 ghost use Rattle.std.specs.Prelude.{◌≡◌, ◌&&◌, ◌≤◌, [], true, length, IfOk};
 ghost use Rattle.std.specs.List.{list_any};
 ghost use Rattle.cell_compare.specs.Checked.{CheckedGives, IsCheckable, IsTold, has_many, is_fault, compared_over, is_passed, is_settled, over};
-ghost use Rattle.cell_compare.specs.Ports.{ArePortsOf, TellsPorts};
+ghost use Rattle.cell_compare.specs.Ports.{ArePortsOf, HasDrives, TellsPorts};
 ghost use Rattle.cell_compare.specs.Works.{AreVars, ArePlans, IsChecked, IsPlanned};
 ghost use Rattle.checked_cells.specs.Given.{IsCheckedOf, is_candidate};
 ghost use Rattle.phase_terms.specs.Ready.{IsReady, comparison_in};
@@ -18,6 +18,7 @@ ghost use Rattle.vrt_model.specs.declared.verdict.Verdict.TheVariants.{Equal};
 ghost use Rattle.vrt_model.specs.declared.whole.CellFacts.{CellFacts as FactsValue};
 ghost use Rattle.whole_steps.specs.Tables.{AreOrders, IsWholeTable};
 
+use crate::drives::{Told, lone_in, output_ports, told_drives};
 use crate::hindrance::Hindrance;
 use crate::known_facts::{both, is_equal};
 use crate::phases::check_phases;
@@ -386,7 +387,8 @@ fn check_circuit(
     }
 }
 
-/// The verdict on a comparison in whose way nothing stands: what is found phase by phase in its checked circuit.
+/// The verdict on a comparison in whose way nothing stands, and the drives of its output ports: what is found phase by phase in its
+/// checked circuit. Which ports are alone inside the cell is told by the flat one.
 fn check_planned(
     alloc: Global,
     budget: u32,
@@ -396,7 +398,7 @@ fn check_planned(
     facts: &[CellFacts],
     vars: &[Vars],
     plans: &[PhasePlan],
-) -> Result<Verdict, NoMemory>
+) -> Result<Told, NoMemory>
     requires budget { (65536 ≤ budget) × (budget ≤ 64000000) }
     requires prepared { ArePrepared compared.design.now blif.now compared.rules.now prepared.now }
     requires ready { IsReady (comparison_in compared) }
@@ -406,15 +408,26 @@ fn check_planned(
     requires planned { IsPlanned (comparison_in compared) }
     requires vars { AreVars (comparison_in compared) (length compared.rules.now.phases) vars.now }
     requires plans { ArePlans (comparison_in compared) (length compared.rules.now.phases) plans.now }
-    ensures { IfOk result (HasCheckedVerdict (comparison_in compared.entry) blif.now facts.now budget) }
+    ensures verdict { IfOk result (λ told. HasCheckedVerdict (comparison_in compared.entry) blif.now facts.now budget told.verdict) }
+    ensures drives { IfOk result (λ told. told.verdict ≡ Equal → HasDrives (comparison_in compared.entry) blif.now facts.now told.drives) }
 {
     let checked = checked_circuit(alloc, prepared, blif, compared, facts)?;
-    // no port is asked for its level, as the facts leave the drives open
-    let mut ports = no_ports(alloc)?;
+    let nets = output_ports(alloc, compared)?;
+    let lone = lone_in(alloc, blif, compared, facts, plans, nets.as_slice())?;
+    let mut ports = ports_at(alloc, nets)?;
     let verdict = check_circuit(
         alloc, budget, blif, compared, facts, vars, plans, &checked, &mut ports,
     )?;
-    Ok(verdict)
+    let drives = told_drives(
+        alloc,
+        blif,
+        compared,
+        facts,
+        &checked,
+        lone.as_slice(),
+        &ports,
+    )?;
+    Ok(Told { verdict, drives })
 }
 
 /// The verdict on a comparison: too many variables, or a cycle in a phase, or what is found phase by phase.
@@ -425,14 +438,15 @@ pub(crate) fn check_cell(
     blif: &Blif,
     compared: Comparison<'_>,
     facts: &[CellFacts],
-) -> Result<Verdict, NoMemory>
+) -> Result<Told, NoMemory>
     requires budget { (65536 ≤ budget) × (budget ≤ 64000000) }
     requires prepared { ArePrepared compared.design.now blif.now compared.rules.now prepared.now }
     requires ready { IsReady (comparison_in compared) }
     requires wholes { IsWholeTable compared.circuit.now compared.wholes.drivers.now compared.wholes.plans.now }
     requires tables { AreRuleTables compared.rules.now compared.index.now }
     requires checkable { IsCheckable (comparison_in compared) blif.now facts.now }
-    ensures { IfOk result (IsTold (comparison_in compared.entry) blif.now facts.now budget) }
+    ensures told { IfOk result (λ told. IsTold (comparison_in compared.entry) blif.now facts.now budget told.verdict) }
+    ensures drives { IfOk result (λ told. told.verdict ≡ Equal → HasDrives (comparison_in compared.entry) blif.now facts.now told.drives) }
 {
     let mut vars = Seq::new(alloc);
     let mut plans = Seq::new(alloc);
@@ -447,7 +461,10 @@ pub(crate) fn check_cell(
             vars.as_slice(),
             plans.as_slice(),
         ),
-        Err(Hindrance::Because(why)) => Ok(Verdict::Unsupported(why)),
+        Err(Hindrance::Because(why)) => Ok(Told {
+            verdict: Verdict::Unsupported(why),
+            drives: Seq::new(alloc),
+        }),
         Err(Hindrance::NoMemory) => Err(NoMemory),
     }
 }

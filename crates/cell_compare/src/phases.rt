@@ -121,7 +121,7 @@ fn search(
 }
 
 /// What is found phase by phase, with at most `budget` nodes in each. Where all are equal, each output port has the level that its net
-/// has in all of them, or none, but for ports at which an output of a whole instance stands.
+/// has in all of them, or none.
 pub(crate) fn check_phases(
     alloc: Global,
     budget: u32,

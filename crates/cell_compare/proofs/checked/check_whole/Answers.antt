@@ -19,6 +19,6 @@ pub returns-clause-verdict : goal.returns-clause-verdict
 returns-clause-verdict c =
     let k = comparison_in c.args.compared in
     let is = c.requires.checked in
-    let h = c.requires.checkable.soft c.args.circuit.now c.requires.planned is in
+    let h = c.requires.checkable.by_facts c.args.circuit.now c.requires.planned is in
     whole_found k is.0 c.args.blif.now c.args.facts.now c.args.circuit.now c.args.budget (length c.args.compared.rules.now.phases) c.args.vars.now c.in_ok-found.found h c.requires.vars
     c.in_ok-found.ensures.checked (sym c.is_settled.ensures ∙ c.if-not-is_settled.false)
