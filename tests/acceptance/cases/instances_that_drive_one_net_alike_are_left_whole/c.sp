@@ -1,4 +1,4 @@
-* the outputs of x1 and x2 meet at p; their devices are both in the circuit, and z comes before y
+* the outputs of x1 and x2 meet at p, and each always drives as strongly as the other, so both are left whole, and y comes before z
 .subckt inv a y
 m1 y a vdd vdd p
 m2 y a gnd gnd n

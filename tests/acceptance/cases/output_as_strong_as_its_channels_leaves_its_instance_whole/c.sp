@@ -1,4 +1,4 @@
-* the channel of m5 meets p, so x1 is opened, and z comes before y
+* the channel of m5 meets p, but is no stronger than the output of x1 there, so x1 is left whole, and y comes before z
 .subckt inv a y
 m1 y a vdd vdd p
 m2 y a gnd gnd n
