@@ -1,8 +1,8 @@
 -- The output ports of a comparison: their nets, which of them are alone in its flat circuit, and their drives over its checked one.
 use Rattle.std.proofs.Common.{◌≡◌, ℕ, ◌<◌, Bool, List, Option, Some, None, length, map, refl, subst, sym}
-use Rattle.std.specs.Prelude.{All}
+use Rattle.std.specs.Prelude.{All, unwrap_or}
 use Rattle.cell_compare.proofs.CheckedLaws.{no_whole, over_is}
-use Rattle.cell_compare.specs.Checked.{IsCheckable, compared_over}
+use Rattle.cell_compare.specs.Checked.{CheckedGives, IsCheckable, compared_over}
 use Rattle.cell_compare.specs.Ports.{ArePortsOf, HasDrives}
 use Rattle.cell_compare.specs.Works.{ArePlans, IsPlanned}
 use Rattle.checked_cells.specs.Given.{IsCheckedOf}
@@ -61,3 +61,9 @@ module _ (k : Comparison) (blif : Blif) (facts : List CellFacts) (lone : List Bo
   drives_flat able planned is are levels =
       drives_with k.circuit is are
       (subst (λ (x : Comparison). ArePortLevels x (length k.rules.phases) ports.nets ports.levels.items) (sym (over_is k is.0 blif facts k.circuit (able.by_facts k.circuit planned is))) levels)
+
+  -- whichever circuit is the checked one
+  pub drives_over : IsCheckable k blif facts → IsPlanned k → (checked : Option Circuit) → CheckedGives k blif facts checked → ArePortDrives (unwrap_or checked k.circuit) facts lone ports drives
+      → ArePortLevels (compared_over k checked) (length k.rules.phases) ports.nets ports.levels.items → HasDrives k blif facts drives
+  drives_over able planned None is are levels = drives_flat able planned is are levels
+  drives_over able planned (Some c) is are levels = drives_with c is are levels

@@ -1,6 +1,6 @@
 //! What is told of a comparison beside its verdict: the drives of its output ports, where it is equal.
 
-ghost use Rattle.std.specs.Prelude.{◌<◌, All, IfOk, length, map};
+ghost use Rattle.std.specs.Prelude.{◌≡◌, ◌<◌, All, IfOk, length, map, unwrap_or};
 ghost use Rattle.cell_compare.specs.Checked.{CheckedGives, IsCheckable, compared_over};
 ghost use Rattle.cell_compare.specs.Ports.{HasDrives};
 ghost use Rattle.cell_compare.specs.Works.{ArePlans, IsPlanned};
@@ -55,6 +55,16 @@ pub(crate) fn lone_in(
     Ok(lone)
 }
 
+/// The checked circuit, which is the flat one where there is none beside it.
+fn circuit_of<'a>(checked: &'a Option<Circuit>, flat: &'a Circuit) -> &'a Circuit
+    ensures { result.now ≡ unwrap_or checked.entry.now flat.entry.now }
+{
+    match checked {
+        Some(circuit) => circuit,
+        None => flat,
+    }
+}
+
 /// The drives of its output ports where they have these levels in all phases of the checked circuit, in which they are read. Which ports
 /// are alone inside the cell is told by the flat one.
 pub(crate) fn told_drives(
@@ -74,8 +84,7 @@ pub(crate) fn told_drives(
     ensures { IfOk result (λ drives. ArePortLevels (compared_over (comparison_in compared.entry) checked.now) (length compared.entry.rules.now.phases) ports.now.nets ports.now.levels.items → HasDrives (comparison_in compared.entry) blif.now facts.now drives) }
 {
     let _blif = blif;
-    match checked {
-        Some(circuit) => port_drives(alloc, circuit, facts, lone, ports),
-        None => port_drives(alloc, compared.circuit, facts, lone, ports),
-    }
+    let circuit = circuit_of(checked, compared.circuit);
+    let drives = port_drives(alloc, circuit, facts, lone, ports)?;
+    Ok(drives)
 }
