@@ -11,7 +11,7 @@ use Rattle.drive_levels.specs.NetLevels.{ArePartsOf, HasLevelIn, HasLevelOf, IsS
 use Rattle.known_nets.proofs.NetKinds.{given_or_plain, is_plain_is, plain_is}
 use Rattle.node_pool.specs.declared.region.Span.{Span}
 use Rattle.output_levels.specs.PartLevels.{IsInPart, IsToldIn, level_at}
-use Rattle.vrt_model.specs.Known.{IsDriven, is_plain_at}
+use Rattle.vrt_model.specs.Known.{is_plain_at}
 use Rattle.vrt_model.specs.Lists.{Among, mark_at}
 use Rattle.vrt_model.specs.Reading.{bare, kept}
 use Rattle.vrt_model.specs.State.{Setting}
@@ -23,10 +23,10 @@ use Rattle.vrt_model.specs.declared.rules.Phase.{Phase}
 module _ (c : Circuit) (phase : Phase) (observed : ℕ → Bool) (setting : Valuation → Setting) (care : H) (roots gates : Span) (d : Diagrams)
     (solved : IsSolvedPhase c phase observed setting care roots gates d) where
   -- what is told of a net in its part holds in the circuit
-  pub told_gives : (which : Bool) (parts : List Part) → ArePartsOf c phase which parts → (n : ℕ) → (¬ IsDriven c n) → (levels : List (Option ℕ)) → IsToldIn c parts gates care d levels n
+  pub told_gives : (which : Bool) (parts : List Part) → ArePartsOf c phase which parts → (n : ℕ) → (levels : List (Option ℕ)) → IsToldIn c parts gates care d levels n
       → OneGives c phase observed setting (function_of d care) which n (level_at levels n)
-  told_gives which parts are n loose levels told =
-      part_gives c phase observed setting care roots gates d solved which are.rank told.0 (are.each told.0 told.1) n told.2 loose (level_at levels n) told.3
+  told_gives which parts are n levels told =
+      part_gives c phase observed setting care roots gates d solved which are.rank told.0 (are.each told.0 told.1) n told.2 (level_at levels n) told.3
 
   -- the level that a net has in both
   pub both_give : (n : ℕ) (first second : Option ℕ) → OneGives c phase observed setting (function_of d care) bare n first → OneGives c phase observed setting (function_of d care) kept n second
@@ -54,16 +54,16 @@ module _ (c : Circuit) (phase : Phase) (observed : ℕ → Bool) (setting : Valu
   pub tables_give : (bare_parts kept_parts : List Part) → ArePartsOf c phase bare bare_parts → ArePartsOf c phase kept kept_parts → (asked : List Bool) (bare_levels kept_levels : List (Option ℕ))
       → ((n : ℕ) (part : Part) → Among bare_parts part → IsInPart part n → mark_at asked n ≡ true → IsToldIn c bare_parts gates care d bare_levels n)
       → ((n : ℕ) (part : Part) → Among kept_parts part → IsInPart part n → mark_at asked n ≡ true → IsToldIn c kept_parts gates care d kept_levels n)
-      → (n : ℕ) → n < length c.nets → mark_at asked n ≡ true → (¬ IsDriven c n) → NetGives c phase observed setting (function_of d care) n (level_by c bare_levels kept_levels n)
-  tables_give bare_parts kept_parts of_bare of_kept asked bare_levels kept_levels told_bare told_kept n inside mark loose = by_kind (is_plain_at c n) refl
+      → (n : ℕ) → n < length c.nets → mark_at asked n ≡ true → NetGives c phase observed setting (function_of d care) n (level_by c bare_levels kept_levels n)
+  tables_give bare_parts kept_parts of_bare of_kept asked bare_levels kept_levels told_bare told_kept n inside mark = by_kind (is_plain_at c n) refl
     where
       by_kind : (b : Bool) → is_plain_at c n ≡ b → NetGives c phase observed setting (function_of d care) n (cond b (same_level (level_at bare_levels n) (level_at kept_levels n)) (Some 8))
       by_kind true plain =
           let first = of_bare.all n (plain_is c n plain) in
           let second = of_kept.all n (plain_is c n plain) in
           both_give n (level_at bare_levels n) (level_at kept_levels n)
-          (told_gives bare bare_parts of_bare n loose bare_levels (told_bare n first.0 first.1 first.2 mark))
-          (told_gives kept kept_parts of_kept n loose kept_levels (told_kept n second.0 second.1 second.2 mark))
+          (told_gives bare bare_parts of_bare n bare_levels (told_bare n first.0 first.1 first.2 mark))
+          (told_gives kept kept_parts of_kept n kept_levels (told_kept n second.0 second.1 second.2 mark))
       by_kind false other =
           elim (given_or_plain c n inside) [
             | inl g ↦ λ which. given_level c phase observed setting care roots gates d solved which n g

@@ -64,10 +64,10 @@ joined_before k phase n before here is one = by_test (phase == 0) refl
     ]
 
 pub levels_joined : LevelsAreJoined
-levels_joined k phase t nets old new levels asked within before joined j n at loose =
+levels_joined k phase t nets old new levels asked within before joined j n at =
     subst (IsLevelBefore k (suc phase) n.0) (sym (joined.each j n at))
-    (joined_before k phase n.0 (level_at old j) (level_in k.circuit t n.0) (λ lt. before lt j n at loose)
-    (levels n.0 (all_among (λ (m : Net). m.0 < length k.circuit.nets) nets n within (j, at)) (asked n (j, at)) loose))
+    (joined_before k phase n.0 (level_at old j) (level_in k.circuit t n.0) (λ lt. before lt j n at)
+    (levels n.0 (all_among (λ (m : Net). m.0 < length k.circuit.nets) nets n within (j, at)) (asked n (j, at))))
 
 -- ---- what is found of a port
 

@@ -6,7 +6,6 @@ use Rattle.vrt_model.specs.Comparison.{Comparison, is_observed, phase_at}
 use Rattle.vrt_model.specs.Constraints.{Meets}
 use Rattle.vrt_model.specs.Faults.{Solves}
 use Rattle.vrt_model.specs.Held.{setting_of}
-use Rattle.vrt_model.specs.Known.{IsDriven}
 use Rattle.vrt_model.specs.Lists.{mark_at}
 use Rattle.vrt_model.specs.Reading.{Partial}
 use Rattle.vrt_model.specs.Response.{IsStrength}
@@ -55,7 +54,7 @@ pub record KeepsTables (old new : NetLevels) : Type 0 where
 abbrev pub level_in : Circuit → NetLevels → ℕ → Option ℕ
 level_in c t n = level_by c t.bare.items t.kept.items n
 
--- of each net that is asked for, and has no output of a whole instance, this is the level in the phase
+-- of each net that is asked for this is the level in the phase
 abbrev pub ArePhaseLevels : Comparison → ℕ → NetLevels → Type 0
 ArePhaseLevels k phase t =
-    (n : ℕ) → n < length k.circuit.nets → mark_at t.asked.items n ≡ true → (¬ IsDriven k.circuit n) → IsLevelAt k phase n (level_in k.circuit t n)
+    (n : ℕ) → n < length k.circuit.nets → mark_at t.asked.items n ≡ true → IsLevelAt k phase n (level_in k.circuit t n)

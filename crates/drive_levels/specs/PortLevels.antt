@@ -7,7 +7,6 @@ use Rattle.drive_levels.specs.declared.table.NetLevels.{NetLevels}
 use Rattle.output_levels.specs.PartLevels.{level_at}
 use Rattle.vrt_model.specs.Comparison.{CellPort, Comparison}
 use Rattle.vrt_model.specs.Facts.{IsAloneInside, IsDriveOf, IsWholeDrive}
-use Rattle.vrt_model.specs.Known.{IsDriven}
 use Rattle.vrt_model.specs.Lists.{Among, At, mark_at}
 use Rattle.vrt_model.specs.WholeInstances.{OutputAt}
 use Rattle.vrt_model.specs.declared.circuit.Circuit.{Circuit}
@@ -34,9 +33,9 @@ pub record AreJoined (c : Circuit) (t : NetLevels) (nets : List Net) (first : Bo
   pub len : length new ≡ length old
   pub each : (j : ℕ) (n : Net) → At nets j n → level_at new j ≡ joined_level first (level_at old j) (level_in c t n.0)
 
--- at each place of a list of nets the level that the net has in each phase before one, where it has no output of a whole instance
+-- at each place of a list of nets the level that the net has in each phase before one
 abbrev pub ArePortLevels : Comparison → ℕ → List Net → List (Option ℕ) → Type 0
-ArePortLevels k upto nets levels = (j : ℕ) (n : Net) → At nets j n → (¬ IsDriven k.circuit n.0) → IsLevelBefore k upto n.0 (level_at levels j)
+ArePortLevels k upto nets levels = (j : ℕ) (n : Net) → At nets j n → IsLevelBefore k upto n.0 (level_at levels j)
 
 -- The law: what is joined in the first phases are their levels.
 abbrev pub LevelsAreJoined : Type 0

@@ -6,7 +6,6 @@ use Rattle.bdd_core.specs.Diagram.{IsReduced}
 use Rattle.bdd_core.specs.Store.{Diagrams, function_of}
 use Rattle.bdd_core.specs.declared.handle.H.{H}
 use Rattle.blif_eval.specs.declared.plan.ModelPlan.{ModelPlan}
-use Rattle.circuit_faults.proofs.SoundWholes.{sound_wholes}
 use Rattle.circuit_faults.proofs.StepLists.{ordered_outputs, ordered_steps}
 use Rattle.circuit_faults.specs.Cases.{CaseIn, HasStepFault, StandsAt}
 use Rattle.circuit_faults.specs.Results.{AreClearSteps, HasCircuitSpans, IsFirstFault, root_at}
@@ -69,7 +68,7 @@ module _ (k : Comparison) (phase : ℕ) (plan : PhasePlan) (ready : IsReady k) (
 
   pub wholes_ready : (drivers : List (Option OutputPlace)) (plans : List ModelPlan) → IsWholeTable k.circuit drivers plans → IsReadyWholes w drivers plans
   wholes_ready drivers plans table = record {
-    wholes = sound_wholes k.circuit (phase_at k.rules phase) (is_observed k phase) wholes;
+    wholes = wholes;
     table = table;
     ordered = (
         let p = is.parts in

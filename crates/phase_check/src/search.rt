@@ -248,11 +248,10 @@ fn check_open(store: &mut Store, search: Search<'_>, levels: &mut NetLevels) -> 
 /// levels of the nets that are asked for are written.
 ///
 /// `Clear` comes where the two agree at each valuation that meets the constraints, and `Vacuous` where none does. With `Clear` each net
-/// that is asked for, and has no output of a whole instance, has by `levels` exactly the level that it has in the bare and in the kept
-/// circuit at each of those valuations, or none; with another answer the levels say nothing. A fault is the
-/// first of the phase at the least valuation at which its function is 1. Where no instance is left whole, `Spent` comes only with
-/// more than four variables, where the nodes that the phase may need are more than the budget. No memory is taken, and no word from
-/// before is written.
+/// that is asked for has by `levels` exactly the level that it has in the bare and in the kept circuit at each of those valuations, or
+/// none; with another answer the levels say nothing. A fault is the first of the phase at the least valuation at which its function is
+/// 1. Where no instance is left whole, `Spent` comes only with more than four variables, where the nodes that the phase may need are
+/// more than the budget. No memory is taken, and no word from before is written.
 pub fn check_phase(
     store: &mut Store,
     compared: Comparison<'_>,

@@ -60,9 +60,9 @@ pub record IsNamedInstance (k : Comparison) (i : FlatInstance) : Type 0 where
   pub apart : AllApart bytes_eq (cell_at k.design i.cell).ports
   pub named : AreNamed k.rules (cell_at k.design i.cell)
 
--- A comparison of a well-formed circuit with a well-formed model: the outputs of whole instances are free in each phase, the ports
--- pair, each hold is in one group, and what lines and groups name is there. It may have instances, holds, latches, keepers and
--- constraints.
+-- A comparison of a well-formed circuit with a well-formed model: each output of a whole instance is at a plain net and follows in
+-- each phase from observed inputs that are linked to it, the ports pair, each hold is in one group, and what lines and groups name is
+-- there. It may have instances, holds, latches, keepers and constraints.
 pub record IsReady (k : Comparison) : Type 0 where
   pub rules : AreRules k.rules
   pub cell : k.cell < length k.design.cells

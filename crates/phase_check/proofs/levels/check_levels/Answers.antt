@@ -89,9 +89,9 @@ returns-in-Ok-clause-levels c =
     let solved = solved_phase k phase d.budget made care words d c.requires.ready c.requires.phase plan c.requires.plan s.store s.opened c.sound.ensures.sound c.requires.nets s.met in
     let of_bare = subst (ArePartsOf k.circuit at true) (sym c.as_slice.ensures) (listed_parts k.circuit at true plan.parts c.requires.plan.parts) in
     let of_kept = subst (ArePartsOf k.circuit at false) (sym c.as_slice-2.ensures) (listed_parts k.circuit at false plan.kept c.requires.plan.kept) in
-    λ n inside mark loose.
+    λ n inside mark.
     level_told k phase (setting_in k phase) care words.roots words.gates d solved
     (care_meets k phase d.budget made care words d c.requires.ready c.requires.phase plan c.requires.plan s.store s.opened c.sound.ensures.sound c.requires.nets s.met)
     (meets_care k phase d.budget made care words d c.requires.ready c.requires.phase plan c.requires.plan s.store s.opened c.sound.ensures.sound c.requires.nets s.met)
     n (level_in k.circuit c.net_levels.new.levels n)
-    (c.in-Ok.ensures.gives at (is_observed k phase) (setting_in k phase) words.roots solved of_bare of_kept n inside mark loose)
+    (c.in-Ok.ensures.gives at (is_observed k phase) (setting_in k phase) words.roots solved of_bare of_kept n inside mark)
