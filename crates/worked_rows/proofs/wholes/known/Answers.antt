@@ -10,4 +10,4 @@ returns-in-Ok c =
     let found = c.in_ok-_verdict.field-0 in
     let first : List CellFacts = found.facts ∷ [] in
     let is : c.append.new.self ≡ first = c.in-Ok.ensures ∙ ap (λ (fs : List CellFacts). fs ++ first) c.new-facts.ensures in
-    subst (AreTrueFacts i.design i.blif i.rules) (sym is) (first_is_known i.design i.blif i.rules c.new-facts.facts found.verdict found.facts c.in_ok-_verdict.ensures)
+    subst (AreTrueFacts i.design i.blif i.rules) (sym is) (first_is_known i.design i.blif i.rules _ found.verdict found.facts c.in_ok-_verdict.ensures)
