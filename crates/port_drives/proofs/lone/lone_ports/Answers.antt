@@ -37,4 +37,4 @@ loop-plan-preserved c =
     }
 
 pub returns : goal.returns
-returns c = all_phases c.args.circuit.now c.args.plans.now c.args.outputs.now c.loop-plan.plan-index c.loop-plan.all.items c.loop-plan.invariant.are (let past = c.loop-plan-test.false in let end = c.loop-plan.auto.plan-end in omega (arith, past, end))
+returns c = all_phases c.args.circuit.now c.args.plans.now c.args.outputs.now c.loop-plan.plan-index c.loop-plan.all.items c.loop-plan.invariant.are (omega (arith, c.loop-plan-test.false, c.loop-plan.auto.plan-index-end))
