@@ -176,15 +176,16 @@ module _ (design : Design) (blif : Blif) (rules : Rules) (cell m : ℕ) (f : Fla
       no_state : facts.equal ≡ false → facts.stateless ≡ false
       no_state = by_state facts.stateless refl
 
+      facts_here : AreFacts (comparison design rules cell f) blif below verdict facts
+      facts_here = record {
+        equal = tells.equal;
+        stateless = state_here;
+        drives = λ e. subst (HasDrives (comparison design rules cell f) blif below) (sym (tells.drives_are (tells.equal.1 e))) (has_drives e);
+        no_drives = tells.no_drives;
+      }
+
       are_facts : (n : ℕ) → paired_model design blif rules cell ≡ Model n → AreFacts (comparison_of design blif rules cell n) blif below verdict facts
-      are_facts =
-          of_cell (λ (x : Comparison). AreFacts x blif below verdict facts)
-          (record {
-            equal = tells.equal;
-            stateless = state_here;
-            drives = λ e. subst (HasDrives (comparison design rules cell f) blif below) (sym (tells.drives_are (tells.equal.1 e))) (has_drives e);
-            no_drives = tells.no_drives;
-          })
+      are_facts = of_cell (λ (x : Comparison). AreFacts x blif below verdict facts) facts_here
 
       by_fact : (facts.equal ≡ true) ⊎ (facts.equal ≡ false) → IsTrueOf design blif rules cell facts
       by_fact (inl e) =

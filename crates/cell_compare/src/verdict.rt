@@ -143,8 +143,9 @@ pub fn compare_prepared(
 
 /// The verdict on a cell. Phase by phase its circuit is compared with its model by diagrams, which take at most `budget` nodes in
 /// each phase. An instance of a cell that is known as equal and stateless is left whole, and the model of its cell stands for it,
-/// where its outputs meet gates alone and the other conditions of the checked circuit hold; all others are unrolled. Each verdict
-/// is that of the flat circuit. A fault stands there, and is the first by the order of places of the checked circuit.
+/// where its outputs meet gates alone, or devices and outputs that are no stronger than `facts` say that they drive, and the other
+/// conditions of the checked circuit hold; all others are unrolled. Each verdict is that of the flat circuit. A fault stands there, and
+/// is the first by the order of places of the checked circuit. Of an equal cell it is told how strongly its outputs drive.
 ///
 /// `Budget` comes only with more than four variables, where the nodes that its phase may need are more than the budget;
 /// beside it and want of memory each verdict comes exactly where it holds.
