@@ -17,10 +17,10 @@ from report import Report
 
 FILES = ("c.sp", "m.blif", "r.txt")
 
-# For trials of the simulator alone: with this set to `flat` no instance is left whole, with `levels` also such whose outputs meet channels,
-# which the program does not leave whole.
+# For trials of the simulator alone: with this set to `flat` no instance is left whole, with `gates` those alone whose outputs meet gates
+# alone; the program leaves also such whole whose outputs meet channels.
 LEAVES_WHOLE = os.environ.get("SIMULATED") != "flat"
-TELLS_LEVELS = os.environ.get("SIMULATED") == "levels"
+TELLS_LEVELS = os.environ.get("SIMULATED") != "gates"
 
 
 def write_files(design, folder):

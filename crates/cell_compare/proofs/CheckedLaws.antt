@@ -9,21 +9,20 @@ use Rattle.cell_compare.proofs.Causes.{comparison_is}
 use Rattle.cell_compare.proofs.CheckedReady.{ready_over}
 use Rattle.cell_compare.proofs.GroundLaws.{ground_of}
 use Rattle.cell_compare.proofs.Passing.{may_pass}
-use Rattle.cell_compare.proofs.VerdictLaws.{supported}
+use Rattle.cell_compare.proofs.VerdictLaws.{read_cell, supported}
 use Rattle.cell_compare.specs.Checked.{IsCheckable, has_many, is_fault, is_passed, is_settled, over}
 use Rattle.cell_compare.specs.Compared.{AreInputs, IsFlattened, comparison}
 use Rattle.cell_compare.specs.Works.{AreVars, IsChecked, IsPlanned}
 use Rattle.cell_compare.specs.declared.flattened.Flattened.{Flattened}
 use Rattle.checked_cells.proofs.CircuitLaws.{checked_circuits_are_formed, checked_circuits_share}
 use Rattle.checked_cells.proofs.GivenLaws.{checked_cells_are_by_facts}
-use Rattle.checked_cells.proofs.OutputLaws.{checked_outputs_are_free}
 use Rattle.checked_cells.proofs.VerdictLaws.{checked_variables_are_same, flat_verdicts_hold, found_verdicts_hold}
 use Rattle.checked_cells.proofs.WholeLaws.{checked_circuits_are_wired, checked_wholes_are_determined, checked_wholes_are_logic}
-use Rattle.checked_cells.specs.Given.{ArePlainFacts, IsCheckedOf, IsReadCell}
+use Rattle.checked_cells.specs.Given.{AreTrueFacts, IsCheckedOf}
 use Rattle.checked_cells.specs.Verdicts.{IsFoundIn}
-use Rattle.circuit_faults.specs.Wholes.{HasFreeWholes}
+use Rattle.circuit_faults.specs.Wholes.{HasSoundWholes}
 use Rattle.phase_terms.specs.Ready.{IsReady}
-use Rattle.substitution_laws.specs.Agreement.{IsCheckedSoftly}
+use Rattle.substitution_laws.specs.Agreement.{IsCheckedByFacts}
 use Rattle.vrt_model.specs.Budget.{work_of}
 use Rattle.vrt_model.specs.Checked.{top_of, with_circuit}
 use Rattle.vrt_model.specs.CheckedVerdicts.{HasCheckedVerdict}
@@ -51,21 +50,16 @@ use Rattle.whole_steps.specs.declared.table.OutputPlace.{OutputPlace}
 
 -- what is flattened of a cell may be looked through by its checked circuit
 pub checkable : (design : Design) (blif : Blif) (rules : Rules) (cell m : ℕ) (f : Flattened) → AreInputs design blif rules cell → IsFlattened design blif rules cell m f
-    → (facts : List CellFacts) → ArePlainFacts design blif rules facts → IsCheckable (comparison design rules cell f) blif facts
-checkable design blif rules cell m f inputs is facts plain =
-    let given : IsReadCell design blif rules cell = record {
-      netlist = inputs.netlist;
-      read = record { names = inputs.names; models = inputs.models; valid = inputs.valid };
-      ordered = inputs.ordered;
-      there = inputs.there;
-    } in
+    → (facts : List CellFacts) → AreTrueFacts design blif rules facts → IsCheckable (comparison design rules cell f) blif facts
+checkable design blif rules cell m f inputs is facts true_facts =
+    let given = read_cell design blif rules cell inputs in
     let same = comparison_is design blif rules cell m f is in
     record {
       flat = is.circuit_is;
-      ground = ground_of design blif rules cell m f inputs is facts plain;
-      soft = λ c planned checked.
-          subst (λ (x : Comparison). (y : IsCheckedOf x blif facts c) → IsCheckedSoftly x y.0 blif facts c) (sym same)
-          (λ y. checked_cells_are_by_facts design blif rules cell m facts y.0 c given (supported design blif rules cell m f inputs is planned) (record { told = plain.told }) plain.soft y.1 y.2) checked;
+      ground = ground_of design blif rules cell m f inputs is facts true_facts;
+      by_facts = λ c planned checked.
+          subst (λ (x : Comparison). (y : IsCheckedOf x blif facts c) → IsCheckedByFacts false x y.0 blif facts c) (sym same)
+          (λ y. checked_cells_are_by_facts {all_soft = false} design blif rules cell m facts y.0 c given (supported design blif rules cell m f inputs is planned) true_facts tt y.1 y.2) checked;
     }
 
 -- so its checked circuit may be asked for
@@ -76,7 +70,7 @@ whole_ground k blif facts able planned = record { ground = able.ground planned; 
 -- ---- what is found
 
 -- a flat circuit has no whole instance
-no_whole : (t : Top) (c : Circuit) → c ≡ flat_circuit_of t → c.wholes ≡ []
+pub no_whole : (t : Top) (c : Circuit) → c ≡ flat_circuit_of t → c.wholes ≡ []
 unfolding flat_circuit_of
 no_whole t c e = ap (λ (x : Circuit). x.wholes) e
 
@@ -93,7 +87,7 @@ found_flat k blif budget (Unsupported why) none found = absurd found
 pub flat_found : (k : Comparison) (blif : Blif) (facts : List CellFacts) (budget : ℕ) (verdict : Verdict) → IsCheckable k blif facts → IsPlanned k → IsCheckedOf k blif facts k.circuit
     → IsChecked k budget verdict → HasCheckedVerdict k blif facts budget verdict
 flat_found k blif facts budget verdict able planned is found =
-    flat_verdicts_hold k is.0 blif facts budget verdict (able.soft k.circuit planned is)
+    flat_verdicts_hold k is.0 blif facts budget verdict (able.by_facts k.circuit planned is)
     (found_flat k blif budget verdict (no_whole (top_of k) k.circuit able.flat) found)
 
 -- where it is no fault, it is the verdict whichever circuit is the checked one
@@ -131,7 +125,7 @@ many_sources k upto vars phase are many = by_entry (slice_get vars phase) refl
     by_entry (Some v) is = subst (λ (sources : List Source). 4 < length sources) (are.each phase v is).sources (ltb-true 4 (length v.sources) (sym (ap test is) ∙ many))
 
 -- what is found phase by phase in a checked circuit is the verdict, where the budget is told as used up only where it may be in the flat one
-pub whole_found : (k : Comparison) (cut : Cut) (blif : Blif) (facts : List CellFacts) (c : Circuit) (budget upto : ℕ) (vars : List Vars) (verdict : Verdict) → IsCheckedSoftly k cut blif facts c
+pub whole_found : (k : Comparison) (cut : Cut) (blif : Blif) (facts : List CellFacts) (c : Circuit) (budget upto : ℕ) (vars : List Vars) (verdict : Verdict) → IsCheckedByFacts false k cut blif facts c
     → AreVars k upto vars → IsChecked (with_circuit k c) budget verdict → is_settled budget k.circuit vars verdict ≡ true → HasCheckedVerdict k blif facts budget verdict
 whole_found k cut blif facts c budget upto vars verdict h are found settled = found_verdicts_hold k cut blif facts c budget verdict h (by_verdict verdict found settled)
   where
@@ -148,12 +142,12 @@ whole_found k cut blif facts c budget upto vars verdict h are found settled = fo
 -- ---- another circuit
 
 -- a checked circuit has the groups of the flat one
-pub over_is : (k : Comparison) (cut : Cut) (blif : Blif) (facts : List CellFacts) (c : Circuit) → IsCheckedSoftly k cut blif facts c → with_circuit k c ≡ over k c
+pub over_is : (k : Comparison) (cut : Cut) (blif : Blif) (facts : List CellFacts) (c : Circuit) → IsCheckedByFacts false k cut blif facts c → with_circuit k c ≡ over k c
 over_is k cut blif facts c h =
     ap (λ (gs : List Group). let one : Comparison = record k { circuit = c; groups = gs } in one) (checked_circuits_share k cut blif facts c h).groups
 
 -- and its variables
-pub vars_over : (k : Comparison) (cut : Cut) (blif : Blif) (facts : List CellFacts) (c : Circuit) (upto : ℕ) (vars : List Vars) → IsCheckedSoftly k cut blif facts c
+pub vars_over : (k : Comparison) (cut : Cut) (blif : Blif) (facts : List CellFacts) (c : Circuit) (upto : ℕ) (vars : List Vars) → IsCheckedByFacts false k cut blif facts c
     → AreVars k upto vars → AreVars (with_circuit k c) upto vars
 vars_over k cut blif facts c upto vars h are = record {
   count = are.count;
@@ -163,22 +157,21 @@ vars_over k cut blif facts c upto vars h are = record {
       record { few = one.few; sources = one.sources ∙ sym same.0; names = one.names ∙ sym same.1 });
 }
 
--- its whole instances are free
-free_wholes : (k : Comparison) (cut : Cut) (blif : Blif) (facts : List CellFacts) (c : Circuit) (phase : ℕ) → IsCheckedSoftly k cut blif facts c → phase < length k.rules.phases
-    → HasFreeWholes c (phase_at k.rules phase) (is_observed (with_circuit k c) phase)
-free_wholes k cut blif facts c phase h lt = record {
+-- its numbers are in range, and its whole instances determined
+sound_wholes : (k : Comparison) (cut : Cut) (blif : Blif) (facts : List CellFacts) (c : Circuit) (phase : ℕ) → IsCheckedByFacts false k cut blif facts c → phase < length k.rules.phases
+    → HasSoundWholes c (phase_at k.rules phase) (is_observed (with_circuit k c) phase)
+sound_wholes k cut blif facts c phase h lt = record {
   ranges = (checked_circuits_are_wired k cut blif facts c h).ranges;
   determined = checked_wholes_are_determined k cut blif facts c phase h lt;
-  free = checked_outputs_are_free k cut blif facts c h;
 }
 
 -- so it is looked through phase by phase
-pub ready_with : (k : Comparison) (cut : Cut) (blif : Blif) (facts : List CellFacts) (c : Circuit) → IsReady k → IsCheckedSoftly k cut blif facts c → IsReady (over k c)
+pub ready_with : (k : Comparison) (cut : Cut) (blif : Blif) (facts : List CellFacts) (c : Circuit) → IsReady k → IsCheckedByFacts false k cut blif facts c → IsReady (over k c)
 ready_with k cut blif facts c ready h =
     ready_over k c ready (checked_circuits_share k cut blif facts c h) (checked_circuits_are_formed k cut blif facts c h)
-    (λ phase lt. subst (λ (x : Comparison). HasFreeWholes c (phase_at k.rules phase) (is_observed x phase)) (over_is k cut blif facts c h) (free_wholes k cut blif facts c phase h lt))
+    (λ phase lt. subst (λ (x : Comparison). HasSoundWholes c (phase_at k.rules phase) (is_observed x phase)) (over_is k cut blif facts c h) (sound_wholes k cut blif facts c phase h lt))
 
 -- by the outputs of its whole instances and the orders of their models
-pub table_with : (k : Comparison) (cut : Cut) (blif : Blif) (facts : List CellFacts) (c : Circuit) (drivers : List (Option OutputPlace)) (orders : List ModelPlan) → IsCheckedSoftly k cut blif facts c
+pub table_with : (k : Comparison) (cut : Cut) (blif : Blif) (facts : List CellFacts) (c : Circuit) (drivers : List (Option OutputPlace)) (orders : List ModelPlan) → IsCheckedByFacts false k cut blif facts c
     → AreDrivers c (output_pins c) drivers → AreOrders c.wholes (length c.wholes) orders → IsWholeTable c drivers orders
 table_with k cut blif facts c drivers orders h outputs plans = whole_table c drivers orders outputs plans (λ w on. checked_wholes_are_logic k cut blif facts c w h on)

@@ -3,7 +3,7 @@ use Rattle.std.proofs.Common.{ℕ, ◌<◌, List, length, sym, subst}
 use Rattle.std.specs.Prelude.{◌≤◌, All, sum_by}
 use Rattle.cell_compare.specs.Checked.{over}
 use Rattle.checked_cells.specs.Circuits.{SharesCircuit}
-use Rattle.circuit_faults.specs.Wholes.{HasFreeWholes}
+use Rattle.circuit_faults.specs.Wholes.{HasSoundWholes}
 use Rattle.hold_groups.specs.Grouped.{AreGroups}
 use Rattle.phase_terms.specs.Ready.{HasPairedInputs, IsNamedInstance, IsReady}
 use Rattle.vrt_model.proofs.Members.{all_among, all_by}
@@ -44,8 +44,8 @@ module _ (k : Comparison) (c : Circuit) (ready : IsReady k) (shares : SharesCirc
       let is = all_among (IsNamedInstance k) k.circuit.instances i ready.instances (shares.instances i on) in
       record { ports = is.ports; apart = is.apart; named = is.named }
 
-  -- its outputs are free
-  pub ready_over : IsCircuit c → ((phase : ℕ) → phase < length k.rules.phases → HasFreeWholes c (phase_at k.rules phase) (is_observed (over k c) phase)) → IsReady (over k c)
+  -- its whole instances are sound
+  pub ready_over : IsCircuit c → ((phase : ℕ) → phase < length k.rules.phases → HasSoundWholes c (phase_at k.rules phase) (is_observed (over k c) phase)) → IsReady (over k c)
   ready_over circuit wholes = record {
     rules = ready.rules;
     cell = ready.cell;

@@ -6,7 +6,7 @@ use Rattle.cell_compare.specs.Compared.{AreInputs, IsFlattened, comparison}
 use Rattle.cell_compare.specs.Works.{IsPlanned}
 use Rattle.cell_compare.specs.declared.flattened.Flattened.{Flattened}
 use Rattle.checked_cells.proofs.PlacesAlone.{ties_same}
-use Rattle.checked_cells.specs.Given.{ArePlainFacts}
+use Rattle.checked_cells.specs.Given.{AreTrueFacts}
 use Rattle.vrt_model.specs.Checked.{top_of}
 use Rattle.vrt_model.specs.Comparison.{Comparison}
 use Rattle.vrt_model.specs.Known.{HasArc}
@@ -27,8 +27,8 @@ in_phase k free i phase at =
 
 -- the ground on which instances of the cell are tried, by true facts
 pub ground_of : (design : Design) (blif : Blif) (rules : Rules) (cell m : ℕ) (f : Flattened) → AreInputs design blif rules cell → IsFlattened design blif rules cell m f
-    → (facts : List CellFacts) → ArePlainFacts design blif rules facts → IsPlanned (comparison design rules cell f) → IsGround (top_of (comparison design rules cell f)) blif facts f.circuit
-ground_of design blif rules cell m f inputs is facts plain planned = record {
+    → (facts : List CellFacts) → AreTrueFacts design blif rules facts → IsPlanned (comparison design rules cell f) → IsGround (top_of (comparison design rules cell f)) blif facts f.circuit
+ground_of design blif rules cell m f inputs is facts true_facts planned = record {
   netlist = record {
     design = inputs.netlist;
     ordered = inputs.ordered;
@@ -36,7 +36,7 @@ ground_of design blif rules cell m f inputs is facts plain planned = record {
     ties = ties_same (top_before design rules cell) f.pairing.ports ∙ is.structured.ties;
   };
   read = record { names = inputs.names; models = inputs.models; valid = inputs.valid };
-  told = plain.told;
+  told = true_facts.told;
   formed = is.circuit;
   acyclic = in_phase (comparison design rules cell f) planned.acyclic;
 }

@@ -3,10 +3,12 @@ pub mod CheckLaws
 pub mod CheckedLaws
 pub mod CheckedReady
 pub mod CompleteLaws
+pub mod DriveLaws
 pub mod GroundLaws
 pub mod InstanceLaws
 pub mod PairedInputs
 pub mod Passing
+pub mod PortLaws
 pub mod ReadyLaws
 pub mod SizeLaws
 pub mod StepLaws

@@ -1,20 +1,23 @@
 -- The verdict on a cell, its line, what is known of the cell then and its runs, by what the steps of the comparison give.
-use Rattle.std.proofs.Common.{◌≡◌, ℕ, suc, Bool, true, false, List, [], ◌∷◌, length, Option, Some, None, arith, ap, subst, sym, refl, ◌∙◌, inl, inr}
-use Rattle.std.specs.Prelude.{◌↔◌, filter, option_map}
-use Rattle.std.proofs.lemmas.Bool.{true≢false}
+use Rattle.std.proofs.Common.{◌≡◌, ◌⊎◌, ℕ, Bool, true, false, List, [], length, Option, Some, None, ap, subst, sym, refl, ◌∙◌, inl, inr}
+use Rattle.std.specs.Prelude.{◌↔◌, option_map}
+use Rattle.std.proofs.lemmas.Bool.{cases_Bool, false≢true, true≢false}
+use Rattle.std.proofs.lemmas.Option.{none-some}
 use Rattle.cell_compare.proofs.Causes.{by_variables, comparison_is}
 use Rattle.cell_compare.proofs.ReadyLaws.{well_formed}
 use Rattle.cell_compare.specs.Cells.{HasEarlyLine, HasFacts, HasLine, HasRuns, IsEarly}
 use Rattle.cell_compare.specs.Compared.{AreInputs, IsFlattened, comparison}
 use Rattle.cell_compare.specs.Checked.{IsTold}
-use Rattle.cell_compare.specs.Works.{AreSoft, IsPlanned, IsToldEarly, IsToldWhy, is_output_role}
+use Rattle.cell_compare.specs.Ports.{HasDrives}
+use Rattle.cell_compare.specs.Works.{AreTold, IsPlanned, IsToldEarly, IsToldWhy}
 use Rattle.cell_compare.specs.declared.flattened.Flattened.{Flattened}
-use Rattle.paired_ports.proofs.PortLists.{net_for_each}
+use Rattle.checked_cells.proofs.ToldFactLaws.{told_facts_are_true}
+use Rattle.checked_cells.specs.Given.{AreTrueFacts, IsReadCell}
 use Rattle.run_laws.proofs.WellFormed.{equal_runs}
-use Rattle.vrt_model.proofs.Members.{all_among}
-use Rattle.vrt_model.specs.Comparison.{CellPort, Comparison, cell_at, port_nets, ports_from}
+use Rattle.vrt_model.specs.Comparison.{Comparison, cell_at}
 use Rattle.vrt_model.specs.Equal.{IsEqual}
-use Rattle.vrt_model.specs.Facts.{IsTrueDrive, IsTrueFor, output_ports}
+use Rattle.vrt_model.specs.Facts.{AreFacts, IsTrueOf}
+use Rattle.vrt_model.specs.Lists.{At}
 use Rattle.vrt_model.specs.PairedPorts.{Paired, Model, model_of_paired, paired_model}
 use Rattle.vrt_model.specs.Runs.{RunsMatch}
 use Rattle.vrt_model.specs.Unsupported.{AcyclicBefore, IsCycleWhy, IsSupported, IsUnsupportedBy, comparison_of, why_early, why_of}
@@ -22,8 +25,6 @@ use Rattle.vrt_model.specs.VerdictText.{verdict_line}
 use Rattle.vrt_model.specs.CheckedVerdicts.{HasCheckedVerdict, IsCheckedVerdict}
 use Rattle.vrt_model.specs.declared.blif.Blif.{Blif}
 use Rattle.vrt_model.specs.declared.design.Design.{Design}
-use Rattle.vrt_model.specs.declared.pairing.PortRole.{PortRole}
-use Rattle.vrt_model.specs.declared.pairing.PortRole.TheVariants.{Supply, Clock, Input, Output}
 use Rattle.vrt_model.specs.declared.rules.Rules.{Rules}
 use Rattle.vrt_model.specs.declared.verdict.Verdict.{Verdict}
 use Rattle.vrt_model.specs.declared.verdict.Verdict.TheVariants.{Equal, Skipped as IsSkipped, Fault, Vacuous, Budget, Unsupported}
@@ -31,19 +32,38 @@ use Rattle.vrt_model.specs.declared.verdict.Why.{Why}
 use Rattle.vrt_model.specs.declared.verdict.Why.TheVariants.{TooManyVars}
 use Rattle.vrt_model.specs.declared.whole.CellFacts.{CellFacts}
 use Rattle.vrt_model.specs.declared.whole.Drive.{Drive}
-use Rattle.vrt_model.specs.declared.whole.Drive.TheVariants.{Soft}
 
--- as many output ports as roles of outputs
-outputs_among : (at : ℕ) (names : List (List ℕ)) (nets : List ℕ) (roles : List PortRole) → length nets ≡ length names → length roles ≡ length names
-    → length (filter (λ (p : CellPort). is_output_role p.role) (ports_from at names nets roles)) ≡ length (filter is_output_role roles)
-outputs_among at [] nets [] e same = refl
-outputs_among at [] nets (role ∷ roles) e same = absurd (omega (arith, same))
-outputs_among at (name ∷ names) [] roles e same = absurd (omega (arith, e))
-outputs_among at (name ∷ names) (net ∷ nets) [] e same = absurd (omega (arith, same))
-outputs_among at (name ∷ names) (net ∷ nets) (Supply value ∷ roles) e same = outputs_among (suc at) names nets roles (omega (arith, e)) (omega (arith, same))
-outputs_among at (name ∷ names) (net ∷ nets) (Clock clock ∷ roles) e same = outputs_among (suc at) names nets roles (omega (arith, e)) (omega (arith, same))
-outputs_among at (name ∷ names) (net ∷ nets) (Input signal ∷ roles) e same = outputs_among (suc at) names nets roles (omega (arith, e)) (omega (arith, same))
-outputs_among at (name ∷ names) (net ∷ nets) (Output signal ∷ roles) e same = ap suc (outputs_among (suc at) names nets roles (omega (arith, e)) (omega (arith, same)))
+-- what is given of a cell, as a reader gives it
+pub read_cell : (design : Design) (blif : Blif) (rules : Rules) (cell : ℕ) → AreInputs design blif rules cell → IsReadCell design blif rules cell
+read_cell design blif rules cell inputs = record {
+  netlist = inputs.netlist;
+  read = record { names = inputs.names; models = inputs.models; valid = inputs.valid };
+  ordered = inputs.ordered;
+  there = inputs.there;
+}
+
+-- nothing is known of a cell that is not equal
+pub nothing_known : (design : Design) (blif : Blif) (rules : Rules) (below : List CellFacts) (cell : ℕ) (verdict : Verdict) (facts : CellFacts) → (verdict ≡ Equal → ⊥)
+    → facts ≡ record { equal = false; stateless = false; drives = [] } → HasFacts design blif rules below cell verdict facts
+nothing_known design blif rules below cell verdict facts other e = subst (HasFacts design blif rules below cell verdict) (sym e) (record {
+  is_true = record {
+    supported = λ f. absurd (false≢true f);
+    compared = λ m paired. record {
+      equal = λ f. absurd (false≢true f);
+      stateless = λ f. absurd (false≢true f);
+      drives = λ j port drive on at. absurd (none-some drive at);
+    };
+  };
+  are = λ m paired. record {
+    equal = (λ f. absurd (false≢true f), λ is. absurd (other is));
+    stateless = (λ f. absurd (false≢true f), λ all. absurd (other all.0));
+    drives = λ is. absurd (other is);
+    no_drives = λ f. refl;
+  };
+  equal = (λ f. absurd (false≢true f), λ is. absurd (other is));
+  no_state = λ f. refl;
+  no_drives = λ f. refl;
+})
 
 module _ (design : Design) (blif : Blif) (rules : Rules) (cell m : ℕ) (f : Flattened) (inputs : AreInputs design blif rules cell) (is : IsFlattened design blif rules cell m f) where
   -- what is compared, by the steps and by the definitions
@@ -128,47 +148,55 @@ module _ (design : Design) (blif : Blif) (rules : Rules) (cell m : ℕ) (f : Fla
       of_cell RunsMatch
       (equal_runs (comparison design rules cell f) (well_formed design blif rules cell m f inputs is) (found_equal below budget (subst (IsTold (comparison design rules cell f) blif below budget) equal t)))
 
-  -- soft drives are true of any output
-  soft_drive : (x : Comparison) (port : CellPort) (drive : Drive) → drive ≡ Soft → IsTrueDrive x port drive
-  soft_drive x port drive e = subst (IsTrueDrive x port) (sym e) tt
-
-  -- as many outputs are compared as ports have roles of outputs
-  outputs_are : length (output_ports (comparison design rules cell f)) ≡ length (filter is_output_role f.pairing.ports)
-  outputs_are =
-      let names = (cell_at design cell).ports in outputs_among 0 names (port_nets rules names) f.pairing.ports (net_for_each rules 2 names) is.roles.each
-
-  -- what is noted of the cell is true
-  pub facts_with : (below : List CellFacts) (budget : ℕ) (verdict : Verdict) (bare : Bool) (facts : CellFacts) → (bare ≡ true) ↔ ((f.circuit.holds ≡ []) × (f.model.latches ≡ []))
-      → IsTold (comparison design rules cell f) blif below budget verdict → AreSoft f.pairing.ports bare verdict facts → HasFacts design blif rules cell verdict facts
-  facts_with below budget verdict bare facts is_bare t soft = record {
-    equal = soft.equal;
-    stateless = of_cell (λ (x : Comparison). (facts.stateless ≡ true) ↔ ((verdict ≡ Equal) × (x.circuit.holds ≡ []) × (x.model.latches ≡ []))) state_here;
-    no_state = by_state facts.stateless refl;
-    is_true = record {
-      supported = λ e. let v = told below budget Equal (equal_told e) in (v.0, v.1);
-      compared = of_cell (λ (x : Comparison). IsTrueFor x facts) true_here;
-    };
-    soft = soft.soft;
-    drives = λ n e paired. of_cell (λ (x : Comparison). length facts.drives ≡ length (output_ports x)) (soft.drives e ∙ sym outputs_are) n paired;
-    no_drives = soft.no_drives;
+  -- what is noted of the cell is what its facts say, and it is true
+  pub facts_with : (below : List CellFacts) (budget : ℕ) (verdict : Verdict) (bare : Bool) (drives : List Drive) (facts : CellFacts) → AreTrueFacts design blif rules below
+      → (bare ≡ true) ↔ ((f.circuit.holds ≡ []) × (f.model.latches ≡ [])) → IsTold (comparison design rules cell f) blif below budget verdict
+      → (verdict ≡ Equal → HasDrives (comparison design rules cell f) blif below drives) → AreTold drives bare verdict facts → HasFacts design blif rules below cell verdict facts
+  facts_with below budget verdict bare drives facts true_below is_bare t has_drives tells = record {
+    is_true = by_fact (cases_Bool facts.equal);
+    are = are_facts;
+    equal = tells.equal;
+    no_state = no_state;
+    no_drives = tells.no_drives;
   }
     where
       equal_told : facts.equal ≡ true → IsTold (comparison design rules cell f) blif below budget Equal
-      equal_told e = subst (IsTold (comparison design rules cell f) blif below budget) (soft.equal.0 e) t
+      equal_told e = subst (IsTold (comparison design rules cell f) blif below budget) (tells.equal.0 e) t
 
       state_here : (facts.stateless ≡ true) ↔ ((verdict ≡ Equal) × (f.circuit.holds ≡ []) × (f.model.latches ≡ []))
       state_here = (
-        λ e. (let both = soft.stateless.0 e in let none = is_bare.0 both.1 in (both.0, none.0, none.1)),
-        λ all. soft.stateless.1 (all.0, is_bare.1 (all.1, all.2)),
+        λ e. (let both = tells.stateless.0 e in let none = is_bare.0 both.1 in (both.0, none.0, none.1)),
+        λ all. tells.stateless.1 (all.0, is_bare.1 (all.1, all.2)),
       )
 
       by_state : (b : Bool) → facts.stateless ≡ b → facts.equal ≡ false → facts.stateless ≡ false
       by_state false e none = e
-      by_state true e none = absurd (true≢false (sym (soft.equal.1 (soft.stateless.0 e).0) ∙ none))
+      by_state true e none = absurd (true≢false (sym (tells.equal.1 (tells.stateless.0 e).0) ∙ none))
 
-      true_here : IsTrueFor (comparison design rules cell f) facts
-      true_here = record {
-        equal = λ e. found_equal below budget (equal_told e);
-        stateless = λ e. (let none = is_bare.0 (soft.stateless.0 e).1 in (none.0, none.1));
-        drives = λ j port drive out at. soft_drive k port drive (all_among (λ (d : Drive). d ≡ Soft) facts.drives drive soft.soft (j, at));
+      no_state : facts.equal ≡ false → facts.stateless ≡ false
+      no_state = by_state facts.stateless refl
+
+      facts_here : AreFacts (comparison design rules cell f) blif below verdict facts
+      facts_here = record {
+        equal = tells.equal;
+        stateless = state_here;
+        drives = λ e. subst (HasDrives (comparison design rules cell f) blif below) (sym (tells.drives_are (tells.equal.1 e))) (has_drives e);
+        no_drives = tells.no_drives;
+      }
+
+      are_facts : (n : ℕ) → paired_model design blif rules cell ≡ Model n → AreFacts (comparison_of design blif rules cell n) blif below verdict facts
+      are_facts = of_cell (λ (x : Comparison). AreFacts x blif below verdict facts) facts_here
+
+      by_fact : (facts.equal ≡ true) ⊎ (facts.equal ≡ false) → IsTrueOf design blif rules cell facts
+      by_fact (inl e) =
+          let v = told below budget Equal (equal_told e) in
+          told_facts_are_true design blif rules cell v.0 below verdict facts (read_cell design blif rules cell inputs) v.1 true_below
+          (λ verdict_is. of_cell IsEqual (found_equal below budget (equal_told e)) v.0 v.1.paired) (are_facts v.0 v.1.paired)
+      by_fact (inr none) = record {
+        supported = λ e. absurd (true≢false (sym e ∙ none));
+        compared = λ n paired. record {
+          equal = λ e. absurd (true≢false (sym e ∙ none));
+          stateless = λ e. absurd (true≢false (sym e ∙ no_state none));
+          drives = λ j port drive on at. absurd (none-some drive (subst (λ (ds : List Drive). At ds j drive) (tells.no_drives none) at));
+        };
       }

@@ -1,12 +1,12 @@
 -- What is said of a cell beside its verdict.
-use Rattle.std.specs.Prelude.{◌≡◌, ℕ, ◌<◌, ◌≤◌, ◌⊎◌, ◌↔◌, true, false, All, [], length, Option, Some, None, option_map}
+use Rattle.std.specs.Prelude.{◌≡◌, ℕ, ◌<◌, ◌≤◌, ◌⊎◌, ◌↔◌, true, false, List, [], length, Option, Some, None, option_map}
 use Rattle.cell_compare.specs.Compared.{IsFlattened}
 use Rattle.cell_compare.specs.Steps.{IsInTheWay}
 use Rattle.cell_compare.specs.declared.flattened.Flattened.{Flattened}
 use Rattle.vrt_model.specs.Budget.{enough_nodes}
 use Rattle.vrt_model.specs.Comparison.{Comparison, cell_at}
 use Rattle.vrt_model.specs.Equal.{IsVacuous}
-use Rattle.vrt_model.specs.Facts.{IsTrueOf, output_ports}
+use Rattle.vrt_model.specs.Facts.{AreFacts, IsTrueOf}
 use Rattle.vrt_model.specs.Held.{sources_of}
 use Rattle.vrt_model.specs.PairedPorts.{Model, Skipped, paired_model}
 use Rattle.vrt_model.specs.Runs.{RunsMatch}
@@ -19,8 +19,6 @@ use Rattle.vrt_model.specs.declared.rules.Rules.{Rules}
 use Rattle.vrt_model.specs.declared.verdict.Verdict.{Verdict}
 use Rattle.vrt_model.specs.declared.verdict.Verdict.TheVariants.{Equal, Skipped as IsSkipped, Fault, Vacuous, Budget, Unsupported}
 use Rattle.vrt_model.specs.declared.whole.CellFacts.{CellFacts}
-use Rattle.vrt_model.specs.declared.whole.Drive.{Drive}
-use Rattle.vrt_model.specs.declared.whole.Drive.TheVariants.{Soft}
 
 -- ---- its line
 
@@ -34,18 +32,13 @@ HasLine design blif rules cell verdict flattened =
 
 -- ---- what is known of it
 
--- What is known of a cell is true. It is equal exactly where that is the verdict, and stateless exactly where it has neither hold
--- nor latch as well. Of each output port of an equal cell the drive is left open; else there are no drives.
-pub record HasFacts (design : Design) (blif : Blif) (rules : Rules) (cell : ℕ) (verdict : Verdict) (f : CellFacts) : Type 0 where
-  pub equal : (f.equal ≡ true) ↔ (verdict ≡ Equal)
-  pub stateless :
-      (m : ℕ) → paired_model design blif rules cell ≡ Model m
-      → (f.stateless ≡ true)
-      ↔ ((verdict ≡ Equal) × ((comparison_of design blif rules cell m).circuit.holds ≡ []) × ((comparison_of design blif rules cell m).model.latches ≡ []))
-  pub no_state : f.equal ≡ false → f.stateless ≡ false
+-- What is known of a cell is true, and it is what the facts of a cell say after this verdict, where these were known of the cells below.
+-- Nothing is known of a cell that is not equal.
+pub record HasFacts (design : Design) (blif : Blif) (rules : Rules) (below : List CellFacts) (cell : ℕ) (verdict : Verdict) (f : CellFacts) : Type 0 where
   pub is_true : IsTrueOf design blif rules cell f
-  pub soft : All (λ (drive : Drive). drive ≡ Soft) f.drives
-  pub drives : (m : ℕ) → f.equal ≡ true → paired_model design blif rules cell ≡ Model m → length f.drives ≡ length (output_ports (comparison_of design blif rules cell m))
+  pub are : (m : ℕ) → paired_model design blif rules cell ≡ Model m → AreFacts (comparison_of design blif rules cell m) blif below verdict f
+  pub equal : (f.equal ≡ true) ↔ (verdict ≡ Equal)
+  pub no_state : f.equal ≡ false → f.stateless ≡ false
   pub no_drives : f.equal ≡ false → f.drives ≡ []
 
 -- ---- when it is decided

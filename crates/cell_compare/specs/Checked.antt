@@ -1,9 +1,9 @@
 -- What is told of a comparison whose checked circuit is looked through.
-use Rattle.std.specs.Prelude.{◌≡◌, ℕ, ◌+◌, ◌*◌, ◌⊎◌, ◌&&◌, Bool, true, false, List, length, nat_lt, Option, option_map, slice_get, unwrap_or}
+use Rattle.std.specs.Prelude.{◌≡◌, ℕ, ◌+◌, ◌*◌, ◌⊎◌, ◌&&◌, Bool, true, false, List, length, nat_lt, Option, Some, None, option_map, slice_get, unwrap_or}
 use Rattle.cell_compare.specs.Works.{IsPlanned, IsToldWhy}
 use Rattle.checked_cells.specs.Given.{IsCheckedOf}
-use Rattle.substitution_laws.specs.Agreement.{IsCheckedSoftly}
-use Rattle.vrt_model.specs.Checked.{top_of}
+use Rattle.substitution_laws.specs.Agreement.{IsCheckedByFacts}
+use Rattle.vrt_model.specs.Checked.{top_of, with_circuit}
 use Rattle.vrt_model.specs.CheckedVerdicts.{HasCheckedVerdict}
 use Rattle.vrt_model.specs.Comparison.{Comparison}
 use Rattle.vrt_model.specs.FlatCircuit.{flat_circuit_of}
@@ -20,11 +20,11 @@ use Rattle.substitute.specs.Whole.{WholeGives}
 -- ---- the checked circuit
 
 -- the circuit of the comparison is the flat one of its cell; once nothing stands in the way of its phases, instances may be tried in
--- it, and a checked circuit of it is made of instances each output of which meets gates alone
+-- it, and a checked circuit of it is made of instances that are chosen by true facts
 pub record IsCheckable (k : Comparison) (blif : Blif) (facts : List CellFacts) : Type 0 where
   pub flat : k.circuit ≡ flat_circuit_of (top_of k)
   pub ground : IsPlanned k → IsGround (top_of k) blif facts k.circuit
-  pub soft : (c : Circuit) → IsPlanned k → (is : IsCheckedOf k blif facts c) → IsCheckedSoftly k is.0 blif facts c
+  pub by_facts : (c : Circuit) → IsPlanned k → (is : IsCheckedOf k blif facts c) → IsCheckedByFacts false k is.0 blif facts c
 
 -- the checked circuit, none where it is the flat one
 abbrev pub CheckedGives : Comparison → Blif → List CellFacts → Option Circuit → Type 0
@@ -33,6 +33,11 @@ CheckedGives k blif facts whole = WholeGives (top_of k) blif facts k.circuit who
 -- the comparison with another circuit that has the same groups of holds
 abbrev pub over : Comparison → Circuit → Comparison
 over k c = record k { circuit = c }
+
+-- the comparison with the checked circuit, where it is not the flat one
+abbrev pub compared_over : Comparison → Option Circuit → Comparison
+compared_over k None = k
+compared_over k (Some c) = with_circuit k c
 
 -- ---- the budget
 

@@ -144,13 +144,9 @@ IsToldEarly k (Some verdict) = (why : Why) × (verdict ≡ Unsupported why) × I
 
 -- ---- what is known of the cell then
 
-abbrev pub is_output_role : PortRole → Bool
-is_output_role role = is_some (output_signal role)
-
--- each output of an equal cell is soft, and no other has a drive; it is stateless where there is neither hold nor latch
-pub record AreSoft (roles : List PortRole) (bare : Bool) (verdict : Verdict) (facts : CellFacts) : Type 0 where
+-- an equal cell has these drives, another one none; it is stateless where there is neither hold nor latch
+pub record AreTold (drives : List Drive) (bare : Bool) (verdict : Verdict) (facts : CellFacts) : Type 0 where
   pub equal : (facts.equal ≡ true) ↔ (verdict ≡ Equal)
   pub stateless : (facts.stateless ≡ true) ↔ ((verdict ≡ Equal) × (bare ≡ true))
-  pub soft : All (λ (drive : Drive). drive ≡ Soft) facts.drives
-  pub drives : facts.equal ≡ true → length facts.drives ≡ length (filter is_output_role roles)
+  pub drives_are : facts.equal ≡ true → facts.drives ≡ drives
   pub no_drives : facts.equal ≡ false → facts.drives ≡ []

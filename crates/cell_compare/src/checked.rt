@@ -2,7 +2,8 @@
 
 ghost use Rattle.std.specs.Prelude.{◌≡◌, ◌&&◌, ◌≤◌, [], true, length, IfOk};
 ghost use Rattle.std.specs.List.{list_any};
-ghost use Rattle.cell_compare.specs.Checked.{CheckedGives, IsCheckable, IsTold, has_many, is_fault, is_passed, is_settled, over};
+ghost use Rattle.cell_compare.specs.Checked.{CheckedGives, IsCheckable, IsTold, has_many, is_fault, compared_over, is_passed, is_settled, over};
+ghost use Rattle.cell_compare.specs.Ports.{ArePortsOf, HasDrives, TellsPorts};
 ghost use Rattle.cell_compare.specs.Works.{AreVars, ArePlans, IsChecked, IsPlanned};
 ghost use Rattle.checked_cells.specs.Given.{IsCheckedOf, is_candidate};
 ghost use Rattle.phase_terms.specs.Ready.{IsReady, comparison_in};
@@ -11,20 +12,24 @@ ghost use Rattle.rule_index.specs.Tables.{AreRuleTables};
 ghost use Rattle.vrt_model.specs.Checked.{has_fact, with_circuit};
 ghost use Rattle.vrt_model.specs.CheckedVerdicts.{HasCheckedVerdict};
 ghost use Rattle.vrt_model.specs.Circuits.{IsCircuit};
+ghost use Rattle.vrt_model.specs.Comparison.{Comparison as ComparisonValue};
 ghost use Rattle.vrt_model.specs.Networks.{HasRanges};
+ghost use Rattle.vrt_model.specs.declared.verdict.Verdict.TheVariants.{Equal};
 ghost use Rattle.vrt_model.specs.declared.whole.CellFacts.{CellFacts as FactsValue};
 ghost use Rattle.whole_steps.specs.Tables.{AreOrders, IsWholeTable};
 
+use crate::drives::{Told, lone_in, output_ports, told_drives};
 use crate::hindrance::Hindrance;
-use crate::known_facts::both;
+use crate::known_facts::{both, is_equal};
 use crate::phases::check_phases;
 use crate::works::{add_plans, work_out};
 use blif_eval::{ModelPlan, PlanFault};
+use drive_levels::{PortLevels, ports_at};
 use phase_terms::{Comparison, PhasePlan};
 use prepared_tables::Prepared;
 use std::alloc::Global;
 use substitute::whole_with;
-use vrt_model::{Blif, CellFacts, Circuit, NoMemory, Seq, Vars, Verdict};
+use vrt_model::{Blif, CellFacts, Circuit, Net, NoMemory, Seq, Vars, Verdict};
 use whole_steps::{WholeTable, model_orders, output_drivers};
 
 /// Whether a cell is known as equal and stateless.
@@ -174,17 +179,21 @@ fn check_over(
     budget: u32,
     compared: Comparison<'_>,
     vars: &[Vars],
+    ports: &mut PortLevels,
 ) -> Result<Verdict, NoMemory>
     requires budget { (65536 ≤ budget) × (budget ≤ 64000000) }
     requires ready { IsReady (comparison_in compared) }
     requires wholes { IsWholeTable compared.circuit.now compared.wholes.drivers.now compared.wholes.plans.now }
     requires tables { AreRuleTables compared.rules.now compared.index.now }
     requires vars { AreVars (comparison_in compared) (length compared.rules.now.phases) vars.now }
-    ensures { IfOk result (IsChecked (comparison_in compared.entry) budget) }
+    requires ports { ArePortsOf (comparison_in compared) ports.old }
+    ensures checked { IfOk result (IsChecked (comparison_in compared.entry) budget) }
+    ensures nets { ports.new.nets ≡ ports.old.nets }
+    ensures ports { IfOk result (TellsPorts (comparison_in compared.entry) ports.old.nets ports.new) }
 {
     let mut plans = Seq::new(alloc);
     match add_plans(alloc, compared, &mut plans) {
-        Ok(()) => check_phases(alloc, budget, compared, vars, plans.as_slice()),
+        Ok(()) => check_phases(alloc, budget, compared, vars, plans.as_slice(), ports),
         Err(_) => Err(NoMemory),
     }
 }
@@ -199,6 +208,7 @@ fn found_with(
     facts: &[CellFacts],
     vars: &[Vars],
     circuit: &Circuit,
+    ports: &mut PortLevels,
 ) -> Result<Verdict, NoMemory>
     requires budget { (65536 ≤ budget) × (budget ≤ 64000000) }
     requires ready { IsReady (comparison_in compared) }
@@ -207,7 +217,10 @@ fn found_with(
     requires planned { IsPlanned (comparison_in compared) }
     requires vars { AreVars (comparison_in compared) (length compared.rules.now.phases) vars.now }
     requires checked { IsCheckedOf (comparison_in compared) blif.now facts.now circuit.now }
-    ensures { IfOk result (IsChecked (with_circuit (comparison_in compared.entry) circuit.now) budget) }
+    requires ports { ArePortsOf (comparison_in compared) ports.old }
+    ensures checked { IfOk result (IsChecked (with_circuit (comparison_in compared.entry) circuit.now) budget) }
+    ensures nets { ports.new.nets ≡ ports.old.nets }
+    ensures ports { IfOk result (TellsPorts (with_circuit (comparison_in compared.entry) circuit.now) ports.old.nets ports.new) }
 {
     let _blif = blif;
     let _facts = facts;
@@ -217,13 +230,35 @@ fn found_with(
         drivers: drivers.as_slice(),
         plans: orders.as_slice(),
     };
-    let found = check_over(alloc, budget, over(compared, circuit, wholes), vars)?;
+    let found = check_over(alloc, budget, over(compared, circuit, wholes), vars, ports)?;
     Ok(found)
 }
 
+/// No ports, which are asked for no level.
+fn no_ports(alloc: Global) -> Result<PortLevels, NoMemory>
+    ensures { IfOk result (λ ports. (k : ComparisonValue) → ArePortsOf k ports) }
+{
+    let none = Seq::new(alloc);
+    let ports = ports_at(alloc, none)?;
+    Ok(ports)
+}
+
+/// A verdict, but for an equal comparison where the levels of ports at some nets are asked for.
+fn unless_asked(nets: &[Net], verdict: Verdict) -> Result<Verdict, NoMemory>
+    ensures { IfOk result (λ told. (told ≡ verdict) × (told ≡ Equal → nets.now ≡ [])) }
+{
+    if nets.is_empty() {
+        return Ok(verdict);
+    }
+    if is_equal(&verdict) {
+        return Err(NoMemory);
+    }
+    Ok(verdict)
+}
+
 /// The verdict on a comparison by its flat circuit, where what is found in the checked one may not be told: equal, vacuous, or a
-/// budget that is used up. Which fault is the first of the checked circuit is not known then, so the diagrams of a comparison that
-/// has one do not fit.
+/// budget that is used up. Which fault is the first of the checked circuit is not known then, nor which levels the ports of an equal
+/// comparison have there, so the diagrams of a comparison that has a fault, or is equal and has such ports, do not fit.
 fn check_unrolled(
     alloc: Global,
     budget: u32,
@@ -232,6 +267,7 @@ fn check_unrolled(
     facts: &[CellFacts],
     vars: &[Vars],
     plans: &[PhasePlan],
+    nets: &[Net],
 ) -> Result<Verdict, NoMemory>
     requires budget { (65536 ≤ budget) × (budget ≤ 64000000) }
     requires ready { IsReady (comparison_in compared) }
@@ -239,15 +275,17 @@ fn check_unrolled(
     requires checkable { IsCheckable (comparison_in compared) blif.now facts.now }
     requires vars { AreVars (comparison_in compared) (length compared.rules.now.phases) vars.now }
     requires plans { ArePlans (comparison_in compared) (length compared.rules.now.phases) plans.now }
-    ensures { IfOk result (HasCheckedVerdict (comparison_in compared.entry) blif.now facts.now budget) }
+    ensures verdict { IfOk result (HasCheckedVerdict (comparison_in compared.entry) blif.now facts.now budget) }
+    ensures ports { IfOk result (λ verdict. verdict ≡ Equal → nets.now ≡ []) }
 {
     let _blif = blif;
     let _facts = facts;
-    let verdict = check_phases(alloc, budget, compared, vars, plans)?;
+    let mut none = no_ports(alloc)?;
+    let verdict = check_phases(alloc, budget, compared, vars, plans, &mut none)?;
     if is_fault(&verdict) {
         return Err(NoMemory);
     }
-    Ok(verdict)
+    unless_asked(nets, verdict)
 }
 
 /// The verdict on a comparison by its checked circuit, in which some instance is whole; where what is found in it may not be told, by
@@ -261,6 +299,7 @@ fn check_whole(
     vars: &[Vars],
     plans: &[PhasePlan],
     circuit: &Circuit,
+    ports: &mut PortLevels,
 ) -> Result<Verdict, NoMemory>
     requires budget { (65536 ≤ budget) × (budget ≤ 64000000) }
     requires ready { IsReady (comparison_in compared) }
@@ -271,11 +310,15 @@ fn check_whole(
     requires vars { AreVars (comparison_in compared) (length compared.rules.now.phases) vars.now }
     requires plans { ArePlans (comparison_in compared) (length compared.rules.now.phases) plans.now }
     requires checked { IsCheckedOf (comparison_in compared) blif.now facts.now circuit.now }
-    ensures { IfOk result (HasCheckedVerdict (comparison_in compared.entry) blif.now facts.now budget) }
+    requires ports { ArePortsOf (comparison_in compared) ports.old }
+    ensures verdict { IfOk result (HasCheckedVerdict (comparison_in compared.entry) blif.now facts.now budget) }
+    ensures nets { ports.new.nets ≡ ports.old.nets }
+    ensures ports { IfOk result (TellsPorts (with_circuit (comparison_in compared.entry) circuit.now) ports.old.nets ports.new) }
 {
-    let found = found_with(alloc, budget, blif, compared, facts, vars, circuit)?;
+    let found = found_with(alloc, budget, blif, compared, facts, vars, circuit, ports)?;
     if !is_settled(budget, compared.circuit, vars, &found) {
-        return check_unrolled(alloc, budget, blif, compared, facts, vars, plans);
+        let nets = ports.nets.as_slice();
+        return check_unrolled(alloc, budget, blif, compared, facts, vars, plans, nets);
     }
     Ok(found)
 }
@@ -289,6 +332,7 @@ fn check_flat(
     facts: &[CellFacts],
     vars: &[Vars],
     plans: &[PhasePlan],
+    ports: &mut PortLevels,
 ) -> Result<Verdict, NoMemory>
     requires budget { (65536 ≤ budget) × (budget ≤ 64000000) }
     requires ready { IsReady (comparison_in compared) }
@@ -298,11 +342,14 @@ fn check_flat(
     requires vars { AreVars (comparison_in compared) (length compared.rules.now.phases) vars.now }
     requires plans { ArePlans (comparison_in compared) (length compared.rules.now.phases) plans.now }
     requires checked { IsCheckedOf (comparison_in compared) blif.now facts.now compared.circuit.now }
-    ensures { IfOk result (HasCheckedVerdict (comparison_in compared.entry) blif.now facts.now budget) }
+    requires ports { ArePortsOf (comparison_in compared) ports.old }
+    ensures verdict { IfOk result (HasCheckedVerdict (comparison_in compared.entry) blif.now facts.now budget) }
+    ensures nets { ports.new.nets ≡ ports.old.nets }
+    ensures ports { IfOk result (TellsPorts (comparison_in compared.entry) ports.old.nets ports.new) }
 {
     let _blif = blif;
     let _facts = facts;
-    let verdict = check_phases(alloc, budget, compared, vars, plans)?;
+    let verdict = check_phases(alloc, budget, compared, vars, plans, ports)?;
     Ok(verdict)
 }
 
@@ -316,6 +363,7 @@ fn check_circuit(
     vars: &[Vars],
     plans: &[PhasePlan],
     checked: &Option<Circuit>,
+    ports: &mut PortLevels,
 ) -> Result<Verdict, NoMemory>
     requires budget { (65536 ≤ budget) × (budget ≤ 64000000) }
     requires ready { IsReady (comparison_in compared) }
@@ -326,15 +374,21 @@ fn check_circuit(
     requires vars { AreVars (comparison_in compared) (length compared.rules.now.phases) vars.now }
     requires plans { ArePlans (comparison_in compared) (length compared.rules.now.phases) plans.now }
     requires checked { CheckedGives (comparison_in compared) blif.now facts.now checked.now }
-    ensures { IfOk result (HasCheckedVerdict (comparison_in compared.entry) blif.now facts.now budget) }
+    requires ports { ArePortsOf (comparison_in compared) ports.old }
+    ensures verdict { IfOk result (HasCheckedVerdict (comparison_in compared.entry) blif.now facts.now budget) }
+    ensures nets { ports.new.nets ≡ ports.old.nets }
+    ensures ports { IfOk result (TellsPorts (compared_over (comparison_in compared.entry) checked.now) ports.old.nets ports.new) }
 {
     match checked {
-        None => check_flat(alloc, budget, blif, compared, facts, vars, plans),
-        Some(circuit) => check_whole(alloc, budget, blif, compared, facts, vars, plans, circuit),
+        None => check_flat(alloc, budget, blif, compared, facts, vars, plans, ports),
+        Some(circuit) => check_whole(
+            alloc, budget, blif, compared, facts, vars, plans, circuit, ports,
+        ),
     }
 }
 
-/// The verdict on a comparison in whose way nothing stands: what is found phase by phase in its checked circuit.
+/// The verdict on a comparison in whose way nothing stands, and the drives of its output ports: what is found phase by phase in its
+/// checked circuit. Which ports are alone inside the cell is told by the flat one.
 fn check_planned(
     alloc: Global,
     budget: u32,
@@ -344,7 +398,7 @@ fn check_planned(
     facts: &[CellFacts],
     vars: &[Vars],
     plans: &[PhasePlan],
-) -> Result<Verdict, NoMemory>
+) -> Result<Told, NoMemory>
     requires budget { (65536 ≤ budget) × (budget ≤ 64000000) }
     requires prepared { ArePrepared compared.design.now blif.now compared.rules.now prepared.now }
     requires ready { IsReady (comparison_in compared) }
@@ -354,10 +408,26 @@ fn check_planned(
     requires planned { IsPlanned (comparison_in compared) }
     requires vars { AreVars (comparison_in compared) (length compared.rules.now.phases) vars.now }
     requires plans { ArePlans (comparison_in compared) (length compared.rules.now.phases) plans.now }
-    ensures { IfOk result (HasCheckedVerdict (comparison_in compared.entry) blif.now facts.now budget) }
+    ensures verdict { IfOk result (λ told. HasCheckedVerdict (comparison_in compared.entry) blif.now facts.now budget told.verdict) }
+    ensures drives { IfOk result (λ told. told.verdict ≡ Equal → HasDrives (comparison_in compared.entry) blif.now facts.now told.drives) }
 {
     let checked = checked_circuit(alloc, prepared, blif, compared, facts)?;
-    check_circuit(alloc, budget, blif, compared, facts, vars, plans, &checked)
+    let nets = output_ports(alloc, compared)?;
+    let lone = lone_in(alloc, blif, compared, facts, plans, nets.as_slice())?;
+    let mut ports = ports_at(alloc, nets)?;
+    let verdict = check_circuit(
+        alloc, budget, blif, compared, facts, vars, plans, &checked, &mut ports,
+    )?;
+    let drives = told_drives(
+        alloc,
+        blif,
+        compared,
+        facts,
+        &checked,
+        lone.as_slice(),
+        &ports,
+    )?;
+    Ok(Told { verdict, drives })
 }
 
 /// The verdict on a comparison: too many variables, or a cycle in a phase, or what is found phase by phase.
@@ -368,14 +438,15 @@ pub(crate) fn check_cell(
     blif: &Blif,
     compared: Comparison<'_>,
     facts: &[CellFacts],
-) -> Result<Verdict, NoMemory>
+) -> Result<Told, NoMemory>
     requires budget { (65536 ≤ budget) × (budget ≤ 64000000) }
     requires prepared { ArePrepared compared.design.now blif.now compared.rules.now prepared.now }
     requires ready { IsReady (comparison_in compared) }
     requires wholes { IsWholeTable compared.circuit.now compared.wholes.drivers.now compared.wholes.plans.now }
     requires tables { AreRuleTables compared.rules.now compared.index.now }
     requires checkable { IsCheckable (comparison_in compared) blif.now facts.now }
-    ensures { IfOk result (IsTold (comparison_in compared.entry) blif.now facts.now budget) }
+    ensures told { IfOk result (λ told. IsTold (comparison_in compared.entry) blif.now facts.now budget told.verdict) }
+    ensures drives { IfOk result (λ told. told.verdict ≡ Equal → HasDrives (comparison_in compared.entry) blif.now facts.now told.drives) }
 {
     let mut vars = Seq::new(alloc);
     let mut plans = Seq::new(alloc);
@@ -390,7 +461,10 @@ pub(crate) fn check_cell(
             vars.as_slice(),
             plans.as_slice(),
         ),
-        Err(Hindrance::Because(why)) => Ok(Verdict::Unsupported(why)),
+        Err(Hindrance::Because(why)) => Ok(Told {
+            verdict: Verdict::Unsupported(why),
+            drives: Seq::new(alloc),
+        }),
         Err(Hindrance::NoMemory) => Err(NoMemory),
     }
 }

@@ -1,7 +1,7 @@
 //! What is known of a cell with its verdict.
 
 ghost use Rattle.std.specs.Prelude.{◌≡◌, ◌↔◌, ◌&&◌, [], All, IsTrue, false, true, filter, length, IfOk};
-ghost use Rattle.cell_compare.specs.Works.{AreSoft, is_output_role};
+ghost use Rattle.cell_compare.specs.Works.{AreTold};
 ghost use Rattle.vrt_model.specs.declared.verdict.Verdict.TheVariants.{Equal};
 ghost use Rattle.vrt_model.specs.declared.whole.Drive.{Drive as DriveValue};
 ghost use Rattle.vrt_model.specs.declared.whole.Drive.TheVariants.{Soft};
@@ -10,7 +10,7 @@ use std::alloc::Global;
 use vrt_model::{CellFacts, Circuit, Drive, FlatModel, NoMemory, PortRole, Seq, Verdict};
 
 /// Whether a cell is equal.
-fn is_equal(verdict: &Verdict) -> bool
+pub(crate) fn is_equal(verdict: &Verdict) -> bool
     ensures { IsTrue result ↔ (verdict.now ≡ Equal) }
 {
     match verdict {
@@ -21,32 +21,6 @@ fn is_equal(verdict: &Verdict) -> bool
         Verdict::Budget { .. } => false,
         Verdict::Unsupported(_) => false,
     }
-}
-
-/// Whether a port is an output.
-fn is_output(role: &PortRole) -> bool
-    ensures { result ≡ is_output_role role.now }
-{
-    matches!(role, PortRole::Output(_))
-}
-
-/// One drive for each output, of which nothing is said.
-fn soft_drives(alloc: Global, count: usize) -> Result<Seq<Drive>, NoMemory>
-    ensures len { IfOk result (λ drives. length drives ≡ count) }
-    ensures soft { IfOk result (λ drives. All (λ (drive : DriveValue). drive ≡ Soft) drives) }
-{
-    let mut drives = Seq::new(alloc);
-    for _output in 0..count {
-        drives.append(Drive::Soft)?;
-    }
-    Ok(drives)
-}
-
-/// How many ports are outputs.
-fn output_count(roles: &[PortRole]) -> usize
-    ensures { result ≡ length (filter is_output_role roles.now) }
-{
-    roles.iter().filter(|role| is_output(role)).count()
 }
 
 /// Nothing is known of a cell that is not equal.
@@ -76,23 +50,22 @@ pub(crate) fn both(a: bool, b: bool) -> bool
     a && b
 }
 
-/// What is known of a cell with this verdict whose ports have these roles: that it is equal, that it is stateless as well where
-/// it is bare, without hold and latch, and then one drive for each output, of which nothing is said; else nothing.
+/// What is known of a cell with this verdict: that it is equal, that it is stateless as well where it is bare, without hold and latch, and
+/// then these drives of its output ports; else nothing.
 pub(crate) fn facts_of(
     alloc: Global,
     verdict: &Verdict,
-    roles: &[PortRole],
+    drives: Seq<Drive>,
     bare: bool,
-) -> Result<CellFacts, NoMemory>
-    ensures { IfOk result (AreSoft roles.now bare verdict.now) }
+) -> CellFacts
+    ensures { AreTold drives bare verdict.now result }
 {
     if !is_equal(verdict) {
-        return Ok(no_facts(alloc));
+        return no_facts(alloc);
     }
-    let drives = soft_drives(alloc, output_count(roles))?;
-    Ok(CellFacts {
+    CellFacts {
         equal: true,
         stateless: bare,
         drives,
-    })
+    }
 }

@@ -4,6 +4,7 @@
 
 mod checked;
 mod comparison;
+mod drives;
 mod flattened;
 mod flattening;
 mod hindrance;

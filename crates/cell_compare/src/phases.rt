@@ -2,6 +2,9 @@
 
 ghost use Rattle.std.specs.Prelude.{◌≡◌, ◌<◌, ◌≤◌, length, IfOk};
 ghost use Rattle.cell_compare.specs.Works.{AreVars, ArePlans, AreWithin, HasRoom, IsAcyclicPlan, IsChecked, IsToldEarly, ArePhaseVars, PhaseTells};
+ghost use Rattle.cell_compare.specs.Ports.{ArePortsOf, TellsPhaseLevels, TellsPorts};
+ghost use Rattle.drive_levels.specs.PhaseLevels.{HasTables, KeepsTables};
+ghost use Rattle.drive_levels.specs.PortLevels.{AreAsked};
 ghost use Rattle.phase_open.specs.Given.{AreFew};
 ghost use Rattle.phase_terms.specs.Ready.{IsReady, comparison_in};
 ghost use Rattle.phase_terms.specs.Stores.{counts_of};
@@ -12,6 +15,7 @@ use crate::hindrance::Hindrance;
 use crate::sizes::{counts_with, most_variables};
 use crate::works::work_out;
 use bdd_core::Store;
+use drive_levels::{NetLevels, PortLevels, asking, join_levels};
 use node_pool::Mark;
 use phase_check::check_phase;
 use phase_open::word_count;
@@ -20,7 +24,8 @@ use phase_told::told_fault;
 use std::alloc::Global;
 use vrt_model::{NoMemory, Seq, Vars, Verdict};
 
-/// What is found in a phase, in a store that is cut back to its start: none where it is equal.
+/// What is found in a phase, in a store that is cut back to its start: none where it is equal, and then the levels of the nets that are
+/// asked for are written.
 fn found_in(
     store: &mut Store,
     alloc: Global,
@@ -31,6 +36,7 @@ fn found_in(
     plan: &PhasePlan,
     counts: WordCounts,
     start: Mark,
+    levels: &mut NetLevels,
 ) -> Result<Option<Verdict>, NoMemory>
     requires budget { 65536 ≤ budget }
     requires ready { IsReady (comparison_in compared) }
@@ -43,11 +49,14 @@ fn found_in(
     requires few { AreFew counts }
     requires start { start.nodes ≡ 2 }
     requires room { HasRoom (comparison_in compared) budget counts.variables start.words store.old }
+    requires levels { HasTables (length compared.circuit.now.nets) levels.old }
     ensures tells { IfOk result (PhaseTells (comparison_in compared.entry) budget phase) }
+    ensures levels { IfOk result (TellsPhaseLevels (comparison_in compared.entry) phase levels.new) }
+    ensures tables { KeepsTables levels.old levels.new }
     ensures room { HasRoom (comparison_in compared.entry) budget counts.variables start.words store.new }
 {
     store.leave(start);
-    match check_phase(store, compared, phase, vars, plan, counts) {
+    match check_phase(store, compared, phase, vars, plan, counts, levels) {
         PhaseFound::Clear => Ok(None),
         PhaseFound::Vacuous => Ok(Some(Verdict::Vacuous { phase })),
         PhaseFound::Fault(fault) => {
@@ -61,7 +70,7 @@ fn found_in(
     }
 }
 
-/// What is found phase by phase: the first that is not equal, or else equal.
+/// What is found phase by phase: the first that is not equal, or else equal, and then the levels of the ports are joined.
 fn search(
     store: &mut Store,
     alloc: Global,
@@ -70,6 +79,8 @@ fn search(
     vars: &[Vars],
     plans: &[PhasePlan],
     counts: WordCounts,
+    levels: &mut NetLevels,
+    ports: &mut PortLevels,
 ) -> Result<Verdict, NoMemory>
     requires budget { 65536 ≤ budget }
     requires ready { IsReady (comparison_in compared) }
@@ -81,7 +92,11 @@ fn search(
     requires few { AreFew counts }
     requires nodes { length store.old.nodes ≡ 2 }
     requires room { HasRoom (comparison_in compared) budget counts.variables (length store.old.words) store.old }
-    ensures { IfOk result (IsChecked (comparison_in compared.entry) budget) }
+    requires levels { HasTables (length compared.circuit.now.nets) levels.old × AreAsked ports.old.nets levels.old }
+    requires ports { ArePortsOf (comparison_in compared) ports.old }
+    ensures checked { IfOk result (IsChecked (comparison_in compared.entry) budget) }
+    ensures nets { ports.new.nets ≡ ports.old.nets }
+    ensures ports { IfOk result (TellsPorts (comparison_in compared.entry) ports.old.nets ports.new) }
 {
     let start = store.mark();
     for phase in 0..plans.len() {
@@ -95,33 +110,51 @@ fn search(
             &plans[phase],
             counts,
             start,
+            levels,
         )?;
         if let Some(verdict) = found {
             return Ok(verdict);
         }
+        join_levels(compared.circuit, levels, phase == 0, ports);
     }
     Ok(Verdict::Equal)
 }
 
-/// What is found phase by phase, with at most `budget` nodes in each.
+/// What is found phase by phase, with at most `budget` nodes in each. Where all are equal, each output port has the level that its net
+/// has in all of them, or none.
 pub(crate) fn check_phases(
     alloc: Global,
     budget: u32,
     compared: Comparison<'_>,
     vars: &[Vars],
     plans: &[PhasePlan],
+    ports: &mut PortLevels,
 ) -> Result<Verdict, NoMemory>
     requires budget { (65536 ≤ budget) × (budget ≤ 64000000) }
     requires ready { IsReady (comparison_in compared) }
     requires wholes { IsWholeTable compared.circuit.now compared.wholes.drivers.now compared.wholes.plans.now }
     requires vars { AreVars (comparison_in compared) (length compared.rules.now.phases) vars.now }
     requires plans { ArePlans (comparison_in compared) (length compared.rules.now.phases) plans.now }
-    ensures { IfOk result (IsChecked (comparison_in compared.entry) budget) }
+    requires ports { ArePortsOf (comparison_in compared) ports.old }
+    ensures checked { IfOk result (IsChecked (comparison_in compared.entry) budget) }
+    ensures nets { ports.new.nets ≡ ports.old.nets }
+    ensures ports { IfOk result (TellsPorts (comparison_in compared.entry) ports.old.nets ports.new) }
 {
     let counts = counts_with(compared, most_variables(vars))?;
     let words = word_count(counts);
+    let mut levels = asking(alloc, compared.circuit.nets.len(), ports.nets.as_slice())?;
     let mut store = Store::with_budget(alloc, budget, words, counts.variables)?;
-    search(&mut store, alloc, budget, compared, vars, plans, counts)
+    search(
+        &mut store,
+        alloc,
+        budget,
+        compared,
+        vars,
+        plans,
+        counts,
+        &mut levels,
+        ports,
+    )
 }
 
 /// The verdict on a comparison that has too many variables or a cycle in a phase; none on another.

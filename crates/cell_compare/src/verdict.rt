@@ -3,7 +3,7 @@
 ghost use Rattle.std.specs.Prelude.{◌≡◌, ◌≤◌, ◌<◌, [], None, Some, false, length, IfOk};
 ghost use Rattle.cell_compare.specs.Cells.{HasFacts, HasLine, HasRuns, IsComplete, IsFlattenedTo};
 ghost use Rattle.cell_compare.specs.Compared.{AreInputs};
-ghost use Rattle.checked_cells.specs.Given.{ArePlainFacts};
+ghost use Rattle.checked_cells.specs.Given.{AreTrueFacts};
 ghost use Rattle.prepared_tables.specs.Prepared.{ArePrepared};
 ghost use Rattle.vrt_model.specs.Hierarchy.{IsOrdered};
 ghost use Rattle.vrt_model.specs.Inputs.{AreRules, IsBlif, IsDesign};
@@ -13,6 +13,7 @@ ghost use Rattle.vrt_model.specs.CheckedVerdicts.{IsCheckedVerdict};
 
 use crate::checked::check_cell;
 use crate::comparison::flat_comparison;
+use crate::drives::Told;
 use crate::flattened::Flattened;
 use crate::flattening::flatten_cell;
 use crate::hindrance::Hindrance;
@@ -59,12 +60,12 @@ fn compare_with(
     requires budget { (65536 ≤ budget) × (budget ≤ 64000000) }
     requires prepared { ArePrepared design.now blif.now rules.now prepared.now }
     requires inputs { AreInputs design.now blif.now rules.now cell }
-    requires facts { ArePlainFacts design.now blif.now rules.now facts.now }
+    requires facts { AreTrueFacts design.now blif.now rules.now facts.now }
     requires paired { paired_model design.now blif.now rules.now cell ≡ Model model }
     ensures verdict { IfOk result (λ c. IsCheckedVerdict design.now blif.now rules.now facts.now budget cell c.verdict) }
     ensures line { IfOk result (λ c. HasLine design.now blif.now rules.now cell c.verdict c.flattened) }
     ensures flattened { IfOk result (λ c. IsFlattenedTo design.now blif.now rules.now cell (Some c.verdict) c.flattened) }
-    ensures facts { IfOk result (λ c. HasFacts design.now blif.now rules.now cell c.verdict c.facts) }
+    ensures facts { IfOk result (λ c. HasFacts design.now blif.now rules.now facts.now cell c.verdict c.facts) }
     ensures complete { IfOk result (λ c. IsComplete design.now blif.now rules.now budget cell c.verdict) }
     ensures runs { IfOk result (λ c. HasRuns design.now blif.now rules.now cell c.verdict) }
 {
@@ -74,9 +75,10 @@ fn compare_with(
         Err(Hindrance::NoMemory) => return Err(NoMemory),
     };
     let compared = flat_comparison(prepared, design, rules, cell, &flattened);
-    let verdict = check_cell(alloc, budget, prepared, blif, compared, facts)?;
+    let told = check_cell(alloc, budget, prepared, blif, compared, facts)?;
     let bare = is_bare(&flattened.circuit, &flattened.model);
-    let facts = facts_of(alloc, &verdict, flattened.pairing.ports.as_slice(), bare)?;
+    let Told { verdict, drives } = told;
+    let facts = facts_of(alloc, &verdict, drives, bare);
     Ok(Compared {
         verdict,
         facts,
@@ -120,11 +122,11 @@ pub fn compare_prepared(
     requires rules { AreRules rules.now }
     requires cell { cell < length design.now.cells }
     requires ordered { IsOrdered design.now rules.now }
-    requires facts { ArePlainFacts design.now blif.now rules.now facts.now }
+    requires facts { AreTrueFacts design.now blif.now rules.now facts.now }
     ensures verdict { IfOk result (λ c. IsCheckedVerdict design.now blif.now rules.now facts.now budget cell c.verdict) }
     ensures line { IfOk result (λ c. HasLine design.now blif.now rules.now cell c.verdict c.flattened) }
     ensures flattened { IfOk result (λ c. IsFlattenedTo design.now blif.now rules.now cell (Some c.verdict) c.flattened) }
-    ensures facts { IfOk result (λ c. HasFacts design.now blif.now rules.now cell c.verdict c.facts) }
+    ensures facts { IfOk result (λ c. HasFacts design.now blif.now rules.now facts.now cell c.verdict c.facts) }
     ensures complete { IfOk result (λ c. IsComplete design.now blif.now rules.now budget cell c.verdict) }
     ensures runs { IfOk result (λ c. HasRuns design.now blif.now rules.now cell c.verdict) }
 {
@@ -141,8 +143,9 @@ pub fn compare_prepared(
 
 /// The verdict on a cell. Phase by phase its circuit is compared with its model by diagrams, which take at most `budget` nodes in
 /// each phase. An instance of a cell that is known as equal and stateless is left whole, and the model of its cell stands for it,
-/// where its outputs meet gates alone and the other conditions of the checked circuit hold; all others are unrolled. Each verdict
-/// is that of the flat circuit. A fault stands there, and is the first by the order of places of the checked circuit.
+/// where its outputs meet gates alone, or devices and outputs that are no stronger than `facts` say that they drive, and the other
+/// conditions of the checked circuit hold; all others are unrolled. Each verdict is that of the flat circuit. A fault stands there, and
+/// is the first by the order of places of the checked circuit. Of an equal cell it is told how strongly its outputs drive.
 ///
 /// `Budget` comes only with more than four variables, where the nodes that its phase may need are more than the budget;
 /// beside it and want of memory each verdict comes exactly where it holds.
@@ -162,11 +165,11 @@ pub fn compare(
     requires rules { AreRules rules.now }
     requires cell { cell < length design.now.cells }
     requires ordered { IsOrdered design.now rules.now }
-    requires facts { ArePlainFacts design.now blif.now rules.now facts.now }
+    requires facts { AreTrueFacts design.now blif.now rules.now facts.now }
     ensures verdict { IfOk result (λ c. IsCheckedVerdict design.now blif.now rules.now facts.now budget cell c.verdict) }
     ensures line { IfOk result (λ c. HasLine design.now blif.now rules.now cell c.verdict c.flattened) }
     ensures flattened { IfOk result (λ c. IsFlattenedTo design.now blif.now rules.now cell (Some c.verdict) c.flattened) }
-    ensures facts { IfOk result (λ c. HasFacts design.now blif.now rules.now cell c.verdict c.facts) }
+    ensures facts { IfOk result (λ c. HasFacts design.now blif.now rules.now facts.now cell c.verdict c.facts) }
     ensures complete { IfOk result (λ c. IsComplete design.now blif.now rules.now budget cell c.verdict) }
     ensures runs { IfOk result (λ c. HasRuns design.now blif.now rules.now cell c.verdict) }
 {

@@ -1,24 +1,20 @@
--- What tables of the bare and of the kept circuit say of a net's level in both; and the phases of a comparison together.
-use Rattle.std.proofs.Common.{◌≡◌, ◌↔◌, ℕ, ◌<◌, Bool, true, false, cond, Option, Some, None, List, length, refl, sym, subst, ◌∙◌, inl, inr}
+-- What tables of the bare and of the kept circuit say of a net's level in both.
+use Rattle.std.proofs.Common.{◌≡◌, ℕ, ◌<◌, Bool, true, false, cond, Option, Some, None, List, length, refl, sym, subst, ◌∙◌, inl, inr}
 use Rattle.std.specs.Prelude.{◌==◌}
 use Rattle.std.proofs.lemmas.Bool.{eq-eqb, eqb-true, false≢true}
-use Rattle.bdd_core.specs.Diagram.{Function, Valuation}
+use Rattle.bdd_core.specs.Diagram.{Valuation}
 use Rattle.bdd_core.specs.Store.{Diagrams, function_of}
 use Rattle.bdd_core.specs.declared.handle.H.{H}
 use Rattle.channel_parts.specs.declared.part.Part.{Part}
 use Rattle.drive_levels.proofs.CaseLevels.{given_level, one_level, part_gives}
-use Rattle.drive_levels.specs.NetLevels.{AreMet, ArePartsOf, HasLevelIn, HasLevelOf, IsSolvedPhase, NetGives, OneGives, level_by, same_level}
+use Rattle.drive_levels.specs.NetLevels.{ArePartsOf, HasLevelIn, HasLevelOf, IsSolvedPhase, NetGives, OneGives, level_by, same_level}
 use Rattle.known_nets.proofs.NetKinds.{given_or_plain, is_plain_is, plain_is}
 use Rattle.node_pool.specs.declared.region.Span.{Span}
 use Rattle.output_levels.specs.PartLevels.{IsInPart, IsToldIn, level_at}
-use Rattle.vrt_model.specs.Comparison.{Comparison, is_observed, phase_at}
-use Rattle.vrt_model.specs.Facts.{HasLevel}
-use Rattle.vrt_model.specs.Faults.{Solves}
-use Rattle.vrt_model.specs.Known.{IsDriven, is_plain_at}
+use Rattle.vrt_model.specs.Known.{is_plain_at}
 use Rattle.vrt_model.specs.Lists.{Among, mark_at}
 use Rattle.vrt_model.specs.Reading.{bare, kept}
-use Rattle.vrt_model.specs.Response.{IsStrength}
-use Rattle.vrt_model.specs.State.{IsState, Setting, network_of}
+use Rattle.vrt_model.specs.State.{Setting}
 use Rattle.vrt_model.specs.declared.circuit.Circuit.{Circuit}
 use Rattle.vrt_model.specs.declared.rules.Phase.{Phase}
 
@@ -27,10 +23,10 @@ use Rattle.vrt_model.specs.declared.rules.Phase.{Phase}
 module _ (c : Circuit) (phase : Phase) (observed : ℕ → Bool) (setting : Valuation → Setting) (care : H) (roots gates : Span) (d : Diagrams)
     (solved : IsSolvedPhase c phase observed setting care roots gates d) where
   -- what is told of a net in its part holds in the circuit
-  pub told_gives : (which : Bool) (parts : List Part) → ArePartsOf c phase which parts → (n : ℕ) → (¬ IsDriven c n) → (levels : List (Option ℕ)) → IsToldIn c parts gates care d levels n
+  pub told_gives : (which : Bool) (parts : List Part) → ArePartsOf c phase which parts → (n : ℕ) → (levels : List (Option ℕ)) → IsToldIn c parts gates care d levels n
       → OneGives c phase observed setting (function_of d care) which n (level_at levels n)
-  told_gives which parts are n loose levels told =
-      part_gives c phase observed setting care roots gates d solved which are.rank told.0 (are.each told.0 told.1) n told.2 loose (level_at levels n) told.3
+  told_gives which parts are n levels told =
+      part_gives c phase observed setting care roots gates d solved which are.rank told.0 (are.each told.0 told.1) n told.2 (level_at levels n) told.3
 
   -- the level that a net has in both
   pub both_give : (n : ℕ) (first second : Option ℕ) → OneGives c phase observed setting (function_of d care) bare n first → OneGives c phase observed setting (function_of d care) kept n second
@@ -58,39 +54,18 @@ module _ (c : Circuit) (phase : Phase) (observed : ℕ → Bool) (setting : Valu
   pub tables_give : (bare_parts kept_parts : List Part) → ArePartsOf c phase bare bare_parts → ArePartsOf c phase kept kept_parts → (asked : List Bool) (bare_levels kept_levels : List (Option ℕ))
       → ((n : ℕ) (part : Part) → Among bare_parts part → IsInPart part n → mark_at asked n ≡ true → IsToldIn c bare_parts gates care d bare_levels n)
       → ((n : ℕ) (part : Part) → Among kept_parts part → IsInPart part n → mark_at asked n ≡ true → IsToldIn c kept_parts gates care d kept_levels n)
-      → (n : ℕ) → n < length c.nets → mark_at asked n ≡ true → (¬ IsDriven c n) → NetGives c phase observed setting (function_of d care) n (level_by c bare_levels kept_levels n)
-  tables_give bare_parts kept_parts of_bare of_kept asked bare_levels kept_levels told_bare told_kept n inside mark loose = by_kind (is_plain_at c n) refl
+      → (n : ℕ) → n < length c.nets → mark_at asked n ≡ true → NetGives c phase observed setting (function_of d care) n (level_by c bare_levels kept_levels n)
+  tables_give bare_parts kept_parts of_bare of_kept asked bare_levels kept_levels told_bare told_kept n inside mark = by_kind (is_plain_at c n) refl
     where
       by_kind : (b : Bool) → is_plain_at c n ≡ b → NetGives c phase observed setting (function_of d care) n (cond b (same_level (level_at bare_levels n) (level_at kept_levels n)) (Some 8))
       by_kind true plain =
           let first = of_bare.all n (plain_is c n plain) in
           let second = of_kept.all n (plain_is c n plain) in
           both_give n (level_at bare_levels n) (level_at kept_levels n)
-          (told_gives bare bare_parts of_bare n loose bare_levels (told_bare n first.0 first.1 first.2 mark))
-          (told_gives kept kept_parts of_kept n loose kept_levels (told_kept n second.0 second.1 second.2 mark))
+          (told_gives bare bare_parts of_bare n bare_levels (told_bare n first.0 first.1 first.2 mark))
+          (told_gives kept kept_parts of_kept n kept_levels (told_kept n second.0 second.1 second.2 mark))
       by_kind false other =
           elim (given_or_plain c n inside) [
             | inl g ↦ λ which. given_level c phase observed setting care roots gates d solved which n g
             | inr p ↦ absurd (false≢true (sym other ∙ is_plain_is c n p))
           ]
-
--- ---- all phases
-
-module _ (k : Comparison) (care : ℕ → Function) (setting : ℕ → Valuation → Setting) (are : AreMet k care setting) (n level : ℕ) where
-  abbrev HasInPhase : ℕ → Type 0
-  HasInPhase phase = HasLevelIn k.circuit (phase_at k.rules phase) (is_observed k phase) (setting phase) (care phase) n level
-
-  -- a level is always that of the net exactly where it is so in each phase
-  pub level_in_all : ((phase : ℕ) → phase < length k.rules.phases → HasInPhase phase) ↔ HasLevel k n level
-  level_in_all = (
-    λ each phase bits a s which lt meets solves is agrees.
-        let at = are.all phase bits lt meets in
-        let holds : HasInPhase phase = each phase lt in
-        let moved = holds which at.0 a s at.1 in
-        subst (λ (x : Setting). IsStrength (network_of k.circuit which x.held s) n level) at.2
-        (moved (subst (λ (x : Setting). Solves k phase x a) (sym at.2) solves) (subst (λ (x : Setting). IsState k.circuit (phase_at k.rules phase) x.inputs s) (sym at.2) is) agrees),
-    λ has phase lt which v a s here solves is agrees.
-        let at = are.met phase v lt here in
-        subst (λ (x : Setting). IsStrength (network_of k.circuit which x.held s) n level) (sym at.2)
-        (has phase at.0 a s which lt at.1 (subst (λ (x : Setting). Solves k phase x a) at.2 solves) (subst (λ (x : Setting). IsState k.circuit (phase_at k.rules phase) x.inputs s) at.2 is) agrees),
-  )

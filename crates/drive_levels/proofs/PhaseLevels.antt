@@ -1,6 +1,7 @@
--- What a phase that was looked through leaves is what levels are told from; and the levels of all phases are a port's own drive.
-use Rattle.std.proofs.Common.{◌≡◌, ◌≢◌, ℕ, ◌<◌, Bool, true, false, Option, Some, None, List, length, sym, subst, ◌∙◌}
-use Rattle.bdd_core.specs.Diagram.{Function, Valuation}
+-- What a phase that was looked through leaves is what levels are told from; and what is told is the level of the phase.
+use Rattle.std.proofs.Common.{◌≡◌, ℕ, Bool, true, false, Option, Some, None, List, ap, sym, subst}
+use Rattle.std.proofs.lemmas.Option.{none-some, same_Some}
+use Rattle.bdd_core.specs.Diagram.{Valuation}
 use Rattle.bdd_core.specs.Store.{Diagrams, function_of}
 use Rattle.bdd_core.specs.declared.handle.H.{H}
 use Rattle.channel_parts.specs.Orders.{IsSolvedOnce}
@@ -11,19 +12,22 @@ use Rattle.circuit_faults.proofs.WholeParts.{is_part, number_inside}
 use Rattle.circuit_faults.specs.Faults.{HasFixedBits, IsSettingAt}
 use Rattle.circuit_faults.specs.KeptFaults.{AreKeptObserved}
 use Rattle.circuit_faults.specs.Results.{IsClearCircuit, root_at}
-use Rattle.circuit_faults.specs.Wholes.{HasFreeWholes}
-use Rattle.drive_levels.proofs.NetLevelLaws.{level_in_all}
-use Rattle.drive_levels.specs.NetLevels.{AreMet, ArePartsOf, HasLevelIn, IsSolvedPhase, NetGives}
+use Rattle.circuit_faults.specs.Wholes.{HasSoundWholes}
+use Rattle.drive_levels.proofs.NetLevelLaws.{one_level_in}
+use Rattle.drive_levels.specs.NetLevels.{ArePartsOf, HasLevelIn, IsSolvedPhase, NetGives}
+use Rattle.drive_levels.specs.PhaseLevels.{HasLevelAt, IsLevelAt}
 use Rattle.node_pool.specs.declared.region.Span.{Span}
 use Rattle.path_fixpoint.specs.Parts.{IsPart}
-use Rattle.vrt_model.specs.Comparison.{CellPort, Comparison, is_observed, phase_at}
-use Rattle.vrt_model.specs.Facts.{IsOwnDrive}
+use Rattle.vrt_model.specs.Comparison.{Comparison, is_observed, phase_at}
+use Rattle.vrt_model.specs.Constraints.{Meets}
+use Rattle.vrt_model.specs.Faults.{Solves}
+use Rattle.vrt_model.specs.Held.{setting_of}
 use Rattle.vrt_model.specs.Lists.{Among}
 use Rattle.vrt_model.specs.Networks.{HasRanges}
-use Rattle.vrt_model.specs.State.{Setting}
+use Rattle.vrt_model.specs.Response.{IsStrength}
+use Rattle.vrt_model.specs.State.{IsState, Setting, network_of}
 use Rattle.vrt_model.specs.declared.circuit.Circuit.{Circuit}
 use Rattle.vrt_model.specs.declared.rules.Phase.{Phase}
-use Rattle.vrt_model.specs.declared.whole.Drive.TheVariants.{Soft, Level}
 
 -- ---- one phase
 
@@ -45,7 +49,7 @@ listed_are_parts c phase which parts ranges are part m = is_part c phase which a
 
 -- and a clear circuit, with its bits in the handles, is a solved phase
 pub clear_phase : (c : Circuit) (phase : Phase) (observed : ℕ → Bool) (setting : Valuation → Setting) (care : H) (roots gates : Span) (d : Diagrams)
-    → HasFreeWholes c phase observed → AreKeptObserved c observed → ((v : Valuation) → HasFixedBits c phase (root_at d roots v)) → ((v : Valuation) → IsSettingAt c (root_at d roots v) (setting v))
+    → HasSoundWholes c phase observed → AreKeptObserved c observed → ((v : Valuation) → HasFixedBits c phase (root_at d roots v)) → ((v : Valuation) → IsSettingAt c (root_at d roots v) (setting v))
     → IsSolvedOnce c phase → IsClearCircuit c phase observed care roots gates d d → (v : Valuation) → function_of d care v ≡ true
     → IsSolvedPhase c phase observed setting care roots gates d
 clear_phase c phase observed setting care roots gates d wholes seen fixed given once clear v here = record {
@@ -58,32 +62,36 @@ clear_phase c phase observed setting care roots gates d wholes seen fixed given 
   some = (v, here);
 }
 
--- ---- all phases
+-- ---- its levels
 
-module _ (k : Comparison) (care : ℕ → Function) (setting : ℕ → Valuation → Setting) (are : AreMet k care setting) (port : CellPort) (found : ℕ → Option ℕ)
-    (gives : (phase : ℕ) → phase < length k.rules.phases → NetGives k.circuit (phase_at k.rules phase) (is_observed k phase) (setting phase) (care phase) port.net (found phase)) where
-  -- the net has the level in a phase
-  abbrev pub HasIn : ℕ → ℕ → Type 0
-  HasIn phase level = HasLevelIn k.circuit (phase_at k.rules phase) (is_observed k phase) (setting phase) (care phase) port.net level
+-- a phase of a comparison that is solved, where the valuations with care are those that meet the constraints
+module _ (k : Comparison) (phase : ℕ) (setting : Valuation → Setting) (care : H) (roots gates : Span) (d : Diagrams)
+    (solved : IsSolvedPhase k.circuit (phase_at k.rules phase) (is_observed k phase) setting care roots gates d)
+    (met : (v : Valuation) → function_of d care v ≡ true → (bits : List Bool) × Meets k phase bits × (setting v ≡ setting_of k phase bits))
+    (all : (bits : List Bool) → Meets k phase bits → (v : Valuation) × (function_of d care v ≡ true) × (setting v ≡ setting_of k phase bits)) where
+  abbrev HasIn : ℕ → ℕ → Type 0
+  HasIn n level = HasLevelIn k.circuit (phase_at k.rules phase) (is_observed k phase) setting (function_of d care) n level
 
-  found_has : (phase level : ℕ) → phase < length k.rules.phases → found phase ≡ Some level → HasIn phase level
-  found_has phase level lt e =
-      subst (λ (o : Option ℕ). NetGives k.circuit (phase_at k.rules phase) (is_observed k phase) (setting phase) (care phase) port.net o) e (gives phase lt)
+  -- a level at each valuation with care is one at each that meets the constraints
+  there : (n level : ℕ) → HasIn n level → HasLevelAt k phase n level
+  there n level has bits a s which meets solves is agrees =
+      let at = all bits meets in
+      subst (λ (x : Setting). IsStrength (network_of k.circuit which x.held s) n level) at.2
+      (has which at.0 a s at.1 (subst (λ (x : Setting). Solves k phase x a) (sym at.2) solves)
+      (subst (λ (x : Setting). IsState k.circuit (phase_at k.rules phase) x.inputs s) (sym at.2) is) agrees)
 
-  -- a level that is found in all phases is the port's own drive
-  pub drive_level : (level : ℕ) → ((phase : ℕ) → phase < length k.rules.phases → found phase ≡ Some level) → IsOwnDrive k port (Level level)
-  drive_level level all = (level_in_all k care setting are port.net level).0 (λ phase lt. found_has phase level lt (all phase lt))
+  -- and back
+  back : (n level : ℕ) → HasLevelAt k phase n level → HasIn n level
+  back n level has which v a s here solves is agrees =
+      let at = met v here in
+      subst (λ (x : Setting). IsStrength (network_of k.circuit which x.held s) n level) (sym at.2)
+      (has at.0 a s which at.1 (subst (λ (x : Setting). Solves k phase x a) at.2 solves)
+      (subst (λ (x : Setting). IsState k.circuit (phase_at k.rules phase) x.inputs s) at.2 is) agrees)
 
-  -- where a phase has none, it is soft
-  pub drive_none : (phase : ℕ) → phase < length k.rules.phases → found phase ≡ None → IsOwnDrive k port Soft
-  drive_none phase lt e level has =
-      let none : (x : ℕ) → ¬ HasIn phase x =
-      subst (λ (o : Option ℕ). NetGives k.circuit (phase_at k.rules phase) (is_observed k phase) (setting phase) (care phase) port.net o) e (gives phase lt) in
-      none level ((level_in_all k care setting are port.net level).1 has phase lt)
-
-  -- and so where two phases have different levels, if no phase has two at once
-  pub drive_differs : (one : (phase level other : ℕ) → phase < length k.rules.phases → HasIn phase level → HasIn phase other → level ≡ other) (p q level other : ℕ)
-      → p < length k.rules.phases → q < length k.rules.phases → found p ≡ Some level → found q ≡ Some other → level ≢ other → IsOwnDrive k port Soft
-  drive_differs one p q level other p_in q_in e f apart x has =
-      let each = (level_in_all k care setting are port.net x).1 has in
-      apart (sym (one p x level p_in (each p p_in) (found_has p level p_in e)) ∙ one q x other q_in (each q q_in) (found_has q other q_in f))
+  -- what is told of a net is exactly its level in the phase
+  pub level_told : (n : ℕ) (found : Option ℕ) → NetGives k.circuit (phase_at k.rules phase) (is_observed k phase) setting (function_of d care) n found → IsLevelAt k phase n found
+  level_told n None none level = (λ has. absurd (none level (back n level has)), λ e. absurd (none-some level e))
+  level_told n (Some found) gives level = (
+    λ has. ap Some (one_level_in k.circuit (phase_at k.rules phase) (is_observed k phase) setting care roots gates d solved n found level gives (back n level has)),
+    λ e. subst (HasLevelAt k phase n) (same_Some found level e) (there n found gives),
+  )

@@ -1,2 +1,3 @@
 pub mod NetLevels
+pub mod PhaseLevels
 pub mod PortLevels

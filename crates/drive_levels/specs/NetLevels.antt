@@ -11,13 +11,10 @@ use Rattle.circuit_faults.specs.Faults.{HasFixedBits, IsSettingAt}
 use Rattle.circuit_faults.specs.KeptFaults.{AreKeptObserved}
 use Rattle.circuit_faults.specs.Results.{root_at}
 use Rattle.circuit_faults.specs.Scans.{IsInside}
-use Rattle.circuit_faults.specs.Wholes.{HasFreeWholes}
+use Rattle.circuit_faults.specs.Wholes.{HasSoundWholes}
 use Rattle.node_pool.specs.declared.region.Span.{Span}
 use Rattle.output_levels.specs.PartLevels.{level_at, level_operations}
-use Rattle.vrt_model.specs.Comparison.{Comparison}
-use Rattle.vrt_model.specs.Constraints.{Meets}
-use Rattle.vrt_model.specs.Held.{setting_of}
-use Rattle.vrt_model.specs.Known.{IsDriven, IsPlain, is_plain_at}
+use Rattle.vrt_model.specs.Known.{IsPlain, is_plain_at}
 use Rattle.vrt_model.specs.Levels.{source_level}
 use Rattle.vrt_model.specs.Lists.{Among, mark_at}
 use Rattle.vrt_model.specs.Reading.{bare, kept}
@@ -52,10 +49,9 @@ NetGives c phase observed setting care n None = (level : ℕ) → ¬ HasLevelIn 
 -- ---- what is there
 
 -- At each valuation the setting is that of the roots, the care set is not empty, the circuit has one solution, and wherever
--- there is care each solution gives the observed nets the bits of their handles. Outputs of whole instances are soft, and meet
--- gates alone.
+-- there is care each solution gives the observed nets the bits of their handles.
 pub record IsSolvedPhase (c : Circuit) (phase : Phase) (observed : ℕ → Bool) (setting : Valuation → Setting) (care : H) (roots gates : Span) (d : Diagrams) : Type 0 where
-  pub wholes : HasFreeWholes c phase observed
+  pub wholes : HasSoundWholes c phase observed
   pub seen : AreKeptObserved c observed
   pub fixed : (v : Valuation) → HasFixedBits c phase (root_at d roots v)
   pub given : (v : Valuation) → IsSettingAt c (root_at d roots v) (setting v)
@@ -83,20 +79,12 @@ same_level (Some level) (Some other) = cond (level == other) (Some level) None
 abbrev pub level_by : Circuit → List (Option ℕ) → List (Option ℕ) → ℕ → Option ℕ
 level_by c bare_levels kept_levels n = cond (is_plain_at c n) (same_level (level_at bare_levels n) (level_at kept_levels n)) (Some (source_level c))
 
--- Of each net that is asked for, and has no output of a whole instance, this is the level in each phase of which these are the parts
--- and the handles.
+-- of each net that is asked for this is the level in each phase of which these are the parts and the handles
 abbrev pub LevelsGive : Circuit → List Part → List Part → List Bool → H → Span → Diagrams → (ℕ → Option ℕ) → Type 0
 LevelsGive c bare_parts kept_parts asked care gates d level =
     (phase : Phase) (observed : ℕ → Bool) (setting : Valuation → Setting) (roots : Span) → IsSolvedPhase c phase observed setting care roots gates d
     → ArePartsOf c phase bare bare_parts → ArePartsOf c phase kept kept_parts
-    → (n : ℕ) → n < length c.nets → mark_at asked n ≡ true → (¬ IsDriven c n) → NetGives c phase observed setting (function_of d care) n (level n)
-
--- ---- all phases of a comparison
-
--- in each phase the valuations with care are those that meet the constraints, with their settings
-pub record AreMet (k : Comparison) (care : ℕ → Function) (setting : ℕ → Valuation → Setting) : Type 0 where
-  pub met : (phase : ℕ) (v : Valuation) → phase < length k.rules.phases → care phase v ≡ true → (bits : List Bool) × Meets k phase bits × (setting phase v ≡ setting_of k phase bits)
-  pub all : (phase : ℕ) (bits : List Bool) → phase < length k.rules.phases → Meets k phase bits → (v : Valuation) × (care phase v ≡ true) × (setting phase v ≡ setting_of k phase bits)
+    → (n : ℕ) → n < length c.nets → mark_at asked n ≡ true → NetGives c phase observed setting (function_of d care) n (level n)
 
 -- ---- operations
 

@@ -2,8 +2,12 @@
 //! facts say of how strongly its outputs drive.
 #![tactic(auto)]
 
+mod laws;
 mod levels;
 mod ports;
+mod table;
 
+pub use laws::{found_drives_are_told, levels_are_joined};
 pub use levels::{level_of, net_levels};
-pub use ports::{asked_nets, drive_of, join_levels, port_levels};
+pub use ports::{drive_of, join_levels};
+pub use table::{NetLevels, PortLevels, asking, ports_at};

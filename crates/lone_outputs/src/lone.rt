@@ -80,7 +80,8 @@ pub fn lone_outputs(
 ) -> Result<Seq<bool>, NoMemory>
     requires wired { IsWired circuit.now }
     requires outputs { All (λ (n : NetValue). n.0 < length circuit.now.nets) outputs.now }
-    ensures { IfOk result (λ lone. (phase : PhaseValue) → IsKnownTable circuit.now phase (known_at known.now) → AreLone circuit.now phase (map (λ (n : NetValue). n.0) outputs.now) lone) }
+    ensures len { IfOk result (λ lone. length lone ≡ length outputs.now) }
+    ensures alone { IfOk result (λ lone. (phase : PhaseValue) → IsKnownTable circuit.now phase (known_at known.now) → AreLone circuit.now phase (map (λ (n : NetValue). n.0) outputs.now) lone) }
 {
     let labels = least_nets(alloc, circuit, known, false)?;
     let least = labels.as_slice();

@@ -2,7 +2,9 @@ pub mod Cases
 pub mod Ends
 pub mod InstanceSeen
 pub mod KeptStage
+pub mod LevelRoom
 pub mod ModelStage
+pub mod SolvedPhase
 pub mod Somewhere
 pub mod Spans
 pub mod Stays

@@ -2,9 +2,9 @@
 use Rattle.std.proofs.Common.{◌≡◌, ℕ, ◌+◌, ◌<◌, ◌≤◌, Bool, List, Some, length, arith, ap, refl, sym, subst, ◌∙◌, inl, inr}
 use Rattle.std.proofs.lemmas.Option.{slice_get_within}
 use Rattle.node_pool.specs.declared.region.Span.{Span}
-use Rattle.bdd_core.proofs.Frames.{beside_of, word_beside}
+use Rattle.bdd_core.proofs.Frames.{beside_of, word_added, word_beside}
 use Rattle.bdd_core.specs.Diagram.{Valuation, meaning}
-use Rattle.bdd_core.specs.Store.{Adds, Diagrams}
+use Rattle.bdd_core.specs.Store.{Adds, AddsNodes, Diagrams}
 use Rattle.bdd_core.specs.Words.{IsApart, IsBeside, IsFilled, Writes, shows, word_at}
 use Rattle.bdd_core.specs.declared.handle.H.{H}
 use Rattle.bdd_ops.specs.Counting.{IsCounted}
@@ -14,6 +14,7 @@ use Rattle.circuit_faults.specs.KeptResults.{WritesKept}
 use Rattle.circuit_faults.specs.Results.{WritesThree, output_span}
 use Rattle.circuit_faults.specs.declared.spans.KeptSpans.{KeptSpans}
 use Rattle.fault_places.specs.Searches.{Spot}
+use Rattle.phase_check.proofs.Ends.{adds_now}
 use Rattle.phase_laws.proofs.Observed.{observed_nets}
 use Rattle.phase_check.proofs.Spans.{words_kept}
 use Rattle.phase_laws.proofs.Work.{used_more}
@@ -74,6 +75,9 @@ roots_three c roots gates out old new w filled fits apart_gates apart_out = reco
       ap (λ (h : ℕ). meaning new.nodes h v) (three_word (output_span c roots) gates out roots old new n w (net_beside c roots n lt) apart_gates apart_out within)
       ∙ w.adds.kept (word_at old roots n) (live n within) v;
 }
+
+pub stays_added : (span : Span) (old new : Diagrams) → AddsNodes old new → Stays span old new
+stays_added span old new adds = stays_of span old new (adds_now old new adds) (λ n lt. word_added span old new n adds)
 
 -- ---- what was opened
 

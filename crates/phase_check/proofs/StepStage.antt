@@ -6,12 +6,11 @@ use Rattle.bdd_core.specs.Diagram.{IsReduced}
 use Rattle.bdd_core.specs.Store.{Diagrams, function_of}
 use Rattle.bdd_core.specs.declared.handle.H.{H}
 use Rattle.blif_eval.specs.declared.plan.ModelPlan.{ModelPlan}
-use Rattle.circuit_faults.proofs.SoundWholes.{sound_wholes}
 use Rattle.circuit_faults.proofs.StepLists.{ordered_outputs, ordered_steps}
 use Rattle.circuit_faults.specs.Cases.{CaseIn, HasStepFault, StandsAt}
 use Rattle.circuit_faults.specs.Results.{AreClearSteps, HasCircuitSpans, IsFirstFault, root_at}
 use Rattle.circuit_faults.specs.Steps.{AreOrderedSteps, InPhase, in_comparison, steps_of}
-use Rattle.circuit_faults.specs.Wholes.{HasFreeWholes, IsReadyWholes}
+use Rattle.circuit_faults.specs.Wholes.{HasSoundWholes, IsReadyWholes}
 use Rattle.circuit_faults.specs.declared.net.CircuitFault.{CircuitFault}
 use Rattle.fault_places.proofs.ListedSpots.{step_kinds}
 use Rattle.fault_places.proofs.SearchLaws.{earlier_stage}
@@ -58,7 +57,7 @@ module _ (k : Comparison) (phase : ℕ) (plan : PhasePlan) (ready : IsReady k) (
 
   -- ---- what is asked
 
-  wholes : HasFreeWholes k.circuit (phase_at k.rules phase) (is_observed k phase)
+  wholes : HasSoundWholes k.circuit (phase_at k.rules phase) (is_observed k phase)
   wholes = ready.wholes phase range
 
   pub ordered : AreOrderedSteps w
@@ -69,7 +68,7 @@ module _ (k : Comparison) (phase : ℕ) (plan : PhasePlan) (ready : IsReady k) (
 
   pub wholes_ready : (drivers : List (Option OutputPlace)) (plans : List ModelPlan) → IsWholeTable k.circuit drivers plans → IsReadyWholes w drivers plans
   wholes_ready drivers plans table = record {
-    wholes = sound_wholes k.circuit (phase_at k.rules phase) (is_observed k phase) wholes;
+    wholes = wholes;
     table = table;
     ordered = (
         let p = is.parts in

@@ -2,6 +2,8 @@
 
 ghost use Rattle.std.specs.Prelude.{◌≡◌, ◌+◌, ◌≤◌, ◌<◌, [], length};
 ghost use Rattle.bdd_core.specs.Store.{IsSpan};
+ghost use Rattle.drive_levels.specs.PhaseLevels.{HasTables, KeepsTables};
+ghost use Rattle.phase_check.specs.Levels.{TellsLevels};
 ghost use Rattle.phase_check.specs.States.{AreKeptValues, HasBeenSearched, HasModelBits, HasNetBits, IsSearched, IsSolved, KeepsRoom, circuit_spots, evaluated_operations, handles_of, settled_operations, solved_operations};
 ghost use Rattle.phase_open.specs.Given.{AreFew};
 ghost use Rattle.phase_terms.specs.Found.{PhaseGives};
@@ -12,9 +14,11 @@ ghost use Rattle.phase_terms.specs.Stores.{IsPhaseStore, counts_of, word_count};
 ghost use Rattle.vrt_model.specs.Held.{sources_of};
 ghost use Rattle.whole_steps.specs.Tables.{IsWholeTable};
 
+use crate::levels::check_levels;
 use bdd_core::{H, Store};
 use blif_eval::eval_model;
 use circuit_faults::{CircuitSpans, KeptFault, KeptSpans, PhasedCircuit, wired_fault, wired_kept};
+use drive_levels::NetLevels;
 use node_pool::Span;
 use phase_open::{open_phase, take_words};
 use phase_terms::{Comparison, PhaseFault, PhaseFound, PhasePlan, PhaseWords, WordCounts};
@@ -23,12 +27,12 @@ use vrt_model::{FaultKind, Vars};
 
 /// A phase that is searched: the comparison, the plan of the phase, the valuations that meet its constraints, and its words.
 #[derive(Clone, Copy)]
-struct Search<'a> {
-    compared: Comparison<'a>,
-    phase: u32,
-    plan: &'a PhasePlan,
-    care: H,
-    words: PhaseWords,
+pub(crate) struct Search<'a> {
+    pub(crate) compared: Comparison<'a>,
+    pub(crate) phase: u32,
+    pub(crate) plan: &'a PhasePlan,
+    pub(crate) care: H,
+    pub(crate) words: PhaseWords,
 }
 
 /// The handles of the nets, of the signals, and of the new bits of the latch elements, which stand behind the signals.
@@ -55,7 +59,7 @@ fn wish_bits(words: PhaseWords) -> WishBits
 }
 
 /// What nets ought to have, where the circuit is clear and the model has its bits.
-fn check_wishes(store: &mut Store, search: Search<'_>) -> PhaseFound
+fn check_wishes(store: &mut Store, search: Search<'_>, levels: &mut NetLevels) -> PhaseFound
     requires ready { IsReady (comparison_in search.compared) }
     requires phase { search.phase < length search.compared.rules.now.phases }
     requires plan { IsPhasePlan (comparison_in search.compared) search.phase search.plan.now }
@@ -63,14 +67,17 @@ fn check_wishes(store: &mut Store, search: Search<'_>) -> PhaseFound
     requires searched { HasBeenSearched (comparison_in search.compared) search.phase store.old.budget (evaluated_operations (comparison_in search.compared) search.phase search.plan.now) (circuit_spots (comparison_in search.compared) search.plan.now) search.care search.words store.old }
     requires nets { HasNetBits (comparison_in search.compared) search.phase search.words store.old }
     requires model { HasModelBits (comparison_in search.compared) search.phase search.words store.old }
+    requires levels { HasTables (length search.compared.circuit.now.nets) levels.old }
     ensures gives { PhaseGives (comparison_in search.entry.compared) search.entry.phase store.old.budget store.new result }
+    ensures levels { TellsLevels (comparison_in search.entry.compared) search.entry.phase levels.new result }
+    ensures tables { KeepsTables levels.old levels.new }
     ensures kept { KeepsRoom store.old store.new }
 {
     store.sound();
     let bits = wish_bits(search.words);
     match wish_fault(store, search.plan.wishes.as_slice(), search.care, bits) {
         Err(_) => PhaseFound::Spent,
-        Ok(None) => PhaseFound::Clear,
+        Ok(None) => check_levels(store, search, levels),
         Ok(Some(fault)) => PhaseFound::Fault(PhaseFault {
             kind: fault.wish.kind,
             place: fault.wish.place,
@@ -82,14 +89,17 @@ fn check_wishes(store: &mut Store, search: Search<'_>) -> PhaseFound
 }
 
 /// The model and then what nets ought to have, where the circuit is clear.
-fn check_model(store: &mut Store, search: Search<'_>) -> PhaseFound
+fn check_model(store: &mut Store, search: Search<'_>, levels: &mut NetLevels) -> PhaseFound
     requires ready { IsReady (comparison_in search.compared) }
     requires phase { search.phase < length search.compared.rules.now.phases }
     requires plan { IsPhasePlan (comparison_in search.compared) search.phase search.plan.now }
     requires budget { 65536 ≤ store.old.budget }
     requires searched { HasBeenSearched (comparison_in search.compared) search.phase store.old.budget (settled_operations (comparison_in search.compared) search.phase search.plan.now) (circuit_spots (comparison_in search.compared) search.plan.now) search.care search.words store.old }
     requires nets { HasNetBits (comparison_in search.compared) search.phase search.words store.old }
+    requires levels { HasTables (length search.compared.circuit.now.nets) levels.old }
     ensures gives { PhaseGives (comparison_in search.entry.compared) search.entry.phase store.old.budget store.new result }
+    ensures levels { TellsLevels (comparison_in search.entry.compared) search.entry.phase levels.new result }
+    ensures tables { KeepsTables levels.old levels.new }
     ensures kept { KeepsRoom store.old store.new }
 {
     store.sound();
@@ -103,7 +113,7 @@ fn check_model(store: &mut Store, search: Search<'_>) -> PhaseFound
         words.values,
     ) {
         Err(_) => PhaseFound::Spent,
-        Ok(()) => check_wishes(store, search),
+        Ok(()) => check_wishes(store, search, levels),
     }
 }
 
@@ -121,7 +131,7 @@ fn kept_values(store: &Store, gates: Span, fault: KeptFault) -> Option<(H, H)>
 }
 
 /// The kept circuit, and where it is clear the model and what nets ought to have.
-fn check_kept(store: &mut Store, search: Search<'_>) -> PhaseFound
+fn check_kept(store: &mut Store, search: Search<'_>, levels: &mut NetLevels) -> PhaseFound
     requires ready { IsReady (comparison_in search.compared) }
     requires phase { search.phase < length search.compared.rules.now.phases }
     requires plan { IsPhasePlan (comparison_in search.compared) search.phase search.plan.now }
@@ -129,7 +139,10 @@ fn check_kept(store: &mut Store, search: Search<'_>) -> PhaseFound
     requires budget { 65536 ≤ store.old.budget }
     requires searched { HasBeenSearched (comparison_in search.compared) search.phase store.old.budget (solved_operations (comparison_in search.compared) search.phase search.plan.now) (step_spots search.plan.now) search.care search.words store.old }
     requires solved { IsSolved (comparison_in search.compared) search.phase search.care search.words store.old }
+    requires levels { HasTables (length search.compared.circuit.now.nets) levels.old }
     ensures gives { PhaseGives (comparison_in search.entry.compared) search.entry.phase store.old.budget store.new result }
+    ensures levels { TellsLevels (comparison_in search.entry.compared) search.entry.phase levels.new result }
+    ensures tables { KeepsTables levels.old levels.new }
     ensures kept { KeepsRoom store.old store.new }
 {
     store.sound();
@@ -152,7 +165,7 @@ fn check_kept(store: &mut Store, search: Search<'_>) -> PhaseFound
         spans,
     ) {
         Err(_) => PhaseFound::Spent,
-        Ok(None) => check_model(store, search),
+        Ok(None) => check_model(store, search, levels),
         Ok(Some(fault)) => PhaseFound::Fault(PhaseFault {
             kind: fault.kind,
             place: fault.net.0,
@@ -164,14 +177,17 @@ fn check_kept(store: &mut Store, search: Search<'_>) -> PhaseFound
 }
 
 /// The bare circuit, and where it is clear the kept one, the model and what nets ought to have.
-fn check_circuit(store: &mut Store, search: Search<'_>) -> PhaseFound
+fn check_circuit(store: &mut Store, search: Search<'_>, levels: &mut NetLevels) -> PhaseFound
     requires ready { IsReady (comparison_in search.compared) }
     requires phase { search.phase < length search.compared.rules.now.phases }
     requires plan { IsPhasePlan (comparison_in search.compared) search.phase search.plan.now }
     requires wholes { IsWholeTable search.compared.circuit.now search.compared.wholes.drivers.now search.compared.wholes.plans.now }
     requires budget { 65536 ≤ store.old.budget }
     requires searched { IsSearched (comparison_in search.compared) search.phase store.old.budget (opened_operations (comparison_in search.compared) search.phase) [] search.care search.words store.old }
+    requires levels { HasTables (length search.compared.circuit.now.nets) levels.old }
     ensures gives { PhaseGives (comparison_in search.entry.compared) search.entry.phase store.old.budget store.new result }
+    ensures levels { TellsLevels (comparison_in search.entry.compared) search.entry.phase levels.new result }
+    ensures tables { KeepsTables levels.old levels.new }
     ensures kept { KeepsRoom store.old store.new }
 {
     store.sound();
@@ -194,7 +210,7 @@ fn check_circuit(store: &mut Store, search: Search<'_>) -> PhaseFound
     };
     match wired_fault(store, phased, search.compared.wholes, search.care, spans) {
         Err(_) => PhaseFound::Spent,
-        Ok(None) => check_kept(store, search),
+        Ok(None) => check_kept(store, search, levels),
         Ok(Some(fault)) => PhaseFound::Fault(PhaseFault {
             kind: fault.kind,
             place: fault.place,
@@ -206,7 +222,7 @@ fn check_circuit(store: &mut Store, search: Search<'_>) -> PhaseFound
 }
 
 /// The whole phase, where it is opened.
-fn check_open(store: &mut Store, search: Search<'_>) -> PhaseFound
+fn check_open(store: &mut Store, search: Search<'_>, levels: &mut NetLevels) -> PhaseFound
     requires ready { IsReady (comparison_in search.compared) }
     requires phase { search.phase < length search.compared.rules.now.phases }
     requires plan { IsPhasePlan (comparison_in search.compared) search.phase search.plan.now }
@@ -214,23 +230,28 @@ fn check_open(store: &mut Store, search: Search<'_>) -> PhaseFound
     requires budget { 65536 ≤ store.old.budget }
     requires store { IsPhaseStore (comparison_in search.compared) search.phase store.old.budget (opened_operations (comparison_in search.compared) search.phase) search.words store.old }
     requires opened { IsOpen (comparison_in search.compared) search.phase search.care search.words store.old }
+    requires levels { HasTables (length search.compared.circuit.now.nets) levels.old }
     ensures gives { PhaseGives (comparison_in search.entry.compared) search.entry.phase store.old.budget store.new result }
+    ensures levels { TellsLevels (comparison_in search.entry.compared) search.entry.phase levels.new result }
+    ensures tables { KeepsTables levels.old levels.new }
     ensures kept { KeepsRoom store.old store.new }
 {
     store.sound();
     if search.care.0 == 0 {
         return PhaseFound::Vacuous;
     }
-    check_circuit(store, search)
+    check_circuit(store, search, levels)
 }
 
 /// Compares a circuit with its model in a phase, at every valuation at once: opens the phase in a store without nodes, and then
-/// looks for a fault of the bare circuit, of the kept circuit, and of what nets ought to have, in this order.
+/// looks for a fault of the bare circuit, of the kept circuit, and of what nets ought to have, in this order. Where there is none, the
+/// levels of the nets that are asked for are written.
 ///
-/// `Clear` comes where the two agree at each valuation that meets the constraints, and `Vacuous` where none does. A fault is the
-/// first of the phase at the least valuation at which its function is 1. Where no instance is left whole, `Spent` comes only with
-/// more than four variables, where the nodes that the phase may need are more than the budget. No memory is taken, and no word from
-/// before is written.
+/// `Clear` comes where the two agree at each valuation that meets the constraints, and `Vacuous` where none does. With `Clear` each net
+/// that is asked for has by `levels` exactly the level that it has in the bare and in the kept circuit at each of those valuations, or
+/// none; with another answer the levels say nothing. A fault is the first of the phase at the least valuation at which its function is
+/// 1. Where no instance is left whole, `Spent` comes only with more than four variables, where the nodes that the phase may need are
+/// more than the budget. No memory is taken, and no word from before is written.
 pub fn check_phase(
     store: &mut Store,
     compared: Comparison<'_>,
@@ -238,6 +259,7 @@ pub fn check_phase(
     vars: &Vars,
     plan: &PhasePlan,
     counts: WordCounts,
+    levels: &mut NetLevels,
 ) -> PhaseFound
     requires ready { IsReady (comparison_in compared) }
     requires phase { phase < length compared.rules.now.phases }
@@ -251,7 +273,10 @@ pub fn check_phase(
     requires empty { length store.old.nodes ≡ 2 }
     requires own { store.old.own ≤ length store.old.words }
     requires room { length store.old.words + word_count counts ≤ store.old.word_room }
+    requires levels { HasTables (length compared.circuit.now.nets) levels.old }
     ensures gives { PhaseGives (comparison_in compared.entry) phase store.old.budget store.new result }
+    ensures levels { TellsLevels (comparison_in compared.entry) phase levels.new result }
+    ensures tables { KeepsTables levels.old levels.new }
     ensures kept { KeepsRoom store.old store.new }
 {
     store.sound();
@@ -267,6 +292,7 @@ pub fn check_phase(
                 care,
                 words,
             },
+            levels,
         ),
     }
 }

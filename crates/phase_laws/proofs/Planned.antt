@@ -7,10 +7,11 @@ use Rattle.channel_parts.specs.PartLists.{AreParts, least_of}
 use Rattle.channel_parts.specs.declared.part.Parts.{Parts}
 use Rattle.channel_parts.proofs.DriveLaws.{driven_by, driven_gives}
 use Rattle.circuit_faults.proofs.OrderLaws.{is_least}
+use Rattle.circuit_faults.proofs.SoundWholes.{output_plain, wired_wholes}
 use Rattle.circuit_faults.proofs.WholeParts.{number_inside}
 use Rattle.circuit_faults.specs.KeptFaults.{kept_spots}
 use Rattle.circuit_faults.specs.Steps.{step_of}
-use Rattle.circuit_faults.specs.Wholes.{HasFreeWholes}
+use Rattle.circuit_faults.specs.Wholes.{HasSoundWholes}
 use Rattle.fault_places.proofs.CountedSites.{counted_sites}
 use Rattle.fault_places.proofs.ListedSpots.{spot, step_kinds}
 use Rattle.fault_places.proofs.PhaseOrder.{phase_spots}
@@ -224,21 +225,21 @@ module _ (k : Comparison) (phase : ℕ) (rank least : ℕ → ℕ) where
 
 -- ---- the places of a plan
 
--- whole instances whose outputs are free have bits for these at each reading
-states_there : (c : Circuit) (phase : Phase) (observed : ℕ → Bool) → HasFreeWholes c phase observed → HasStates c phase
+-- whole instances whose outputs follow from linked inputs have bits for these at each reading, and these are at plain nets
+states_there : (c : Circuit) (phase : Phase) (observed : ℕ → Bool) → HasSoundWholes c phase observed → HasStates c phase
 states_there c phase observed wholes = record {
   state = λ inputs reading reads. (
     driven_by c phase observed wholes.determined reading,
     record { reading = reads; driven = λ at out e. driven_gives c phase observed wholes.determined reading at out e },
   );
-  plain = wholes.free.plain;
+  plain = output_plain c (wired_wholes c phase observed wholes);
 }
 
 module _ (k : Comparison) (phase : ℕ) (plan : PhasePlan) (ready : IsReady k) (range : phase < length k.rules.phases) (is : IsPhasePlan k phase plan) where
   abbrev at : Phase
   at = phase_at k.rules phase
 
-  wholes : HasFreeWholes k.circuit at (is_observed k phase)
+  wholes : HasSoundWholes k.circuit at (is_observed k phase)
   wholes = ready.wholes phase range
 
   abbrev rank : ℕ → ℕ

@@ -1,7 +1,7 @@
 -- Which comparisons are looked through phase by phase.
 use Rattle.std.specs.Prelude.{◌≡◌, ◌≢◌, ℕ, ◌<◌, ◌⊎◌, All, ◌++◌, bytes_eq, length, Some}
 use Rattle.circuit_faults.specs.Keys.{HasAllPorts}
-use Rattle.circuit_faults.specs.Wholes.{HasFreeWholes}
+use Rattle.circuit_faults.specs.Wholes.{HasSoundWholes}
 use Rattle.constraints.specs.Obliged.{AreNamed}
 use Rattle.hold_groups.specs.Grouped.{AreGroups}
 use Rattle.phase_terms.specs.declared.compared.Comparison.{Comparison as CellComparison}
@@ -60,14 +60,14 @@ pub record IsNamedInstance (k : Comparison) (i : FlatInstance) : Type 0 where
   pub apart : AllApart bytes_eq (cell_at k.design i.cell).ports
   pub named : AreNamed k.rules (cell_at k.design i.cell)
 
--- A comparison of a well-formed circuit with a well-formed model: the outputs of whole instances are free in each phase, the ports
--- pair, each hold is in one group, and what lines and groups name is there. It may have instances, holds, latches, keepers and
--- constraints.
+-- A comparison of a well-formed circuit with a well-formed model: each output of a whole instance is at a plain net and follows in
+-- each phase from observed inputs that are linked to it, the ports pair, each hold is in one group, and what lines and groups name is
+-- there. It may have instances, holds, latches, keepers and constraints.
 pub record IsReady (k : Comparison) : Type 0 where
   pub rules : AreRules k.rules
   pub cell : k.cell < length k.design.cells
   pub circuit : IsCircuit k.circuit
-  pub wholes : (phase : ℕ) → phase < length k.rules.phases → HasFreeWholes k.circuit (phase_at k.rules phase) (is_observed k phase)
+  pub wholes : (phase : ℕ) → phase < length k.rules.phases → HasSoundWholes k.circuit (phase_at k.rules phase) (is_observed k phase)
   pub model : IsFlatModel k.model
   pub roles : HasRoles k.rules (cell_at k.design k.cell) k.pairing
   pub ports : All (λ net. net < length k.circuit.nets) (port_nets k.rules (cell_at k.design k.cell).ports)

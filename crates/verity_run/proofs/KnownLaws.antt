@@ -7,7 +7,6 @@ use Rattle.std.proofs.lemmas.Option.{none-some, same_Some, slice_get-get_or, sli
 use Rattle.cell_compare.specs.Cells.{HasFacts}
 use Rattle.verity_run.specs.Known.{IsKnown}
 use Rattle.verity_run.specs.Reports.{nothing_known}
-use Rattle.vrt_model.proofs.Members.{all_among}
 use Rattle.vrt_model.specs.Facts.{IsTrueOf}
 use Rattle.vrt_model.specs.Lists.{At}
 use Rattle.vrt_model.specs.declared.blif.Blif.{Blif}
@@ -15,8 +14,6 @@ use Rattle.vrt_model.specs.declared.design.Design.{Design}
 use Rattle.vrt_model.specs.declared.rules.Rules.{Rules}
 use Rattle.vrt_model.specs.declared.verdict.Verdict.{Verdict}
 use Rattle.vrt_model.specs.declared.whole.CellFacts.{CellFacts}
-use Rattle.vrt_model.specs.declared.whole.Drive.{Drive}
-use Rattle.vrt_model.specs.declared.whole.Drive.TheVariants.{Soft}
 
 -- an entry of a list with one entry set is this one, or was there
 at_set : {X : Type 0} (xs : List X) (i : ℕ) (x : X) (j : ℕ) (y : X) → At (set xs i x) j y → ((x ≡ y) × (i ≡ j)) ⊎ At xs j y
@@ -51,27 +48,19 @@ pub nothing_is_known : (design : Design) (blif : Blif) (rules : Rules) → IsKno
 nothing_is_known design blif rules =
     let nothing : CellFacts = record { equal = false; stateless = false; drives = [] } in
     record {
-      plain = record {
-        told = λ cell f at. subst (IsTrueOf design blif rules cell) (at_replicate (length design.cells) nothing cell f at) (empty_is_true design blif rules cell);
-        soft = λ cell j f drive at there. absurd (none-some drive (subst (λ (x : CellFacts). At x.drives j drive) (sym (at_replicate (length design.cells) nothing cell f at)) there));
-      };
+      facts = record { told = λ cell f at. subst (IsTrueOf design blif rules cell) (at_replicate (length design.cells) nothing cell f at) (empty_is_true design blif rules cell) };
       each = length-replicate (length design.cells) nothing;
     }
 
--- what is noted of one more is true
-pub more_is_known : (design : Design) (blif : Blif) (rules : Rules) (known : List CellFacts) (cell : ℕ) (verdict : Verdict) (facts : CellFacts)
-    → IsKnown design blif rules known → HasFacts design blif rules cell verdict facts → IsKnown design blif rules (set known cell facts)
-more_is_known design blif rules known cell verdict facts is has = record {
-  plain = record {
+-- what is noted of one more is true, whatever was known of the cells below it
+pub more_is_known : (design : Design) (blif : Blif) (rules : Rules) (below known : List CellFacts) (cell : ℕ) (verdict : Verdict) (facts : CellFacts)
+    → IsKnown design blif rules known → HasFacts design blif rules below cell verdict facts → IsKnown design blif rules (set known cell facts)
+more_is_known design blif rules below known cell verdict facts is has = record {
+  facts = record {
     told = λ n f at.
         elim (at_set known cell facts n f at) [
           | inl same ↦ subst (λ (m : ℕ). IsTrueOf design blif rules m f) same.1 (subst (IsTrueOf design blif rules cell) same.0 has.is_true)
-          | inr there ↦ is.plain.told n f there
-        ];
-    soft = λ n j f drive at there.
-        elim (at_set known cell facts n f at) [
-          | inl same ↦ all_among (λ (d : Drive). d ≡ Soft) facts.drives drive has.soft (j, subst (λ (x : CellFacts). At x.drives j drive) (sym same.0) there)
-          | inr old ↦ is.plain.soft n j f drive old there
+          | inr there ↦ is.facts.told n f there
         ];
   };
   each = length-set known cell facts ∙ is.each;

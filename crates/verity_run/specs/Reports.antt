@@ -94,18 +94,19 @@ pub record IsChecked (design : Design) (blif : Blif) (rules : Rules) (budget : �
   pub facts : CellFacts
   pub is : IsCheckedVerdict design blif rules known budget cell verdict
   pub runs : HasRuns design blif rules cell verdict
-  pub is_so : HasFacts design blif rules cell verdict facts
+  pub is_so : HasFacts design blif rules known cell verdict facts
   pub noted : then ≡ set known cell facts
   pub counts : count ≡ counted verdict
   pub line : lines ≡ cell_line design blif rules cell verdict ∷ []
 
--- each verdict is that of its cell where what the verdicts before it say of their cells is known: that these are equal, and stateless
+-- each verdict is that of its cell where what the verdicts before it say of their cells is known: that these are equal, and stateless, and
+-- how strongly their outputs drive
 pub data AreVerdicts (design : Design) (blif : Blif) (rules : Rules) (budget : ℕ) : List Answer → List CellFacts → Type 0 where
   no_verdict : AreVerdicts design blif rules budget [] (nothing_known design)
   one_verdict :
       {answers answers' : List Answer} {known known' : List CellFacts} (a : Answer) (facts : CellFacts)
       → AreVerdicts design blif rules budget answers known
-      → IsCheckedVerdict design blif rules known budget a.cell a.verdict → HasFacts design blif rules a.cell a.verdict facts
+      → IsCheckedVerdict design blif rules known budget a.cell a.verdict → HasFacts design blif rules known a.cell a.verdict facts
       → answers' ≡ answers ++ a ∷ [] → known' ≡ set known a.cell facts
       → AreVerdicts design blif rules budget answers' known'
 

@@ -2,7 +2,7 @@
 
 ghost use Rattle.std.specs.Prelude.{◌<◌, ◌≤◌, IfOk, IsTrue, OnOk, length};
 ghost use Rattle.cell_compare.specs.Cells.{HasFacts};
-ghost use Rattle.checked_cells.specs.Given.{ArePlainFacts};
+ghost use Rattle.checked_cells.specs.Given.{AreTrueFacts};
 ghost use Rattle.vrt_model.specs.Inputs.{AreRules, IsBlif, IsDesign};
 ghost use Rattle.whole_cells.specs.Own.{AreFiles};
 
@@ -102,8 +102,8 @@ fn compared(
 ) -> Result<Compared, NoCircuit>
     requires files { AreFiles inputs.now.design inputs.now.blif inputs.now.rules }
     requires there { cell < length inputs.now.design.cells }
-    requires plain { ArePlainFacts inputs.now.design inputs.now.blif inputs.now.rules facts.now }
-    ensures { IfOk result (λ c. HasFacts inputs.now.design inputs.now.blif inputs.now.rules cell c.verdict c.facts) }
+    requires facts { AreTrueFacts inputs.now.design inputs.now.blif inputs.now.rules facts.now }
+    ensures { IfOk result (λ c. HasFacts inputs.now.design inputs.now.blif inputs.now.rules facts.now cell c.verdict c.facts) }
 {
     match compare(
         alloc,
@@ -123,7 +123,7 @@ fn compared(
 fn known(alloc: Global, inputs: &Inputs) -> Result<Seq<CellFacts>, NoCircuit>
     requires files { AreFiles inputs.now.design inputs.now.blif inputs.now.rules }
     requires there { 0 < length inputs.now.design.cells }
-    ensures { IfOk result (ArePlainFacts inputs.now.design inputs.now.blif inputs.now.rules) }
+    ensures { IfOk result (AreTrueFacts inputs.now.design inputs.now.blif inputs.now.rules) }
 {
     let mut facts = Seq::new(alloc);
     let Compared {

@@ -3,6 +3,6 @@ use Rattle.cell_compare.proofs.CheckedLaws.{flat_found}
 use Rattle.phase_terms.specs.Ready.{comparison_in}
 use Rattle.cell_compare.proofs.checked.check_flat.Goals as goal
 
-pub returns : goal.returns
-returns c =
-    flat_found (comparison_in c.args.compared) c.args.blif.now c.args.facts.now c.args.budget c.in_ok-verdict.verdict c.requires.checkable c.requires.planned c.requires.checked c.in_ok-verdict.ensures
+pub returns-clause-verdict : goal.returns-clause-verdict
+returns-clause-verdict c =
+    flat_found (comparison_in c.args.compared) c.args.blif.now c.args.facts.now c.args.budget c.in_ok-verdict.verdict c.requires.checkable c.requires.planned c.requires.checked c.in_ok-verdict.ensures.checked

@@ -2,7 +2,10 @@
 use Rattle.std.proofs.Common.{◌∙◌, List, length, subst, sym}
 use Rattle.std.specs.Prelude.{Option}
 use Rattle.cell_compare.proofs.CheckedLaws.{over_is, ready_with, table_with, vars_over}
+use Rattle.cell_compare.proofs.PortLaws.{ports_over}
+use Rattle.cell_compare.specs.Ports.{ArePortsOf, TellsPorts}
 use Rattle.cell_compare.specs.Works.{AreVars, IsChecked}
+use Rattle.checked_cells.proofs.CircuitLaws.{checked_circuits_share}
 use Rattle.checked_cells.proofs.WholeLaws.{checked_circuits_are_wired}
 use Rattle.phase_terms.specs.Ready.{IsReady, comparison_in}
 use Rattle.rule_index.specs.Tables.{AreRuleTables}
@@ -15,19 +18,19 @@ use Rattle.cell_compare.proofs.checked.found_with.Goals as goal
 pub output_drivers-requires : goal.output_drivers-requires
 output_drivers-requires c =
     let is = c.requires.checked in
-    let h = c.requires.checkable.soft c.args.circuit.now c.requires.planned is in
+    let h = c.requires.checkable.by_facts c.args.circuit.now c.requires.planned is in
     record { circuit = (checked_circuits_are_wired (comparison_in c.args.compared) is.0 c.args.blif.now c.args.facts.now c.args.circuit.now h).ranges }
 
 pub orders_of-requires : goal.orders_of-requires
 orders_of-requires c =
     let is = c.requires.checked in
-    let h = c.requires.checkable.soft c.args.circuit.now c.requires.planned is in
+    let h = c.requires.checkable.by_facts c.args.circuit.now c.requires.planned is in
     (checked_circuits_are_wired (comparison_in c.args.compared) is.0 c.args.blif.now c.args.facts.now c.args.circuit.now h).ranges
 
 pub over-requires : goal.over-requires
 over-requires c =
     let is = c.requires.checked in
-    let h = c.requires.checkable.soft c.args.circuit.now c.requires.planned is in
+    let h = c.requires.checkable.by_facts c.args.circuit.now c.requires.planned is in
     let made = table_with (comparison_in c.args.compared) is.0 c.args.blif.now c.args.facts.now c.args.circuit.now c.in_ok-drivers.drivers.items c.in_ok-orders.orders h c.in_ok-drivers.ensures c.in_ok-orders.ensures in
     let drivers = subst (λ (t : List (Option OutputPlace)). IsWholeTable c.args.circuit.now t c.in_ok-orders.orders) (sym c.as_slice.ensures.value) made in
     record { wholes = subst (IsWholeTable c.args.circuit.now c.as_slice.result.now) (sym c.as_slice-2.ensures) drivers }
@@ -35,14 +38,14 @@ over-requires c =
 pub check_over-requires-clause-ready : goal.check_over-requires-clause-ready
 check_over-requires-clause-ready c =
     let is = c.requires.checked in
-    let h = c.requires.checkable.soft c.args.circuit.now c.requires.planned is in
+    let h = c.requires.checkable.by_facts c.args.circuit.now c.requires.planned is in
     subst IsReady (sym c.over.ensures.is) (ready_with (comparison_in c.args.compared) is.0 c.args.blif.now c.args.facts.now c.args.circuit.now c.requires.ready h)
 
 pub check_over-requires-clause-vars : goal.check_over-requires-clause-vars
 check_over-requires-clause-vars c =
     let k = comparison_in c.args.compared in
     let is = c.requires.checked in
-    let h = c.requires.checkable.soft c.args.circuit.now c.requires.planned is in
+    let h = c.requires.checkable.by_facts c.args.circuit.now c.requires.planned is in
     subst (λ (x : Comparison). AreVars x (length x.rules.phases) c.args.vars.now) (over_is k is.0 c.args.blif.now c.args.facts.now c.args.circuit.now h ∙ sym c.over.ensures.is)
     (vars_over k is.0 c.args.blif.now c.args.facts.now c.args.circuit.now (length c.args.compared.rules.now.phases) c.args.vars.now h c.requires.vars)
 
@@ -51,9 +54,25 @@ check_over-requires-clause-tables c =
     subst (λ (index : RuleIndex). AreRuleTables c.over.result.rules.now index) (sym c.over.ensures.index)
     (subst (λ (x : Comparison). AreRuleTables x.rules c.args.compared.index.now) (sym c.over.ensures.is) c.requires.tables)
 
-pub returns : goal.returns
-returns c =
+pub check_over-requires-clause-ports : goal.check_over-requires-clause-ports
+check_over-requires-clause-ports c =
     let k = comparison_in c.args.compared in
     let is = c.requires.checked in
-    let h = c.requires.checkable.soft c.args.circuit.now c.requires.planned is in
-    subst (λ (x : Comparison). IsChecked x c.args.budget c.in_ok-found.found) (c.over.ensures.is ∙ sym (over_is k is.0 c.args.blif.now c.args.facts.now c.args.circuit.now h)) c.in_ok-found.ensures
+    let h = c.requires.checkable.by_facts c.args.circuit.now c.requires.planned is in
+    subst (λ (x : Comparison). ArePortsOf x c.args.ports.now) (sym c.over.ensures.is)
+    (ports_over k c.args.circuit.now c.args.ports.now (checked_circuits_share k is.0 c.args.blif.now c.args.facts.now c.args.circuit.now h) c.requires.ports)
+
+pub returns-clause-ports : goal.returns-clause-ports
+returns-clause-ports c =
+    let k = comparison_in c.args.compared in
+    let is = c.requires.checked in
+    let h = c.requires.checkable.by_facts c.args.circuit.now c.requires.planned is in
+    subst (λ (x : Comparison). TellsPorts x c.args.ports.now.nets c.check_over.new.ports c.in_ok-found.found)
+    (c.over.ensures.is ∙ sym (over_is k is.0 c.args.blif.now c.args.facts.now c.args.circuit.now h)) c.in_ok-found.ensures.ports
+
+pub returns-clause-checked : goal.returns-clause-checked
+returns-clause-checked c =
+    let k = comparison_in c.args.compared in
+    let is = c.requires.checked in
+    let h = c.requires.checkable.by_facts c.args.circuit.now c.requires.planned is in
+    subst (λ (x : Comparison). IsChecked x c.args.budget c.in_ok-found.found) (c.over.ensures.is ∙ sym (over_is k is.0 c.args.blif.now c.args.facts.now c.args.circuit.now h)) c.in_ok-found.ensures.checked

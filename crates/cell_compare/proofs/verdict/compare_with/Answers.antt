@@ -1,17 +1,17 @@
 -- The steps give the verdict, the line, what is known, and the runs.
-use Rattle.std.proofs.Common.{List, ap, subst, sym}
+use Rattle.std.proofs.Common.{◌≡◌, ap, subst, sym}
 use Rattle.cell_compare.proofs.CheckedLaws.{checkable}
 use Rattle.cell_compare.proofs.CompleteLaws.{complete}
 use Rattle.cell_compare.proofs.ReadyLaws.{ready}
 use Rattle.cell_compare.proofs.VerdictLaws.{facts_with, line_with, runs_with, told}
 use Rattle.cell_compare.specs.Checked.{IsCheckable, IsTold}
-use Rattle.cell_compare.specs.Works.{AreSoft}
+use Rattle.cell_compare.specs.Ports.{HasDrives}
 use Rattle.phase_terms.specs.Ready.{IsReady}
 use Rattle.prepared_tables.specs.Prepared.{ArePrepared}
 use Rattle.rule_index.specs.Tables.{AreRuleTables}
 use Rattle.vrt_model.specs.Comparison.{Comparison}
-use Rattle.vrt_model.specs.declared.pairing.PortRole.{PortRole}
 use Rattle.vrt_model.specs.declared.rules.Rules.{Rules}
+use Rattle.vrt_model.specs.declared.verdict.Verdict.TheVariants.{Equal}
 use Rattle.cell_compare.proofs.verdict.compare_with.Goals as goal
 
 pub flat_comparison-compared-requires : goal.flat_comparison-compared-requires
@@ -30,29 +30,32 @@ check_cell-requires-clause-tables c =
 
 pub returns-clause-verdict : goal.returns-clause-verdict
 returns-clause-verdict c =
-    told c.args.design.now c.args.blif.now c.args.rules.now c.args.cell c.args.model c.in-Ok.flattened c.requires.inputs c.in-Ok.ensures c.args.facts.now c.args.budget c.in_ok-verdict.verdict
-    (subst (λ (k : Comparison). IsTold k c.args.blif.now c.args.facts.now c.args.budget c.in_ok-verdict.verdict) c.flat_comparison-compared.ensures.comparison c.in_ok-verdict.ensures)
+    told c.args.design.now c.args.blif.now c.args.rules.now c.args.cell c.args.model c.in-Ok.flattened c.requires.inputs c.in-Ok.ensures c.args.facts.now c.args.budget c.in_ok-told.told.verdict
+    (subst (λ (k : Comparison). IsTold k c.args.blif.now c.args.facts.now c.args.budget c.in_ok-told.told.verdict) c.flat_comparison-compared.ensures.comparison c.in_ok-told.ensures.told)
 
 pub returns-clause-line : goal.returns-clause-line
 returns-clause-line c =
-    line_with c.args.design.now c.args.blif.now c.args.rules.now c.args.cell c.args.model c.in-Ok.flattened c.requires.inputs c.in-Ok.ensures c.in_ok-verdict.verdict
+    line_with c.args.design.now c.args.blif.now c.args.rules.now c.args.cell c.args.model c.in-Ok.flattened c.requires.inputs c.in-Ok.ensures c.in_ok-told.told.verdict
 
 pub returns-clause-facts : goal.returns-clause-facts
 returns-clause-facts c =
-    facts_with c.args.design.now c.args.blif.now c.args.rules.now c.args.cell c.args.model c.in-Ok.flattened c.requires.inputs c.in-Ok.ensures c.args.facts.now c.args.budget c.in_ok-verdict.verdict
-    c.is_bare-bare.result c.in_ok-facts.facts c.is_bare-bare.ensures (subst (λ (k : Comparison). IsTold k c.args.blif.now c.args.facts.now c.args.budget c.in_ok-verdict.verdict) c.flat_comparison-compared.ensures.comparison c.in_ok-verdict.ensures)
-    (subst (λ (roles : List PortRole). AreSoft roles c.is_bare-bare.result c.in_ok-verdict.verdict c.in_ok-facts.facts) c.as_slice.ensures c.in_ok-facts.ensures)
+    let told = c.in_ok-told.told in
+    facts_with c.args.design.now c.args.blif.now c.args.rules.now c.args.cell c.args.model c.in-Ok.flattened c.requires.inputs c.in-Ok.ensures c.args.facts.now c.args.budget told.verdict
+    c.is_bare-bare.result told.drives c.facts_of-facts.result c.requires.facts c.is_bare-bare.ensures
+    (subst (λ (k : Comparison). IsTold k c.args.blif.now c.args.facts.now c.args.budget told.verdict) c.flat_comparison-compared.ensures.comparison c.in_ok-told.ensures.told)
+    (subst (λ (k : Comparison). told.verdict ≡ Equal → HasDrives k c.args.blif.now c.args.facts.now told.drives) c.flat_comparison-compared.ensures.comparison c.in_ok-told.ensures.drives)
+    c.facts_of-facts.ensures
 
 pub returns-clause-complete : goal.returns-clause-complete
 returns-clause-complete c =
-    complete c.args.design.now c.args.blif.now c.args.rules.now c.args.facts.now c.args.budget c.args.cell c.in_ok-verdict.verdict
-    (told c.args.design.now c.args.blif.now c.args.rules.now c.args.cell c.args.model c.in-Ok.flattened c.requires.inputs c.in-Ok.ensures c.args.facts.now c.args.budget c.in_ok-verdict.verdict
-    (subst (λ (k : Comparison). IsTold k c.args.blif.now c.args.facts.now c.args.budget c.in_ok-verdict.verdict) c.flat_comparison-compared.ensures.comparison c.in_ok-verdict.ensures))
+    complete c.args.design.now c.args.blif.now c.args.rules.now c.args.facts.now c.args.budget c.args.cell c.in_ok-told.told.verdict
+    (told c.args.design.now c.args.blif.now c.args.rules.now c.args.cell c.args.model c.in-Ok.flattened c.requires.inputs c.in-Ok.ensures c.args.facts.now c.args.budget c.in_ok-told.told.verdict
+    (subst (λ (k : Comparison). IsTold k c.args.blif.now c.args.facts.now c.args.budget c.in_ok-told.told.verdict) c.flat_comparison-compared.ensures.comparison c.in_ok-told.ensures.told))
 
 pub returns-clause-runs : goal.returns-clause-runs
 returns-clause-runs c =
-    runs_with c.args.design.now c.args.blif.now c.args.rules.now c.args.cell c.args.model c.in-Ok.flattened c.requires.inputs c.in-Ok.ensures c.args.facts.now c.args.budget c.in_ok-verdict.verdict
-    (subst (λ (k : Comparison). IsTold k c.args.blif.now c.args.facts.now c.args.budget c.in_ok-verdict.verdict) c.flat_comparison-compared.ensures.comparison c.in_ok-verdict.ensures)
+    runs_with c.args.design.now c.args.blif.now c.args.rules.now c.args.cell c.args.model c.in-Ok.flattened c.requires.inputs c.in-Ok.ensures c.args.facts.now c.args.budget c.in_ok-told.told.verdict
+    (subst (λ (k : Comparison). IsTold k c.args.blif.now c.args.facts.now c.args.budget c.in_ok-told.told.verdict) c.flat_comparison-compared.ensures.comparison c.in_ok-told.ensures.told)
 
 pub returns-clause-flattened : goal.returns-clause-flattened
 returns-clause-flattened c = (c.args.model, c.in-Ok.ensures)

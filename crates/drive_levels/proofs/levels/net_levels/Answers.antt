@@ -1,12 +1,19 @@
-use Rattle.std.proofs.Common.{Err, arith}
+use Rattle.std.proofs.Common.{Bool, Err, List, arith, length, ap, ◌∙◌, subst}
 use Rattle.std.specs.Prelude.{sum_by}
 use Rattle.std.proofs.lemmas.Result.{IfOk-weaker}
 use Rattle.bdd_ops.proofs.CountingLaws.{counts_more, counts_then}
 use Rattle.drive_levels.proofs.NetLevelLaws.{tables_give}
 use Rattle.output_levels.proofs.PartLevelLaws.{gates_within, in_then, spans_later, told_first, words_care}
 use Rattle.output_levels.specs.PartLevels.{level_operations}
-use Rattle.drive_levels.specs.NetLevels.{drive_operations}
+use Rattle.drive_levels.specs.NetLevels.{LevelsGive, drive_operations}
+use Rattle.drive_levels.specs.PhaseLevels.{level_in}
 use Rattle.drive_levels.proofs.levels.net_levels.Goals as goal
+
+pub circuit_levels-requires-clause-asked : goal.circuit_levels-requires-clause-asked
+circuit_levels-requires-clause-asked c = (ap (λ (marks : List Bool). length marks) c.as_slice-asked.ensures.value ∙ c.requires.levels.asked, c.requires.levels.bare)
+
+pub circuit_levels-requires-2-clause-asked : goal.circuit_levels-requires-2-clause-asked
+circuit_levels-requires-2-clause-asked c = (ap (λ (marks : List Bool). length marks) c.as_slice-asked.ensures.value ∙ c.requires.levels.asked, c.requires.levels.kept)
 
 pub circuit_levels-requires-2-clause-care : goal.circuit_levels-requires-2-clause-care
 circuit_levels-requires-2-clause-care c = (let live = c.requires.care in let longer = c.circuit_levels.ensures.writes.adds.longer in omega (arith, live, longer))
@@ -26,14 +33,17 @@ returns-clause-writes c = in_then c.args.out c.args.store.now c.circuit_levels.n
 pub returns-clause-gives : goal.returns-clause-gives
 returns-clause-gives c =
     let circuit = c.args.circuit.now in
-    let asked = c.args.asked.now in
+    let asked = c.as_slice-asked.result.now in
+    let levels = level_in circuit (record { asked = c.args.levels.now.asked; bare = c.circuit_levels.new.levels; kept = c.circuit_levels-2.new.levels }) in
     IfOk-weaker c.circuit_levels-2.result _ _
-    (λ x told phase observed setting roots solved of_bare of_kept.
+    (λ x told.
+    subst (λ (marks : List Bool). LevelsGive circuit c.args.bare.now c.args.kept.now marks c.args.care c.args.gates c.args.store.now levels) c.as_slice-asked.ensures.value
+    (λ phase observed setting roots solved of_bare of_kept.
     tables_give circuit phase observed setting c.args.care roots c.args.gates c.args.store.now solved c.args.bare.now c.args.kept.now of_bare of_kept asked c.circuit_levels.new.levels.items c.circuit_levels-2.new.levels.items
     c.in-Ok.ensures.gives
     (λ n part there inside mark.
     told_first circuit c.args.kept.now asked c.args.gates c.args.out c.args.care c.args.store.now c.circuit_levels.new.store c.requires.care c.requires.spans.1 c.circuit_levels.ensures.writes c.circuit_levels-2.new.levels.items n
-    (told n part there inside mark)))
+    (told n part there inside mark))))
     c.circuit_levels-2.ensures.gives
 
 pub returns-clause-few : goal.returns-clause-few

@@ -1,14 +1,15 @@
-use Rattle.std.proofs.Common.{ℕ, List, length, arith, subst, sym, ap, slice_index}
+use Rattle.std.proofs.Common.{◌≡◌, ◌∙◌, ℕ, Bool, List, length, arith, subst, sym, ap, slice_index}
+use Rattle.std.proofs.lemmas.List.{length-map}
 use Rattle.std.proofs.lemmas.Result.{IfOk-weaker}
 use Rattle.channel_parts.specs.Labels.{IsLeastTogether}
 use Rattle.lone_outputs.proofs.LoneLaws.{are_lone}
-use Rattle.lone_outputs.specs.Owners.{AreCounts}
+use Rattle.lone_outputs.specs.Owners.{AreCounts, is_lone}
 use Rattle.vrt_model.specs.Known.{IsPlain}
 use Rattle.vrt_model.specs.Reading.{kept}
 use Rattle.lone_outputs.proofs.lone.lone_outputs.Goals as goal
 
-pub returns : goal.returns
-returns c =
+pub returns-clause-alone : goal.returns-clause-alone
+returns-clause-alone c =
     let circuit = c.args.circuit.now in
     let known = c.args.known.now in
     let labels = c.in_ok-labels.labels.items in
@@ -28,3 +29,9 @@ returns c =
     (subst (AreCounts circuit least nets) (sym same_counts) c.in_ok-counts.ensures.is)
     (omega (arith, counts_len, table_len, least_len, nets_len)) lone is)
     c.judge_nets.ensures
+
+pub returns-clause-len : goal.returns-clause-len
+returns-clause-len c =
+    let nets = c.args.outputs.now in
+    IfOk-weaker c.judge_nets.result _ (λ lone. length lone ≡ length nets)
+    (λ lone is. ap (λ (bits : List Bool). length bits) is ∙ length-map nets (is_lone c.args.circuit.now c.args.known.now c.as_slice-least.result.now c.as_slice.result.now)) c.judge_nets.ensures

@@ -1,6 +1,6 @@
 use Rattle.std.proofs.Common.{ℕ, ◌+◌, Bool, Option, None, ap, length, arith, refl, subst, sym}
 use Rattle.bdd_ops.specs.Counting.{IsCounted}
-use Rattle.circuit_faults.proofs.SoundWholes.{sound_wholes, wired_wholes}
+use Rattle.circuit_faults.proofs.SoundWholes.{wired_wholes}
 use Rattle.circuit_faults.specs.KeptFaults.{AreKeptObserved, kept_spots}
 use Rattle.circuit_faults.specs.KeptResults.{IsFirstKept, KeptGives}
 use Rattle.circuit_faults.specs.Operations.{kept_operations}
@@ -48,7 +48,7 @@ wired_kept-requires-clause-wired c =
     let k = comparison_in c.args.search.compared in
     let phase = c.args.search.phase in
     let at = phase_at k.rules phase in
-    wired_wholes k.circuit at (is_observed k phase) (sound_wholes k.circuit at (is_observed k phase) (c.requires.ready.wholes phase c.requires.phase))
+    wired_wholes k.circuit at (is_observed k phase) (c.requires.ready.wholes phase c.requires.phase)
 
 pub check_model-requires-clause-searched : goal.check_model-requires-clause-searched
 check_model-requires-clause-searched c =
@@ -69,7 +69,7 @@ check_model-requires-clause-searched c =
     let same = seen_is k phase plan c.requires.ready c.requires.plan c.as_slice-marks.result.now c.as_slice-marks.ensures.value in
     let at = phase_at k.rules phase in
     let gives = subst (λ (o : Option KeptFault). KeptGives k.circuit at (mark_at c.as_slice-marks.result.now) care words.roots d new o) c.in-Ok-None.field-0-is
-    (c.in-Ok-None.ensures.gives at (subst (λ (o : ℕ → Bool). HasSoundWholes k.circuit at o) (sym same) (sound_wholes k.circuit at (is_observed k phase) (c.requires.ready.wholes phase c.requires.phase))) c.requires.plan.kept s.opened.roots.fixed
+    (c.in-Ok-None.ensures.gives at (subst (λ (o : ℕ → Bool). HasSoundWholes k.circuit at o) (sym same) (c.requires.ready.wholes phase c.requires.phase)) c.requires.plan.kept s.opened.roots.fixed
     (subst (λ (o : ℕ → Bool). IsClearCircuit k.circuit at o care words.roots words.gates d d) (sym same) c.requires.solved.circuit)) in
     let none : KeptGives k.circuit at (is_observed k phase) care words.roots d new None =
     subst (λ (o : ℕ → Bool). KeptGives k.circuit at o care words.roots d new None) same gives in
@@ -116,7 +116,7 @@ kept_values-requires-clause-net c =
     let same = seen_is k phase plan c.requires.ready c.requires.plan c.as_slice-marks.result.now c.as_slice-marks.ensures.value in
     let at = phase_at k.rules phase in
     let gives = subst (λ (o : Option KeptFault). KeptGives k.circuit at (mark_at c.as_slice-marks.result.now) care words.roots d new o) c.in-Ok-Some.field-0-is
-    (c.in-Ok-Some.ensures.gives at (subst (λ (o : ℕ → Bool). HasSoundWholes k.circuit at o) (sym same) (sound_wholes k.circuit at (is_observed k phase) (c.requires.ready.wholes phase c.requires.phase))) c.requires.plan.kept s.opened.roots.fixed
+    (c.in-Ok-Some.ensures.gives at (subst (λ (o : ℕ → Bool). HasSoundWholes k.circuit at o) (sym same) (c.requires.ready.wholes phase c.requires.phase)) c.requires.plan.kept s.opened.roots.fixed
     (subst (λ (o : ℕ → Bool). IsClearCircuit k.circuit at o care words.roots words.gates d d) (sym same) c.requires.solved.circuit)) in
     let first : IsFirstKept k.circuit at (is_observed k phase) care words.roots c.in-Ok-Some.fault d new =
     subst (λ (o : ℕ → Bool). IsFirstKept k.circuit at o care words.roots c.in-Ok-Some.fault d new) same gives in
@@ -161,7 +161,7 @@ returns-in-Ok-Some-clause-gives c =
     let same = seen_is k phase plan c.requires.ready c.requires.plan c.as_slice-marks.result.now c.as_slice-marks.ensures.value in
     let at = phase_at k.rules phase in
     let gives = subst (λ (o : Option KeptFault). KeptGives k.circuit at (mark_at c.as_slice-marks.result.now) care words.roots d new o) c.in-Ok-Some.field-0-is
-    (c.in-Ok-Some.ensures.gives at (subst (λ (o : ℕ → Bool). HasSoundWholes k.circuit at o) (sym same) (sound_wholes k.circuit at (is_observed k phase) (c.requires.ready.wholes phase c.requires.phase))) c.requires.plan.kept s.opened.roots.fixed
+    (c.in-Ok-Some.ensures.gives at (subst (λ (o : ℕ → Bool). HasSoundWholes k.circuit at o) (sym same) (c.requires.ready.wholes phase c.requires.phase)) c.requires.plan.kept s.opened.roots.fixed
     (subst (λ (o : ℕ → Bool). IsClearCircuit k.circuit at o care words.roots words.gates d d) (sym same) c.requires.solved.circuit)) in
     let first : IsFirstKept k.circuit at (is_observed k phase) care words.roots c.in-Ok-Some.fault d new =
     subst (λ (o : ℕ → Bool). IsFirstKept k.circuit at o care words.roots c.in-Ok-Some.fault d new) same gives in

@@ -1,12 +1,12 @@
-use Rattle.std.proofs.Common.{ℕ, ◌+◌, ◌*◌, List, Option, None, Err, All, length, refl, subst, sym}
+use Rattle.std.proofs.Common.{ℕ, ◌+◌, ◌*◌, List, Option, None, Err, All, ap, length, refl, subst, sym}
 use Rattle.bdd_ops.specs.Counting.{Counts, IsCounted}
 use Rattle.phase_check.proofs.Cases.{model_of}
 use Rattle.phase_check.proofs.Ends.{adds_now, all_within, within_made, words_now}
-use Rattle.phase_check.proofs.Stays.{store_next}
+use Rattle.phase_check.proofs.Stays.{nets_stay, searched_next, stays_added, store_next}
 use Rattle.phase_check.proofs.WishStage.{bits_there, wish_equal, wish_phase_fault, wishes_inside, wishes_within}
 use Rattle.phase_laws.proofs.Work.{live_within, may_spend}
 use Rattle.phase_laws.specs.Sums.{phase_work_of}
-use Rattle.phase_check.specs.States.{evaluated_operations, handles_of}
+use Rattle.phase_check.specs.States.{circuit_spots, evaluated_operations, handles_of}
 use Rattle.phase_terms.specs.Ready.{comparison_in}
 use Rattle.phase_wishes.specs.Missed.{AreBits, AreWithin, IsFirstMissed, IsFoundWish, IsWithinBits, WishesFind, WishesGive}
 use Rattle.phase_wishes.specs.declared.missed.WishFault.{WishFault}
@@ -53,8 +53,8 @@ returns-in-Err-clause-gives c =
     (within_made (3 * length plan.wishes) (phase_work_of k) operations (evaluated_operations k phase plan) (c.requires.searched.exact none) (all_within k phase plan c.requires.ready c.requires.plan none))
     (subst (λ (ws : List Wish). Counts {A = Option WishFault} u (3 * length ws) d new (Err spent)) c.as_slice.ensures counts)
 
-pub returns-in-Ok-None-clause-gives : goal.returns-in-Ok-None-clause-gives
-returns-in-Ok-None-clause-gives c =
+pub check_levels-requires-clause-equal : goal.check_levels-requires-clause-equal
+check_levels-requires-clause-equal c =
     let k = comparison_in c.args.search.compared in
     let phase = c.args.search.phase in
     let plan = c.args.search.plan.now in
@@ -69,6 +69,40 @@ returns-in-Ok-None-clause-gives c =
     subst (λ (ws : List Wish). WishesFind ws care b d d None) c.as_slice.ensures (subst (λ (x : WishBits). WishesFind c.as_slice.result.now care x d d None) c.wish_bits-bits.ensures found) in
     wish_equal k phase plan c.requires.ready c.requires.plan words d s.store.words care s.opened c.requires.nets c.requires.model c.requires.phase
     (model_of k phase plan words d care c.requires.ready c.requires.plan s.opened) none s.clear s.met
+
+pub check_levels-requires-clause-searched : goal.check_levels-requires-clause-searched
+check_levels-requires-clause-searched c =
+    let k = comparison_in c.args.search.compared in
+    let phase = c.args.search.phase in
+    let plan = c.args.search.plan.now in
+    let words = c.args.search.words in
+    let d = c.args.store.now in
+    let new = c.wish_fault.new.store in
+    let s = c.requires.searched.searched in
+    let sound = c.sound.ensures.sound in
+    let u : ℕ = length (sources_of k phase) in
+    let operations : ℕ = c.requires.searched.made in
+    let adds = c.in-Ok-None.ensures.adds in
+    let care_in = live_within d.budget u operations d c.args.search.care s.store.used sound s.opened.care_live in
+    let all_in = wishes_within k phase plan c.requires.ready c.requires.plan words d s.store.words d.budget u operations s.store.used sound c.requires.nets.live c.requires.model.live in
+    let counted : IsCounted u (3 * length c.as_slice.result.now) d new =
+    (c.in-Ok-None.ensures.counts u care_in (subst (λ (x : WishBits). AreWithin u d x) (sym c.wish_bits-bits.ensures) all_in)).added in
+    record {
+      made = operations + 3 * length plan.wishes;
+      exact = λ none. ap (λ a. a + 3 * length plan.wishes) (c.requires.searched.exact none);
+      searched = searched_next k phase d.budget operations (3 * length plan.wishes) words d new (adds_now d new adds) (words_now d new adds)
+          (subst (λ (ws : List Wish). IsCounted u (3 * length ws) d new) c.as_slice.ensures counted) c.requires.ready c.args.search.care (circuit_spots k plan) (circuit_spots k plan)
+          (stays_added words.roots d new adds) (stays_added words.inputs d new adds) (stays_added words.held d new adds) s s.clear;
+    }
+
+pub check_levels-requires-clause-nets : goal.check_levels-requires-clause-nets
+check_levels-requires-clause-nets c =
+    let k = comparison_in c.args.search.compared in
+    let words = c.args.search.words in
+    let d = c.args.store.now in
+    let new = c.wish_fault.new.store in
+    let adds = c.in-Ok-None.ensures.adds in
+    nets_stay k c.args.search.phase c.requires.ready words d new c.requires.searched.searched.store.words (adds_now d new adds) (stays_added words.gates d new adds) c.requires.nets
 
 pub returns-in-Ok-Some-clause-gives : goal.returns-in-Ok-Some-clause-gives
 returns-in-Ok-Some-clause-gives c =

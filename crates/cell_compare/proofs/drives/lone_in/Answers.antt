@@ -1,0 +1,10 @@
+-- The plans have the known nets of the phases.
+use Rattle.cell_compare.proofs.DriveLaws.{lone_by_plans, wired_flat}
+use Rattle.phase_terms.specs.Ready.{comparison_in}
+use Rattle.cell_compare.proofs.drives.lone_in.Goals as goal
+
+pub lone_ports-requires-clause-wired : goal.lone_ports-requires-clause-wired
+lone_ports-requires-clause-wired c = wired_flat (comparison_in c.args.compared) c.args.blif.now c.args.facts.now c.requires.checkable c.requires.ready.circuit
+
+pub returns : goal.returns
+returns c = lone_by_plans (comparison_in c.args.compared) c.args.plans.now c.args.nets.now c.in_ok-lone.lone.items c.requires.plans c.in_ok-lone.ensures

@@ -1,2 +1,0 @@
-pub mod LevelRoom
-pub mod SolvedPhase

@@ -1,0 +1,3 @@
+pub mod Drives
+pub mod Outputs
+pub mod Ports
