@@ -6,14 +6,13 @@ use Rattle.cell_compare.specs.Checked.{CheckedGives, IsCheckable, compared_over}
 use Rattle.cell_compare.specs.Ports.{ArePortsOf, HasDrives}
 use Rattle.cell_compare.specs.Works.{ArePlans, IsPlanned}
 use Rattle.checked_cells.specs.Given.{IsCheckedOf}
-use Rattle.drive_levels.specs.PortLevels.{ArePortLevels}
 use Rattle.drive_levels.specs.declared.table.PortLevels.{PortLevels}
 use Rattle.known_nets.proofs.WiredLaws.{flat_wired}
 use Rattle.known_nets.specs.Wired.{IsWired}
 use Rattle.lone_outputs.specs.Lone.{AreLoneBefore, AreOutputNets}
 use Rattle.phase_terms.specs.declared.plan.PhasePlan.{PhasePlan}
 use Rattle.port_drives.proofs.DriveLaws.{port_drives_told}
-use Rattle.port_drives.specs.Drives.{ArePortDrives}
+use Rattle.port_drives.specs.Drives.{AreOwnLevels, ArePortDrives}
 use Rattle.port_drives.specs.Ports.{AreLonePorts, HaveKnownNets}
 use Rattle.vrt_model.specs.Checked.{top_of, with_circuit}
 use Rattle.vrt_model.specs.Circuits.{IsCircuit}
@@ -42,28 +41,22 @@ ports_there k nets ports within same len = record {
   len = subst (λ (ns : List Net). length ports.levels.items ≡ length ns) (sym same) len;
 }
 
--- the phases are those of the comparison, whichever circuit is checked
-pub levels_over : (k : Comparison) (checked : Option Circuit) (nets : List Net) (levels : List (Option ℕ)) → ArePortLevels (compared_over k checked) (length (compared_over k checked).rules.phases) nets levels
-    → ArePortLevels (compared_over k checked) (length k.rules.phases) nets levels
-levels_over k None nets levels are = are
-levels_over k (Some c) nets levels are = are
-
 module _ (k : Comparison) (blif : Blif) (facts : List CellFacts) (lone : List Bool) (ports : PortLevels) (drives : List Drive) (nets : AreOutputNets k ports.nets)
     (alone : AreLoneBefore k (length k.rules.phases) (map (λ (n : Net). n.0) ports.nets) lone) where
   -- with the levels of the checked circuit
-  pub drives_with : (c : Circuit) → IsCheckedOf k blif facts c → ArePortDrives c facts lone ports drives → ArePortLevels (with_circuit k c) (length k.rules.phases) ports.nets ports.levels.items
+  pub drives_with : (c : Circuit) → IsCheckedOf k blif facts c → ArePortDrives c facts lone ports drives → AreOwnLevels (with_circuit k c) facts ports.nets ports.levels.items
       → HasDrives k blif facts drives
   drives_with c is are levels = (is.0, c, is.1, is.2, port_drives_told k (with_circuit k c) is.0 blif facts lone ports drives is.2.circuit nets alone levels are)
 
   -- with those of the flat one, where it is the checked one
   pub drives_flat : IsCheckable k blif facts → IsPlanned k → IsCheckedOf k blif facts k.circuit → ArePortDrives k.circuit facts lone ports drives
-      → ArePortLevels k (length k.rules.phases) ports.nets ports.levels.items → HasDrives k blif facts drives
+      → AreOwnLevels k facts ports.nets ports.levels.items → HasDrives k blif facts drives
   drives_flat able planned is are levels =
       drives_with k.circuit is are
-      (subst (λ (x : Comparison). ArePortLevels x (length k.rules.phases) ports.nets ports.levels.items) (sym (over_is k is.0 blif facts k.circuit (able.by_facts k.circuit planned is))) levels)
+      (subst (λ (x : Comparison). AreOwnLevels x facts ports.nets ports.levels.items) (sym (over_is k is.0 blif facts k.circuit (able.by_facts k.circuit planned is))) levels)
 
   -- whichever circuit is the checked one
   pub drives_over : IsCheckable k blif facts → IsPlanned k → (checked : Option Circuit) → CheckedGives k blif facts checked → ArePortDrives (unwrap_or checked k.circuit) facts lone ports drives
-      → ArePortLevels (compared_over k checked) (length k.rules.phases) ports.nets ports.levels.items → HasDrives k blif facts drives
+      → AreOwnLevels (compared_over k checked) facts ports.nets ports.levels.items → HasDrives k blif facts drives
   drives_over able planned None is are levels = drives_flat able planned is are levels
   drives_over able planned (Some c) is are levels = drives_with c is are levels

@@ -3,7 +3,7 @@
 ghost use Rattle.std.specs.Prelude.{◌≡◌, ◌&&◌, ◌≤◌, [], true, length, IfOk};
 ghost use Rattle.std.specs.List.{list_any};
 ghost use Rattle.cell_compare.specs.Checked.{CheckedGives, IsCheckable, IsTold, has_many, is_fault, compared_over, is_passed, is_settled, over};
-ghost use Rattle.cell_compare.specs.Ports.{ArePortsOf, HasDrives, TellsPorts};
+ghost use Rattle.cell_compare.specs.Ports.{AreOutputPorts, ArePortsOf, HasDrives, TellsOwnLevels, TellsPorts};
 ghost use Rattle.cell_compare.specs.Works.{AreVars, ArePlans, IsChecked, IsPlanned};
 ghost use Rattle.checked_cells.specs.Given.{IsCheckedOf, is_candidate};
 ghost use Rattle.phase_terms.specs.Ready.{IsReady, comparison_in};
@@ -12,7 +12,6 @@ ghost use Rattle.rule_index.specs.Tables.{AreRuleTables};
 ghost use Rattle.vrt_model.specs.Checked.{has_fact, with_circuit};
 ghost use Rattle.vrt_model.specs.CheckedVerdicts.{HasCheckedVerdict};
 ghost use Rattle.vrt_model.specs.Circuits.{IsCircuit};
-ghost use Rattle.vrt_model.specs.Comparison.{Comparison as ComparisonValue};
 ghost use Rattle.vrt_model.specs.Networks.{HasRanges};
 ghost use Rattle.vrt_model.specs.declared.verdict.Verdict.TheVariants.{Equal};
 ghost use Rattle.vrt_model.specs.declared.whole.CellFacts.{CellFacts as FactsValue};
@@ -20,7 +19,7 @@ ghost use Rattle.whole_steps.specs.Tables.{AreOrders, IsWholeTable};
 
 use crate::drives::{Told, lone_in, output_ports, told_drives};
 use crate::hindrance::Hindrance;
-use crate::known_facts::{both, is_equal};
+use crate::known_facts::both;
 use crate::phases::check_phases;
 use crate::works::{add_plans, work_out};
 use blif_eval::{ModelPlan, PlanFault};
@@ -29,7 +28,7 @@ use phase_terms::{Comparison, PhasePlan};
 use prepared_tables::Prepared;
 use std::alloc::Global;
 use substitute::whole_with;
-use vrt_model::{Blif, CellFacts, Circuit, Net, NoMemory, Seq, Vars, Verdict};
+use vrt_model::{Blif, CellFacts, Circuit, NoMemory, Seq, Vars, Verdict};
 use whole_steps::{WholeTable, model_orders, output_drivers};
 
 /// Whether a cell is known as equal and stateless.
@@ -189,6 +188,7 @@ fn check_over(
     requires ports { ArePortsOf (comparison_in compared) ports.old }
     ensures checked { IfOk result (IsChecked (comparison_in compared.entry) budget) }
     ensures nets { ports.new.nets ≡ ports.old.nets }
+    ensures len { length ports.new.levels.items ≡ length ports.new.nets }
     ensures ports { IfOk result (TellsPorts (comparison_in compared.entry) ports.old.nets ports.new) }
 {
     let mut plans = Seq::new(alloc);
@@ -220,6 +220,7 @@ fn found_with(
     requires ports { ArePortsOf (comparison_in compared) ports.old }
     ensures checked { IfOk result (IsChecked (with_circuit (comparison_in compared.entry) circuit.now) budget) }
     ensures nets { ports.new.nets ≡ ports.old.nets }
+    ensures len { length ports.new.levels.items ≡ length ports.new.nets }
     ensures ports { IfOk result (TellsPorts (with_circuit (comparison_in compared.entry) circuit.now) ports.old.nets ports.new) }
 {
     let _blif = blif;
@@ -234,58 +235,42 @@ fn found_with(
     Ok(found)
 }
 
-/// No ports, which are asked for no level.
-fn no_ports(alloc: Global) -> Result<PortLevels, NoMemory>
-    ensures { IfOk result (λ ports. (k : ComparisonValue) → ArePortsOf k ports) }
-{
-    let none = Seq::new(alloc);
-    let ports = ports_at(alloc, none)?;
-    Ok(ports)
-}
-
-/// A verdict, but for an equal comparison where the levels of ports at some nets are asked for.
-fn unless_asked(nets: &[Net], verdict: Verdict) -> Result<Verdict, NoMemory>
-    ensures { IfOk result (λ told. (told ≡ verdict) × (told ≡ Equal → nets.now ≡ [])) }
-{
-    if nets.is_empty() {
-        return Ok(verdict);
-    }
-    if is_equal(&verdict) {
-        return Err(NoMemory);
-    }
-    Ok(verdict)
-}
-
 /// The verdict on a comparison by its flat circuit, where what is found in the checked one may not be told: equal, vacuous, or a
-/// budget that is used up. Which fault is the first of the checked circuit is not known then, nor which levels the ports of an equal
-/// comparison have there, so the diagrams of a comparison that has a fault, or is equal and has such ports, do not fit.
+/// budget that is used up. Which fault is the first of the checked circuit is not known then, so the diagrams of a comparison that has a
+/// fault do not fit. The ports of an equal one have the levels of the checked circuit, but where an output of a whole instance meets gates
+/// alone there.
 fn check_unrolled(
     alloc: Global,
     budget: u32,
     blif: &Blif,
     compared: Comparison<'_>,
+    circuit: &Circuit,
     facts: &[CellFacts],
     vars: &[Vars],
     plans: &[PhasePlan],
-    nets: &[Net],
+    ports: &mut PortLevels,
 ) -> Result<Verdict, NoMemory>
     requires budget { (65536 ≤ budget) × (budget ≤ 64000000) }
     requires ready { IsReady (comparison_in compared) }
     requires wholes { IsWholeTable compared.circuit.now compared.wholes.drivers.now compared.wholes.plans.now }
     requires checkable { IsCheckable (comparison_in compared) blif.now facts.now }
+    requires planned { IsPlanned (comparison_in compared) }
     requires vars { AreVars (comparison_in compared) (length compared.rules.now.phases) vars.now }
     requires plans { ArePlans (comparison_in compared) (length compared.rules.now.phases) plans.now }
+    requires checked { IsCheckedOf (comparison_in compared) blif.now facts.now circuit.now }
+    requires ports { AreOutputPorts (comparison_in compared) ports.old }
     ensures verdict { IfOk result (HasCheckedVerdict (comparison_in compared.entry) blif.now facts.now budget) }
-    ensures ports { IfOk result (λ verdict. verdict ≡ Equal → nets.now ≡ []) }
+    ensures nets { ports.new.nets ≡ ports.old.nets }
+    ensures ports { IfOk result (TellsOwnLevels (with_circuit (comparison_in compared.entry) circuit.now) facts.now ports.old.nets ports.new) }
 {
     let _blif = blif;
     let _facts = facts;
-    let mut none = no_ports(alloc)?;
-    let verdict = check_phases(alloc, budget, compared, vars, plans, &mut none)?;
+    let _circuit = circuit;
+    let verdict = check_phases(alloc, budget, compared, vars, plans, ports)?;
     if is_fault(&verdict) {
         return Err(NoMemory);
     }
-    unless_asked(nets, verdict)
+    Ok(verdict)
 }
 
 /// The verdict on a comparison by its checked circuit, in which some instance is whole; where what is found in it may not be told, by
@@ -310,15 +295,16 @@ fn check_whole(
     requires vars { AreVars (comparison_in compared) (length compared.rules.now.phases) vars.now }
     requires plans { ArePlans (comparison_in compared) (length compared.rules.now.phases) plans.now }
     requires checked { IsCheckedOf (comparison_in compared) blif.now facts.now circuit.now }
-    requires ports { ArePortsOf (comparison_in compared) ports.old }
+    requires ports { AreOutputPorts (comparison_in compared) ports.old }
     ensures verdict { IfOk result (HasCheckedVerdict (comparison_in compared.entry) blif.now facts.now budget) }
     ensures nets { ports.new.nets ≡ ports.old.nets }
-    ensures ports { IfOk result (TellsPorts (with_circuit (comparison_in compared.entry) circuit.now) ports.old.nets ports.new) }
+    ensures ports { IfOk result (TellsOwnLevels (with_circuit (comparison_in compared.entry) circuit.now) facts.now ports.old.nets ports.new) }
 {
     let found = found_with(alloc, budget, blif, compared, facts, vars, circuit, ports)?;
     if !is_settled(budget, compared.circuit, vars, &found) {
-        let nets = ports.nets.as_slice();
-        return check_unrolled(alloc, budget, blif, compared, facts, vars, plans, nets);
+        return check_unrolled(
+            alloc, budget, blif, compared, circuit, facts, vars, plans, ports,
+        );
     }
     Ok(found)
 }
@@ -342,10 +328,10 @@ fn check_flat(
     requires vars { AreVars (comparison_in compared) (length compared.rules.now.phases) vars.now }
     requires plans { ArePlans (comparison_in compared) (length compared.rules.now.phases) plans.now }
     requires checked { IsCheckedOf (comparison_in compared) blif.now facts.now compared.circuit.now }
-    requires ports { ArePortsOf (comparison_in compared) ports.old }
+    requires ports { AreOutputPorts (comparison_in compared) ports.old }
     ensures verdict { IfOk result (HasCheckedVerdict (comparison_in compared.entry) blif.now facts.now budget) }
     ensures nets { ports.new.nets ≡ ports.old.nets }
-    ensures ports { IfOk result (TellsPorts (comparison_in compared.entry) ports.old.nets ports.new) }
+    ensures ports { IfOk result (TellsOwnLevels (comparison_in compared.entry) facts.now ports.old.nets ports.new) }
 {
     let _blif = blif;
     let _facts = facts;
@@ -374,10 +360,10 @@ fn check_circuit(
     requires vars { AreVars (comparison_in compared) (length compared.rules.now.phases) vars.now }
     requires plans { ArePlans (comparison_in compared) (length compared.rules.now.phases) plans.now }
     requires checked { CheckedGives (comparison_in compared) blif.now facts.now checked.now }
-    requires ports { ArePortsOf (comparison_in compared) ports.old }
+    requires ports { AreOutputPorts (comparison_in compared) ports.old }
     ensures verdict { IfOk result (HasCheckedVerdict (comparison_in compared.entry) blif.now facts.now budget) }
     ensures nets { ports.new.nets ≡ ports.old.nets }
-    ensures ports { IfOk result (TellsPorts (compared_over (comparison_in compared.entry) checked.now) ports.old.nets ports.new) }
+    ensures ports { IfOk result (TellsOwnLevels (compared_over (comparison_in compared.entry) checked.now) facts.now ports.old.nets ports.new) }
 {
     match checked {
         None => check_flat(alloc, budget, blif, compared, facts, vars, plans, ports),

@@ -4,9 +4,9 @@ ghost use Rattle.std.specs.Prelude.{◌≡◌, ◌<◌, All, IfOk, length, map, 
 ghost use Rattle.cell_compare.specs.Checked.{CheckedGives, IsCheckable, compared_over};
 ghost use Rattle.cell_compare.specs.Ports.{HasDrives};
 ghost use Rattle.cell_compare.specs.Works.{ArePlans, IsPlanned};
-ghost use Rattle.drive_levels.specs.PortLevels.{ArePortLevels};
 ghost use Rattle.lone_outputs.specs.Lone.{AreLoneBefore, AreOutputNets};
 ghost use Rattle.phase_terms.specs.Ready.{IsReady, comparison_in};
+ghost use Rattle.port_drives.specs.Drives.{AreOwnLevels};
 ghost use Rattle.vrt_model.specs.declared.ids.Net.{Net as NetValue};
 
 use drive_levels::PortLevels;
@@ -81,7 +81,7 @@ pub(crate) fn told_drives(
     requires checked { CheckedGives (comparison_in compared) blif.now facts.now checked.now }
     requires nets { AreOutputNets (comparison_in compared) ports.now.nets }
     requires lone { AreLoneBefore (comparison_in compared) (length compared.rules.now.phases) (map (λ (n : NetValue). n.0) ports.now.nets) lone.now }
-    ensures { IfOk result (λ drives. ArePortLevels (compared_over (comparison_in compared.entry) checked.now) (length compared.entry.rules.now.phases) ports.now.nets ports.now.levels.items → HasDrives (comparison_in compared.entry) blif.now facts.now drives) }
+    ensures { IfOk result (λ drives. AreOwnLevels (compared_over (comparison_in compared.entry) checked.now) facts.now ports.now.nets ports.now.levels.items → HasDrives (comparison_in compared.entry) blif.now facts.now drives) }
 {
     let _blif = blif;
     let circuit = circuit_of(checked, compared.circuit);

@@ -96,6 +96,7 @@ fn search(
     requires ports { ArePortsOf (comparison_in compared) ports.old }
     ensures checked { IfOk result (IsChecked (comparison_in compared.entry) budget) }
     ensures nets { ports.new.nets ≡ ports.old.nets }
+    ensures len { length ports.new.levels.items ≡ length ports.new.nets }
     ensures ports { IfOk result (TellsPorts (comparison_in compared.entry) ports.old.nets ports.new) }
 {
     let start = store.mark();
@@ -138,6 +139,7 @@ pub(crate) fn check_phases(
     requires ports { ArePortsOf (comparison_in compared) ports.old }
     ensures checked { IfOk result (IsChecked (comparison_in compared.entry) budget) }
     ensures nets { ports.new.nets ≡ ports.old.nets }
+    ensures len { length ports.new.levels.items ≡ length ports.new.nets }
     ensures ports { IfOk result (TellsPorts (comparison_in compared.entry) ports.old.nets ports.new) }
 {
     let counts = counts_with(compared, most_variables(vars))?;

@@ -43,7 +43,7 @@ port_drives_told flat k cut blif facts lone ports drives circuit nets alone leve
     (record {
       alone = (λ e. by_ports.0 (by_marks.0 e), λ inside. by_marks.1 (by_ports.1 inside));
       output = drives_found k cut blif facts port circuit;
-      joined = λ none. subst (λ (m : ℕ). IsLevelBefore k (length k.rules.phases) m (level_at ports.levels.items j)) n.2 (levels j n.0 n.1);
+      joined = λ none. subst (λ (m : ℕ). IsLevelBefore k (length k.rules.phases) m (level_at ports.levels.items j)) n.2 (levels j n.0 n.1 (ap (λ (m : ℕ). whole_drive k.circuit (told_in facts k.circuit) m) n.2 ∙ none));
     }) in
     subst (IsDriveOf flat k outputs port)
     (one_at drives j (port_drive k.circuit (told_in facts k.circuit) lone ports j port.net) drive

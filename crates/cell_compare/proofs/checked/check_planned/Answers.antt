@@ -1,11 +1,11 @@
 -- The ports are at the nets of the outputs, and their drives are told where all phases are equal.
 use Rattle.std.proofs.Common.{◌<◌, Bool, List, ap, length, map, sym, subst, ◌∙◌}
 use Rattle.std.specs.Prelude.{All}
-use Rattle.cell_compare.proofs.DriveLaws.{levels_over, ports_there}
+use Rattle.cell_compare.proofs.DriveLaws.{ports_there}
 use Rattle.cell_compare.specs.Checked.{compared_over}
-use Rattle.drive_levels.specs.PortLevels.{ArePortLevels}
 use Rattle.lone_outputs.specs.Lone.{AreLoneBefore, AreOutputNets}
 use Rattle.phase_terms.specs.Ready.{comparison_in}
+use Rattle.port_drives.specs.Drives.{AreOwnLevels}
 use Rattle.vrt_model.specs.declared.ids.Net.{Net}
 use Rattle.cell_compare.proofs.checked.check_planned.Goals as goal
 
@@ -15,7 +15,11 @@ lone_in-requires-clause-nets c =
 
 pub check_circuit-requires-clause-ports : goal.check_circuit-requires-clause-ports
 check_circuit-requires-clause-ports c =
-    ports_there (comparison_in c.args.compared) c.in_ok-nets.nets c.in_ok-ports.ports c.in_ok-nets.ensures.within c.in_ok-ports.ensures.nets c.in_ok-ports.ensures.len
+    let k = comparison_in c.args.compared in
+    record {
+      are = ports_there k c.in_ok-nets.nets c.in_ok-ports.ports c.in_ok-nets.ensures.within c.in_ok-ports.ensures.nets c.in_ok-ports.ensures.len;
+      nets = subst (AreOutputNets k) (sym c.in_ok-ports.ensures.nets) c.in_ok-nets.ensures.nets;
+    }
 
 pub told_drives-requires-clause-nets : goal.told_drives-requires-clause-nets
 told_drives-requires-clause-nets c =
@@ -36,5 +40,4 @@ returns-clause-drives c =
     let ports = c.check_circuit.new.ports in
     λ equal.
     c.in_ok-drives.ensures
-    (subst (λ (nets : List Net). ArePortLevels (compared_over k checked) (length k.rules.phases) nets ports.levels.items) (sym c.check_circuit.ensures.nets)
-    (levels_over k checked c.in_ok-ports.ports.nets ports.levels.items (c.in_ok-verdict.ensures.ports equal)))
+    (subst (λ (nets : List Net). AreOwnLevels (compared_over k checked) c.args.facts.now nets ports.levels.items) (sym c.check_circuit.ensures.nets) (c.in_ok-verdict.ensures.ports equal))

@@ -1,0 +1,2 @@
+pub mod SameLevels
+pub mod StepUp
