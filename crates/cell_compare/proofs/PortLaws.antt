@@ -1,5 +1,5 @@
 -- The levels of output ports, phase after phase, and of no ports.
-use Rattle.std.proofs.Common.{◌≡◌, ℕ, ◌+◌, ◌<◌, Bool, true, false, List, Option, Some, None, length, map, arith, ap, sym, subst, ◌∙◌}
+use Rattle.std.proofs.Common.{◌≡◌, ℕ, ◌+◌, ◌<◌, Bool, true, false, List, Option, Some, None, length, map, arith, ap, refl, sym, subst, ◌∙◌}
 use Rattle.std.specs.Prelude.{◌==◌, All}
 use Rattle.cell_compare.specs.Ports.{ArePortsOf, TellsOwnLevels, TellsPhaseLevels, TellsPorts}
 use Rattle.cell_compare.specs.Checked.{over}

@@ -1,5 +1,5 @@
 -- What is made of the phases of a comparison before they are looked through, and what is found phase by phase.
-use Rattle.std.specs.Prelude.{◌≡◌, ℕ, ◌+◌, ◌<◌, ◌≤◌, ◌⊎◌, ◌↔◌, Bool, true, false, All, List, [], filter, is_some, length, map, Option, Some, None, Result, Ok, Err}
+use Rattle.std.specs.Prelude.{◌≡◌, ℕ, ◌+◌, ◌<◌, ◌≤◌, ◌⊎◌, ◌↔◌, Bool, true, false, List, [], length, map, Option, Some, None, Result, Ok, Err}
 use Rattle.bdd_core.specs.Store.{Diagrams}
 use Rattle.cell_compare.specs.Steps.{Stops}
 use Rattle.cell_compare.specs.declared.hindrance.Hindrance.{Hindrance}
@@ -7,7 +7,7 @@ use Rattle.phase_terms.specs.Found.{MaySpendFlat}
 use Rattle.phase_terms.specs.Plans.{IsPhasePlan}
 use Rattle.phase_terms.specs.Stores.{counts_of, word_count}
 use Rattle.phase_terms.specs.declared.plan.PhasePlan.{PhasePlan}
-use Rattle.vrt_model.specs.Comparison.{Comparison, output_signal}
+use Rattle.vrt_model.specs.Comparison.{Comparison}
 use Rattle.vrt_model.specs.Equal.{IsEqual, IsPhaseEqual, IsVacuous}
 use Rattle.vrt_model.specs.Held.{sources_of, variable_names}
 use Rattle.vrt_model.specs.Known.{IsFirstCycle}
@@ -17,14 +17,12 @@ use Rattle.vrt_model.specs.Unsupported.{AcyclicBefore, CircuitArc, IsAcyclic, Is
 use Rattle.vrt_model.specs.Verdicts.{Describes, EqualBefore}
 use Rattle.vrt_model.specs.declared.groups.Vars.{Vars}
 use Rattle.vrt_model.specs.declared.ids.Net.{Net}
-use Rattle.vrt_model.specs.declared.pairing.PortRole.{PortRole}
 use Rattle.vrt_model.specs.declared.verdict.Verdict.{Verdict}
 use Rattle.vrt_model.specs.declared.verdict.Verdict.TheVariants.{Equal, Skipped, Fault, Vacuous, Budget, Unsupported}
 use Rattle.vrt_model.specs.declared.verdict.Why.{Why}
 use Rattle.vrt_model.specs.declared.verdict.Why.TheVariants.{Cycle, ModelCycle, TooManyVars}
 use Rattle.vrt_model.specs.declared.whole.CellFacts.{CellFacts}
 use Rattle.vrt_model.specs.declared.whole.Drive.{Drive}
-use Rattle.vrt_model.specs.declared.whole.Drive.TheVariants.{Soft}
 
 -- ---- variables
 

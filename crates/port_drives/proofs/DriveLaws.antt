@@ -1,5 +1,5 @@
 -- The drives by what is found of the ports are what the facts of the cell say.
-use Rattle.std.proofs.Common.{◌≡◌, ◌∷◌, [], ℕ, zero, suc, List, length, map, None, arith, ap, refl, sym, subst, ◌∙◌}
+use Rattle.std.proofs.Common.{◌≡◌, ◌∷◌, [], ℕ, suc, List, length, map, arith, ap, refl, sym, subst, ◌∙◌}
 use Rattle.std.specs.List.{AllZip}
 use Rattle.std.proofs.lemmas.List.{length-map}
 use Rattle.drive_levels.proofs.PortLaws.{drives_told}
@@ -15,7 +15,6 @@ use Rattle.vrt_model.specs.Facts.{IsDriveOf, output_ports}
 use Rattle.vrt_model.specs.Lists.{At, mark_at}
 use Rattle.vrt_model.specs.WholeInstances.{all_outputs}
 use Rattle.vrt_model.specs.declared.ids.Net.{Net}
-use Rattle.vrt_model.specs.declared.whole.Drive.{Drive}
 
 -- two lists of one length, place by place
 zip_by : {X Y : Type 0} (R : X → Y → Type 0) (xs : List X) (ys : List Y) → length ys ≡ length xs → ((j : ℕ) (x : X) (y : Y) → At xs j x → At ys j y → R x y) → AllZip R xs ys

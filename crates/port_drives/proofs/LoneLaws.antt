@@ -8,7 +8,7 @@ use Rattle.lone_outputs.specs.Lone.{AreKept, AreLone, AreLoneBefore}
 use Rattle.known_nets.specs.KnownTables.{IsKnownTable, known_at}
 use Rattle.phase_terms.specs.declared.plan.PhasePlan.{PhasePlan}
 use Rattle.port_drives.specs.Ports.{AreLonePorts}
-use Rattle.vrt_model.specs.Comparison.{Comparison, phase_at}
+use Rattle.vrt_model.specs.Comparison.{phase_at}
 use Rattle.vrt_model.specs.Lists.{At}
 use Rattle.vrt_model.specs.declared.circuit.Circuit.{Circuit}
 use Rattle.vrt_model.specs.declared.ids.Net.{Net}

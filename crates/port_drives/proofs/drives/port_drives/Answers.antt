@@ -1,11 +1,10 @@
-use Rattle.std.proofs.Common.{◌≡◌, ◌∷◌, ◌++◌, [], ℕ, List, arith, ap, length, length-append, subst, sym, ◌∙◌, inl, inr}
+use Rattle.std.proofs.Common.{◌∷◌, ◌++◌, [], ℕ, List, arith, ap, length, length-append, subst, sym, ◌∙◌, inl, inr}
 use Rattle.std.proofs.lemmas.Bool.{cases_eq}
 use Rattle.std.proofs.lemmas.Option.{slice_get_within}
 use Rattle.port_drives.specs.Drives.{port_drive, told_in}
 use Rattle.port_drives.specs.declared.outputs.ToldOutput.{ToldOutput}
 use Rattle.vrt_model.proofs.Lists.{at_front, at_last}
 use Rattle.vrt_model.specs.Lists.{At}
-use Rattle.vrt_model.specs.declared.ids.Net.{Net}
 use Rattle.vrt_model.specs.declared.whole.Drive.{Drive}
 use Rattle.port_drives.proofs.drives.port_drives.Goals as goal
 
