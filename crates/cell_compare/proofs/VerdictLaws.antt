@@ -1,7 +1,7 @@
 -- The verdict on a cell, its line, what is known of the cell then and its runs, by what the steps of the comparison give.
 use Rattle.std.proofs.Common.{◌≡◌, ◌⊎◌, ℕ, Bool, true, false, List, [], length, Option, Some, None, ap, subst, sym, refl, ◌∙◌, inl, inr}
 use Rattle.std.specs.Prelude.{◌↔◌, option_map}
-use Rattle.std.proofs.lemmas.Bool.{cases_Bool, false≢true, true≢false}
+use Rattle.std.proofs.lemmas.Bool.{cases_Bool, true≢false}
 use Rattle.std.proofs.lemmas.Option.{none-some}
 use Rattle.cell_compare.proofs.Causes.{by_variables, comparison_is}
 use Rattle.cell_compare.proofs.ReadyLaws.{well_formed}
@@ -41,29 +41,6 @@ read_cell design blif rules cell inputs = record {
   ordered = inputs.ordered;
   there = inputs.there;
 }
-
--- nothing is known of a cell that is not equal
-pub nothing_known : (design : Design) (blif : Blif) (rules : Rules) (below : List CellFacts) (cell : ℕ) (verdict : Verdict) (facts : CellFacts) → (verdict ≡ Equal → ⊥)
-    → facts ≡ record { equal = false; stateless = false; drives = [] } → HasFacts design blif rules below cell verdict facts
-nothing_known design blif rules below cell verdict facts other e = subst (HasFacts design blif rules below cell verdict) (sym e) (record {
-  is_true = record {
-    supported = λ f. absurd (false≢true f);
-    compared = λ m paired. record {
-      equal = λ f. absurd (false≢true f);
-      stateless = λ f. absurd (false≢true f);
-      drives = λ j port drive on at. absurd (none-some drive at);
-    };
-  };
-  are = λ m paired. record {
-    equal = (λ f. absurd (false≢true f), λ is. absurd (other is));
-    stateless = (λ f. absurd (false≢true f), λ all. absurd (other all.0));
-    drives = λ is. absurd (other is);
-    no_drives = λ f. refl;
-  };
-  equal = (λ f. absurd (false≢true f), λ is. absurd (other is));
-  no_state = λ f. refl;
-  no_drives = λ f. refl;
-})
 
 module _ (design : Design) (blif : Blif) (rules : Rules) (cell m : ℕ) (f : Flattened) (inputs : AreInputs design blif rules cell) (is : IsFlattened design blif rules cell m f) where
   -- what is compared, by the steps and by the definitions

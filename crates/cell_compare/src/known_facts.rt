@@ -1,16 +1,14 @@
 //! What is known of a cell with its verdict.
 
-ghost use Rattle.std.specs.Prelude.{◌≡◌, ◌↔◌, ◌&&◌, [], All, IsTrue, false, true, filter, length, IfOk};
+ghost use Rattle.std.specs.Prelude.{◌≡◌, ◌↔◌, ◌&&◌, [], IsTrue, false, true};
 ghost use Rattle.cell_compare.specs.Works.{AreTold};
 ghost use Rattle.vrt_model.specs.declared.verdict.Verdict.TheVariants.{Equal};
-ghost use Rattle.vrt_model.specs.declared.whole.Drive.{Drive as DriveValue};
-ghost use Rattle.vrt_model.specs.declared.whole.Drive.TheVariants.{Soft};
 
 use std::alloc::Global;
-use vrt_model::{CellFacts, Circuit, Drive, FlatModel, NoMemory, PortRole, Seq, Verdict};
+use vrt_model::{CellFacts, Circuit, Drive, FlatModel, Seq, Verdict};
 
 /// Whether a cell is equal.
-pub(crate) fn is_equal(verdict: &Verdict) -> bool
+fn is_equal(verdict: &Verdict) -> bool
     ensures { IsTrue result ↔ (verdict.now ≡ Equal) }
 {
     match verdict {

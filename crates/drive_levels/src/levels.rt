@@ -1,6 +1,7 @@
 //! The levels of nets in both circuits of a phase.
 
 ghost use Rattle.std.specs.Prelude.{◌≡◌, ◌==◌, ℕ, IfOk, None, Some, cond, length};
+ghost use Rattle.std.specs.List.{list_any};
 ghost use Rattle.bdd_core.specs.Diagram.{IsWithin};
 ghost use Rattle.bdd_core.specs.Store.{IsLive, function_of};
 ghost use Rattle.bdd_ops.specs.Counting.{Counts, IsSpanWithin};
@@ -11,6 +12,7 @@ ghost use Rattle.output_levels.specs.PartLevels.{HasLevelSpans, WritesIn, level_
 ghost use Rattle.path_fixpoint.specs.Parts.{IsPart};
 ghost use Rattle.vrt_model.specs.Lists.{Among};
 ghost use Rattle.vrt_model.specs.Networks.{HasRanges};
+ghost use Rattle.vrt_model.specs.declared.circuit.Device.{Device as DeviceValue};
 
 use crate::table::NetLevels;
 use bdd_core::{H, Spent, Store};
@@ -20,8 +22,27 @@ use node_pool::Span;
 use output_levels::circuit_levels;
 use vrt_model::{Circuit, Net};
 
+/// Whether some device is a keeper.
+fn has_keeper(circuit: &Circuit) -> bool
+    ensures { result ≡ list_any (λ (d : DeviceValue). d.keeper) circuit.now.devices }
+{
+    circuit
+        .devices
+        .as_slice()
+        .iter()
+        .any(|device| device.keeper)
+}
+
+/// Writes the levels of another table of as many places.
+fn copy_levels(levels: &[Option<u8>], copy: &mut Vec<Option<u8>>)
+    requires { length copy.old.items ≡ length levels.now }
+    ensures { copy.new.items ≡ levels.now }
+{
+    copy.as_mut_slice().copy_from_slice(levels);
+}
+
 /// Writes the levels of the nets that are asked for: in the bare circuit, whose parts these are, and in the kept one. Each part with
-/// such a net is solved once, the others not at all. `gates` has the bits of the nets in the one solution of the phase. `level_of` reads
+/// such a net is solved once, the others not at all; where no device is a keeper, the two circuits are one, and none is solved again. `gates` has the bits of the nets in the one solution of the phase. `level_of` reads
 /// what the two tables say together: exactly the level that a net has in both, at each valuation of the care set, in each state that
 /// agrees with the solution there, or that there is none. An output of a whole instance is a root of its drive there, as a hold is of its size.
 ///
@@ -61,6 +82,10 @@ pub fn net_levels(
     ) {
         Ok(()) => {}
         Err(spent) => return Err(spent),
+    }
+    if !has_keeper(circuit) {
+        copy_levels(levels.bare.as_slice(), &mut levels.kept);
+        return Ok(());
     }
     circuit_levels(
         store,

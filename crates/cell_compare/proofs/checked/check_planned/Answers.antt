@@ -1,5 +1,5 @@
 -- The ports are at the nets of the outputs, and their drives are told where all phases are equal.
-use Rattle.std.proofs.Common.{◌<◌, Bool, List, ap, length, map, sym, subst, ◌∙◌}
+use Rattle.std.proofs.Common.{◌<◌, List, length, map, sym, subst, ◌∙◌}
 use Rattle.std.specs.Prelude.{All}
 use Rattle.cell_compare.proofs.DriveLaws.{ports_there}
 use Rattle.cell_compare.specs.Checked.{compared_over}
