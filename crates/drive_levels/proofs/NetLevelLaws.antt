@@ -25,7 +25,7 @@ use Rattle.vrt_model.specs.declared.rules.Phase.{Phase}
 -- ---- without keepers
 
 -- a level is the same as itself
-same_as_itself : (level : Option ℕ) → same_level level level ≡ level
+pub same_as_itself : (level : Option ℕ) → same_level level level ≡ level
 same_as_itself None = refl
 same_as_itself (Some level) = ap (λ (b : Bool). cond b (Some level) None) (eq-eqb level level refl)
 

@@ -1,3 +1,4 @@
 pub mod NetLevels
+pub mod OneLevel
 pub mod PhaseLevels
 pub mod PortLevels

@@ -86,6 +86,13 @@ LevelsGive c bare_parts kept_parts asked care gates d level =
     → ArePartsOf c phase bare bare_parts → ArePartsOf c phase kept kept_parts
     → (n : ℕ) → n < length c.nets → mark_at asked n ≡ true → NetGives c phase observed setting (function_of d care) n (level n)
 
+-- the same of a phase in which the marked nets are observed
+abbrev pub SeenLevelsGive : Circuit → List Part → List Part → List Bool → List Bool → H → Span → Diagrams → (ℕ → Option ℕ) → Type 0
+SeenLevelsGive c bare_parts kept_parts asked marks care gates d level =
+    (phase : Phase) (observed : ℕ → Bool) (setting : Valuation → Setting) (roots : Span) → ((n : ℕ) → mark_at marks n ≡ true → observed n ≡ true)
+    → IsSolvedPhase c phase observed setting care roots gates d → ArePartsOf c phase bare bare_parts → ArePartsOf c phase kept kept_parts
+    → (n : ℕ) → n < length c.nets → mark_at asked n ≡ true → NetGives c phase observed setting (function_of d care) n (level n)
+
 -- ---- operations
 
 -- those of the parts of the bare and of the kept circuit

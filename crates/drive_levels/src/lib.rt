@@ -4,6 +4,7 @@
 
 mod laws;
 mod levels;
+mod one_level;
 mod ports;
 mod table;
 

@@ -41,6 +41,7 @@ pub(crate) fn check_levels(
         search.compared.circuit,
         search.plan.parts.list.as_slice(),
         search.plan.kept.list.as_slice(),
+        search.plan.observed.as_slice(),
         search.care,
         words.gates,
         words.out,

@@ -1,4 +1,4 @@
-use Rattle.std.proofs.Common.{ℕ, Err, true, false, List, length, refl, subst, sym}
+use Rattle.std.proofs.Common.{◌≡◌, ℕ, Bool, Err, true, false, List, length, refl, ap, subst, sym, ◌∙◌}
 use Rattle.bdd_ops.specs.Counting.{Counts}
 use Rattle.channel_parts.specs.declared.part.Part.{Part}
 use Rattle.drive_levels.proofs.PhaseLevels.{level_told, listed_are_parts, listed_parts}
@@ -14,7 +14,7 @@ use Rattle.phase_laws.specs.Sums.{phase_work_of, total_operations}
 use Rattle.phase_terms.specs.Ready.{comparison_in}
 use Rattle.vrt_model.specs.Comparison.{is_observed, phase_at}
 use Rattle.vrt_model.specs.Held.{sources_of}
-use Rattle.vrt_model.specs.Lists.{Among}
+use Rattle.vrt_model.specs.Lists.{Among, mark_at}
 use Rattle.phase_check.proofs.levels.check_levels.Goals as goal
 
 pub net_levels-requires-clause-circuit : goal.net_levels-requires-clause-circuit
@@ -89,9 +89,11 @@ returns-in-Ok-clause-levels c =
     let solved = solved_phase k phase d.budget made care words d c.requires.ready c.requires.phase plan c.requires.plan s.store s.opened c.sound.ensures.sound c.requires.nets s.met in
     let of_bare = subst (ArePartsOf k.circuit at true) (sym c.as_slice.ensures) (listed_parts k.circuit at true plan.parts c.requires.plan.parts) in
     let of_kept = subst (ArePartsOf k.circuit at false) (sym c.as_slice-2.ensures) (listed_parts k.circuit at false plan.kept c.requires.plan.kept) in
+    let seen : (n : ℕ) → mark_at c.as_slice-3.result.now n ≡ true → is_observed k phase n ≡ true = λ n marked.
+    sym (c.requires.plan.observed n) ∙ ap (λ (marks : List Bool). mark_at marks n) (sym c.as_slice-3.ensures.value) ∙ marked in
     λ n inside mark.
     level_told k phase (setting_in k phase) care words.roots words.gates d solved
     (care_meets k phase d.budget made care words d c.requires.ready c.requires.phase plan c.requires.plan s.store s.opened c.sound.ensures.sound c.requires.nets s.met)
     (meets_care k phase d.budget made care words d c.requires.ready c.requires.phase plan c.requires.plan s.store s.opened c.sound.ensures.sound c.requires.nets s.met)
     n (level_in k.circuit c.net_levels.new.levels n)
-    (c.in-Ok.ensures.gives at (is_observed k phase) (setting_in k phase) words.roots solved of_bare of_kept n inside mark)
+    (c.in-Ok.ensures.gives at (is_observed k phase) (setting_in k phase) words.roots seen solved of_bare of_kept n inside mark)
