@@ -96,9 +96,10 @@ fn solved_levels(
 }
 
 /// Writes the levels of the nets that are asked for: in the bare circuit, whose parts these are, and in the kept one. Where all devices are of
-/// one level and each such net is observed, that is its level, and nothing is solved. `gates` has the bits of the nets in the one solution of the phase. `level_of` reads
-/// what the two tables say together: exactly the level that a net has in both, at each valuation of the care set, in each state that
-/// agrees with the solution there, or that there is none. An output of a whole instance is a root of its drive there, as a hold is of its size.
+/// one level, only given nets are roots, and `observed` marks each such net, that is its level, and nothing is solved. `gates` has the bits of
+/// the nets in the one solution of the phase. `level_of` reads what the two tables say together: exactly the level that a net has in both, at
+/// each valuation of the care set, in each state that agrees with the solution there, or that there is none. An output of a whole instance is
+/// a root of its drive there, as a hold is of its size.
 ///
 /// Handles from before keep their functions and words outside `out` stay as they are, also where the budget is used up. Where the
 /// handles read only the first `u` variables, a part of p nets and q devices takes at most 32 p q + 9 p operations of `2 ^ u` nodes.
