@@ -1,6 +1,7 @@
 //! The cards of a text, one by one.
 
 ghost use Rattle.std.specs.Prelude.{ℕ, List, Some, None, ◌≡◌, ◌≤◌, ◌<◌, ◌+◌, ◌^◌, ◌++◌, ◌∷◌, [], length, map, filter, option_to_list, IfOk, IfSome, IfNone, ◌==◌, false, true};
+ghost use Rattle.std.specs.List.{list_any};
 ghost use Rattle.text_lines.specs.Groups.{up_to};
 ghost use Rattle.text_lines.specs.Reading.{ComesFirst};
 ghost use Rattle.text_lines.specs.Words.{but_last};
@@ -41,10 +42,25 @@ pub struct Open {
     pub bytes: Text,
 }
 
+/// Whether a line has a byte that begins a comment.
+fn has_comment(line: &[u8]) -> bool
+    ensures { result ≡ list_any is_hash line.now }
+{
+    // each byte is looked at, so that many are at once
+    let mut some = false;
+    for b in line {
+        some = *b == b'#' || some;
+    }
+    some
+}
+
 /// A line without its comment.
 fn without_comment(line: &[u8]) -> &[u8]
     ensures { result.now ≡ uncommented line.now }
 {
+    if !has_comment(line) {
+        return line;
+    }
     let mut at = 0;
     'bytes: while at < line.len() {
         if line[at] == b'#' {

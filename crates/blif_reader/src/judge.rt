@@ -70,12 +70,12 @@ fn is_bit(word: &[u8]) -> bool
 fn are_inputs(bits: &[u8]) -> bool
     ensures { result ≡ list_all is_input_byte bits.now }
 {
+    // each byte is looked at, so that many are at once
+    let mut all = true;
     for b in bits {
-        if !is_bit_or_dash(*b) {
-            return false;
-        }
+        all = is_bit_or_dash(*b) && all;
     }
-    true
+    all
 }
 
 /// Whether words are a row of a cover with so many inputs.
