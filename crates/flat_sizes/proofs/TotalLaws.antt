@@ -1,13 +1,17 @@
 -- Tables of how often cells stand in a cell.
-use Rattle.std.proofs.Common.{◌≡◌, ◌<◌, ◌≤◌, ◌+◌, ◌*◌, ◌∷◌, [], ℕ, zero, suc, List, length, get_or, drop, replicate, refl, ap, ap₂, sym, ◌∙◌, arith}
-use Rattle.std.specs.Prelude.{slice_set}
+use Rattle.std.proofs.Common.{◌≡◌, ◌<◌, ◌≤◌, ◌+◌, ◌*◌, ◌∷◌, [], ℕ, zero, suc, List, Option, length, get_or, drop, replicate, true, refl, ap, ap₂, sym, ◌∙◌, arith}
+use Rattle.std.specs.Prelude.{◌==◌, slice_set, unwrap_or}
+use Rattle.std.specs.List.{list_all}
 use Rattle.std.proofs.Math.Nat.{add-mul, mul-add, mul-zero, zero-mul}
+use Rattle.std.proofs.lemmas.Bool.{and_parts, eqb-true}
 use Rattle.std.proofs.lemmas.List.{drop_all, drop_more, get_or-replicate, length-replicate}
 use Rattle.std.proofs.lemmas.List.Sums.{sum_by-cons}
+use Rattle.std.proofs.lemmas.Option.{slice_get_past}
 use Rattle.flat_sizes.proofs.Carried.{carried_times}
 use Rattle.flat_sizes.specs.Totals.{AddsAll, AddsOne, AreInside, below, inside, over, weighed, within}
 use Rattle.vrt_model.specs.Unrolled.{cell_named}
 use Rattle.vrt_model.specs.Unsupported.{carried}
+use Rattle.vrt_model.specs.declared.design.Cell.{Cell}
 use Rattle.vrt_model.specs.declared.design.Design.{Design}
 use Rattle.vrt_model.specs.declared.design.InstanceCard.{InstanceCard}
 use Rattle.vrt_model.proofs.Sums.{carried_both}
@@ -88,6 +92,30 @@ abbrev pub AddingAll : Design → List ℕ → List ℕ → List ℕ → ℕ →
 AddingAll design level old now k =
     (weight : ℕ → ℕ) → carried (weighed weight 0 now + weighed (below design weight) k (drop k level)) ≡ carried (weighed weight 0 old + weighed (below design weight) 0 level)
 
+-- no cell stands behind the last one
+none_below : (design : Design) (weight : ℕ → ℕ) (k : ℕ) → length design.cells ≤ k → below design weight k ≡ 0
+none_below design weight k past =
+    ap (λ (o : Option Cell). over design weight (unwrap_or o (record { line = 0; name = []; ports = []; devices = []; instances = [] })).instances) (slice_get_past design.cells k past)
+
+none_weighed : (design : Design) (weight : ℕ → ℕ) (k : ℕ) (xs : List ℕ) → length design.cells ≤ k → weighed (below design weight) k xs ≡ 0
+none_weighed design weight k [] past = refl
+none_weighed design weight k (x ∷ xs) past =
+    none_more _ _ (ap (λ (n : ℕ). x * n) (none_below design weight k past) ∙ mul-zero x) (none_weighed design weight (suc k) xs (omega (arith, past)))
+
+-- so those of all cells are all that is added
+pub all_added : (design : Design) (level old now : List ℕ) (k : ℕ) → length design.cells ≤ k → AddingAll design level old now k → AddsAll design level old now
+all_added design level old now k past adding weight =
+    let z : weighed (below design weight) k (drop k level) ≡ 0 = none_weighed design weight k (drop k level) past in
+    let all : weighed weight 0 now ≡ weighed weight 0 now + weighed (below design weight) k (drop k level) = omega (arith, z) in
+    ap carried all ∙ adding weight
+
+-- a level without cells counts nothing
+pub weighed_empty : (weight : ℕ → ℕ) (at : ℕ) (xs : List ℕ) → list_all (λ (count : ℕ). count == 0) xs ≡ true → weighed weight at xs ≡ 0
+weighed_empty weight at [] e = refl
+weighed_empty weight at (x ∷ xs) e =
+    let p = and_parts (x == 0) (list_all (λ (count : ℕ). count == 0) xs) e in
+    none_more _ _ (ap (λ (n : ℕ). n * weight at) (eqb-true x 0 p.0) ∙ zero-mul (weight at)) (weighed_empty weight (suc at) xs p.1)
+
 -- ---- level by level
 
 -- what is counted so far, with what stands in a level at most so deep, is what stands in the cell
@@ -134,11 +162,19 @@ module _ (design : Design) (n k : ℕ) (all zeros : List ℕ) (first : all ≡ r
       let f = within design weight 32 in
       first_step (weighed weight 0 all) (weighed f 0 level) (weighed f 0 zeros) (f k) (zeros_none n all first weight) (zeros_none n zeros second f) (one_there f)
 
-pub level_last : (design : Design) (k depth : ℕ) (all level : List ℕ) → depth ≡ 0 → IsDown design k depth all level → AreInside design k all
-level_last design k depth all level e down weight =
-    let z : weighed (within design weight depth) 0 level ≡ 0 = ap (λ (d : ℕ). weighed (within design weight d) 0 level) e ∙ weighed_none 0 level in
+-- nothing stands below a level that counts nothing
+level_done : (design : Design) (k depth : ℕ) (all level : List ℕ) → ((weight : ℕ → ℕ) → weighed (within design weight depth) 0 level ≡ 0) → IsDown design k depth all level → AreInside design k all
+level_done design k depth all level nothing down weight =
+    let z : weighed (within design weight depth) 0 level ≡ 0 = nothing weight in
     let none : weighed weight 0 all ≡ weighed weight 0 all + weighed (within design weight depth) 0 level = omega (arith, z) in
     ap carried none ∙ down weight
+
+pub level_last : (design : Design) (k depth : ℕ) (all level : List ℕ) → depth ≡ 0 → IsDown design k depth all level → AreInside design k all
+level_last design k depth all level e =
+    level_done design k depth all level (λ weight. ap (λ (d : ℕ). weighed (within design weight d) 0 level) e ∙ weighed_none 0 level)
+
+pub level_empty : (design : Design) (k depth : ℕ) (all level : List ℕ) → list_all (λ (count : ℕ). count == 0) level ≡ true → IsDown design k depth all level → AreInside design k all
+level_empty design k depth all level e = level_done design k depth all level (λ weight. weighed_empty (within design weight depth) 0 level e)
 
 -- ---- sums
 

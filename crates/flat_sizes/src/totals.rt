@@ -1,6 +1,7 @@
 //! How often each cell stands in another, level by level: no instance is unrolled.
 
-ghost use Rattle.std.specs.Prelude.{◌≡◌, ◌<◌, ◌≤◌, ℕ, bytes_eq, length, position, replicate};
+ghost use Rattle.std.specs.Prelude.{◌≡◌, ◌==◌, ◌<◌, ◌≤◌, ℕ, bytes_eq, length, position, replicate};
+ghost use Rattle.std.specs.List.{list_all};
 ghost use Rattle.flat_sizes.specs.Totals.{Adds, AddsAll, AddsOne, AreInside};
 ghost use Rattle.vrt_model.specs.Comparison.{cell_at};
 ghost use Rattle.vrt_model.specs.Unrolled.{cell_named};
@@ -73,9 +74,21 @@ fn add_level(design: &Design, level: &[u64; 4096], next: &mut [u64; 4096], all: 
     ensures next { AddsAll design.now level.now next.old next.new }
     ensures all { AddsAll design.now level.now all.old all.new }
 {
-    for cell in 0..4096usize {
+    for cell in 0..design.cells.len() {
         add_inner(design, cell, level[cell], next, all);
     }
+}
+
+/// Whether no cell stands in a level.
+fn is_empty(level: &[u64]) -> bool
+    ensures { result ≡ list_all (λ (count : ℕ). count == 0) level.now }
+{
+    for count in level {
+        if *count != 0 {
+            return false;
+        }
+    }
+    true
 }
 
 /// No cell stands anywhere.
@@ -85,7 +98,8 @@ fn no_cells() -> [u64; 4096]
     [0u64; 4096]
 }
 
-/// How often each cell stands in a cell, at any depth up to 32. A count past the greatest number is that number.
+/// How often each cell stands in a cell, at any depth up to 32. A count past the greatest number is that number. Levels without cells
+/// are not looked at.
 pub(crate) fn cells_inside(design: &Design, cell: usize) -> [u64; 4096]
     requires few { length design.now.cells ≤ 4096 }
     requires there { cell < length design.now.cells }
@@ -95,6 +109,9 @@ pub(crate) fn cells_inside(design: &Design, cell: usize) -> [u64; 4096]
     let mut level = no_cells();
     level[cell] = 1;
     for round in 0..32u32 {
+        if is_empty(level.as_slice()) {
+            return all;
+        }
         let mut next = no_cells();
         add_level(design, &level, &mut next, &mut all);
         level = next;
