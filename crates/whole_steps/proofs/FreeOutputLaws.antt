@@ -6,7 +6,7 @@ use Rattle.std.proofs.lemmas.Option.{none-some, same_Some, slice_get_within}
 use Rattle.vrt_model.proofs.GivenNets.{clear_from_source, source_strength}
 use Rattle.vrt_model.proofs.Laws.{one_strength, shows_from}
 use Rattle.vrt_model.proofs.Lists.{at_map, map_at, one_at}
-use Rattle.vrt_model.proofs.Members.{all_among, at_none}
+use Rattle.vrt_model.proofs.Members.{all_among}
 use Rattle.vrt_model.proofs.Networks.{network_levels}
 use Rattle.vrt_model.specs.Circuits.{IsHold}
 use Rattle.vrt_model.specs.FlatCircuit.{net_id}
@@ -21,23 +21,10 @@ use Rattle.vrt_model.specs.declared.circuit.Circuit.{Circuit}
 use Rattle.vrt_model.specs.declared.circuit.FlatNet.{FlatNet}
 use Rattle.vrt_model.specs.declared.ids.Net.{Net}
 use Rattle.vrt_model.specs.declared.whole.Drive.{Drive}
-use Rattle.vrt_model.specs.declared.whole.Whole.{Whole}
 use Rattle.vrt_model.specs.declared.whole.WholePin.{WholePin}
-use Rattle.whole_steps.specs.FreeOutputs.{FreeOutputsShow, HasFreeOutputs, IsFreeOutput}
+use Rattle.whole_steps.specs.FreeOutputs.{FreeOutputsShow, IsFreeOutput}
 use Rattle.whole_steps.specs.Tables.{AreDrivers, IsFirstFree, IsLast, IsOutput, driver_at, free_at, free_one}
 use Rattle.whole_steps.specs.declared.table.OutputPlace.{OutputPlace}
-
--- a circuit without whole instances has no outputs
-pub flat_outputs_free : (c : Circuit) → c.wholes ≡ [] → HasFreeOutputs c
-flat_outputs_free c none = record {
-  soft = λ at out e. absurd (no_pin at out e);
-  plain = λ at out e. absurd (no_pin at out e);
-  channels = λ at out d n e m j. no_pin at out e;
-  one = λ at k out other e f same. absurd (no_pin at out e);
-}
-  where
-    no_pin : (at : ℕ) (out : OutputPin) → At (output_pins c) at out → ⊥
-    no_pin at out e = at_none at out (subst (λ (ws : List Whole). At (output_pins (record c { wholes = ws })) at out) none e)
 
 -- an output at a plain net that is marked as free is so
 pub marked_free : (c : Circuit) (drivers : List (Option OutputPlace)) → AreDrivers c (output_pins c) drivers → (n : ℕ) → IsPlain c n → (place : OutputPlace) → free_at drivers n ≡ Some place
@@ -85,15 +72,6 @@ marked_free c drivers are n plain place e = by_entry (driver_at drivers n) e (ar
         → (out : OutputPin) × IsOutput c (output_pins c) place out × IsFreeOutput c place.number out × (out.pin.net.0 ≡ n)
     by_entry None e last = absurd (none-some place e)
     by_entry (Some p) e last = by_mark p e last
-
--- where all outputs are so, each is
-pub free_each : (c : Circuit) → HasFreeOutputs c → (at : ℕ) (out : OutputPin) → At (output_pins c) at out → IsFreeOutput c at out
-free_each c free at out here = record {
-  soft = free.soft at out here;
-  plain = free.plain at out here;
-  channels = λ d n m. free.channels at out d n here m;
-  one = λ k other there. free.one at k out other here there;
-}
 
 -- a path without hops is its root
 bare_root : (w : Network) (root : Root) (hops : List Hop) → hops ≡ [] → IsPath w root hops → IsClear w root hops → IsRoot w root × (end_of root hops ≡ root.net) × IsStrength w root.net root.level

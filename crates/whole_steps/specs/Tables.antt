@@ -1,12 +1,15 @@
 -- What is made of the whole instances of a circuit, and what evaluating one of their outputs leaves.
-use Rattle.std.specs.Prelude.{◌≡◌, ◌≢◌, ℕ, ◌+◌, ◌*◌, ◌<◌, ◌≤◌, Bool, true, List, Option, None, Some, cond, flat_map, length, map, option_and_then, slice_get, take, unwrap_or}
+use Rattle.std.specs.Prelude.{◌≡◌, ◌≢◌, ℕ, ◌+◌, ◌*◌, ◌<◌, ◌≤◌, Bool, true, List, Option, None, Some, cond, flat_map, length, map, option_and_then, slice_get, take, unwrap_or, Result, Ok, Err}
 use Rattle.node_pool.specs.declared.region.Span.{Span}
 use Rattle.bdd_core.specs.Diagram.{Valuation}
 use Rattle.bdd_core.specs.Store.{Diagrams}
 use Rattle.bdd_core.specs.Words.{shows, word_at}
-use Rattle.blif_eval.specs.Plans.{IsPlan}
+use Rattle.blif_eval.specs.Plans.{ArcOf, IsPlan}
 use Rattle.blif_eval.specs.declared.plan.ModelPlan.{ModelPlan}
+use Rattle.blif_eval.specs.declared.plan.PlanFault.{PlanFault}
+use Rattle.blif_eval.specs.declared.plan.PlanFault.TheVariants.{ModelCycle, NoMemory}
 use Rattle.vrt_model.specs.Budget.{model_size}
+use Rattle.vrt_model.specs.Known.{IsFirstCycle}
 use Rattle.vrt_model.specs.Lists.{At, Among, mark_at}
 use Rattle.vrt_model.specs.Path.{Joins}
 use Rattle.vrt_model.specs.State.{ModelGives, OutputPin, output_pins}
@@ -79,6 +82,12 @@ pub record AreMet (c : Circuit) (number : ℕ) (met : List Bool) : Type 0 where
 pub record AreOrders (wholes : List Whole) (number : ℕ) (orders : List ModelPlan) : Type 0 where
   pub size : length orders ≡ number
   pub each : (k : ℕ) (w : Whole) → k < number → At wholes k w → (plan : ModelPlan) × At orders k plan × IsPlan w.model (nothing_known w.model) plan
+
+-- an order of the model of each instance; or the first cycle of the model of one, whatever its bits are; or want of memory
+abbrev pub OrdersGive : List Whole → Result (List ModelPlan) PlanFault → Type 0
+OrdersGive wholes (Ok orders) = AreOrders wholes (length wholes) orders
+OrdersGive wholes (Err (ModelCycle signals)) = (w : Whole) × Among wholes w × IsFirstCycle (ArcOf w.model (nothing_known w.model)) signals
+OrdersGive wholes (Err NoMemory) = Unit {0}
 
 -- the outputs by net, and an order of the model of each whole instance
 pub record IsWholeTable (c : Circuit) (drivers : List (Option OutputPlace)) (orders : List ModelPlan) : Type 0 where

@@ -14,5 +14,5 @@ loop-number-preserved c =
     let slice = c.as_slice-wholes.result.now in
     let w : Whole = get_or slice number c.index-wholes-number.result in
     let here = subst (λ (xs : List Whole). At xs number w) c.as_slice-wholes.ensures (slice_get-get_or slice number c.index-wholes-number.result c.loop-number-test.true) in
-    subst (λ (orders : List ModelPlan). AreOrders wholes (number + 1) orders) (sym c.in_ok-append.ensures)
+    subst (λ (orders : List ModelPlan). AreOrders wholes (number + 1) orders) (sym c.in-Ok.ensures)
     (orders_more wholes number c.loop-number.orders w c.in_ok-order.order here c.in_ok-order.ensures c.loop-number.invariant)
