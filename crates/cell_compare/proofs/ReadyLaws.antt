@@ -9,7 +9,6 @@ use Rattle.cell_compare.proofs.PairedInputs.{circuit_nets, output_below, paired_
 use Rattle.cell_compare.specs.Compared.{AreInputs, IsFlattened, comparison}
 use Rattle.cell_compare.specs.declared.flattened.Flattened.{Flattened}
 use Rattle.circuit_faults.proofs.FlatWholes.{flat_wholes}
-use Rattle.circuit_faults.proofs.SoundWholes.{sound_wholes}
 use Rattle.constraints.proofs.OrderedLaws.{are_named}
 use Rattle.flatten.proofs.CellTests.{cell_there}
 use Rattle.phase_ports.proofs.RangeLaws.{ports_below}
@@ -91,7 +90,7 @@ module _ (design : Design) (blif : Blif) (rules : Rules) (cell m : ℕ) (f : Fla
     wholes = λ phase range.
         let at = phase_at rules phase in
         let observed = is_observed (comparison design rules cell f) phase in
-        sound_wholes f.circuit at observed (flat_wholes f.circuit at observed is.flat);
+        flat_wholes f.circuit at observed is.flat;
     model = is.model;
     roles = is.roles;
     ports = ports_below top f.circuit (circuit_nets design cell f rules is.circuit_is);

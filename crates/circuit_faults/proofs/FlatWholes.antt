@@ -1,12 +1,10 @@
--- A circuit without whole instances is one whose whole instances are free.
+-- A circuit without whole instances is one whose whole instances are sound.
 use Rattle.std.proofs.Common.{◌≡◌, ℕ, Bool, List, [], subst}
 use Rattle.node_pool.specs.declared.region.Span.{Span}
-use Rattle.circuit_faults.proofs.SoundWholes.{sound_wholes}
 use Rattle.circuit_faults.specs.Steps.{InPhase, phase_of}
-use Rattle.circuit_faults.specs.Wholes.{HasFreeWholes, IsReadyWholes}
+use Rattle.circuit_faults.specs.Wholes.{HasSoundWholes, IsReadyWholes}
 use Rattle.known_nets.proofs.WiredLaws.{pin_of_whole}
 use Rattle.known_nets.specs.Wired.{IsWired}
-use Rattle.whole_steps.proofs.FreeOutputLaws.{flat_outputs_free}
 use Rattle.whole_steps.specs.Tables.{HasModelRoom, IsWholeTable}
 use Rattle.vrt_model.proofs.Members.{at_none}
 use Rattle.vrt_model.proofs.Networks.{flat_ranges}
@@ -20,11 +18,10 @@ use Rattle.vrt_model.specs.declared.whole.Whole.{Whole}
 no_whole : (c : Circuit) → c.wholes ≡ [] → (w : Whole) → Among c.wholes w → ⊥
 no_whole c none w m = at_none m.0 w (subst (λ (ws : List Whole). At ws m.0 w) none m.1)
 
-pub flat_wholes : (c : Circuit) (phase : Phase) (observed : ℕ → Bool) → IsFlat c → HasFreeWholes c phase observed
+pub flat_wholes : (c : Circuit) (phase : Phase) (observed : ℕ → Bool) → IsFlat c → HasSoundWholes c phase observed
 flat_wholes c phase observed flat = record {
   ranges = flat_ranges c flat;
   determined = λ w m. absurd (no_whole c flat.wholes w m);
-  free = flat_outputs_free c flat.wholes;
 }
 
 pub flat_wired : (c : Circuit) → IsFlat c → IsWired c
@@ -47,7 +44,7 @@ flat_table c flat = record {
 
 pub flat_ready : (w : InPhase) → IsFlat w.circuit → IsReadyWholes w [] []
 flat_ready w flat = record {
-  wholes = sound_wholes w.circuit (phase_of w) w.observed (flat_wholes w.circuit (phase_of w) w.observed flat);
+  wholes = flat_wholes w.circuit (phase_of w) w.observed flat;
   table = flat_table w.circuit flat;
   ordered = record {
     alone = λ k at part out m here e free i j. absurd (flat_outputs w.circuit flat at out e);

@@ -34,3 +34,6 @@ pub mod PinSteps
 pub mod FreeParts
 pub mod WiredWork
 pub mod OutputWords
+pub mod RootlessLaws
+pub mod UndrivenKept
+pub mod UndrivenLaws

@@ -2,7 +2,7 @@
 -- given net stands beside one.
 use Rattle.std.proofs.Common.{ℕ, Bool}
 use Rattle.channel_parts.specs.declared.part.Part.{Part}
-use Rattle.circuit_faults.specs.Wholes.{HasFreeWholes, HasSoundWholes}
+use Rattle.circuit_faults.specs.Wholes.{HasSoundWholes}
 use Rattle.known_nets.proofs.WiredLaws.{pin_of_whole}
 use Rattle.known_nets.specs.Wired.{IsWired}
 use Rattle.path_fixpoint.proofs.PinLaws.{whole_pin}
@@ -13,10 +13,6 @@ use Rattle.vrt_model.specs.Lists.{At}
 use Rattle.vrt_model.specs.State.{OutputPin, output_pins}
 use Rattle.vrt_model.specs.declared.circuit.Circuit.{Circuit}
 use Rattle.vrt_model.specs.declared.rules.Phase.{Phase}
-
--- free outputs are a case
-pub sound_wholes : (c : Circuit) (phase : Phase) (observed : ℕ → Bool) → HasFreeWholes c phase observed → HasSoundWholes c phase observed
-sound_wholes c phase observed w = record { ranges = w.ranges; determined = w.determined }
 
 pub wired_wholes : (c : Circuit) (phase : Phase) (observed : ℕ → Bool) → HasSoundWholes c phase observed → IsWired c
 wired_wholes c phase observed wholes = record { ranges = wholes.ranges; outputs = λ w pin m out. (wholes.determined w m).plain pin out }

@@ -9,4 +9,5 @@ pub mod Ordered
 pub mod Results
 pub mod Scans
 pub mod Steps
+pub mod Undriven
 pub mod Wholes

@@ -28,7 +28,7 @@ use Rattle.vrt_model.specs.declared.ids.Net.{Net}
 use Rattle.vrt_model.specs.declared.rules.Phase.{Phase}
 use Rattle.vrt_model.specs.declared.whole.Whole.{Whole}
 use Rattle.vrt_model.specs.declared.whole.WholePin.{WholePin}
-use Rattle.whole_steps.specs.FreeOutputs.{HasFreeOutputs, IsFreeOutput}
+use Rattle.whole_steps.specs.FreeOutputs.{IsFreeOutput}
 use Rattle.whole_steps.specs.Tables.{IsOutput, IsWholeTable, output_operations}
 use Rattle.whole_steps.specs.declared.table.OutputPlace.{OutputPlace}
 
@@ -37,12 +37,6 @@ use Rattle.whole_steps.specs.declared.table.OutputPlace.{OutputPlace}
 pub record HasSoundWholes (c : Circuit) (phase : Phase) (observed : ℕ → Bool) : Type 0 where
   pub ranges : HasRanges c
   pub determined : AreDetermined c phase observed
-
--- the same, and each output is soft and at a net that meets gates alone
-pub record HasFreeWholes (c : Circuit) (phase : Phase) (observed : ℕ → Bool) : Type 0 where
-  pub ranges : HasRanges c
-  pub determined : AreDetermined c phase observed
-  pub free : HasFreeOutputs c
 
 -- The net of a free output is alone in its part. The inputs that are linked to an output at a net of a part, where they are plain and
 -- not known, are in parts of steps before that.

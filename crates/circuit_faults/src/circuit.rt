@@ -21,15 +21,17 @@ ghost use Rattle.vrt_model.specs.Lists.{Among, At, mark_at};
 ghost use Rattle.vrt_model.specs.Networks.{HasRanges};
 ghost use Rattle.vrt_model.specs.State.{OutputPin, output_pins};
 ghost use Rattle.vrt_model.specs.declared.ids.Net.{Net as NetValue};
-ghost use Rattle.whole_steps.specs.Tables.{HasModelRoom, IsOutput};
+ghost use Rattle.whole_steps.specs.Tables.{AreDrivers, HasModelRoom, IsOutput};
 
 use crate::instance::check_instance;
 use crate::net::CircuitFault;
 use crate::outputs::write_outputs;
 use crate::phased::{CircuitSpans, PhasedCircuit, instance_at, part_at};
+use crate::scan::is_seen;
 use crate::solve::check_part;
 use crate::steps::CircuitStep;
-use bdd_core::{H, Spent, Store};
+use crate::undriven::undriven_net;
+use bdd_core::{H, Spent, Store, ZERO};
 use channel_parts::Part;
 use node_pool::Span;
 use path_fixpoint::net_words;
@@ -85,15 +87,18 @@ pub(crate) fn part_driver(wholes: WholeTable<'_>, part: &Part) -> Option<OutputP
     }
 }
 
-/// The first fault of a part whose outputs of whole instances have their bits.
+/// The first fault of a part whose outputs of whole instances have their bits. A net that nothing drives and that is not observed has
+/// none, and its handle is that of the constant 0.
 fn check_solved(
     store: &mut Store,
     phased: PhasedCircuit<'_>,
+    wholes: WholeTable<'_>,
     part: &Part,
     care: H,
     spans: CircuitSpans,
 ) -> Result<Option<CircuitFault>, Spent>
     requires circuit { HasRanges phased.circuit.now }
+    requires drivers { AreDrivers phased.circuit.now (output_pins phased.circuit.now) wholes.drivers.now }
     requires part { Among phased.parts.now.list part.now × IsPart phased.circuit.now part.now }
     requires soft { AreSoftInside phased.circuit.now part.now }
     requires observed { length phased.observed.now ≡ length phased.circuit.now.nets }
@@ -105,6 +110,13 @@ fn check_solved(
     ensures gives { IfOk result (λ found. PartGives phased.entry.circuit.now part.now (mark_at phased.entry.observed.now) care spans.roots spans.gates store.old store.new found) }
     ensures few { HasOneHold phased.entry.circuit.now → (u : ℕ) → IsWithin u (function_of store.old care) → IsSpanWithin u store.old spans.gates → IsSpanWithin u store.old spans.roots → Spends u (kept_part_operations phased.entry.circuit.now part.now + 4 * length part.now.nets) spans.gates store.old store.new result }
 {
+    store.sound();
+    if let Some(net) = undriven_net(phased.circuit, wholes, part) {
+        if !is_seen(phased.observed, net) {
+            store.write(spans.gates, net.0, ZERO.0);
+            return Ok(None);
+        }
+    }
     let words = words_of(part, spans.out);
     check_part(
         store,
@@ -174,7 +186,7 @@ fn check_part_step(
             copy_output(store, phased.circuit, part, place, spans);
             Ok(None)
         }
-        None => check_solved(store, phased, part, care, spans),
+        None => check_solved(store, phased, wholes, part, care, spans),
     }
 }
 

@@ -29,14 +29,14 @@ use crate::spans::KeptSpans;
 use bdd_core::{H, Spent, Store};
 use channel_parts::Parts;
 use known_nets::is_plain;
-use vrt_model::{Circuit, Device, Net};
+use vrt_model::{Circuit, Net};
 use whole_steps::{WholeTable, free_driver};
 
 /// Whether some device is a keeper.
-fn has_keeper(devices: &[Device]) -> bool
-    ensures { result ≡ list_any (λ (d : DeviceValue). d.keeper) devices.now }
+pub fn has_keeper(circuit: &Circuit) -> bool
+    ensures { result ≡ list_any (λ (d : DeviceValue). d.keeper) circuit.now.devices }
 {
-    for device in devices {
+    for device in circuit.devices.as_slice() {
         if device.keeper {
             return true;
         }
@@ -154,7 +154,7 @@ pub fn wired_kept(
     ensures spent { HasOneHold circuit.now → IfErr result (IsUsedUp store.old store.new) }
 {
     store.sound();
-    if !has_keeper(circuit.devices.as_slice()) {
+    if !has_keeper(circuit) {
         return Ok(None);
     }
     match solve_parts(store, circuit, wholes, kept.list.as_slice(), spans) {

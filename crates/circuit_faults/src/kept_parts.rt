@@ -15,10 +15,13 @@ ghost use Rattle.path_fixpoint.specs.Spending.{HasOneHold};
 ghost use Rattle.path_fixpoint.specs.Strengths.{net_words, word_of};
 ghost use Rattle.vrt_model.specs.Lists.{Among};
 ghost use Rattle.vrt_model.specs.Networks.{HasRanges};
+ghost use Rattle.vrt_model.specs.State.{output_pins};
+ghost use Rattle.whole_steps.specs.Tables.{AreDrivers};
 
 use crate::circuit::{part_driver, words_of};
 use crate::spans::KeptSpans;
-use bdd_core::{Spent, Store};
+use crate::undriven::undriven_net;
+use bdd_core::{Spent, Store, ZERO};
 use channel_parts::Part;
 use node_pool::Span;
 use path_fixpoint::{reached, solve_part};
@@ -54,14 +57,16 @@ fn copy_reach(store: &mut Store, part: &Part, value: bool, out: Span, to: Span)
 }
 
 /// Solves a part of the kept circuit, where its devices have the bits of the gates, and writes to the words of its nets
-/// where 0 and where 1 reach them.
+/// where 0 and where 1 reach them: nowhere, where nothing drives its net.
 fn solve_kept(
     store: &mut Store,
     circuit: &Circuit,
+    wholes: WholeTable<'_>,
     part: &Part,
     spans: KeptSpans,
 ) -> Result<(), Spent>
     requires circuit { HasRanges circuit.now }
+    requires drivers { AreDrivers circuit.now (output_pins circuit.now) wholes.drivers.now }
     requires part { IsPart circuit.now part.now }
     requires soft { AreSoftInside circuit.now part.now }
     requires spans { HasKeptSpans circuit.now (part.now ∷ []) spans store.old }
@@ -70,6 +75,11 @@ fn solve_kept(
     ensures few { HasOneHold circuit.now → (u : ℕ) → IsSpanWithin u store.old spans.gates → IsSpanWithin u store.old spans.roots → SpendsReach u (kept_part_operations circuit.now part.now) spans (IsInside part.now) store.old store.new result }
 {
     store.sound();
+    if let Some(net) = undriven_net(circuit, wholes, part) {
+        store.write(spans.zeros, net.0, ZERO.0);
+        store.write(spans.ones, net.0, ZERO.0);
+        return Ok(());
+    }
     let out = words_of(part, spans.out);
     match solve_part(store, circuit, part, spans.gates, spans.roots, out) {
         Ok(()) => {}
@@ -97,6 +107,7 @@ pub(crate) fn solve_parts(
     spans: KeptSpans,
 ) -> Result<(), Spent>
     requires circuit { HasRanges circuit.now }
+    requires drivers { AreDrivers circuit.now (output_pins circuit.now) wholes.drivers.now }
     requires parts { (part : Part) → Among parts.now part → IsPart circuit.now part }
     requires soft { (part : Part) → AreSoftInside circuit.now part }
     requires spans { HasKeptSpans circuit.now parts.now spans store.old }
@@ -109,7 +120,7 @@ pub(crate) fn solve_parts(
         if has_free(wholes, part) {
             continue;
         }
-        match solve_kept(store, circuit, part, spans) {
+        match solve_kept(store, circuit, wholes, part, spans) {
             Ok(()) => {}
             Err(spent) => return Err(spent),
         }

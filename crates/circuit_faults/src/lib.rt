@@ -20,10 +20,11 @@ mod solve;
 mod spans;
 mod step_keys;
 mod steps;
+mod undriven;
 
 pub use circuit::wired_fault;
 pub use flat::{circuit_fault, kept_fault};
-pub use kept::wired_kept;
+pub use kept::{has_keeper, wired_kept};
 pub use kept_net::KeptFault;
 pub use listing::circuit_steps;
 pub use net::CircuitFault;

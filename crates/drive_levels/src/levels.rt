@@ -1,7 +1,6 @@
 //! The levels of nets in both circuits of a phase.
 
 ghost use Rattle.std.specs.Prelude.{◌≡◌, ◌==◌, ℕ, IfOk, None, Some, cond, length};
-ghost use Rattle.std.specs.List.{list_any};
 ghost use Rattle.bdd_core.specs.Diagram.{IsWithin};
 ghost use Rattle.bdd_core.specs.Store.{IsLive, function_of};
 ghost use Rattle.bdd_ops.specs.Counting.{Counts, IsSpanWithin};
@@ -12,27 +11,16 @@ ghost use Rattle.output_levels.specs.PartLevels.{HasLevelSpans, WritesIn, level_
 ghost use Rattle.path_fixpoint.specs.Parts.{IsPart};
 ghost use Rattle.vrt_model.specs.Lists.{Among};
 ghost use Rattle.vrt_model.specs.Networks.{HasRanges};
-ghost use Rattle.vrt_model.specs.declared.circuit.Device.{Device as DeviceValue};
 
 use crate::one_level::{are_observed, one_level, write_everywhere};
 use crate::table::NetLevels;
 use bdd_core::{H, Spent, Store};
 use channel_parts::Part;
+use circuit_faults::has_keeper;
 use known_nets::is_plain;
 use node_pool::Span;
 use output_levels::circuit_levels;
 use vrt_model::{Circuit, Net};
-
-/// Whether some device is a keeper.
-fn has_keeper(circuit: &Circuit) -> bool
-    ensures { result ≡ list_any (λ (d : DeviceValue). d.keeper) circuit.now.devices }
-{
-    circuit
-        .devices
-        .as_slice()
-        .iter()
-        .any(|device| device.keeper)
-}
 
 /// Writes the levels of another table of as many places.
 fn copy_levels(levels: &[Option<u8>], copy: &mut Vec<Option<u8>>)

@@ -1,6 +1,5 @@
-use Rattle.std.proofs.Common.{◌≡◌, ℕ, ◌+◌, ◌*◌, List, [], Err, false, length, true, ap, arith, subst, sym, ◌∙◌}
+use Rattle.std.proofs.Common.{◌≡◌, ℕ, ◌+◌, ◌*◌, List, [], Err, length, ap, arith, subst, sym, ◌∙◌}
 use Rattle.std.specs.Prelude.{sum_by}
-use Rattle.std.specs.List.{list_any}
 use Rattle.bdd_core.proofs.Results.{if_ok_more}
 use Rattle.bdd_core.specs.Store.{function_of}
 use Rattle.bdd_core.specs.Words.{word_at}
@@ -16,7 +15,6 @@ use Rattle.channel_parts.specs.declared.part.Part.{Part}
 use Rattle.path_fixpoint.specs.Parts.{IsPart}
 use Rattle.vrt_model.proofs.Members.{at_none}
 use Rattle.vrt_model.specs.Lists.{Among, mark_at}
-use Rattle.vrt_model.specs.declared.circuit.Device.{Device}
 use Rattle.circuit_faults.proofs.kept.wired_kept.Goals as goal
 
 -- ---- without keepers
@@ -25,21 +23,21 @@ pub returns-then-not-has_keeper-clause-gives : goal.returns-then-not-has_keeper-
 returns-then-not-has_keeper-clause-gives c phase sound list fixed clear =
     let circuit = c.args.circuit.now in
     kept_idle circuit phase (mark_at c.args.observed.now) sound c.args.wholes.drivers.now c.args.wholes.plans.now c.requires.wholes c.requires.observed.0 c.args.care c.args.spans c.args.store.now fixed clear c.args.store.now
-    (keeper_none circuit (subst (λ (ds : List Device). list_any (λ (d : Device). d.keeper) ds ≡ false) c.as_slice.ensures (sym c.has_keeper.ensures ∙ c.if-not-has_keeper.true)))
+    (keeper_none circuit (sym c.has_keeper.ensures ∙ c.if-not-has_keeper.true))
 
 pub returns-in-Err-clause-idle : goal.returns-in-Err-clause-idle
 returns-in-Err-clause-idle c none =
-    absurd (keeper_some c.args.circuit.now (subst (λ (ds : List Device). list_any (λ (d : Device). d.keeper) ds ≡ true) c.as_slice.ensures (sym c.has_keeper.ensures ∙ c.if-not-has_keeper.false)) none)
+    absurd (keeper_some c.args.circuit.now (sym c.has_keeper.ensures ∙ c.if-not-has_keeper.false) none)
 
 pub returns-clause-idle : goal.returns-clause-idle
 returns-clause-idle c none =
-    absurd (keeper_some c.args.circuit.now (subst (λ (ds : List Device). list_any (λ (d : Device). d.keeper) ds ≡ true) c.as_slice.ensures (sym c.has_keeper.ensures ∙ c.if-not-has_keeper.false)) none)
+    absurd (keeper_some c.args.circuit.now (sym c.has_keeper.ensures ∙ c.if-not-has_keeper.false) none)
 
 -- ---- what the steps ask
 
 pub solve_parts-requires-clause-parts : goal.solve_parts-requires-clause-parts
 solve_parts-requires-clause-parts c =
-    subst (λ (ps : List Part). (part : Part) → Among ps part → IsPart c.args.circuit.now part) (sym c.as_slice-2.ensures)
+    subst (λ (ps : List Part). (part : Part) → Among ps part → IsPart c.args.circuit.now part) (sym c.as_slice.ensures)
     (kept_part c.args.circuit.now c.requires.parts.0 c.args.kept.now c.requires.parts.1 c.requires.circuit)
 
 pub solve_parts-requires-clause-soft : goal.solve_parts-requires-clause-soft
@@ -53,7 +51,7 @@ pub scan_kept-requires-clause-live : goal.scan_kept-requires-clause-live
 scan_kept-requires-clause-live c n p value =
     let circuit = c.args.circuit.now in
     let list = c.args.kept.now.list in
-    let reached = subst (λ (ps : List Part). (m : ℕ) → IsInSolved c.args.wholes.drivers.now ps (length ps) m → IsReachedIn circuit ps c.args.spans (length ps) c.args.store.now c.solve_parts.new.store m) c.as_slice-2.ensures
+    let reached = subst (λ (ps : List Part). (m : ℕ) → IsInSolved c.args.wholes.drivers.now ps (length ps) m → IsReachedIn circuit ps c.args.spans (length ps) c.args.store.now c.solve_parts.new.store m) c.as_slice.ensures
     c.in-Ok.ensures.gives in
     (reached n (loose_inside circuit c.args.wholes.drivers.now c.args.wholes.plans.now c.requires.wholes c.requires.parts.0 c.args.kept.now c.requires.parts.1 c.requires.circuit n p)).5.live value
 
@@ -66,7 +64,7 @@ returns-clause-writes c =
 pub returns-clause-gives : goal.returns-clause-gives
 returns-clause-gives c =
     let circuit = c.args.circuit.now in
-    let reached = subst (λ (ps : List Part). (m : ℕ) → IsInSolved c.args.wholes.drivers.now ps (length ps) m → IsReachedIn circuit ps c.args.spans (length ps) c.args.store.now c.solve_parts.new.store m) c.as_slice-2.ensures
+    let reached = subst (λ (ps : List Part). (m : ℕ) → IsInSolved c.args.wholes.drivers.now ps (length ps) m → IsReachedIn circuit ps c.args.spans (length ps) c.args.store.now c.solve_parts.new.store m) c.as_slice.ensures
     c.in-Ok.ensures.gives in
     if_ok_more _ _ c.scan_kept.result
     (λ found s phase sound list fixed clear. kept_gives circuit phase (mark_at c.args.observed.now) sound c.args.wholes.drivers.now c.args.wholes.plans.now c.requires.wholes c.requires.observed.0 c.args.care c.args.spans c.args.store.now fixed clear
@@ -81,8 +79,8 @@ returns-in-Err-clause-few c one u care gates roots =
     let list = c.args.kept.now.list in
     let old = c.args.store.now in
     let new = c.solve_parts.new.store in
-    let slice = c.as_slice-2.result.now in
-    let sums : sum_by (kept_part_operations circuit) slice ≡ sum_by (kept_part_operations circuit) list = ap (λ (ps : List Part). sum_by (kept_part_operations circuit) ps) c.as_slice-2.ensures in
+    let slice = c.as_slice.result.now in
+    let sums : sum_by (kept_part_operations circuit) slice ≡ sum_by (kept_part_operations circuit) list = ap (λ (ps : List Part). sum_by (kept_part_operations circuit) ps) c.as_slice.ensures in
     counts_more u (sum_by (kept_part_operations circuit) slice) (kept_operations circuit list) old new (Err c.in-Err.spent) (omega (arith, sums))
     (counts_err u (sum_by (kept_part_operations circuit) slice) old new c.in-Err.spent (c.in-Err.ensures.few one u gates roots).counts)
 
@@ -103,11 +101,11 @@ returns-clause-few c one u care gates roots =
     let old = c.args.store.now in
     let mid = c.solve_parts.new.store in
     let new = c.scan_kept.new.store in
-    let slice = c.as_slice-2.result.now in
+    let slice = c.as_slice.result.now in
     let writes = c.in-Ok.ensures.writes in
-    let sums : sum_by (kept_part_operations circuit) slice ≡ sum_by (kept_part_operations circuit) list = ap (λ (ps : List Part). sum_by (kept_part_operations circuit) ps) c.as_slice-2.ensures in
+    let sums : sum_by (kept_part_operations circuit) slice ≡ sum_by (kept_part_operations circuit) list = ap (λ (ps : List Part). sum_by (kept_part_operations circuit) ps) c.as_slice.ensures in
     let solved = c.in-Ok.ensures.few one u gates roots in
-    let within = subst (λ (ps : List Part). ReadWithin u spans (IsInSolved c.args.wholes.drivers.now ps (length ps)) mid) c.as_slice-2.ensures solved.within in
+    let within = subst (λ (ps : List Part). ReadWithin u spans (IsInSolved c.args.wholes.drivers.now ps (length ps)) mid) c.as_slice.ensures solved.within in
     counts_more u (sum_by (kept_part_operations circuit) slice + 20 * length circuit.nets) (kept_operations circuit list) old new c.scan_kept.result (omega (arith, sums))
     (counts_then u (sum_by (kept_part_operations circuit) slice) (20 * length circuit.nets) old mid new c.scan_kept.result solved.counts.added
     (c.scan_kept.ensures.few u (within_same u (function_of old c.args.care) (function_of mid c.args.care) (writes.adds.kept c.args.care.0 c.requires.care) care)

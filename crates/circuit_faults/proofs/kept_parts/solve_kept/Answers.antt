@@ -3,7 +3,25 @@ use Rattle.bdd_core.proofs.Frames.{span_written}
 use Rattle.bdd_ops.proofs.CountingLaws.{counts_ok}
 use Rattle.circuit_faults.proofs.KeptWords.{copied_filled, copied_within, counted_copies, inside_range, kept_copied, kept_root_spans, kept_solved, kept_then, part_reached, reach_apart, reach_len, span_rewritten}
 use Rattle.circuit_faults.specs.Operations.{kept_part_operations}
+use Rattle.circuit_faults.proofs.UndrivenKept.{undriven_reached, undriven_spends, undriven_writes}
 use Rattle.circuit_faults.proofs.kept_parts.solve_kept.Goals as goal
+
+-- ---- a net that nothing drives
+
+pub returns-in-Some-clause-writes : goal.returns-in-Some-clause-writes
+returns-in-Some-clause-writes c =
+    undriven_writes c.args.circuit.now c.args.part.now c.in-Some.net c.in-Some.ensures c.args.spans c.args.store.now c.write.new.self c.write-in-Some.new.self c.requires.spans c.write.ensures
+    c.write-in-Some.ensures c.sound.ensures.sound c.sound.ensures.within
+
+pub returns-in-Some-clause-gives : goal.returns-in-Some-clause-gives
+returns-in-Some-clause-gives c =
+    undriven_reached c.args.circuit.now c.args.part.now c.in-Some.net c.in-Some.ensures c.args.spans c.args.store.now c.write.new.self c.write-in-Some.new.self c.requires.spans c.write.ensures
+    c.write-in-Some.ensures c.sound.ensures.sound.ends
+
+pub returns-in-Some-clause-few : goal.returns-in-Some-clause-few
+returns-in-Some-clause-few c one u gates roots =
+    undriven_spends c.args.circuit.now c.args.part.now c.in-Some.net c.in-Some.ensures c.args.spans c.args.store.now c.write.new.self c.write-in-Some.new.self c.requires.spans c.write.ensures
+    c.write-in-Some.ensures u (kept_part_operations c.args.circuit.now c.args.part.now) tt
 
 pub words_of-out-requires : goal.words_of-out-requires
 words_of-out-requires c = c.requires.spans.room c.args.part.now (0, refl)
