@@ -10,9 +10,10 @@ use Rattle.vrt_model.specs.declared.rules.Rules.{Rules}
 use Rattle.vrt_model.specs.declared.whole.CellFacts.{CellFacts}
 use Rattle.whole_cells.specs.Entries.{IsEntry}
 
--- of so many cells those of the places have marks
-abbrev pub AreUsed : ℕ → List Place → List Bool → Type 0
-AreUsed count places used = (p : Place) → Among places p → p.cell < count → mark_at used p.cell ≡ true
+-- of so many cells those of the places have marks, and no others
+pub record AreUsed (count : ℕ) (places : List Place) (used : List Bool) : Type 0 where
+  pub each : (p : Place) → Among places p → p.cell < count → mark_at used p.cell ≡ true
+  pub only : (n : ℕ) → mark_at used n ≡ true → (p : Place) × Among places p × (p.cell ≡ n)
 
 -- the entries of the first cells, of so many, where a cell has a mark
 pub record AreEntries (design : Design) (blif : Blif) (rules : Rules) (facts : List CellFacts) (used : List Bool) (count : ℕ) (cells : List (Option WholeCell)) : Type 0 where

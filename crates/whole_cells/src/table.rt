@@ -1,6 +1,6 @@
 //! What the instances of cells have in common, for the cells of the places of an unrolled one.
 
-ghost use Rattle.std.specs.Prelude.{◌≡◌, ◌<◌, ◌++◌, ◌∷◌, [], ℕ, length, true, IfOk, OnOk};
+ghost use Rattle.std.specs.Prelude.{◌≡◌, ◌⊎◌, ◌<◌, ◌++◌, ◌∷◌, [], ℕ, length, true, IfOk, OnOk};
 ghost use Rattle.net_places.specs.declared.places.Place.{Place as PlaceValue};
 ghost use Rattle.prepared_tables.specs.Prepared.{ArePrepared};
 ghost use Rattle.vrt_model.specs.Lists.{Among, mark_at};
@@ -22,6 +22,7 @@ fn mark(used: &mut Vec<bool>, cell: usize)
     ensures len { length used.new.items ≡ length used.old.items }
     ensures here { cell < length used.old.items → mark_at used.new.items cell ≡ true }
     ensures kept { (n : ℕ) → mark_at used.old.items n ≡ true → mark_at used.new.items n ≡ true }
+    ensures only { (n : ℕ) → mark_at used.new.items n ≡ true → (mark_at used.old.items n ≡ true) ⊎ (n ≡ cell) }
 {
     if cell < used.len() {
         used[cell] = true;
@@ -88,7 +89,7 @@ pub fn whole_cells(
     requires files { AreFiles design.now blif.now rules.now }
     ensures { IfOk result (λ cells. AreEntries design.now blif.now rules.now facts.now used.now (length design.now.cells) cells.items) }
 {
-    let mut cells = Vec::new(alloc);
+    let mut cells = Vec::with_capacity(alloc, design.cells.len())?;
     for at in 0..design.cells.len() {
         let entry = used_cell(alloc, prepared, design, blif, rules, facts, used, at)?;
         add(&mut cells, entry)?;

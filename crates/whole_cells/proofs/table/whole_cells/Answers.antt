@@ -8,7 +8,7 @@ pub loop-at-init : goal.loop-at-init
 loop-at-init c =
     let a = c.args in (
       omega arith,
-      subst (λ (all : List (Option WholeCell)). AreEntries a.design.now a.blif.now a.rules.now a.facts.now a.used.now 0 all) (sym c.new-cells.ensures.items)
+      subst (λ (all : List (Option WholeCell)). AreEntries a.design.now a.blif.now a.rules.now a.facts.now a.used.now 0 all) (sym c.in_ok-cells.ensures.items)
           (no_entries a.design.now a.blif.now a.rules.now a.facts.now a.used.now),
     )
 
