@@ -70,7 +70,7 @@ fn is_bit(word: &[u8]) -> bool
 fn are_inputs(bits: &[u8]) -> bool
     ensures { result ≡ list_all is_input_byte bits.now }
 {
-    // each byte is looked at, so that many are at once
+    // without an early exit, which takes longer than the few bytes that it would spare
     let mut all = true;
     for b in bits {
         all = is_bit_or_dash(*b) && all;

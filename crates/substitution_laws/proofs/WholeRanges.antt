@@ -10,7 +10,7 @@ use Rattle.checked_chain.specs.Holds.{IsEndShown}
 use Rattle.placed_cells.proofs.ListLaws.{zip_right}
 use Rattle.replaced_instances.proofs.StepInstances.{front_of}
 use Rattle.replaced_instances.specs.Steps.{compared_at}
-use Rattle.substitution_laws.proofs.ChosenLaws.{chosen_instances_are_steps, soft_is_trial, tried_steps_are_chosen}
+use Rattle.substitution_laws.proofs.ChosenLaws.{chosen_instances_are_steps, tried_steps_are_chosen}
 use Rattle.substitution_laws.proofs.DriveRanges.{told_in_range}
 use Rattle.substitution_laws.proofs.EndsLaws.{tried_ends_are_shown}
 use Rattle.substitution_laws.proofs.WholeCells.{whole_chosen}
@@ -19,7 +19,7 @@ use Rattle.formed_cells.proofs.FormedLaws.{supported_cells_are_formed}
 use Rattle.replaced_instances.proofs.StepPlaced.{plain_with}
 use Rattle.formed_cells.specs.Formed.{IsFormed}
 use Rattle.substitution_laws.proofs.FormedCells.{formed_cell}
-use Rattle.substitution_laws.specs.Wholes.{CircuitsHaveRanges, CutsHaveRanges, IsFormedCut, TrialsAreWired, TriedCircuitsAreWired}
+use Rattle.substitution_laws.specs.Wholes.{CircuitsHaveRanges, CutsHaveRanges, IsFormedCut, TrialsAreWired}
 use Rattle.vrt_model.proofs.Filtered.{filter_among}
 use Rattle.vrt_model.proofs.Lists.{among_filter_map, at_there, filter_map_among, map_among}
 use Rattle.vrt_model.proofs.Members.{all_among, all_by, among_flat_map, among_later, among_map, flat_map_among}
@@ -293,6 +293,3 @@ trials_are_wired cut blif facts c h flat circuit = record {
   ranges = cuts_have_ranges cut blif facts c (formed_cut cut blif facts c h circuit flat) circuit;
   outputs = plain_outputs cut blif facts c h circuit;
 }
-
-pub tried_circuits_are_wired : TriedCircuitsAreWired
-tried_circuits_are_wired cut blif facts c h flat circuit = trials_are_wired cut blif facts c (soft_is_trial cut blif facts h) flat circuit

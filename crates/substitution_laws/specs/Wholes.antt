@@ -5,7 +5,7 @@ use Rattle.formed_cells.specs.Formed.{IsFormed}
 use Rattle.known_nets.specs.Wired.{IsWired}
 use Rattle.placed_cells.specs.Above.{net_above}
 use Rattle.replaced_instances.specs.Steps.{IsStep, compared_at}
-use Rattle.substitution_laws.specs.Chosen.{IsChoiceByFacts, IsSoftTrial, IsTrial}
+use Rattle.substitution_laws.specs.Chosen.{IsChoiceByFacts, IsTrial}
 use Rattle.vrt_model.specs.Checked.{IsCircuitWith, before, top_of, with_circuit}
 use Rattle.vrt_model.specs.Circuits.{IsCircuit, IsDrive}
 use Rattle.vrt_model.specs.Comparison.{Comparison, is_observed, phase_at}
@@ -63,9 +63,3 @@ abbrev pub TrialsAreWired : Type 0
 TrialsAreWired =
     (cut : Cut) (blif : Blif) (facts : List CellFacts) (c : Circuit)
     → IsTrial cut blif facts → IsCircuit (flat_circuit_of cut.top) → IsCircuitWith cut blif facts c → IsWired c
-
--- The law: so it is where no drives are told.
-abbrev pub TriedCircuitsAreWired : Type 0
-TriedCircuitsAreWired =
-    (cut : Cut) (blif : Blif) (facts : List CellFacts) (c : Circuit)
-    → IsSoftTrial cut blif facts → IsCircuit (flat_circuit_of cut.top) → IsCircuitWith cut blif facts c → IsWired c

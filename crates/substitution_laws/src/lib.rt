@@ -27,6 +27,6 @@ pub use steps::steps_are_one_more_whole;
 pub use substitution::substitution_holds;
 pub use verdicts::{chain_needs_no_more, checked_verdicts_hold};
 pub use wholes::{
-    circuits_have_ranges, cuts_have_ranges, trials_are_wired, tried_circuits_are_wired,
-    wholes_are_determined, wholes_stand_for_cells,
+    circuits_have_ranges, cuts_have_ranges, trials_are_wired, wholes_are_determined,
+    wholes_stand_for_cells,
 };

@@ -1,7 +1,7 @@
 //! The whole instances of a circuit.
 
 ghost use Rattle.std.specs.Prelude.{Bool};
-ghost use Rattle.substitution_laws.specs.Wholes.{CircuitsHaveRanges, CutsHaveRanges, TrialsAreWired, TriedCircuitsAreWired, WholesAreDetermined, WholesStandForCells};
+ghost use Rattle.substitution_laws.specs.Wholes.{CircuitsHaveRanges, CutsHaveRanges, TrialsAreWired, WholesAreDetermined, WholesStandForCells};
 
 /// A whole instance stands for its cell: it has its model, its inputs and its outputs, and links from each input from which covers lead to
 /// one.
@@ -27,9 +27,4 @@ pub fn cuts_have_ranges()
 /// So are those of the circuit with instances that are tried, whatever is told of drives, and the outputs of these are at plain nets.
 pub fn trials_are_wired()
     ensures { TrialsAreWired }
-{}
-
-/// So it is where no drives are told.
-pub fn tried_circuits_are_wired()
-    ensures { TriedCircuitsAreWired }
 {}
