@@ -250,7 +250,7 @@ module _ (flat : FlatModel) (model : IsFlatModel flat) (drivers : List Driver) (
       let here : at_place unit (element_names flat) s.element ≡ 1 = ap (λ (o : Option (List ℕ)). weighed unit o) name.1 in
       omega (arith, here)
 
-  pub numbers_most : sum_by (number_operations flat drivers) steps ≤ 20 * (model_size flat + 1)
+  pub numbers_most : sum_by (number_operations flat drivers) steps ≤ 2 * model_size flat
   unfolding cover_of element_of
   numbers_most =
       let both = sum_both (number_operations flat drivers) (λ n. at_place operations_of flat.covers (cover_of n)) (λ n. at_place unit (element_names flat) (element_of n)) steps

@@ -192,7 +192,7 @@ fn settle_all(
 /// Handles from before keep their functions and words outside `out` stay as they are, also after `Spent`, which has the
 /// budget and comes only where as many nodes are there.
 ///
-/// Where the handles read only the first `u` variables, at most `2 ^ u * 20 * (s + 1)` nodes are added, for `s` literals,
+/// Where the handles read only the first `u` variables, at most `2 ^ u * 2 * s` nodes are added, for `s` literals,
 /// rows and latches of the model, and they test these variables. `Spent` comes only where the budget is less than all of
 /// these with the nodes that were there; and, where `u` is at most 4 and the nodes that were there test the first four
 /// variables, only where the budget is less than 65,536, the number of functions of four variables.
@@ -210,7 +210,7 @@ pub fn eval_model(
     ensures writes { Writes out store.old store.new }
     ensures evaluated { IfOk result (λ _. (v : Valuation) → IsEvaluated flat.now inputs held out store.old store.new v) }
     ensures spent { IfErr result (λ spent. (spent.nodes ≡ store.new.budget) × (length store.new.nodes ≡ store.new.budget)) }
-    ensures counts { (u : ℕ) → IsSpanWithin u store.old inputs → IsSpanWithin u store.old held → Counts u (20 * (model_size flat.now + 1)) store.old store.new result }
+    ensures counts { (u : ℕ) → IsSpanWithin u store.old inputs → IsSpanWithin u store.old held → Counts u (2 * model_size flat.now) store.old store.new result }
 {
     clear(store, out);
     settle_all(

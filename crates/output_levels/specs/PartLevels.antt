@@ -81,6 +81,6 @@ pub record WritesIn (out : Span) (old new : Diagrams) : Type 0 where
 
 -- ---- operations
 
--- of a part: its strengths, and nine for each net
+-- of a part: its strengths, and for each net one more than there are levels
 abbrev pub level_operations : Circuit → Part → ℕ
-level_operations c part = source_level c * (length part.nets * (length part.devices * 4)) + 9 * length part.nets
+level_operations c part = source_level c * (length part.nets * (length part.devices * 4)) + (source_level c + 1) * length part.nets

@@ -141,14 +141,11 @@ part_levels n m = omega (arith, mul_assoc n m 4)
 part_values : (n m : ℕ) → n * (m * 38) ≡ 38 * (n * m)
 part_values n m = omega (arith, mul_assoc n m 38)
 
-part_bound : (n m r : ℕ) → 400 * (n * m) + 400 * n + 400 * r ≤ 400 * (n + 1) * (m + r + 1)
-part_bound n m r = omega (arith, mul_assoc 400 (n + 1) (m + r + 1), add-mul n 1 (m + r + 1), mul-add n (m + r) 1, mul-add n m r)
+pub part_most_levels : (n m r : ℕ) → 8 * (n * (m * 4)) ≤ 108 * (n * m) + 12 * n + 6 * r
+part_most_levels n m r = omega (arith, part_levels n m)
 
-pub part_most_levels : (n m r : ℕ) → 8 * (n * (m * 4)) ≤ 400 * (n + 1) * (m + r + 1)
-part_most_levels n m r = omega (arith, part_levels n m, part_bound n m r)
+pub part_most_one : (n m r : ℕ) → 8 * (n * (m * 4)) + (n * 6 + r * 3 + n * (m * 38)) ≤ 108 * (n * m) + 12 * n + 6 * r
+part_most_one n m r = omega (arith, part_levels n m, part_values n m)
 
-pub part_most_one : (n m r : ℕ) → 8 * (n * (m * 4)) + (n * 6 + r * 3 + n * (m * 38)) ≤ 400 * (n + 1) * (m + r + 1)
-part_most_one n m r = omega (arith, part_levels n m, part_values n m, part_bound n m r)
-
-pub part_most : (n m r : ℕ) → 8 * (n * (m * 4)) + (n * 6 + r * 3 + n * (m * 38)) + (n * 6 + r * 3 + n * (m * 38)) ≤ 400 * (n + 1) * (m + r + 1)
-part_most n m r = omega (arith, part_levels n m, part_values n m, part_bound n m r)
+pub part_most : (n m r : ℕ) → 8 * (n * (m * 4)) + (n * 6 + r * 3 + n * (m * 38)) + (n * 6 + r * 3 + n * (m * 38)) ≤ 108 * (n * m) + 12 * n + 6 * r
+part_most n m r = omega (arith, part_levels n m, part_values n m)

@@ -1,11 +1,14 @@
 -- How many nodes the steps of a part add, by counts of their operations.
-use Rattle.std.specs.Prelude.{◌≡◌, ℕ, Result, IfOk}
+use Rattle.std.specs.Prelude.{◌≡◌, ℕ, ◌+◌, ◌*◌, length, Result, IfOk}
 use Rattle.node_pool.specs.declared.region.Span.{Span}
 use Rattle.bdd_core.specs.declared.handle.H.{H}
 use Rattle.bdd_core.specs.declared.handle.Spent.{Spent}
 use Rattle.bdd_core.specs.Diagram.{IsWithin}
 use Rattle.bdd_core.specs.Store.{Diagrams, function_of}
 use Rattle.bdd_ops.specs.Counting.{Counts, IsCounted, IsSpanWithin}
+use Rattle.channel_parts.specs.declared.part.Part.{Part}
+use Rattle.path_fixpoint.specs.Parts.{pins_at, pins_of}
+use Rattle.vrt_model.specs.Levels.{source_level}
 use Rattle.vrt_model.specs.Lists.{At}
 use Rattle.vrt_model.specs.declared.circuit.Circuit.{Circuit}
 use Rattle.vrt_model.specs.declared.circuit.Hold.{Hold}
@@ -28,3 +31,9 @@ pub record Spends {A : Type 0} (u operations : ℕ) (out : Span) (old new : Diag
 pub record Finds (u operations : ℕ) (old new : Diagrams) (result : Result H Spent) : Type 0 where
   pub counts : Counts u operations old new result
   pub within : IfOk result (λ r. IsWithin u (function_of new r))
+
+-- To solve a part of p nets and q devices on which r outputs of whole instances stand, where l is the source level: 4 l p q for the
+-- strengths, and for each of the two values (4 l + 6) p q, six for each net and three for each output.
+abbrev pub solving_operations : Circuit → Part → ℕ
+solving_operations c part =
+    (12 * source_level c + 12) * (length part.nets * length part.devices) + 12 * length part.nets + 6 * pins_at part (pins_of c)

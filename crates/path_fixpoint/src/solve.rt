@@ -10,7 +10,7 @@ ghost use Rattle.path_fixpoint.specs.Solved.{HasRootSpans, TellsReach, network_a
 ghost use Rattle.path_fixpoint.specs.Strengths.{ChangesLevel, TellsStrengths};
 ghost use Rattle.bdd_core.specs.Words.{Writes};
 ghost use Rattle.bdd_ops.specs.Counting.{IsSpanWithin};
-ghost use Rattle.path_fixpoint.specs.Spending.{HasOneHold, Spends};
+ghost use Rattle.path_fixpoint.specs.Spending.{HasOneHold, Spends, solving_operations};
 
 use crate::Part;
 use crate::levels::strengths;
@@ -53,6 +53,10 @@ fn reaches(
 /// instances, instance by instance: the bit that the model gives, the root of the level that its drive says.
 ///
 /// Handles from before keep their functions and words outside `out` stay as they are, also where the budget is used up.
+///
+/// Where the handles read only the first `u` variables and no net has two holds, a part of p nets and q devices, on which r outputs of
+/// whole instances stand, takes at most (12 l + 12) p q + 12 p + 6 r operations of `2 ^ u` nodes, where l is the source level; the handles
+/// that are written read only these variables too.
 pub fn solve_part(
     store: &mut Store,
     circuit: &Circuit,
@@ -67,7 +71,7 @@ pub fn solve_part(
     ensures writes { Writes out store.old store.new }
     ensures strengths { IfOk result (λ _. (v : Valuation) → TellsStrengths circuit.now part.now out store.new v (network_at store.old circuit.now part.now gates roots v)) }
     ensures reaches { IfOk result (λ _. AreSoftInside circuit.now part.now → (v : Valuation) → TellsReach part.now out store.new v (network_at store.old circuit.now part.now gates roots v)) }
-    ensures few { HasOneHold circuit.now → (u : ℕ) → IsSpanWithin u store.old gates → IsSpanWithin u store.old roots → Spends u (400 * (length part.now.nets + 1) * (length part.now.devices + pins_at part.now (pins_of circuit.now) + 1)) out store.old store.new result }
+    ensures few { HasOneHold circuit.now → (u : ℕ) → IsSpanWithin u store.old gates → IsSpanWithin u store.old roots → Spends u (solving_operations circuit.now part.now) out store.old store.new result }
 {
     let rising = rises(part);
     match strengths(store, circuit, part, gates, out) {

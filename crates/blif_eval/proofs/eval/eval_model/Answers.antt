@@ -59,7 +59,7 @@ returns-clause-counts c u reads reads' =
     ∙ ap (λ (drivers : List Driver). sum_by (number_operations flat drivers) plan.steps) c.as_slice.ensures in
     let n = sum_by (number_operations flat c.as_slice.result.now) c.as_slice-2.result.now in
     let rest = c.clear.ensures.rest in
-    counts_more u (0 + n) (20 * (model_size flat + 1)) old new c.settle_all.result (omega (arith, same, most))
+    counts_more u (0 + n) (2 * model_size flat) old new c.settle_all.result (omega (arith, same, most))
     (counts_then u 0 n old mid new c.settle_all.result
     (counted_same u old mid (ap (λ (d : Diagrams). d.budget) rest) (ap (λ (d : Diagrams). d.nodes) rest))
     (c.settle_all.ensures.counts u (within_beside u c.args.inputs c.args.out old mid w spans.inputs_apart spans.inputs_live reads)

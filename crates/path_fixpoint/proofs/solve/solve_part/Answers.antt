@@ -90,7 +90,7 @@ returns-in-Err-clause-few c one u gates roots =
     let spans = c.requires.spans in
     let first = 8 * (n * (m * 4)) in
     let each = n * 6 + r * 3 + n * (m * 38) in
-    let most = 400 * (n + 1) * (m + r + 1) in
+    let most = 108 * (n * m) + 12 * n + 6 * r in
     spends_more u out first most old a (Err c.in-Err.spent) (part_most_levels n m r) (c.in-Err.ensures.few u gates)
 
 pub returns-in-Err-reaches-clause-few : goal.returns-in-Err-reaches-clause-few
@@ -104,7 +104,7 @@ returns-in-Err-reaches-clause-few c one u gates roots =
     let spans = c.requires.spans in
     let first = 8 * (n * (m * 4)) in
     let each = n * 6 + r * 3 + n * (m * 38) in
-    let most = 400 * (n + 1) * (m + r + 1) in
+    let most = 108 * (n * m) + 12 * n + 6 * r in
     let wa = c.in-Ok.ensures.writes in
     let found = c.in-Ok.ensures.few u gates in
     let gates_a = span_beside u out c.args.gates old a wa spans.spans.apart spans.spans.gates_live gates in
@@ -124,7 +124,7 @@ returns-clause-few c one u gates roots =
     let spans = c.requires.spans in
     let first = 8 * (n * (m * 4)) in
     let each = n * 6 + r * 3 + n * (m * 38) in
-    let most = 400 * (n + 1) * (m + r + 1) in
+    let most = 108 * (n * m) + 12 * n + 6 * r in
     let wa = c.in-Ok.ensures.writes in
     let found = c.in-Ok.ensures.few u gates in
     let gates_a = span_beside u out c.args.gates old a wa spans.spans.apart spans.spans.gates_live gates in
