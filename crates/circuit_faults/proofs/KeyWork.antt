@@ -36,16 +36,16 @@ module _ (w : InPhase) (ranks : List ℕ) where
   abbrev cost : Key → ℕ
   cost x = step_operations w (step_of_key x)
 
-  parts_cost : (n : ℕ) → n ≤ length w.parts → sum_by cost (part_keys w.parts n) ≡ sum_by part_operations (take n w.parts)
+  parts_cost : (n : ℕ) → n ≤ length w.parts → sum_by cost (part_keys w.parts n) ≡ sum_by (part_operations w.circuit) (take n w.parts)
   parts_cost zero le = refl
   parts_cost (suc n) le =
       let p = at_there w.parts n (omega (arith, le)) in
       let before = parts_cost n (omega (arith, le)) in
-      let own : cost ((part_rank w.parts n, 0), n) ≡ part_operations p.0 = part_step_operations w n p.0 p.1 in
+      let own : cost ((part_rank w.parts n, 0), n) ≡ part_operations w.circuit p.0 = part_step_operations w n p.0 p.1 in
       let keys = sum_by_push cost (part_keys w.parts n) ((part_rank w.parts n, 0), n) in
       let next : n + 1 ≡ suc n = omega arith in
-      let all : sum_by part_operations (take (suc n) w.parts) ≡ sum_by part_operations (take n w.parts) + part_operations p.0 =
-      subst (λ (m : ℕ). sum_by part_operations (take m w.parts) ≡ sum_by part_operations (take n w.parts) + part_operations p.0) next (sum_next part_operations w.parts n p.0 p.1) in
+      let all : sum_by (part_operations w.circuit) (take (suc n) w.parts) ≡ sum_by (part_operations w.circuit) (take n w.parts) + part_operations w.circuit p.0 =
+      subst (λ (m : ℕ). sum_by (part_operations w.circuit) (take m w.parts) ≡ sum_by (part_operations w.circuit) (take n w.parts) + part_operations w.circuit p.0) next (sum_next (part_operations w.circuit) w.parts n p.0 p.1) in
       omega (arith, before, own, keys, all)
 
   abbrev instance_rank : FlatInstance → ℕ
@@ -76,13 +76,13 @@ module _ (w : InPhase) (ranks : List ℕ) where
       omega (arith, before, own, keys, all)
 
   pub keys_cost : (keys : List Key) → AreSorted w.design w.rules w.circuit w.phase w.parts ranks keys → (steps : List CircuitStep) → steps ≡ map step_of_key keys
-      → sum_by (step_operations w) steps ≡ circuit_operations w.parts + sum_by (constraint_operations w) w.circuit.instances
+      → sum_by (step_operations w) steps ≡ circuit_operations w.circuit w.parts + sum_by (constraint_operations w) w.circuit.instances
   keys_cost keys sorted steps are =
       let moved = sum_by-IsPermutation cost (all_keys w.design w.rules w.circuit w.phase w.parts ranks) keys sorted.permutation in
       let both = sum_by-append cost (part_keys w.parts (length w.parts)) (instance_keys w.design w.rules w.circuit w.phase ranks (length w.circuit.instances)) in
       let parts = parts_cost (length w.parts) (omega arith) in
       let instances = instances_cost (length w.circuit.instances) (omega arith) in
-      let whole : sum_by part_operations (take (length w.parts) w.parts) ≡ circuit_operations w.parts = ap (λ (xs : List Part). sum_by part_operations xs) (take-length w.parts) in
+      let whole : sum_by (part_operations w.circuit) (take (length w.parts) w.parts) ≡ circuit_operations w.circuit w.parts = ap (λ (xs : List Part). sum_by (part_operations w.circuit) xs) (take-length w.parts) in
       let all : sum_by (constraint_operations w) (take (length w.circuit.instances) w.circuit.instances) ≡ sum_by (constraint_operations w) w.circuit.instances =
       ap (λ (xs : List FlatInstance). sum_by (constraint_operations w) xs) (take-length w.circuit.instances) in
       let made : sum_by (step_operations w) steps ≡ sum_by cost keys = ap (λ (xs : List CircuitStep). sum_by (step_operations w) xs) are ∙ sum_of_map step_of_key (step_operations w) keys in
@@ -91,7 +91,7 @@ module _ (w : InPhase) (ranks : List ℕ) where
 -- so for each comparison with this design, these rules and this circuit
 pub steps_work : (k : Comparison) (phase : ℕ) (parts : Parts) (ranks : List ℕ) (keys : List Key) (design : Design) (rules : Rules) (c : Circuit) → k.design ≡ design → k.rules ≡ rules → k.circuit ≡ c
     → AreSorted design rules c phase parts.list ranks keys → (steps : List CircuitStep) → steps ≡ map step_of_key keys → (observed : ℕ → Bool)
-    → steps_operations (in_comparison k phase parts steps observed) ≡ circuit_operations parts.list + sum_by (constraint_operations (in_comparison k phase parts steps observed)) k.circuit.instances
+    → steps_operations (in_comparison k phase parts steps observed) ≡ circuit_operations k.circuit parts.list + sum_by (constraint_operations (in_comparison k phase parts steps observed)) k.circuit.instances
 steps_work k phase parts ranks keys design rules c d r x sorted steps are observed =
     keys_cost (in_comparison k phase parts steps observed) ranks keys
     (subst (λ (y : Design). AreSorted y k.rules k.circuit phase parts.list ranks keys) (sym d)

@@ -3,7 +3,6 @@ pub mod CircuitLaws
 pub mod ClearHere
 pub mod CountLaws
 pub mod DrivenAlone
-pub mod FlatOperations
 pub mod InstanceLaws
 pub mod KeptBits
 pub mod KeptCases

@@ -12,11 +12,11 @@ use Rattle.bdd_ops.proofs.WithinLaws.{within_same}
 use Rattle.bdd_ops.specs.Counting.{IsCounted, IsSpanWithin}
 use Rattle.channel_parts.specs.declared.part.Part.{Part}
 use Rattle.circuit_faults.proofs.ThreeSpans.{apart_outputs, net_beside, output_word}
-use Rattle.circuit_faults.proofs.WiredWork.{work_all, work_before, work_next}
+use Rattle.circuit_faults.proofs.WiredWork.{IsUpTo, work_from, work_next}
 use Rattle.circuit_faults.specs.Results.{HasCircuitSpans, output_span}
 use Rattle.circuit_faults.specs.Scans.{IsInside}
 use Rattle.circuit_faults.specs.Steps.{InPhase, phase_of}
-use Rattle.circuit_faults.specs.Wholes.{OutputsGive, net_operations}
+use Rattle.circuit_faults.specs.Wholes.{OutputsGive}
 use Rattle.known_nets.proofs.WiredLaws.{pin_of_whole}
 use Rattle.vrt_model.proofs.Lists.{one_at}
 use Rattle.vrt_model.proofs.Members.{among_map}
@@ -29,7 +29,10 @@ use Rattle.vrt_model.specs.declared.ids.Net.{Net}
 use Rattle.vrt_model.specs.declared.rules.Phase.{Phase}
 use Rattle.vrt_model.specs.declared.whole.WholePin.{WholePin}
 use Rattle.whole_steps.proofs.TableLaws.{input_in_range}
-use Rattle.whole_steps.specs.Tables.{AreDrivers, IsLast, IsOutput, OutputGives, driver_at, output_operations}
+use Rattle.whole_steps.proofs.DriverLaws.{earlier_whole}
+use Rattle.whole_steps.proofs.EvaluationLaws.{same_reading}
+use Rattle.whole_steps.specs.Evaluations.{output_operations}
+use Rattle.whole_steps.specs.Tables.{AreDrivers, IsLast, IsOutput, OutputGives, driver_at}
 use Rattle.whole_steps.specs.declared.table.OutputPlace.{OutputPlace}
 
 -- ---- one output
@@ -48,6 +51,10 @@ module _ (c : Circuit) (roots : Span) (fits : length c.nets + length (output_pin
 
   pub behind_filled : (d : Diagrams) → IsFilled d roots → IsFilled d (words_behind c roots)
   behind_filled d live k lt = (let there = live (length c.nets + k) (omega (arith, lt)) in let same = word_behind d k in omega (arith, there, same))
+
+  pub behind_apart : (gates : Span) → IsApart roots gates → IsApart gates (words_behind c roots)
+  behind_apart gates (inl low) = inr (omega (arith, low, fits))
+  behind_apart gates (inr high) = inl (omega (arith, high, fits))
 
   pub behind_within : (u : ℕ) (d : Diagrams) → IsSpanWithin u d roots → IsSpanWithin u d (words_behind c roots)
   behind_within u d reads k lt = subst (λ (h : ℕ). IsWithin u (meaning d.nodes h)) (sym (word_behind d k)) (reads (length c.nets + k) (omega (arith, lt)))
@@ -92,20 +99,6 @@ one_gives w roots gates old new place o is fits g = record {
 }
 
 -- ---- several outputs
-
--- a model gives its output the same where the nets at its inputs have the same bits
-same_reading : (phase : Phase) (o : OutputPin) (r q : ℕ → Bool) (u : Bool) → ((input : WholePin) → Among o.whole.inputs input → r input.net.0 ≡ q input.net.0) → ModelGives phase o r u → ModelGives phase o q u
-same_reading phase o r q u same g = (
-  g.0,
-  record {
-    clocks = g.1.clocks;
-    inputs = λ t m.
-        let from = among_map (λ (p : WholePin). let tied : Tied = record { net = p.net.0; signal = p.signal } in tied) o.whole.inputs t m in
-        g.1.inputs t m ∙ subst (λ (x : Tied). r x.net ≡ q x.net) from.2 (same from.0 from.1);
-    obeys = g.1.obeys;
-  },
-  g.2,
-)
 
 module _ (w : InPhase) (roots gates out : Span) (fits : length w.circuit.nets + length (output_pins w.circuit) ≤ roots.len) where
   -- nothing is written
@@ -162,49 +155,59 @@ pub last_low : (c : Circuit) (pins : List OutputPin) (n bound : ℕ) (o : Option
 last_low c pins n bound None last = omega arith
 last_low c pins n bound (Some place) last = (let lt = last.2 in omega (arith, lt))
 
--- the outputs from a number on that are at a net have their bits, and the next is the last before it
-pub record AreWrittenDown (w : InPhase) (roots gates : Span) (n : ℕ) (first now : Diagrams) (next : Option OutputPlace) : Type 0 where
+-- the outputs from a number on that are at a net have their bits, and the next is the last before it; its instance is not behind the one
+-- whose model was evaluated last
+pub record AreWrittenDown (w : InPhase) (roots gates : Span) (n : ℕ) (first now : Diagrams) (evaluated : Option ℕ) (next : Option OutputPlace) : Type 0 where
   pub bound : ℕ
   pub last : IsLast w.circuit (output_pins w.circuit) n bound next
+  pub order : (place : OutputPlace) → next ≡ Some place → IsUpTo evaluated place.whole
   pub gives : OutputsGive w (λ at o. (o.pin.net.0 ≡ n) × (bound ≤ at)) roots gates first now
   pub counted :
       (u : ℕ) → IsSpanWithin u first gates → IsSpanWithin u first roots
-      → (work : ℕ) × IsCounted u work first now × (work + work_before w.circuit n bound ≤ net_operations w.circuit n)
+      → (work : ℕ) × IsCounted u work first now × (work ≤ work_from w.circuit n evaluated)
 
 module _ (w : InPhase) (roots gates out : Span) (fits : length w.circuit.nets + length (output_pins w.circuit) ≤ roots.len) (n : ℕ) (first : Diagrams) where
   abbrev pins : List OutputPin
   pins = output_pins w.circuit
 
-  pub down_none : (drivers : List (Option OutputPlace)) → AreDrivers w.circuit (output_pins w.circuit) drivers → n < length w.circuit.nets → AreWrittenDown w roots gates n first first (driver_at drivers n)
+  pub down_none : (drivers : List (Option OutputPlace)) → AreDrivers w.circuit (output_pins w.circuit) drivers → n < length w.circuit.nets → AreWrittenDown w roots gates n first first None (driver_at drivers n)
   down_none drivers are lt = record {
     bound = length pins;
     last = are.last n lt;
+    order = λ place is. tt;
     gives = gives_none w roots gates out fits (λ at o. (o.pin.net.0 ≡ n) × (length pins ≤ at)) first
         (λ at o e written. let low = slice_get_within pins at o e in let high = written.1 in omega (arith, low, high));
-    counted = λ u gates_in roots_in. (0, counted_none u first, (let all = work_all w.circuit n (length pins) in omega (arith, all)));
+    counted = λ u gates_in roots_in. (0, counted_none u first, omega arith);
   }
 
   module _ (parts : List Part) (ranges : HasRanges w.circuit) (now new : Diagrams) (spans : HasCircuitSpans w.circuit parts roots gates out first) (live : IsFilled first gates)
       (pins_live : IsFilled now (output_span w.circuit roots)) (before : WritesTwo (output_span w.circuit roots) out first now) (step : WritesTwo (output_span w.circuit roots) out now new)
-      (place : OutputPlace) (down : AreWrittenDown w roots gates n first now (Some place)) where
+      (place : OutputPlace) (evaluated : Option ℕ) (down : AreWrittenDown w roots gates n first now evaluated (Some place)) where
     abbrev here : OutputPin
     here = down.last.0
 
+    pub work_here : work_from w.circuit n evaluated + output_operations evaluated place.whole here.whole ≤ work_from w.circuit n (Some place.whole)
+    work_here = work_next w.circuit n place.whole evaluated here.whole here.pin down.last.1.whole (place.output, down.last.1.output) down.last.3 (down.order place refl)
+
     -- one output more
     pub down_more : (drivers : List (Option OutputPlace)) → AreDrivers w.circuit (output_pins w.circuit) drivers → OutputsGive w (λ at o. at ≡ place.number) roots gates now new
-        → ((u : ℕ) → IsSpanWithin u first gates → IsSpanWithin u first roots → IsCounted u (output_operations here.whole) now new)
-        → AreWrittenDown w roots gates n first new (driver_at drivers (length w.circuit.nets + place.number))
+        → ((u : ℕ) → IsSpanWithin u first gates → IsSpanWithin u first roots → IsCounted u (output_operations evaluated place.whole here.whole) now new)
+        → AreWrittenDown w roots gates n first new (Some place.whole) (driver_at drivers (length w.circuit.nets + place.number))
     down_more drivers are gives counted = record {
       bound = place.number;
       last = subst (λ (m : ℕ). IsLast w.circuit pins m place.number (driver_at drivers (length w.circuit.nets + place.number))) down.last.3 (are.earlier place.number here down.last.1.number);
+      order = λ other is.
+          let before = subst (IsLast w.circuit pins here.pin.net.0 place.number) is (are.earlier place.number here down.last.1.number) in
+          earlier_whole w.circuit pins other place before.0 here before.1 down.last.1 before.2;
       gives = gives_as w roots gates out fits (λ at o. ((o.pin.net.0 ≡ n) × (down.bound ≤ at)) ⊎ (at ≡ place.number)) (λ at o. (o.pin.net.0 ≡ n) × (place.number ≤ at)) first new to back
           (gives_then w roots gates out fits parts first now new spans live pins_live before step (λ at o. (o.pin.net.0 ≡ n) × (down.bound ≤ at)) (λ at o. at ≡ place.number)
           (λ at o e. cases_eq at place.number) ranges down.gives gives);
       counted = λ u gates_in roots_in.
           let so_far = down.counted u gates_in roots_in in
-          let more = work_next w.circuit n down.bound place.number here down.last.1.number down.last.3 down.last.2 in
+          let more = work_here in
           let most = so_far.2 in
-          (so_far.0 + output_operations here.whole, counted_then u so_far.0 (output_operations here.whole) first now new so_far.1 (counted u gates_in roots_in), omega (arith, more, most));
+          let cost = output_operations evaluated place.whole here.whole in
+          (so_far.0 + cost, counted_then u so_far.0 cost first now new so_far.1 (counted u gates_in roots_in), omega (arith, more, most));
     }
       where
         to : (at : ℕ) (o : OutputPin) → At pins at o → (o.pin.net.0 ≡ n) × (place.number ≤ at) → ((o.pin.net.0 ≡ n) × (down.bound ≤ at)) ⊎ (at ≡ place.number)
@@ -223,8 +226,8 @@ module _ (w : InPhase) (roots gates out : Span) (fits : length w.circuit.nets + 
             (ap (λ (x : OutputPin). x.pin.net.0) (sym one) ∙ down.last.3, omega (arith, same))
 
   -- all of them
-  pub down_all : (now : Diagrams) (o : Option OutputPlace) → o ≡ None → AreWrittenDown w roots gates n first now o → OutputsGive w (λ at o. o.pin.net.0 ≡ n) roots gates first now
-  down_all now o none down =
+  pub down_all : (now : Diagrams) (evaluated : Option ℕ) (o : Option OutputPlace) → o ≡ None → AreWrittenDown w roots gates n first now evaluated o → OutputsGive w (λ at o. o.pin.net.0 ≡ n) roots gates first now
+  down_all now evaluated o none down =
       gives_as w roots gates out fits (λ at o. (o.pin.net.0 ≡ n) × (down.bound ≤ at)) (λ at o. o.pin.net.0 ≡ n) first now
       (λ at o e net. elim (cases_lt at down.bound) [
         | inl low ↦ absurd (subst (IsLast w.circuit pins n down.bound) none down.last at o e low net)

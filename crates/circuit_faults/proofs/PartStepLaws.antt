@@ -32,7 +32,7 @@ module _ (w : InPhase) where
       ∙ sym (map-append part_step (take n w.parts) (p.0 ∷ []))
       ∙ ap (map part_step) (sym (one_more n p.0 p.1))
 
-  operations_so_far : (n : ℕ) → n ≤ length w.parts → sum_by (step_operations w) (part_list n) ≡ sum_by part_operations (take n w.parts)
+  operations_so_far : (n : ℕ) → n ≤ length w.parts → sum_by (step_operations w) (part_list n) ≡ sum_by (part_operations w.circuit) (take n w.parts)
   operations_so_far zero le = refl
   operations_so_far (suc n) le =
       let p = at_there w.parts n (omega (arith, le)) in
@@ -40,8 +40,8 @@ module _ (w : InPhase) where
       let own = part_step_operations w n p.0 p.1 in
       sum_by_push (step_operations w) (part_list n) (PartStep n)
       ∙ ap₂ (λ (x y : ℕ). x + y) before own
-      ∙ sym (sum_by_push part_operations (take n w.parts) p.0)
-      ∙ ap (sum_by part_operations) (sym (one_more n p.0 p.1))
+      ∙ sym (sum_by_push (part_operations w.circuit) (take n w.parts) p.0)
+      ∙ ap (sum_by (part_operations w.circuit)) (sym (one_more n p.0 p.1))
 
   there_so_far : (n : ℕ) → n ≤ length w.parts → (j : ℕ) (step : CircuitStep) → At (part_list n) j step → IsThere w step
   there_so_far zero le j step e = absurd (at_none j step e)
@@ -55,8 +55,8 @@ module _ (w : InPhase) where
     pub listed_steps : steps_of w ≡ map part_step w.parts
     listed_steps = ap (map (step_of w.parts)) all ∙ steps_so_far (length w.parts) (omega arith) ∙ ap (map part_step) (take_whole w.parts)
 
-    pub listed_operations : steps_operations w ≡ circuit_operations w.parts
-    listed_operations = ap (sum_by (step_operations w)) all ∙ operations_so_far (length w.parts) (omega arith) ∙ ap (sum_by part_operations) (take_whole w.parts)
+    pub listed_operations : steps_operations w ≡ circuit_operations w.circuit w.parts
+    listed_operations = ap (sum_by (step_operations w)) all ∙ operations_so_far (length w.parts) (omega arith) ∙ ap (sum_by (part_operations w.circuit)) (take_whole w.parts)
 
     pub listed_there : (j : ℕ) (step : CircuitStep) → At w.steps j step → IsThere w step
     listed_there j step e = there_so_far (length w.parts) (omega arith) j step (subst (λ (steps : List CircuitStep). At steps j step) all e)

@@ -22,7 +22,7 @@ use Rattle.circuit_faults.specs.Operations.{instance_operations, part_operations
 use Rattle.circuit_faults.specs.Results.{HasCircuitSpans, IsFirstFault, WritesThree, output_span, root_at}
 use Rattle.circuit_faults.specs.Scans.{IsInside, free_part}
 use Rattle.circuit_faults.specs.Steps.{AreOrderedSteps, InPhase, IsPartAt, IsReadyInstance, phase_of}
-use Rattle.circuit_faults.specs.Wholes.{IsReadyWholes, OutputsGive, SolvedGives, WiredGives, driven_operations, wired_operations}
+use Rattle.circuit_faults.specs.Wholes.{IsReadyWholes, OutputsGive, SolvedGives, WiredGives}
 use Rattle.circuit_faults.specs.declared.net.CircuitFault.{CircuitFault}
 use Rattle.circuit_faults.specs.declared.steps.CircuitStep.{CircuitStep}
 use Rattle.circuit_faults.specs.declared.steps.CircuitStep.TheVariants.{Part as PartStep, Instance as InstanceStep}
@@ -40,15 +40,11 @@ if_ok_all P (Err e) all = tt
 
 -- ---- operations
 
-pub part_step_operations : (w : InPhase) (number : ℕ) (part : Part) → At w.parts number part → step_operations w (PartStep number) ≡ part_operations part
-part_step_operations w number part e = ap (λ (o : Option Part). unwrap_or (option_map part_operations o) 0) e
+pub part_step_operations : (w : InPhase) (number : ℕ) (part : Part) → At w.parts number part → step_operations w (PartStep number) ≡ part_operations w.circuit part
+part_step_operations w number part e = ap (λ (o : Option Part). unwrap_or (option_map (part_operations w.circuit) o) 0) e
 
 pub instance_step_operations : (w : InPhase) (at : ℕ) (i : FlatInstance) → At w.circuit.instances at i → step_operations w (InstanceStep at) ≡ instance_operations w i
 instance_step_operations w at i e = ap (λ (o : Option FlatInstance). unwrap_or (option_map (instance_operations w) o) 0) e
-
-pub wired_is : (w : InPhase) (number : ℕ) (part : Part) → At w.parts number part → wired_operations w (PartStep number) ≡ part_operations part + driven_operations w.circuit part
-wired_is w number part there =
-    ap (λ (o : Option Part). unwrap_or (option_map part_operations o) 0 + unwrap_or (option_map (driven_operations w.circuit) o) 0) there
 
 -- ---- one step more
 

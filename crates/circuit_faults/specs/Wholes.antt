@@ -1,5 +1,5 @@
 -- Circuits in which whole instances may stand, and steps over the parts with their outputs.
-use Rattle.std.specs.Prelude.{◌≡◌, ◌≢◌, ℕ, ◌+◌, ◌*◌, ◌<◌, ◌==◌, Bool, true, List, Option, None, Some, Result, IfOk, cond, length, option_map, slice_get, sum_by, unwrap_or}
+use Rattle.std.specs.Prelude.{◌≡◌, ◌≢◌, ℕ, ◌<◌, Bool, true, List, Option, None, Some, Result, IfOk, length}
 use Rattle.node_pool.specs.declared.region.Span.{Span}
 use Rattle.bdd_core.specs.Diagram.{Valuation}
 use Rattle.bdd_core.specs.Store.{Diagrams}
@@ -10,26 +10,23 @@ use Rattle.bdd_ops.specs.Counting.{Counts, IsSpanWithin}
 use Rattle.blif_eval.specs.declared.plan.ModelPlan.{ModelPlan}
 use Rattle.channel_parts.specs.OneSolution.{AreDetermined}
 use Rattle.channel_parts.specs.declared.part.Part.{Part}
-use Rattle.circuit_faults.specs.Operations.{step_operations}
 use Rattle.circuit_faults.specs.Results.{StepGives, output_span}
 use Rattle.circuit_faults.specs.Scans.{IsInside, PartGives, free_part}
 use Rattle.circuit_faults.specs.Steps.{InPhase, IsInStepBefore, IsPartAt, phase_of}
 use Rattle.circuit_faults.specs.declared.net.CircuitFault.{CircuitFault}
 use Rattle.circuit_faults.specs.declared.steps.CircuitStep.{CircuitStep}
 use Rattle.circuit_faults.specs.declared.steps.CircuitStep.TheVariants.{Part as PartStep, Instance as InstanceStep}
-use Rattle.path_fixpoint.specs.Parts.{pins_at, pins_of}
 use Rattle.vrt_model.specs.Determined.{IsLinkedTo}
 use Rattle.vrt_model.specs.Known.{IsPlain, IsUnknown}
 use Rattle.vrt_model.specs.Lists.{At, Among}
 use Rattle.vrt_model.specs.Networks.{HasRanges}
 use Rattle.vrt_model.specs.State.{ModelGives, OutputPin, output_pins}
 use Rattle.vrt_model.specs.declared.circuit.Circuit.{Circuit}
-use Rattle.vrt_model.specs.declared.ids.Net.{Net}
 use Rattle.vrt_model.specs.declared.rules.Phase.{Phase}
 use Rattle.vrt_model.specs.declared.whole.Whole.{Whole}
 use Rattle.vrt_model.specs.declared.whole.WholePin.{WholePin}
 use Rattle.whole_steps.specs.FreeOutputs.{IsFreeOutput}
-use Rattle.whole_steps.specs.Tables.{IsOutput, IsWholeTable, output_operations}
+use Rattle.whole_steps.specs.Tables.{IsOutput, IsWholeTable}
 use Rattle.whole_steps.specs.declared.table.OutputPlace.{OutputPlace}
 
 -- the numbers of a circuit are in range, and each output of a whole instance is at a plain net and follows from the observed inputs
@@ -100,24 +97,3 @@ WiredGives drivers w care roots gates out old new (InstanceStep at) found = Step
 pub record SpendsWired {A : Type 0} (u operations : ℕ) (gates roots : Span) (old new : Diagrams) (result : Result A Spent) : Type 0 where
   pub counts : Counts u operations old new result
   pub within : IfOk result (λ _. IsSpanWithin u new gates × IsSpanWithin u new roots)
-
--- of the outputs at a net: those of the models of their instances
-abbrev pub output_work : ℕ → OutputPin → ℕ
-output_work n out = cond (out.pin.net.0 == n) (output_operations out.whole) 0
-
-abbrev pub net_operations : Circuit → ℕ → ℕ
-net_operations c n = sum_by (output_work n) (output_pins c)
-
--- of the outputs at a part: those of the models, and to solve the part with them
-abbrev pub driven_operations : Circuit → Part → ℕ
-driven_operations c part =
-    400 * (length part.nets + 1) * pins_at part (pins_of c) + sum_by (λ (net : Net). net_operations c net.0) part.nets
-
--- of a step: those of its part or of its instance, and of the outputs at the part
-abbrev pub wired_operations : InPhase → CircuitStep → ℕ
-wired_operations w (PartStep number) =
-    step_operations w (PartStep number) + unwrap_or (option_map (driven_operations w.circuit) (slice_get w.parts number)) 0
-wired_operations w (InstanceStep at) = step_operations w (InstanceStep at)
-
-abbrev pub all_operations : InPhase → ℕ
-all_operations w = sum_by (wired_operations w) w.steps

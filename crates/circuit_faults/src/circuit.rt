@@ -7,15 +7,15 @@ ghost use Rattle.bdd_core.specs.Words.{IsApart, IsFilled, Writes, word_at, Write
 ghost use Rattle.bdd_ops.specs.Counting.{IsSpanWithin};
 ghost use Rattle.channel_parts.specs.OneSolution.{AreObserved};
 ghost use Rattle.circuit_faults.specs.Faults.{HasFixedBits};
-ghost use Rattle.circuit_faults.specs.Operations.{IsUsedUp, kept_part_operations, step_operations};
+ghost use Rattle.circuit_faults.specs.Operations.{IsUsedUp, step_operations, steps_operations};
 ghost use Rattle.circuit_faults.specs.Results.{CircuitGives, HasCircuitSpans, StepGives, WritesThree, first_word, output_span, root_at};
 ghost use Rattle.circuit_faults.specs.Steps.{AreOrderedSteps, IsReadyInstance, IsThere, in_phase, phase_of};
 ghost use Rattle.circuit_faults.specs.declared.steps.CircuitStep.TheVariants.{Part as PartStep, Instance as InstanceStep};
 ghost use Rattle.known_nets.specs.KnownTables.{known_at};
-ghost use Rattle.path_fixpoint.specs.Spending.{HasOneHold, Spends};
+ghost use Rattle.path_fixpoint.specs.Spending.{HasOneHold, Spends, solving_operations};
 ghost use Rattle.path_fixpoint.specs.Strengths.{net_words};
 ghost use Rattle.circuit_faults.specs.Scans.{PartGives, free_part};
-ghost use Rattle.circuit_faults.specs.Wholes.{IsCopied, IsReadyWholes, SpendsWired, WiredGives, all_operations, wired_operations};
+ghost use Rattle.circuit_faults.specs.Wholes.{IsCopied, IsReadyWholes, SpendsWired, WiredGives};
 ghost use Rattle.path_fixpoint.specs.Parts.{AreSoftInside, IsPart};
 ghost use Rattle.vrt_model.specs.Lists.{Among, At, mark_at};
 ghost use Rattle.vrt_model.specs.Networks.{HasRanges};
@@ -108,7 +108,7 @@ fn check_solved(
     ensures writes { WritesTwo spans.gates spans.out store.old store.new }
     ensures live { IsFilled store.new spans.gates }
     ensures gives { IfOk result (λ found. PartGives phased.entry.circuit.now part.now (mark_at phased.entry.observed.now) care spans.roots spans.gates store.old store.new found) }
-    ensures few { HasOneHold phased.entry.circuit.now → (u : ℕ) → IsWithin u (function_of store.old care) → IsSpanWithin u store.old spans.gates → IsSpanWithin u store.old spans.roots → Spends u (kept_part_operations phased.entry.circuit.now part.now + 4 * length part.now.nets) spans.gates store.old store.new result }
+    ensures few { HasOneHold phased.entry.circuit.now → (u : ℕ) → IsWithin u (function_of store.old care) → IsSpanWithin u store.old spans.gates → IsSpanWithin u store.old spans.roots → Spends u (solving_operations phased.entry.circuit.now part.now + 4 * length part.now.nets) spans.gates store.old store.new result }
 {
     store.sound();
     if let Some(net) = undriven_net(phased.circuit, wholes, part) {
@@ -174,7 +174,7 @@ fn check_part_step(
     ensures live { IsFilled store.new spans.gates }
     ensures roots { IsFilled store.new spans.roots }
     ensures gives { IfOk result (λ found. WiredGives wholes.entry.drivers.now (in_phase phased.entry) care spans.roots spans.gates spans.out store.old store.new (PartStep number) found) }
-    ensures few { HasOneHold phased.entry.circuit.now → (u : ℕ) → IsWithin u (function_of store.old care) → IsSpanWithin u store.old spans.gates → IsSpanWithin u store.old spans.roots → SpendsWired u (wired_operations (in_phase phased.entry) (PartStep number)) spans.gates spans.roots store.old store.new result }
+    ensures few { HasOneHold phased.entry.circuit.now → (u : ℕ) → IsWithin u (function_of store.old care) → IsSpanWithin u store.old spans.gates → IsSpanWithin u store.old spans.roots → SpendsWired u (step_operations (in_phase phased.entry) (PartStep number)) spans.gates spans.roots store.old store.new result }
 {
     let part = part_at(phased.parts, number);
     match write_outputs(store, phased, wholes, part, spans) {
@@ -235,7 +235,7 @@ fn check_step(
     ensures live { IsFilled store.new spans.gates }
     ensures roots { IsFilled store.new spans.roots }
     ensures gives { IfOk result (λ found. WiredGives wholes.entry.drivers.now (in_phase phased.entry) care spans.roots spans.gates spans.out store.old store.new step found) }
-    ensures few { HasOneHold phased.entry.circuit.now → (u : ℕ) → IsWithin u (function_of store.old care) → IsSpanWithin u store.old spans.gates → IsSpanWithin u store.old spans.roots → SpendsWired u (wired_operations (in_phase phased.entry) step) spans.gates spans.roots store.old store.new result }
+    ensures few { HasOneHold phased.entry.circuit.now → (u : ℕ) → IsWithin u (function_of store.old care) → IsSpanWithin u store.old spans.gates → IsSpanWithin u store.old spans.roots → SpendsWired u (step_operations (in_phase phased.entry) step) spans.gates spans.roots store.old store.new result }
 {
     match step {
         CircuitStep::Part(number) => check_part_step(store, phased, wholes, number, care, spans),
@@ -262,9 +262,10 @@ fn step_at(steps: &[CircuitStep], place: usize) -> CircuitStep
 /// also where the budget is used up. `spans.out` has the words of the nets of the greatest part, and those of the greatest model.
 ///
 /// Where the handles read only the first `u` variables and no net has two holds, a part of p nets and q devices with r outputs takes at
-/// most 400 (p + 1) (q + r + 1) + 4 p operations of `2 ^ u` nodes, an output 20 (s + 1) more for s literals and rows of its model, and
-/// an instance 20 for each operator and name of its lines and 2 more; the handles that are written read only these variables too. `Spent` comes only where the budget is less
-/// than all these with the nodes that were there, and has the budget.
+/// most (12 l + 12) p q + 16 p + 6 r operations of `2 ^ u` nodes, where l is the source level, each net with outputs 2 s more for the s
+/// literals and rows of the models of their instances, and an instance 20 for each operator and name of its lines and 2 more; the handles
+/// that are written read only these variables too. `Spent` comes only where the budget is less than all these with the nodes that were
+/// there, and has the budget.
 pub fn wired_fault(
     store: &mut Store,
     phased: PhasedCircuit<'_>,
@@ -284,7 +285,7 @@ pub fn wired_fault(
     ensures live { IsFilled store.new spans.gates }
     ensures roots { IsFilled store.new spans.roots }
     ensures gives { IfOk result (λ found. ((v : Valuation) → HasFixedBits phased.entry.circuit.now (phase_of (in_phase phased.entry)) (root_at store.old spans.roots v)) → CircuitGives (in_phase phased.entry) care spans.roots spans.gates store.old store.new found) }
-    ensures few { HasOneHold phased.entry.circuit.now → (u : ℕ) → IsWithin u (function_of store.old care) → IsSpanWithin u store.old spans.roots → Spends u (all_operations (in_phase phased.entry)) spans.gates store.old store.new result }
+    ensures few { HasOneHold phased.entry.circuit.now → (u : ℕ) → IsWithin u (function_of store.old care) → IsSpanWithin u store.old spans.roots → Spends u (steps_operations (in_phase phased.entry)) spans.gates store.old store.new result }
     ensures spent { HasOneHold phased.entry.circuit.now → IfErr result (IsUsedUp store.old store.new) }
 {
     store.sound();

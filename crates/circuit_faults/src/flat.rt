@@ -39,8 +39,8 @@ use whole_steps::{OutputPlace, WholeTable};
 /// the budget is used up. `spans.out` has the words of the nets of the greatest part.
 ///
 /// Where the handles read only the first `u` variables and no net has two holds, a part of p nets and q devices takes at
-/// most 400 (p + 1) (q + 1) + 4 p operations of `2 ^ u` nodes, and an instance 20 for each operator and name of its lines
-/// and 2 more; the handles that are written read only these variables too. `Spent` comes only where the budget is less
+/// most (12 l + 12) p q + 16 p operations of `2 ^ u` nodes, where l is the source level, and an instance 20 for each operator and
+/// name of its lines and 2 more; the handles that are written read only these variables too. `Spent` comes only where the budget is less
 /// than all these with the nodes that were there, and has the budget.
 pub fn circuit_fault(
     store: &mut Store,
@@ -76,7 +76,7 @@ pub fn circuit_fault(
 /// are, also where the budget is used up.
 ///
 /// Where the handles read only the first `u` variables and no net has two holds, a part of p nets and q devices takes at
-/// most 400 (p + 1) (q + 1) operations of `2 ^ u` nodes, and each net at most 20. `Spent` comes only where the budget is
+/// most (12 l + 12) p q + 12 p operations of `2 ^ u` nodes, where l is the source level, and each net at most 20. `Spent` comes only where the budget is
 /// less than all these with the nodes that were there, and has the budget.
 pub fn kept_fault(
     store: &mut Store,

@@ -128,8 +128,9 @@ fn scan_kept(
 /// are, also where the budget is used up.
 ///
 /// Where the handles read only the first `u` variables and no net has two holds, a part of p nets and q devices takes at
-/// most 400 (p + 1) (q + r + 1) operations of `2 ^ u` nodes for r outputs of whole instances on its nets, and each net at most 20. `Spent` comes only where the budget is
-/// less than all these with the nodes that were there, and has the budget.
+/// most (12 l + 12) p q + 12 p + 6 r operations of `2 ^ u` nodes for r outputs of whole instances on its nets, where l is the source
+/// level, and each net at most 20. `Spent` comes only where the budget is less than all these with the nodes that were there, and has
+/// the budget.
 pub fn wired_kept(
     store: &mut Store,
     circuit: &Circuit,

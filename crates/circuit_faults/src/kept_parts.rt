@@ -7,11 +7,10 @@ ghost use Rattle.bdd_ops.specs.Counting.{IsSpanWithin};
 ghost use Rattle.channel_parts.specs.declared.part.Part.{Part};
 ghost use Rattle.circuit_faults.specs.KeptResults.{HasKeptSpans, WritesKept};
 ghost use Rattle.circuit_faults.specs.KeptScans.{IsCopiedTo, IsInSolved, IsPartReached, IsReachedIn, SpendsReach};
-ghost use Rattle.circuit_faults.specs.Operations.{kept_part_operations};
 ghost use Rattle.circuit_faults.specs.Scans.{IsInside, free_part};
 ghost use Rattle.path_fixpoint.specs.Parts.{AreSoftInside, IsPart, IsPlace};
 ghost use Rattle.path_fixpoint.specs.Reaching.{slot_of};
-ghost use Rattle.path_fixpoint.specs.Spending.{HasOneHold};
+ghost use Rattle.path_fixpoint.specs.Spending.{HasOneHold, solving_operations};
 ghost use Rattle.path_fixpoint.specs.Strengths.{net_words, word_of};
 ghost use Rattle.vrt_model.specs.Lists.{Among};
 ghost use Rattle.vrt_model.specs.Networks.{HasRanges};
@@ -72,7 +71,7 @@ fn solve_kept(
     requires spans { HasKeptSpans circuit.now (part.now ∷ []) spans store.old }
     ensures writes { WritesKept spans store.old store.new }
     ensures gives { IfOk result (λ _. IsPartReached circuit.now part.now spans store.old store.new) }
-    ensures few { HasOneHold circuit.now → (u : ℕ) → IsSpanWithin u store.old spans.gates → IsSpanWithin u store.old spans.roots → SpendsReach u (kept_part_operations circuit.now part.now) spans (IsInside part.now) store.old store.new result }
+    ensures few { HasOneHold circuit.now → (u : ℕ) → IsSpanWithin u store.old spans.gates → IsSpanWithin u store.old spans.roots → SpendsReach u (solving_operations circuit.now part.now) spans (IsInside part.now) store.old store.new result }
 {
     store.sound();
     if let Some(net) = undriven_net(circuit, wholes, part) {
@@ -113,7 +112,7 @@ pub(crate) fn solve_parts(
     requires spans { HasKeptSpans circuit.now parts.now spans store.old }
     ensures writes { WritesKept spans store.old store.new }
     ensures gives { IfOk result (λ _. (n : ℕ) → IsInSolved wholes.entry.drivers.now parts.now (length parts.now) n → IsReachedIn circuit.now parts.now spans (length parts.now) store.old store.new n) }
-    ensures few { HasOneHold circuit.now → (u : ℕ) → IsSpanWithin u store.old spans.gates → IsSpanWithin u store.old spans.roots → SpendsReach u (sum_by (kept_part_operations circuit.now) parts.now) spans (IsInSolved wholes.entry.drivers.now parts.now (length parts.now)) store.old store.new result }
+    ensures few { HasOneHold circuit.now → (u : ℕ) → IsSpanWithin u store.old spans.gates → IsSpanWithin u store.old spans.roots → SpendsReach u (sum_by (solving_operations circuit.now) parts.now) spans (IsInSolved wholes.entry.drivers.now parts.now (length parts.now)) store.old store.new result }
 {
     store.sound();
     for part in parts {

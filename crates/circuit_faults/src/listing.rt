@@ -64,7 +64,7 @@ pub fn circuit_steps(
     requires ports { All (HasAllPorts design.now) circuit.now.instances }
     requires nets { All (λ (i : InstanceValue). All (IsNet circuit.now) i.ports) circuit.now.instances }
     ensures steps { IfOk result (λ steps. (k : Comparison) (rank : ℕ → ℕ) → k.design ≡ design.now → k.rules ≡ rules.now → k.circuit ≡ circuit.now → AreParts k.circuit (phase_at k.rules phase) true rank parts.now → IsRanking k.circuit (phase_at k.rules phase) rank → AreSteps k phase rank (map (step_of parts.now.list) steps)) }
-    ensures work { IfOk result (λ steps. (k : Comparison) → k.design ≡ design.now → k.rules ≡ rules.now → k.circuit ≡ circuit.now → (observed : ℕ → Bool) → steps_operations (in_comparison k phase parts.now steps observed) ≡ circuit_operations parts.now.list + sum_by (constraint_operations (in_comparison k phase parts.now steps observed)) k.circuit.instances) }
+    ensures work { IfOk result (λ steps. (k : Comparison) → k.design ≡ design.now → k.rules ≡ rules.now → k.circuit ≡ circuit.now → (observed : ℕ → Bool) → steps_operations (in_comparison k phase parts.now steps observed) ≡ circuit_operations k.circuit parts.now.list + sum_by (constraint_operations (in_comparison k phase parts.now steps observed)) k.circuit.instances) }
     ensures there { IfOk result (λ steps. (j : ℕ) (step : StepValue) → At steps j step → IsStepThere parts.now.list circuit.now step) }
 {
     let list = parts.list.as_slice();

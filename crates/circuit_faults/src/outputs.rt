@@ -1,17 +1,18 @@
 //! The outputs of whole instances at a part: their bits, before the part is looked through.
 
-ghost use Rattle.std.specs.Prelude.{◌≡◌, ℕ, ◌+◌, ◌-◌, ◌<◌, ◌≤◌, All, length, IfOk, sum_by};
+ghost use Rattle.std.specs.Prelude.{◌≡◌, ℕ, ◌+◌, ◌-◌, ◌<◌, ◌≤◌, All, Some, length, IfOk};
 ghost use Rattle.bdd_core.specs.Words.{IsFilled, WritesTwo};
 ghost use Rattle.bdd_ops.specs.Counting.{IsSpanWithin};
+ghost use Rattle.circuit_faults.specs.Operations.{net_operations, outputs_operations};
 ghost use Rattle.circuit_faults.specs.Results.{HasCircuitSpans, output_span};
 ghost use Rattle.circuit_faults.specs.Scans.{IsInside};
-ghost use Rattle.circuit_faults.specs.Steps.{in_phase};
-ghost use Rattle.circuit_faults.specs.Wholes.{IsReadyWholes, OutputsGive, net_operations};
+ghost use Rattle.circuit_faults.specs.Steps.{in_phase, phase_of};
+ghost use Rattle.circuit_faults.specs.Wholes.{IsReadyWholes, OutputsGive};
 ghost use Rattle.path_fixpoint.specs.Spending.{Spends};
 ghost use Rattle.vrt_model.specs.Circuits.{IsNet};
 ghost use Rattle.vrt_model.specs.State.{OutputPin, output_pins};
-ghost use Rattle.vrt_model.specs.declared.ids.Net.{Net as NetValue};
-ghost use Rattle.whole_steps.specs.Tables.{HasModelRoom, IsOutput, output_operations};
+ghost use Rattle.whole_steps.specs.Evaluations.{HasEvaluated, output_operations};
+ghost use Rattle.whole_steps.specs.Tables.{HasModelRoom, IsOutput};
 
 use crate::phased::{CircuitSpans, PhasedCircuit, phase_at};
 use bdd_core::{Spent, Store};
@@ -32,12 +33,13 @@ fn behind_nets(circuit: &Circuit, roots: Span) -> Span
     }
 }
 
-/// Writes the bit of one output.
+/// Writes the bit of one output. The model of its instance is not evaluated again where it is the `last` one that was.
 fn write_one(
     store: &mut Store,
     phased: PhasedCircuit<'_>,
     wholes: WholeTable<'_>,
     place: OutputPlace,
+    last: Option<usize>,
     spans: CircuitSpans,
 ) -> Result<(), Spent>
     requires wholes { IsReadyWholes (in_phase phased) wholes.drivers.now wholes.plans.now }
@@ -45,10 +47,12 @@ fn write_one(
     requires place { (o : OutputPin) × IsOutput phased.circuit.now (output_pins phased.circuit.now) place o }
     requires spans { HasCircuitSpans phased.circuit.now phased.parts.now.list spans.roots spans.gates spans.out store.old }
     requires live { IsFilled store.old spans.gates }
+    requires last { HasEvaluated phased.circuit.now (phase_of (in_phase phased)) last spans.gates spans.out store.old }
     ensures writes { WritesTwo (output_span phased.entry.circuit.now spans.roots) spans.out store.old store.new }
     ensures live { IsFilled store.new spans.roots }
+    ensures found { IfOk result (λ _. HasEvaluated phased.entry.circuit.now (phase_of (in_phase phased.entry)) (Some place.whole) spans.gates spans.out store.new) }
     ensures gives { IfOk result (λ _. OutputsGive (in_phase phased.entry) (λ at o. at ≡ place.number) spans.roots spans.gates store.old store.new) }
-    ensures few { (o : OutputPin) → IsOutput phased.entry.circuit.now (output_pins phased.entry.circuit.now) place o → (u : ℕ) → IsSpanWithin u store.old spans.gates → IsSpanWithin u store.old spans.roots → Spends u (output_operations o.whole) spans.roots store.old store.new result }
+    ensures few { (o : OutputPin) → IsOutput phased.entry.circuit.now (output_pins phased.entry.circuit.now) place o → (u : ℕ) → IsSpanWithin u store.old spans.gates → IsSpanWithin u store.old spans.roots → Spends u (output_operations last place.whole o.whole) spans.roots store.old store.new result }
 {
     store.sound();
     let _count = store.mark();
@@ -60,13 +64,15 @@ fn write_one(
         wholes,
         phase,
         place,
+        last,
         spans.gates,
         pins,
         spans.out,
     )
 }
 
-/// Writes the bits of the outputs at a net.
+/// Writes the bits of the outputs at a net, from the last on: those of an instance follow one another, so that its model is evaluated
+/// once.
 fn write_net(
     store: &mut Store,
     phased: PhasedCircuit<'_>,
@@ -86,12 +92,14 @@ fn write_net(
 {
     store.sound();
     let _count = store.mark();
+    let mut last: Option<usize> = None;
     let mut next = driver_of(wholes, net);
     'outputs: while let Some(place) = next {
-        match write_one(store, phased, wholes, place, spans) {
+        match write_one(store, phased, wholes, place, last, spans) {
             Ok(()) => {}
             Err(spent) => return Err(spent),
         }
+        last = Some(place.whole);
         next = earlier_of(wholes, phased.circuit, place);
     }
     Ok(())
@@ -114,7 +122,7 @@ pub(crate) fn write_outputs(
     ensures writes { WritesTwo (output_span phased.entry.circuit.now spans.roots) spans.out store.old store.new }
     ensures live { IsFilled store.new spans.roots }
     ensures gives { IfOk result (λ _. OutputsGive (in_phase phased.entry) (λ at o. IsInside part.now o.pin.net.0) spans.roots spans.gates store.old store.new) }
-    ensures few { (u : ℕ) → IsSpanWithin u store.old spans.gates → IsSpanWithin u store.old spans.roots → Spends u (sum_by (λ (net : NetValue). net_operations phased.entry.circuit.now net.0) part.now.nets) spans.roots store.old store.new result }
+    ensures few { (u : ℕ) → IsSpanWithin u store.old spans.gates → IsSpanWithin u store.old spans.roots → Spends u (outputs_operations phased.entry.circuit.now part.now) spans.roots store.old store.new result }
 {
     store.sound();
     let nets = part.nets.as_slice();

@@ -5,11 +5,10 @@ ghost use Rattle.bdd_core.specs.Diagram.{IsWithin};
 ghost use Rattle.bdd_core.specs.Store.{IsLive, function_of};
 ghost use Rattle.bdd_core.specs.Words.{IsApart, IsFilled, WritesTwo};
 ghost use Rattle.bdd_ops.specs.Counting.{IsSpanWithin};
-ghost use Rattle.circuit_faults.specs.Operations.{kept_part_operations};
 ghost use Rattle.circuit_faults.specs.Scans.{PartGives};
 ghost use Rattle.path_fixpoint.specs.Parts.{AreSoftInside, IsPart};
 ghost use Rattle.path_fixpoint.specs.Solved.{HasRootSpans};
-ghost use Rattle.path_fixpoint.specs.Spending.{HasOneHold, Spends};
+ghost use Rattle.path_fixpoint.specs.Spending.{HasOneHold, Spends, solving_operations};
 ghost use Rattle.vrt_model.specs.Lists.{mark_at};
 ghost use Rattle.vrt_model.specs.Networks.{HasRanges};
 
@@ -42,7 +41,7 @@ pub(crate) fn check_part(
     requires spans { HasRootSpans circuit.now part.now gates roots out store.old }
     ensures writes { WritesTwo gates out store.old store.new }
     ensures live { IsFilled store.new gates }
-    ensures few { HasOneHold circuit.now → (u : ℕ) → IsWithin u (function_of store.old care) → IsSpanWithin u store.old gates → IsSpanWithin u store.old roots → Spends u (kept_part_operations circuit.now part.now + 4 * length part.now.nets) gates store.old store.new result }
+    ensures few { HasOneHold circuit.now → (u : ℕ) → IsWithin u (function_of store.old care) → IsSpanWithin u store.old gates → IsSpanWithin u store.old roots → Spends u (solving_operations circuit.now part.now + 4 * length part.now.nets) gates store.old store.new result }
     ensures gives { IfOk result (λ found. PartGives circuit.now part.now (mark_at observed.now) care roots gates store.old store.new found) }
 {
     match solve_part(store, circuit, part, gates, roots, out) {

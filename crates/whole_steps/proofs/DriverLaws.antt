@@ -1,9 +1,11 @@
 -- A table of the outputs of whole instances by net: one output more.
 use Rattle.std.proofs.Common.{◌≡◌, ◌≢◌, ℕ, ◌+◌, ◌<◌, ◌≤◌, Bool, true, false, List, [], ◌∷◌, ◌++◌, Option, None, Some, length, map, take, arith, ap, refl, subst, sym, ◌∙◌, inl, inr}
-use Rattle.std.specs.Prelude.{flat_map, replicate}
-use Rattle.std.proofs.lemmas.Bool.{cases_eq, false≢true}
+use Rattle.std.specs.Prelude.{flat_map, replicate, sum_by}
+use Rattle.std.proofs.lemmas.Bool.{cases_eq, cases_lt, false≢true}
 use Rattle.std.proofs.lemmas.Grind.{flat_map-append}
-use Rattle.std.proofs.lemmas.List.{length-append, length-replicate, map-append, take_all}
+use Rattle.std.proofs.lemmas.List.{length-append, length-map, length-replicate, length-take-le, map-append, take-take, take_all}
+use Rattle.std.proofs.lemmas.List.Concat.{length-flat_map}
+use Rattle.std.proofs.lemmas.List.Sums.{sum_by-take-le}
 use Rattle.std.proofs.lemmas.Option.{slice_get_within}
 use Rattle.vrt_model.proofs.Lists.{at_front, at_last, at_split, one_at, take_one}
 use Rattle.vrt_model.proofs.Members.{at_none}
@@ -79,6 +81,7 @@ module _ (c : Circuit) (pins : List OutputPin) (more : OutputPin) where
     whole = is.whole;
     output = is.output;
     number = at_front pins (more ∷ []) place.number out is.number;
+    from = is.from;
     free = λ e. (let f = is.free e in record {
       soft = f.soft;
       channels = f.channels;
@@ -120,7 +123,7 @@ last_none c pins n bound o e last = subst (IsLast c pins n bound) e last
 -- one output more
 module _ (c : Circuit) (met : List Bool) (are_met : AreMet c (length c.devices) met) (pins : List OutputPin) (old new : List (Option OutputPlace)) (before : AreNoted c pins old)
     (place : OutputPlace) (more : OutputPin) (whole : At c.wholes place.whole more.whole) (output : At more.whole.outputs place.output more.pin)
-    (number : length c.nets + place.number ≡ length old) (soft : place.free ≡ true → more.pin.drive ≡ Soft) (apart : place.free ≡ true → mark_at met more.pin.net.0 ≡ false)
+    (number : length c.nets + place.number ≡ length old) (from : place.number ≡ length (outputs_before c place.whole) + place.output) (soft : place.free ≡ true → more.pin.drive ≡ Soft) (apart : place.free ≡ true → mark_at met more.pin.net.0 ≡ false)
     (first : place.free ≡ true → driver_at old more.pin.net.0 ≡ None) (inside : more.pin.net.0 < length c.nets)
     (len : length new ≡ length old + 1) (here : driver_at new more.pin.net.0 ≡ Some place) (last : driver_at new (length old) ≡ driver_at old more.pin.net.0)
     (others : (n : ℕ) → n < length old → n ≢ more.pin.net.0 → driver_at new n ≡ driver_at old n) where
@@ -135,6 +138,7 @@ module _ (c : Circuit) (met : List Bool) (are_met : AreMet c (length c.devices) 
     whole = whole;
     output = output;
     number = more_there;
+    from = from;
     free = λ e. record {
       soft = soft e;
       channels = λ d n m. met_apart c met are_met more.pin.net.0 (apart e) d n m;
@@ -224,3 +228,38 @@ all_to c number w output here le =
 
 pub all_outputs : (c : Circuit) (number : ℕ) → length c.wholes ≤ number → outputs_before c number ≡ output_pins c
 all_outputs c number le = ap (λ (ws : List Whole). flat_map outputs_of ws) (take_all number c.wholes le)
+
+-- ---- how many they are
+
+pub to_length : (c : Circuit) (number : ℕ) (w : Whole) (output : ℕ) → output ≤ length w.outputs → length (outputs_to c number w output) ≡ length (outputs_before c number) + output
+to_length c number w output le =
+    let f : WholePin → OutputPin = λ p. pin_of w p in
+    let sizes = length-append (outputs_before c number) (map f (take output w.outputs)) in
+    let mapped = length-map (take output w.outputs) f in
+    let taken = length-take-le output w.outputs le in
+    omega (arith, sizes, mapped, taken)
+
+-- those of an instance come before those of each later one
+before_grows : (c : Circuit) (i j : ℕ) → i ≤ j → length (outputs_before c i) ≤ length (outputs_before c j)
+before_grows c i j le =
+    let count : Whole → ℕ = λ w. length (outputs_of w) in
+    let left = length-flat_map outputs_of (take i c.wholes) in
+    let right = length-flat_map outputs_of (take j c.wholes) in
+    let less : sum_by count (take i c.wholes) ≤ sum_by count (take j c.wholes) =
+    subst (λ (ws : List Whole). sum_by count ws ≤ sum_by count (take j c.wholes)) (take-take i j c.wholes le) (sum_by-take-le count (take j c.wholes) i) in
+    omega (arith, left, right, less)
+
+-- so of two outputs the earlier one is not of a later instance
+pub earlier_whole : (c : Circuit) (pins : List OutputPin) (a b : OutputPlace) (x y : OutputPin) → IsOutput c pins a x → IsOutput c pins b y → a.number < b.number → a.whole ≤ b.whole
+earlier_whole c pins a b x y is_a is_b lt = elim (cases_lt b.whole a.whole) [
+  | inr le ↦ le
+  | inl later ↦
+      let w : Whole = y.whole in
+      let next = ap (λ (os : List OutputPin). length os) (all_to c b.whole w (length w.outputs) is_b.whole (omega arith)) in
+      let size = to_length c b.whole w (length w.outputs) (omega arith) in
+      let grows = before_grows c (b.whole + 1) a.whole (omega (arith, later)) in
+      let inside = slice_get_within w.outputs b.output y.pin is_b.output in
+      let from_a = is_a.from in
+      let from_b = is_b.from in
+      absurd (omega (arith, lt, next, size, grows, inside, from_a, from_b))
+]

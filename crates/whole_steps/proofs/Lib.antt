@@ -4,3 +4,4 @@ pub mod OutputLaws
 pub mod TableLaws
 pub mod DriverLaws
 pub mod OrderLaws
+pub mod EvaluationLaws

@@ -4,7 +4,7 @@ use Rattle.node_pool.specs.declared.region.Node.{Node}
 use Rattle.node_pool.specs.declared.region.Span.{Span}
 use Rattle.std.specs.Prelude.{List}
 use Rattle.bdd_core.proofs.Frames.{rest_then, span_written, two_then, word_apart, word_beside, word_here, word_other, writes_word, filled_beside}
-use Rattle.bdd_core.specs.Diagram.{IsWithin, Valuation, meaning}
+use Rattle.bdd_core.specs.Diagram.{IsSame, IsWithin, Valuation, meaning}
 use Rattle.bdd_core.specs.Store.{Diagrams, IsSpan}
 use Rattle.bdd_core.specs.Words.{IsApart, IsBeside, IsFilled, Writes, WritesTwo, shows, word_at}
 use Rattle.bdd_ops.proofs.CountingLaws.{counted_more, counted_same, counted_then}
@@ -84,6 +84,16 @@ module _ (c : Circuit) (pins words out : Span) (old mid new : Diagrams) (start :
 
   written : h < length mid.nodes → Writes pins mid new
   written h_in = writes_word pins mid new at h is inside span_mid h_in writes.adds.sound writes.adds.within live_mid
+
+  -- the words of the outputs alone, and so others stay
+  pub other_word : h < length mid.nodes → (span : Span) (n : ℕ) → IsApart span pins → n < span.len → word_at new span n ≡ word_at mid span n
+  other_word h_in span n beside lt = word_beside pins span mid new n (written h_in) beside lt
+
+  pub mid_kept : (k : ℕ) → k < length mid.nodes → IsSame (meaning new.nodes k) (meaning mid.nodes k)
+  mid_kept k lt v = ap (λ (ns : List Node). meaning ns k v) nodes
+
+  pub mid_nodes : new.nodes ≡ mid.nodes
+  mid_nodes = nodes
 
   last_word : h < length mid.nodes → WritesTwo (output_words c pins) out mid new
   last_word h_in = record {

@@ -1,3 +1,4 @@
+pub mod Evaluations
 pub mod FreeOutputs
 pub mod Logic
 pub mod Tables

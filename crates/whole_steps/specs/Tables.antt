@@ -1,5 +1,5 @@
--- What is made of the whole instances of a circuit, and what evaluating one of their outputs leaves.
-use Rattle.std.specs.Prelude.{◌≡◌, ◌≢◌, ℕ, ◌+◌, ◌*◌, ◌<◌, ◌≤◌, Bool, true, List, Option, None, Some, cond, flat_map, length, map, option_and_then, slice_get, take, unwrap_or, Result, Ok, Err}
+-- What is made of the whole instances of a circuit, and what writing the bit of one of their outputs leaves.
+use Rattle.std.specs.Prelude.{◌≡◌, ◌≢◌, ℕ, ◌+◌, ◌<◌, ◌≤◌, Bool, true, List, Option, None, Some, cond, flat_map, length, map, option_and_then, slice_get, take, unwrap_or, Result, Ok, Err}
 use Rattle.node_pool.specs.declared.region.Span.{Span}
 use Rattle.bdd_core.specs.Diagram.{Valuation}
 use Rattle.bdd_core.specs.Store.{Diagrams}
@@ -8,7 +8,6 @@ use Rattle.blif_eval.specs.Plans.{ArcOf, IsPlan}
 use Rattle.blif_eval.specs.declared.plan.ModelPlan.{ModelPlan}
 use Rattle.blif_eval.specs.declared.plan.PlanFault.{PlanFault}
 use Rattle.blif_eval.specs.declared.plan.PlanFault.TheVariants.{ModelCycle, NoMemory}
-use Rattle.vrt_model.specs.Budget.{model_size}
 use Rattle.vrt_model.specs.Known.{IsFirstCycle}
 use Rattle.vrt_model.specs.Lists.{At, Among, mark_at}
 use Rattle.vrt_model.specs.Path.{Joins}
@@ -40,11 +39,20 @@ pub record IsFirstFree (c : Circuit) (pins : List OutputPin) (number : ℕ) (out
   pub channels : (d : Device) (n : ℕ) → Among c.devices d → ¬ Joins d n out.pin.net.0
   pub first : (at : ℕ) (other : OutputPin) → At pins at other → at < number → other.pin.net.0 ≢ out.pin.net.0
 
--- the output at a place, by its instance, and by its number among some outputs; what is marked as free is so
+-- the outputs of an instance, and of the instances before a number
+abbrev pub outputs_of : Whole → List OutputPin
+outputs_of w = map (λ (p : WholePin). let pin : OutputPin = record { whole = w; pin = p } in pin) w.outputs
+
+abbrev pub outputs_before : Circuit → ℕ → List OutputPin
+outputs_before c number = flat_map outputs_of (take number c.wholes)
+
+-- the output at a place, by its instance, and by its number among some outputs: those of the instances before come first; what is
+-- marked as free is so
 pub record IsOutput (c : Circuit) (pins : List OutputPin) (place : OutputPlace) (out : OutputPin) : Type 0 where
   pub whole : At c.wholes place.whole out.whole
   pub output : At out.whole.outputs place.output out.pin
   pub number : At pins place.number out
+  pub from : place.number ≡ length (outputs_before c place.whole) + place.output
   pub free : place.free ≡ true → IsFirstFree c pins place.number out
 
 -- the last of the outputs before a number that is at a net, or there is none
@@ -64,13 +72,6 @@ pub record AreDrivers (c : Circuit) (pins : List OutputPin) (drivers : List (Opt
 pub record AreNoted (c : Circuit) (pins : List OutputPin) (drivers : List (Option OutputPlace)) : Type 0 where
   pub size : length drivers ≡ length c.nets + length pins
   pub are : AreDrivers c pins drivers
-
--- the outputs of an instance, and of the instances before a number
-abbrev pub outputs_of : Whole → List OutputPin
-outputs_of w = map (λ (p : WholePin). let pin : OutputPin = record { whole = w; pin = p } in pin) w.outputs
-
-abbrev pub outputs_before : Circuit → ℕ → List OutputPin
-outputs_before c number = flat_map outputs_of (take number c.wholes)
 
 -- the nets at the channels of the devices before a number are marked
 pub record AreMet (c : Circuit) (number : ℕ) (met : List Bool) : Type 0 where
@@ -107,7 +108,3 @@ output_words c pins = record { start = pins.start; len = length (output_pins c) 
 pub record OutputGives (phase : Phase) (number : ℕ) (out : OutputPin) (gates pins : Span) (old new : Diagrams) : Type 0 where
   pub bit : (v : Valuation) → ModelGives phase out (λ n. shows old gates n v) (shows new pins number v)
   pub others : (k : ℕ) → k < pins.len → k ≢ number → word_at new pins k ≡ word_at old pins k
-
--- the operations of an output: those of its instance's model
-abbrev pub output_operations : Whole → ℕ
-output_operations w = 20 * (model_size w.model + 1)

@@ -15,6 +15,10 @@ use Rattle.vrt_model.specs.declared.whole.WholePin.{WholePin}
 abbrev pub model_words : FlatModel → ℕ
 model_words flat = length flat.signals + 1 + length flat.signals
 
+-- the first words of a span, as many as a model takes
+abbrev pub model_span : FlatModel → Span → Span
+model_span flat out = record { start = out.start; len = model_words flat }
+
 -- the words of what is given, and behind them those of what is found
 abbrev pub given_words : FlatModel → Span → Span
 given_words flat out = record { start = out.start; len = length flat.signals + 1 }

@@ -14,7 +14,6 @@ mod table;
 pub use drivers::output_drivers;
 pub use free::free_outputs_show;
 pub use orders::model_orders;
-pub use output::output_bit;
 pub use plan::whole_plan;
 pub use step::write_output;
 pub use table::{OutputPlace, WholeTable, driver_of, earlier_of, free_driver};

@@ -11,13 +11,13 @@ use Rattle.channel_parts.specs.declared.part.Part.{Part}
 use Rattle.circuit_faults.proofs.CountLaws.{roots_within}
 use Rattle.circuit_faults.proofs.FreeParts.{free_here}
 use Rattle.circuit_faults.proofs.SoundWholes.{soft_inside, wired_wholes}
-use Rattle.circuit_faults.proofs.StepLaws.{wired_is}
+use Rattle.circuit_faults.proofs.StepLaws.{part_step_operations}
 use Rattle.circuit_faults.proofs.ThreeSpans.{apart_outputs, outputs_kept, roots_fit, three_first, three_second, three_then}
-use Rattle.circuit_faults.proofs.WiredWork.{part_work}
-use Rattle.circuit_faults.specs.Operations.{kept_part_operations}
+use Rattle.path_fixpoint.specs.Spending.{solving_operations}
 use Rattle.circuit_faults.specs.Results.{output_span}
 use Rattle.circuit_faults.specs.Steps.{InPhase, in_phase, phase_of}
-use Rattle.circuit_faults.specs.Wholes.{DrivenGives, IsCopied, SolvedGives, net_operations, wired_operations}
+use Rattle.circuit_faults.specs.Wholes.{DrivenGives, IsCopied, SolvedGives}
+use Rattle.circuit_faults.specs.Operations.{step_operations, net_operations}
 use Rattle.circuit_faults.specs.declared.steps.CircuitStep.TheVariants.{Part as PartStep}
 use Rattle.vrt_model.proofs.Lists.{one_at}
 use Rattle.vrt_model.proofs.Members.{all_among}
@@ -69,10 +69,9 @@ returns-in-Err-clause-few c one u care gates_in roots_in =
     let first = c.args.store.now in
     let mid = c.write_outputs.new.store in
     let work : ℕ = sum_by (λ (net : Net). net_operations w.circuit net.0) part.nets in
-    let is = wired_is w c.args.number part c.part_at-part.ensures in
-    let all = part_work w.circuit part in
+    let is = part_step_operations w c.args.number part c.part_at-part.ensures in
     record {
-      counts = counts_more u work (wired_operations w (PartStep c.args.number)) first mid (Err c.in-Err.spent) (omega (arith, is, all))
+      counts = counts_more u work (step_operations w (PartStep c.args.number)) first mid (Err c.in-Err.spent) (omega (arith, is))
           (counts_err u work first mid c.in-Err.spent (c.in-Err.ensures.few u gates_in roots_in).counts);
       within = tt;
     }
@@ -192,12 +191,11 @@ returns-in-Some-clause-few c one u care gates_in roots_in =
     let gates_mid = roots_within u (output_span w.circuit roots) out gates first mid c.write_outputs.ensures.writes (apart_outputs w.circuit roots gates fits c.requires.spans.roots_gates) c.requires.spans.gates_out
     c.requires.live gates_in in
     let work : ℕ = sum_by (λ (net : Net). net_operations w.circuit net.0) part.nets in
-    let is = wired_is w c.args.number part c.part_at-part.ensures in
-    let all = part_work w.circuit part in
+    let is = part_step_operations w c.args.number part c.part_at-part.ensures in
     let rest = c.copy_output.ensures.rest in
     record {
-      counts = counts_ok u (wired_operations w (PartStep c.args.number)) first new None
-          (counted_more u (work + 0) (wired_operations w (PartStep c.args.number)) first new (omega (arith, is, all))
+      counts = counts_ok u (step_operations w (PartStep c.args.number)) first new None
+          (counted_more u (work + 0) (step_operations w (PartStep c.args.number)) first new (omega (arith, is))
           (counted_then u work 0 first mid new written.counts.added (counted_same u mid new (ap (λ (d : Diagrams). d.budget) rest) (ap (λ (d : Diagrams). d.nodes) rest))));
       within = (
         c.copy_output.ensures.within u gates_mid written.within,
@@ -305,13 +303,12 @@ returns-in-None-clause-few c one u care gates_in roots_in =
     let gates_mid = roots_within u (output_span w.circuit roots) out gates first mid c.write_outputs.ensures.writes (apart_outputs w.circuit roots gates fits c.requires.spans.roots_gates) c.requires.spans.gates_out
     c.requires.live gates_in in
     let work : ℕ = sum_by (λ (net : Net). net_operations w.circuit net.0) part.nets in
-    let is = wired_is w c.args.number part c.part_at-part.ensures in
-    let all = part_work w.circuit part in
-    let more : ℕ = kept_part_operations w.circuit part + 4 * length part.nets in
+    let is = part_step_operations w c.args.number part c.part_at-part.ensures in
+    let more : ℕ = solving_operations w.circuit part + 4 * length part.nets in
     let solved = c.check_solved.ensures.few one u (within_same u (function_of first c.args.care) (function_of mid c.args.care) (c.write_outputs.ensures.writes.adds.kept c.args.care.0 c.requires.care) care)
     gates_mid written.within in
     record {
-      counts = counts_more u (work + more) (wired_operations w (PartStep c.args.number)) first new c.check_solved.result (omega (arith, is, all))
+      counts = counts_more u (work + more) (step_operations w (PartStep c.args.number)) first new c.check_solved.result (omega (arith, is))
           (counts_then u work more first mid new c.check_solved.result written.counts.added solved.counts);
       within = if_ok_more _ _ c.check_solved.result
           (λ _ reads. (reads, roots_within u gates out roots mid new c.check_solved.ensures.writes c.requires.spans.roots_gates c.requires.spans.roots_out c.write_outputs.ensures.live written.within))

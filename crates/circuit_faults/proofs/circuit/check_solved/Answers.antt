@@ -5,7 +5,7 @@ use Rattle.bdd_core.specs.Store.{Diagrams}
 use Rattle.bdd_ops.proofs.CountingLaws.{counted_more, counted_same, counts_ok}
 use Rattle.circuit_faults.proofs.CircuitLaws.{root_spans, words_within}
 use Rattle.circuit_faults.proofs.UndrivenLaws.{undriven_clear, zero_within}
-use Rattle.circuit_faults.specs.Operations.{kept_part_operations}
+use Rattle.path_fixpoint.specs.Spending.{solving_operations}
 use Rattle.vrt_model.specs.Lists.{mark_at}
 use Rattle.circuit_faults.proofs.circuit.check_solved.Goals as goal
 
@@ -41,7 +41,7 @@ returns-then-not-is_seen-clause-few c one u care gates_in roots_in =
     let new = c.write.new.self in
     let lt = slice_get_within circuit.nets c.in-Some.net.0 is.rootless.plain.0 is.rootless.plain.1 in
     let size = c.requires.spans.gates_len in
-    let operations = kept_part_operations circuit part + 4 * length part.nets in
+    let operations = solving_operations circuit part + 4 * length part.nets in
     record {
       counts = counts_ok u operations old new None
           (counted_more u 0 operations old new (omega arith) (counted_same u old new (ap (λ (d : Diagrams). d.budget) c.write.ensures) (ap (λ (d : Diagrams). d.nodes) c.write.ensures)));

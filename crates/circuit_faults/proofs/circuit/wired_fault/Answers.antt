@@ -14,7 +14,8 @@ use Rattle.circuit_faults.proofs.WiredWork.{wired_gates}
 use Rattle.bdd_core.proofs.Frames.{filled_beside, two_first}
 use Rattle.circuit_faults.specs.Results.{AreClearSteps, first_word, output_span}
 use Rattle.circuit_faults.specs.Steps.{InPhase, in_phase, phase_of}
-use Rattle.circuit_faults.specs.Wholes.{WiredGives, all_operations, wired_operations}
+use Rattle.circuit_faults.specs.Wholes.{WiredGives}
+use Rattle.circuit_faults.specs.Operations.{step_operations, steps_operations}
 use Rattle.circuit_faults.specs.declared.net.CircuitFault.{CircuitFault}
 use Rattle.circuit_faults.specs.declared.steps.CircuitStep.{CircuitStep}
 use Rattle.known_nets.specs.KnownTables.{known_at}
@@ -104,9 +105,9 @@ loop-place-preserved c =
       counted = λ one u care roots.
           let before = c.loop-place.invariant.counted one u care roots in
           let now = c.in-Ok.ensures.few one u (within_same u (function_of first c.args.care) (function_of old c.args.care) (c.loop-place.invariant.writes.adds.kept c.args.care.0 c.requires.care) care) before.1.0 before.1.1 in
-          let sums = sum_next (wired_operations w) w.steps k step c.step_at-step.ensures in (
-            counted_more u (sum_by (wired_operations w) (take k w.steps) + wired_operations w step) (sum_by (wired_operations w) (take (k + 1) w.steps)) first new (omega (arith, sums))
-                (counted_then u (sum_by (wired_operations w) (take k w.steps)) (wired_operations w step) first old new before.0 now.counts.added),
+          let sums = sum_next (step_operations w) w.steps k step c.step_at-step.ensures in (
+            counted_more u (sum_by (step_operations w) (take k w.steps) + step_operations w step) (sum_by (step_operations w) (take (k + 1) w.steps)) first new (omega (arith, sums))
+                (counted_then u (sum_by (step_operations w) (take k w.steps)) (step_operations w step) first old new before.0 now.counts.added),
             (now.within.0, now.within.1),
           );
     }
@@ -138,12 +139,12 @@ returns-in-Err-clause-few c one u care roots =
     let new = c.check_step.new.store in
     let k = c.loop-place.place in
     let step : CircuitStep = c.step_at-step.result in
-    let sums = sum_next (wired_operations w) w.steps k step c.step_at-step.ensures in
-    let all = sum_by-take-le (wired_operations w) w.steps (k + 1) in
+    let sums = sum_next (step_operations w) w.steps k step c.step_at-step.ensures in
+    let all = sum_by-take-le (step_operations w) w.steps (k + 1) in
     let before = c.loop-place.invariant.counted one u care roots in
     let now = c.in-Err.ensures.few one u (within_same u (function_of first c.args.care) (function_of old c.args.care) (c.loop-place.invariant.writes.adds.kept c.args.care.0 c.requires.care) care) before.1.0 before.1.1 in
-    spends_more u spans.gates (sum_by (wired_operations w) (take k w.steps) + wired_operations w step) (all_operations w) first new (Err c.in-Err.spent) (omega (arith, sums, all))
-    (spends_behind u spans.gates (sum_by (wired_operations w) (take k w.steps)) (wired_operations w step) first old new (Err c.in-Err.spent) before.0 (wired_gates u spans.gates spans.roots (wired_operations w step) old new (Err c.in-Err.spent) now))
+    spends_more u spans.gates (sum_by (step_operations w) (take k w.steps) + step_operations w step) (steps_operations w) first new (Err c.in-Err.spent) (omega (arith, sums, all))
+    (spends_behind u spans.gates (sum_by (step_operations w) (take k w.steps)) (step_operations w step) first old new (Err c.in-Err.spent) before.0 (wired_gates u spans.gates spans.roots (step_operations w step) old new (Err c.in-Err.spent) now))
 
 pub returns-in-Some-clause-few : goal.returns-in-Some-clause-few
 returns-in-Some-clause-few c one u care roots =
@@ -154,23 +155,23 @@ returns-in-Some-clause-few c one u care roots =
     let new = c.check_step.new.store in
     let k = c.loop-place.place in
     let step : CircuitStep = c.step_at-step.result in
-    let sums = sum_next (wired_operations w) w.steps k step c.step_at-step.ensures in
-    let all = sum_by-take-le (wired_operations w) w.steps (k + 1) in
+    let sums = sum_next (step_operations w) w.steps k step c.step_at-step.ensures in
+    let all = sum_by-take-le (step_operations w) w.steps (k + 1) in
     let before = c.loop-place.invariant.counted one u care roots in
     let now = c.in-Ok.ensures.few one u (within_same u (function_of first c.args.care) (function_of old c.args.care) (c.loop-place.invariant.writes.adds.kept c.args.care.0 c.requires.care) care) before.1.0 before.1.1 in
-    spends_value u spans.gates (all_operations w) first new c.in-Ok.found _
-    (spends_more u spans.gates (sum_by (wired_operations w) (take k w.steps) + wired_operations w step) (all_operations w) first new (Ok c.in-Ok.found) (omega (arith, sums, all))
-    (spends_behind u spans.gates (sum_by (wired_operations w) (take k w.steps)) (wired_operations w step) first old new (Ok c.in-Ok.found) before.0 (wired_gates u spans.gates spans.roots (wired_operations w step) old new (Ok c.in-Ok.found) now)))
+    spends_value u spans.gates (steps_operations w) first new c.in-Ok.found _
+    (spends_more u spans.gates (sum_by (step_operations w) (take k w.steps) + step_operations w step) (steps_operations w) first new (Ok c.in-Ok.found) (omega (arith, sums, all))
+    (spends_behind u spans.gates (sum_by (step_operations w) (take k w.steps)) (step_operations w step) first old new (Ok c.in-Ok.found) before.0 (wired_gates u spans.gates spans.roots (step_operations w step) old new (Ok c.in-Ok.found) now)))
 
 pub returns-clause-few : goal.returns-clause-few
 returns-clause-few c one u care roots =
     let w : InPhase = in_phase c.args.phased in
     let k = c.loop-place.place in
-    let all = sum_by-take-le (wired_operations w) w.steps k in
+    let all = sum_by-take-le (step_operations w) w.steps k in
     let before = c.loop-place.invariant.counted one u care roots in
     record {
-      counts = counts_ok u (all_operations w) c.args.store.now c.loop-place.store _
-          (counted_more u (sum_by (wired_operations w) (take k w.steps)) (all_operations w) c.args.store.now c.loop-place.store (omega (arith, all)) before.0);
+      counts = counts_ok u (steps_operations w) c.args.store.now c.loop-place.store _
+          (counted_more u (sum_by (step_operations w) (take k w.steps)) (steps_operations w) c.args.store.now c.loop-place.store (omega (arith, all)) before.0);
       within = before.1.0;
     }
 
@@ -179,6 +180,6 @@ pub returns-in-Err-clause-spent : goal.returns-in-Err-clause-spent
 returns-in-Err-clause-spent c one =
     let d = c.args.store.now in
     let sound = c.sound.ensures.sound in
-    used_counted d.vars (all_operations (in_phase c.args.phased)) d c.check_step.new.store (Err c.in-Err.spent)
+    used_counted d.vars (steps_operations (in_phase c.args.phased)) d c.check_step.new.store (Err c.in-Err.spent)
     (returns-in-Err-clause-few c one d.vars (reads_variables d c.args.care.0 sound c.requires.care)
     (λ n lt. reads_variables d (word_at d c.args.spans.roots n) sound (c.requires.spans.roots_live n lt))).counts

@@ -8,7 +8,7 @@ use Rattle.circuit_faults.proofs.CircuitLaws.{IsSolvedBefore}
 use Rattle.circuit_faults.specs.Faults.{HasFixedBits}
 use Rattle.circuit_faults.specs.Results.{WritesThree, output_span, root_at}
 use Rattle.circuit_faults.specs.Steps.{in_phase, phase_of}
-use Rattle.circuit_faults.specs.Wholes.{wired_operations}
+use Rattle.circuit_faults.specs.Operations.{step_operations}
 use Rattle.path_fixpoint.specs.Spending.{HasOneHold}
 use Rattle.circuit_faults.proofs.circuit.wired_fault.Given as goal
 
@@ -22,5 +22,5 @@ invariant-loop-place l = record {
       ((v : Valuation) → HasFixedBits l.fn.phased.circuit.now (phase_of (in_phase l.fn.phased)) (root_at l.fn.store l.fn.spans.roots v))
       → IsSolvedBefore (in_phase l.fn.phased) l.fn.care l.fn.spans.roots l.fn.spans.gates l.place l.fn.store l.store;
   counted : HasOneHold l.fn.phased.circuit.now → (u : ℕ) → IsWithin u (function_of l.fn.store l.fn.care) → IsSpanWithin u l.fn.store l.fn.spans.roots
-      → IsCounted u (sum_by (wired_operations (in_phase l.fn.phased)) (take l.place l.fn.phased.steps.now)) l.fn.store l.store × (IsSpanWithin u l.store l.fn.spans.gates × IsSpanWithin u l.store l.fn.spans.roots);
+      → IsCounted u (sum_by (step_operations (in_phase l.fn.phased)) (take l.place l.fn.phased.steps.now)) l.fn.store l.store × (IsSpanWithin u l.store l.fn.spans.gates × IsSpanWithin u l.store l.fn.spans.roots);
 }

@@ -10,7 +10,8 @@ use Rattle.circuit_faults.proofs.KeptCases.{keeper_none, keeper_some, kept_gives
 use Rattle.circuit_faults.proofs.SoundWholes.{soft_inside}
 use Rattle.circuit_faults.proofs.KeptWords.{gates_within, kept_added, kept_then, spans_later}
 use Rattle.circuit_faults.specs.KeptScans.{IsInSolved, IsReachedIn, ReadWithin}
-use Rattle.circuit_faults.specs.Operations.{kept_operations, kept_part_operations}
+use Rattle.circuit_faults.specs.Operations.{kept_operations}
+use Rattle.path_fixpoint.specs.Spending.{solving_operations}
 use Rattle.channel_parts.specs.declared.part.Part.{Part}
 use Rattle.path_fixpoint.specs.Parts.{IsPart}
 use Rattle.vrt_model.proofs.Members.{at_none}
@@ -80,9 +81,9 @@ returns-in-Err-clause-few c one u care gates roots =
     let old = c.args.store.now in
     let new = c.solve_parts.new.store in
     let slice = c.as_slice.result.now in
-    let sums : sum_by (kept_part_operations circuit) slice ≡ sum_by (kept_part_operations circuit) list = ap (λ (ps : List Part). sum_by (kept_part_operations circuit) ps) c.as_slice.ensures in
-    counts_more u (sum_by (kept_part_operations circuit) slice) (kept_operations circuit list) old new (Err c.in-Err.spent) (omega (arith, sums))
-    (counts_err u (sum_by (kept_part_operations circuit) slice) old new c.in-Err.spent (c.in-Err.ensures.few one u gates roots).counts)
+    let sums : sum_by (solving_operations circuit) slice ≡ sum_by (solving_operations circuit) list = ap (λ (ps : List Part). sum_by (solving_operations circuit) ps) c.as_slice.ensures in
+    counts_more u (sum_by (solving_operations circuit) slice) (kept_operations circuit list) old new (Err c.in-Err.spent) (omega (arith, sums))
+    (counts_err u (sum_by (solving_operations circuit) slice) old new c.in-Err.spent (c.in-Err.ensures.few one u gates roots).counts)
 
 pub returns-in-Err-clause-spent : goal.returns-in-Err-clause-spent
 returns-in-Err-clause-spent c one =
@@ -103,11 +104,11 @@ returns-clause-few c one u care gates roots =
     let new = c.scan_kept.new.store in
     let slice = c.as_slice.result.now in
     let writes = c.in-Ok.ensures.writes in
-    let sums : sum_by (kept_part_operations circuit) slice ≡ sum_by (kept_part_operations circuit) list = ap (λ (ps : List Part). sum_by (kept_part_operations circuit) ps) c.as_slice.ensures in
+    let sums : sum_by (solving_operations circuit) slice ≡ sum_by (solving_operations circuit) list = ap (λ (ps : List Part). sum_by (solving_operations circuit) ps) c.as_slice.ensures in
     let solved = c.in-Ok.ensures.few one u gates roots in
     let within = subst (λ (ps : List Part). ReadWithin u spans (IsInSolved c.args.wholes.drivers.now ps (length ps)) mid) c.as_slice.ensures solved.within in
-    counts_more u (sum_by (kept_part_operations circuit) slice + 20 * length circuit.nets) (kept_operations circuit list) old new c.scan_kept.result (omega (arith, sums))
-    (counts_then u (sum_by (kept_part_operations circuit) slice) (20 * length circuit.nets) old mid new c.scan_kept.result solved.counts.added
+    counts_more u (sum_by (solving_operations circuit) slice + 20 * length circuit.nets) (kept_operations circuit list) old new c.scan_kept.result (omega (arith, sums))
+    (counts_then u (sum_by (solving_operations circuit) slice) (20 * length circuit.nets) old mid new c.scan_kept.result solved.counts.added
     (c.scan_kept.ensures.few u (within_same u (function_of old c.args.care) (function_of mid c.args.care) (writes.adds.kept c.args.care.0 c.requires.care) care)
     (gates_within circuit list spans old c.requires.spans mid writes u gates)
     (λ n value p. within n value (loose_inside circuit c.args.wholes.drivers.now c.args.wholes.plans.now c.requires.wholes c.requires.parts.0 c.args.kept.now c.requires.parts.1 c.requires.circuit n p))))

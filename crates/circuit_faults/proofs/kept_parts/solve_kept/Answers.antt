@@ -2,7 +2,7 @@ use Rattle.std.proofs.Common.{true, false, [], ◌∷◌, length, arith, refl}
 use Rattle.bdd_core.proofs.Frames.{span_written}
 use Rattle.bdd_ops.proofs.CountingLaws.{counts_ok}
 use Rattle.circuit_faults.proofs.KeptWords.{copied_filled, copied_within, counted_copies, inside_range, kept_copied, kept_root_spans, kept_solved, kept_then, part_reached, reach_apart, reach_len, span_rewritten}
-use Rattle.circuit_faults.specs.Operations.{kept_part_operations}
+use Rattle.path_fixpoint.specs.Spending.{solving_operations}
 use Rattle.circuit_faults.proofs.UndrivenKept.{undriven_reached, undriven_spends, undriven_writes}
 use Rattle.circuit_faults.proofs.kept_parts.solve_kept.Goals as goal
 
@@ -21,7 +21,7 @@ returns-in-Some-clause-gives c =
 pub returns-in-Some-clause-few : goal.returns-in-Some-clause-few
 returns-in-Some-clause-few c one u gates roots =
     undriven_spends c.args.circuit.now c.args.part.now c.in-Some.net c.in-Some.ensures c.args.spans c.args.store.now c.write.new.self c.write-in-Some.new.self c.requires.spans c.write.ensures
-    c.write-in-Some.ensures u (kept_part_operations c.args.circuit.now c.args.part.now) tt
+    c.write-in-Some.ensures u (solving_operations c.args.circuit.now c.args.part.now) tt
 
 pub words_of-out-requires : goal.words_of-out-requires
 words_of-out-requires c = c.requires.spans.room c.args.part.now (0, refl)
@@ -123,7 +123,7 @@ returns-clause-few c one u gates roots =
     let in_range = inside_range circuit part c.requires.part in
     let solved = c.in-Ok.ensures.few one u gates roots in
     record {
-      counts = counts_ok u (kept_part_operations circuit part) old new _
-          (counted_copies circuit part spans out old mid next new c.requires.spans len apart in_range c.in-Ok.ensures.writes c.copy_reach.ensures c.copy_reach-2.ensures u (kept_part_operations circuit part) solved.counts.added);
+      counts = counts_ok u (solving_operations circuit part) old new _
+          (counted_copies circuit part spans out old mid next new c.requires.spans len apart in_range c.in-Ok.ensures.writes c.copy_reach.ensures c.copy_reach-2.ensures u (solving_operations circuit part) solved.counts.added);
       within = copied_within circuit part spans out old mid next new c.requires.spans len apart in_range c.in-Ok.ensures.writes c.copy_reach.ensures c.copy_reach-2.ensures u solved.within;
     }

@@ -6,7 +6,7 @@ use Rattle.circuit_faults.proofs.CountLaws.{sum_next}
 use Rattle.circuit_faults.proofs.KeptReach.{one_part, solved_range, solved_skipped, reached_more, within_more}
 use Rattle.circuit_faults.proofs.KeptWords.{gates_within, kept_none, kept_then, roots_within, spans_later}
 use Rattle.circuit_faults.specs.KeptScans.{IsInSolved, IsReachedIn, ReadWithin}
-use Rattle.circuit_faults.specs.Operations.{kept_part_operations}
+use Rattle.path_fixpoint.specs.Spending.{solving_operations}
 use Rattle.circuit_faults.specs.Scans.{free_part}
 use Rattle.channel_parts.specs.declared.part.Part.{Part}
 use Rattle.vrt_model.proofs.Lists.{item_at}
@@ -37,8 +37,8 @@ loop-part-preserved-then-has_free c =
           (r.0, r.1, (let lt = r.2 in omega (arith, lt)), r.3, r.4, r.5);
       counted = λ one u gates roots.
           let counts = c.loop-part.invariant.counted one u gates roots in
-          let sums = sum_next (kept_part_operations circuit) parts k part there in (
-            counted_more u (sum_by (kept_part_operations circuit) (take k parts)) (sum_by (kept_part_operations circuit) (take (k + 1) parts)) c.args.store.now c.loop-part.store (omega (arith, sums)) counts.0,
+          let sums = sum_next (solving_operations circuit) parts k part there in (
+            counted_more u (sum_by (solving_operations circuit) (take k parts)) (sum_by (solving_operations circuit) (take (k + 1) parts)) c.args.store.now c.loop-part.store (omega (arith, sums)) counts.0,
             λ n value e. counts.1 n value (solved_skipped drivers parts k part there some n e),
           );
     }
@@ -81,9 +81,9 @@ loop-part-preserved c =
       counted = λ one u gates roots.
           let counts = c.loop-part.invariant.counted one u gates roots in
           let solved = c.in-Ok.ensures.few one u (gates_within circuit parts spans first c.requires.spans now before u gates) (roots_within circuit parts spans first c.requires.spans now before u roots) in
-          let sums = sum_next (kept_part_operations c.args.circuit.now) parts k part there in (
-            counted_more u (sum_by (kept_part_operations c.args.circuit.now) (take k parts) + kept_part_operations c.args.circuit.now part) (sum_by (kept_part_operations c.args.circuit.now) (take (k + 1) parts)) first new (omega (arith, sums))
-                (counted_then u (sum_by (kept_part_operations c.args.circuit.now) (take k parts)) (kept_part_operations c.args.circuit.now part) first now new counts.0 solved.counts.added),
+          let sums = sum_next (solving_operations c.args.circuit.now) parts k part there in (
+            counted_more u (sum_by (solving_operations c.args.circuit.now) (take k parts) + solving_operations c.args.circuit.now part) (sum_by (solving_operations c.args.circuit.now) (take (k + 1) parts)) first new (omega (arith, sums))
+                (counted_then u (sum_by (solving_operations c.args.circuit.now) (take k parts)) (solving_operations c.args.circuit.now part) first now new counts.0 solved.counts.added),
             within_more circuit c.args.wholes.drivers.now parts spans c.requires.circuit first now new c.requires.spans before step k part there range reached c.in-Ok.ensures.gives u counts.1 solved.within,
           );
     }
@@ -102,11 +102,11 @@ returns-in-Err-clause-few c one u gates roots =
     let before = c.loop-part.invariant.writes in
     let counts = c.loop-part.invariant.counted one u gates roots in
     let solved = c.in-Err.ensures.few one u (gates_within circuit parts spans first c.requires.spans now before u gates) (roots_within circuit parts spans first c.requires.spans now before u roots) in
-    let sums = sum_next (kept_part_operations c.args.circuit.now) parts k part there in
-    let all = sum_by-take-le (kept_part_operations c.args.circuit.now) parts (k + 1) in
+    let sums = sum_next (solving_operations c.args.circuit.now) parts k part there in
+    let all = sum_by-take-le (solving_operations c.args.circuit.now) parts (k + 1) in
     record {
-      counts = counts_more u (sum_by (kept_part_operations c.args.circuit.now) (take k parts) + kept_part_operations c.args.circuit.now part) (sum_by (kept_part_operations c.args.circuit.now) parts) first new (Err c.in-Err.spent) (omega (arith, sums, all))
-          (counts_then u (sum_by (kept_part_operations c.args.circuit.now) (take k parts)) (kept_part_operations c.args.circuit.now part) first now new (Err c.in-Err.spent) counts.0 solved.counts);
+      counts = counts_more u (sum_by (solving_operations c.args.circuit.now) (take k parts) + solving_operations c.args.circuit.now part) (sum_by (solving_operations c.args.circuit.now) parts) first new (Err c.in-Err.spent) (omega (arith, sums, all))
+          (counts_then u (sum_by (solving_operations c.args.circuit.now) (take k parts)) (solving_operations c.args.circuit.now part) first now new (Err c.in-Err.spent) counts.0 solved.counts);
       within = tt;
     }
 
@@ -124,7 +124,7 @@ returns-clause-few c one u gates roots =
     let end : k ≡ length parts = omega (arith, c.loop-part-test.false, c.loop-part.auto.part-index-end) in
     let counts = c.loop-part.invariant.counted one u gates roots in
     record {
-      counts = counts_ok u (sum_by (kept_part_operations c.args.circuit.now) parts) c.args.store.now c.loop-part.store _
-          (counted_more u (sum_by (kept_part_operations c.args.circuit.now) (take k parts)) (sum_by (kept_part_operations c.args.circuit.now) parts) c.args.store.now c.loop-part.store (sum_by-take-le (kept_part_operations c.args.circuit.now) parts k) counts.0);
+      counts = counts_ok u (sum_by (solving_operations c.args.circuit.now) parts) c.args.store.now c.loop-part.store _
+          (counted_more u (sum_by (solving_operations c.args.circuit.now) (take k parts)) (sum_by (solving_operations c.args.circuit.now) parts) c.args.store.now c.loop-part.store (sum_by-take-le (solving_operations c.args.circuit.now) parts k) counts.0);
       within = subst (λ (j : ℕ). ReadWithin u spans (IsInSolved c.args.wholes.drivers.now parts j) c.loop-part.store) end counts.1;
     }

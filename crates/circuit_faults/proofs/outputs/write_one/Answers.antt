@@ -1,14 +1,16 @@
-use Rattle.std.proofs.Common.{◌≤◌, arith, length, subst, sym}
+use Rattle.std.proofs.Common.{◌≤◌, Some, arith, length, subst, sym}
 use Rattle.node_pool.specs.declared.region.Span.{Span}
 use Rattle.bdd_core.proofs.Results.{if_ok_more}
 use Rattle.bdd_core.specs.Store.{IsSpan}
-use Rattle.bdd_core.specs.Words.{IsFilled, WritesTwo}
+use Rattle.bdd_core.specs.Words.{IsApart, IsFilled, WritesTwo}
 use Rattle.bdd_ops.specs.Counting.{IsSpanWithin}
-use Rattle.circuit_faults.proofs.OutputWords.{behind_filled, behind_span, behind_within, one_gives, roots_filled, roots_reading}
+use Rattle.circuit_faults.proofs.OutputWords.{behind_apart, behind_filled, behind_span, behind_within, one_gives, roots_filled, roots_reading, words_behind}
 use Rattle.circuit_faults.proofs.ThreeSpans.{roots_fit}
 use Rattle.circuit_faults.specs.Steps.{in_phase, phase_of}
 use Rattle.vrt_model.specs.declared.rules.Phase.{Phase}
 use Rattle.vrt_model.specs.State.{OutputPin, output_pins}
+use Rattle.whole_steps.proofs.EvaluationLaws.{apart_turned}
+use Rattle.whole_steps.specs.Evaluations.{HasEvaluated}
 use Rattle.whole_steps.specs.Tables.{IsOutput, OutputGives, output_words}
 use Rattle.circuit_faults.proofs.outputs.write_one.Goals as goal
 
@@ -23,6 +25,25 @@ write_output-requires-clause-pins c =
     let fits = roots_fit circuit c.args.phased.parts.now.list roots c.args.spans.gates c.args.spans.out d c.requires.spans in
     subst (λ (s : Span). IsSpan d s × IsFilled d s × (length (output_pins circuit) ≤ s.len)) (sym c.behind_nets-pins.ensures)
     (behind_span circuit roots fits d c.requires.spans.roots_span, behind_filled circuit roots fits d c.requires.spans.roots_live, omega (arith, fits))
+
+pub write_output-requires-clause-apart : goal.write_output-requires-clause-apart
+write_output-requires-clause-apart c =
+    let circuit = c.args.phased.circuit.now in
+    let roots = c.args.spans.roots in
+    let spans = c.requires.spans in
+    let fits = roots_fit circuit c.args.phased.parts.now.list roots c.args.spans.gates c.args.spans.out c.args.store.now spans in
+    subst (λ (s : Span). IsApart c.args.spans.gates c.args.spans.out × IsApart s c.args.spans.out × IsApart c.args.spans.gates s) (sym c.behind_nets-pins.ensures)
+    (spans.gates_out, apart_turned c.args.spans.out (words_behind circuit roots) (behind_apart circuit roots fits c.args.spans.out spans.roots_out), behind_apart circuit roots fits c.args.spans.gates spans.roots_gates)
+
+pub write_output-requires-clause-last : goal.write_output-requires-clause-last
+write_output-requires-clause-last c =
+    subst (λ (p : Phase). HasEvaluated c.args.phased.circuit.now p c.args.last c.args.spans.gates c.args.spans.out c.args.store.now) (sym c.phase_at-phase.ensures) c.requires.last
+
+pub returns-clause-found : goal.returns-clause-found
+returns-clause-found c =
+    if_ok_more _ _ c.write_output.result
+    (λ _ found. subst (λ (p : Phase). HasEvaluated c.args.phased.circuit.now p (Some c.args.place.whole) c.args.spans.gates c.args.spans.out c.write_output.new.store) c.phase_at-phase.ensures found)
+    c.write_output.ensures.found
 
 pub returns-clause-writes : goal.returns-clause-writes
 returns-clause-writes c =

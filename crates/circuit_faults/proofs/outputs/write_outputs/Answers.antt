@@ -9,7 +9,7 @@ use Rattle.circuit_faults.proofs.ScanLaws.{net_at}
 use Rattle.circuit_faults.proofs.ThreeSpans.{apart_outputs, outputs_filled, outputs_kept, roots_fit}
 use Rattle.circuit_faults.specs.Results.{output_span}
 use Rattle.circuit_faults.specs.Steps.{InPhase, in_phase}
-use Rattle.circuit_faults.specs.Wholes.{net_operations}
+use Rattle.circuit_faults.specs.Operations.{net_operations}
 use Rattle.vrt_model.proofs.Members.{all_among}
 use Rattle.vrt_model.specs.Circuits.{IsNet}
 use Rattle.vrt_model.specs.Lists.{At}

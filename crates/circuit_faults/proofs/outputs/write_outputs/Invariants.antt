@@ -5,7 +5,8 @@ use Rattle.bdd_ops.specs.Counting.{IsCounted, IsSpanWithin}
 use Rattle.circuit_faults.proofs.OutputWords.{IsAmongFirst}
 use Rattle.circuit_faults.specs.Results.{output_span}
 use Rattle.circuit_faults.specs.Steps.{in_phase}
-use Rattle.circuit_faults.specs.Wholes.{OutputsGive, net_operations}
+use Rattle.circuit_faults.specs.Wholes.{OutputsGive}
+use Rattle.circuit_faults.specs.Operations.{net_operations}
 use Rattle.vrt_model.specs.declared.ids.Net.{Net}
 use Rattle.circuit_faults.proofs.outputs.write_outputs.Given as goal
 

@@ -4,7 +4,7 @@ use Rattle.bdd_core.specs.Store.{function_of}
 use Rattle.bdd_ops.proofs.CountingLaws.{counts_more}
 use Rattle.bdd_ops.proofs.WithinLaws.{within_same}
 use Rattle.circuit_faults.proofs.PartLaws.{part_gives}
-use Rattle.circuit_faults.specs.Operations.{kept_part_operations}
+use Rattle.path_fixpoint.specs.Spending.{solving_operations}
 use Rattle.path_fixpoint.proofs.SpendingLaws.{span_beside, spends_behind, spends_refused}
 use Rattle.vrt_model.specs.Lists.{mark_at}
 use Rattle.circuit_faults.proofs.solve.check_part.Goals as goal
@@ -19,7 +19,7 @@ returns-clause-gives c =
 pub returns-in-Err-clause-few : goal.returns-in-Err-clause-few
 returns-in-Err-clause-few c one u care gates roots =
     let part = c.args.part.now in
-    let first = kept_part_operations c.args.circuit.now part in
+    let first = solving_operations c.args.circuit.now part in
     let old = c.args.store.now in
     let new = c.solve_part.new.store in
     spends_refused u c.args.gates (first + 4 * length part.nets) old new c.in-Err.spent
@@ -28,7 +28,7 @@ returns-in-Err-clause-few c one u care gates roots =
 pub returns-clause-few : goal.returns-clause-few
 returns-clause-few c one u care gates roots =
     let part = c.args.part.now in
-    let first = kept_part_operations c.args.circuit.now part in
+    let first = solving_operations c.args.circuit.now part in
     let old = c.args.store.now in
     let mid = c.solve_part.new.store in
     let new = c.scan.new.store in
