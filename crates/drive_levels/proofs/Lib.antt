@@ -1,5 +1,4 @@
 pub mod CaseLevels
-pub mod LevelWork
 pub mod NetLevelLaws
 pub mod OneLevelLaws
 pub mod PartStrengths

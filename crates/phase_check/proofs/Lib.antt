@@ -2,8 +2,8 @@ pub mod Cases
 pub mod Ends
 pub mod InstanceSeen
 pub mod KeptStage
-pub mod LevelRoom
 pub mod ModelStage
+pub mod Opening
 pub mod SolvedPhase
 pub mod Somewhere
 pub mod Spans

@@ -1,10 +1,11 @@
 -- What stands in spans that a step does not write, and what a phase knows after such a step.
-use Rattle.std.proofs.Common.{◌≡◌, ℕ, ◌+◌, ◌<◌, ◌≤◌, Bool, List, Some, length, arith, ap, refl, sym, subst, ◌∙◌, inl, inr}
+use Rattle.std.proofs.Common.{◌≡◌, ℕ, ◌+◌, ◌<◌, ◌≤◌, Bool, List, [], Some, length, arith, ap, refl, sym, subst, ◌∙◌, inl, inr}
 use Rattle.std.proofs.lemmas.Option.{slice_get_within}
 use Rattle.node_pool.specs.declared.region.Span.{Span}
 use Rattle.bdd_core.proofs.Frames.{beside_of, word_added, word_beside}
-use Rattle.bdd_core.specs.Diagram.{Valuation, meaning}
-use Rattle.bdd_core.specs.Store.{Adds, AddsNodes, Diagrams}
+use Rattle.std.specs.Prelude.{◌≢◌}
+use Rattle.bdd_core.specs.Diagram.{IsReduced, Valuation, meaning}
+use Rattle.bdd_core.specs.Store.{Adds, AddsNodes, Diagrams, IsCanonical}
 use Rattle.bdd_core.specs.Words.{IsApart, IsBeside, IsFilled, Writes, shows, word_at}
 use Rattle.bdd_core.specs.declared.handle.H.{H}
 use Rattle.bdd_ops.specs.Counting.{IsCounted}
@@ -16,9 +17,11 @@ use Rattle.circuit_faults.specs.declared.spans.KeptSpans.{KeptSpans}
 use Rattle.fault_places.specs.Searches.{Spot}
 use Rattle.phase_check.proofs.Ends.{adds_now}
 use Rattle.phase_laws.proofs.Observed.{observed_nets}
+use Rattle.phase_check.proofs.Somewhere.{some_care}
 use Rattle.phase_check.proofs.Spans.{words_kept}
+use Rattle.vrt_model.proofs.Members.{at_none}
 use Rattle.phase_laws.proofs.Work.{used_more}
-use Rattle.phase_check.specs.States.{HasNetBits, IsClearAt, IsSearched, IsSolved}
+use Rattle.phase_check.specs.States.{HasNetBits, IsClearAt, IsOpened, IsSearched, IsSolved}
 use Rattle.phase_terms.specs.Opened.{AreRootsOpen, IsModelOpen, IsOpen}
 use Rattle.phase_terms.specs.Ready.{IsReady}
 use Rattle.phase_terms.specs.Stores.{HasPhaseWords, IsPhaseStore, IsUsed, counts_of}
@@ -166,3 +169,14 @@ module _ (k : Comparison) (phase budget a b : ℕ) (w : PhaseWords) (old new : D
       → IsSearched k phase budget a spots care w old → IsClearAt k phase more → IsSearched k phase new.budget (a + b) more care w new
   searched_next ready care spots more roots inputs held s clear =
       searched_more ready care spots more (nets_of (length k.circuit.nets) w.roots old new (let len = s.store.words.roots_len in omega (arith, len)) roots) inputs held s clear
+
+-- ---- an opened phase whose constraints some valuation meets
+
+pub opened_searched : (k : Comparison) (phase budget a : ℕ) (care : H) (w : PhaseWords) (d : Diagrams) → IsOpened k phase budget a care w d → IsReduced d.vars d.nodes → IsCanonical d → care.0 ≢ 0
+    → IsSearched k phase budget a [] care w d
+opened_searched k phase budget a care w d is sound canonical some = record {
+  store = is.store;
+  opened = is.opened;
+  met = some_care k phase budget a care w d is.opened is.store canonical sound some;
+  clear = λ i x v e m stands. at_none i x e;
+}

@@ -1,9 +1,10 @@
--- What is known of a phase between the steps of its search, and what the search leaves of its store.
-use Rattle.std.specs.Prelude.{◌≡◌, ℕ, ◌+◌, ◌-◌, ◌*◌, ◌≤◌, ◌++◌, Bool, true, List, [], length, Option, Some, None}
+-- What is known of a phase between the stages of its search, and what the search leaves of its store.
+use Rattle.std.specs.Prelude.{◌≡◌, ℕ, ◌+◌, ◌-◌, ◌*◌, ◌<◌, ◌≤◌, ◌++◌, Bool, true, List, length, Option, Some, None, Result, Ok, Err}
 use Rattle.node_pool.specs.declared.region.Span.{Span}
 use Rattle.bdd_core.specs.Store.{Diagrams}
 use Rattle.bdd_core.specs.Words.{IsFilled, shows, word_at}
 use Rattle.bdd_core.specs.declared.handle.H.{H}
+use Rattle.bdd_core.specs.declared.handle.Spent.{Spent}
 use Rattle.bdd_ops.specs.Ops.{bits_of}
 use Rattle.blif_eval.specs.Evaluated.{assignment_at}
 use Rattle.blif_eval.specs.OneAssignment.{AreSame}
@@ -13,10 +14,16 @@ use Rattle.circuit_faults.specs.Results.{IsClearCircuit}
 use Rattle.circuit_faults.specs.Steps.{in_comparison}
 use Rattle.circuit_faults.specs.declared.kept_net.KeptFault.{KeptFault}
 use Rattle.fault_places.specs.Searches.{Case, IsClearOf, Spot, StandsIn}
-use Rattle.phase_terms.specs.Found.{met}
-use Rattle.phase_terms.specs.Opened.{IsOpen, opened_operations}
-use Rattle.phase_terms.specs.Plans.{step_spots}
+use Rattle.phase_check.specs.declared.search.Search.{Search}
+use Rattle.phase_terms.specs.Found.{IsPhaseFault, MaySpend, met}
+use Rattle.phase_terms.specs.Opened.{IsOpen}
+use Rattle.phase_terms.specs.Plans.{IsPhasePlan, step_spots}
+use Rattle.phase_terms.specs.Ready.{IsReady, comparison_in}
 use Rattle.phase_terms.specs.Stores.{IsPhaseStore}
+use Rattle.phase_terms.specs.declared.found.OpenPhase.{OpenPhase}
+use Rattle.phase_terms.specs.declared.found.PhaseFault.{PhaseFault}
+use Rattle.phase_terms.specs.declared.found.PhaseFound.{PhaseFound}
+use Rattle.phase_terms.specs.declared.found.PhaseFound.TheVariants.{Clear, Vacuous, Fault, Spent as IsSpent}
 use Rattle.phase_terms.specs.declared.plan.PhasePlan.{PhasePlan}
 use Rattle.phase_terms.specs.declared.words.PhaseWords.{PhaseWords}
 use Rattle.phase_wishes.specs.declared.wishes.WishBits.{WishBits}
@@ -24,22 +31,11 @@ use Rattle.vrt_model.specs.Assignment.{Assignment}
 use Rattle.vrt_model.specs.Budget.{model_size}
 use Rattle.vrt_model.specs.Comparison.{Comparison, is_observed, phase_at}
 use Rattle.vrt_model.specs.Constraints.{Meets}
+use Rattle.vrt_model.specs.Equal.{IsPhaseEqual}
 use Rattle.vrt_model.specs.Faults.{Assigns, Solves}
 use Rattle.vrt_model.specs.Held.{setting_of}
 use Rattle.vrt_model.specs.Reading.{Partial}
 use Rattle.vrt_model.specs.declared.verdict.FaultKind.TheVariants.{FightKept, Unsettled}
-
--- ---- operations
-
--- where no instance is left whole, those until the bare circuit is looked through, and until the kept one is, and until the model has its bits
-abbrev pub solved_operations : Comparison → ℕ → PhasePlan → ℕ
-solved_operations k phase plan = opened_operations k phase + steps_operations (in_comparison k phase plan.parts plan.steps (is_observed k phase))
-
-abbrev pub settled_operations : Comparison → ℕ → PhasePlan → ℕ
-settled_operations k phase plan = solved_operations k phase plan + kept_operations k.circuit plan.kept.list
-
-abbrev pub evaluated_operations : Comparison → ℕ → PhasePlan → ℕ
-evaluated_operations k phase plan = settled_operations k phase plan + 20 * (model_size k.model + 1)
 
 -- ---- what is known
 
@@ -54,12 +50,6 @@ pub record IsSearched (k : Comparison) (phase budget operations : ℕ) (spots : 
   pub opened : IsOpen k phase care w d
   pub met : (bits : List Bool) × Meets k phase bits
   pub clear : IsClearAt k phase spots
-
--- the same after as many operations as were made; where no instance is left whole, these are so many
-pub record HasBeenSearched (k : Comparison) (phase budget operations : ℕ) (spots : List Spot) (care : H) (w : PhaseWords) (d : Diagrams) : Type 0 where
-  pub made : ℕ
-  pub exact : k.circuit.wholes ≡ [] → made ≡ operations
-  pub searched : IsSearched k phase budget made spots care w d
 
 -- the bare circuit is clear, and the handles of the observed nets have their bits
 pub record IsSolved (k : Comparison) (phase : ℕ) (care : H) (w : PhaseWords) (d : Diagrams) : Type 0 where
@@ -83,6 +73,56 @@ pub record HasModelBits (k : Comparison) (phase : ℕ) (w : PhaseWords) (d : Dia
 -- the first places of a phase: those of the bare circuit, and those of the kept one
 abbrev pub circuit_spots : Comparison → PhasePlan → List Spot
 circuit_spots k plan = step_spots plan ++ kept_spots k.circuit
+
+-- ---- the records between the stages, after so many operations
+
+-- a phase of a comparison that may be searched, with its plan
+pub record IsSearchable (k : Comparison) (phase : ℕ) (plan : PhasePlan) : Type 0 where
+  pub ready : IsReady k
+  pub there : phase < length k.rules.phases
+  pub planned : IsPhasePlan k phase plan
+
+-- opened: the bits of roots, of the model's inputs and of its elements, and the care set
+pub record IsOpened (k : Comparison) (phase budget operations : ℕ) (care : H) (w : PhaseWords) (d : Diagrams) : Type 0 where
+  pub store : IsPhaseStore k phase budget operations w d
+  pub opened : IsOpen k phase care w d
+
+-- solved: no fault of the bare circuit stands, and its nets have their bits
+pub record IsSolvedBare (k : Comparison) (phase budget operations : ℕ) (plan : PhasePlan) (care : H) (w : PhaseWords) (d : Diagrams) : Type 0 where
+  pub searched : IsSearched k phase budget operations (step_spots plan) care w d
+  pub solved : IsSolved k phase care w d
+
+-- kept: nor one of the kept circuit
+pub record IsSolvedKept (k : Comparison) (phase budget operations : ℕ) (plan : PhasePlan) (care : H) (w : PhaseWords) (d : Diagrams) : Type 0 where
+  pub searched : IsSearched k phase budget operations (circuit_spots k plan) care w d
+  pub nets : HasNetBits k phase w d
+
+-- evaluated: the model's signals and elements have their bits
+pub record IsEvaluated (k : Comparison) (phase budget operations : ℕ) (plan : PhasePlan) (care : H) (w : PhaseWords) (d : Diagrams) : Type 0 where
+  pub kept : IsSolvedKept k phase budget operations plan care w d
+  pub model : HasModelBits k phase w d
+
+-- wished: the nets have what they ought to, so the phase is equal
+pub record IsWished (k : Comparison) (phase budget operations : ℕ) (plan : PhasePlan) (care : H) (w : PhaseWords) (d : Diagrams) : Type 0 where
+  pub kept : IsSolvedKept k phase budget operations plan care w d
+  pub equal : IsPhaseEqual k phase
+
+-- the opened phase; or the budget used up, where so many operations may do so, and as many nodes are there
+abbrev pub OpenGives : Comparison → ℕ → ℕ → ℕ → Diagrams → Result OpenPhase Spent → Type 0
+OpenGives k phase budget operations d (Ok open_phase) = IsOpened k phase d.budget operations open_phase.care open_phase.words d
+OpenGives k phase budget operations d (Err spent) = MaySpend k budget phase operations × (length d.nodes ≡ budget)
+
+-- a stage finds nothing, and then this holds; or the first fault of the phase; or the budget used up, where so many operations may do so, and
+-- as many nodes are there
+abbrev pub StageGives : Comparison → ℕ → ℕ → ℕ → Type 0 → Diagrams → Result (Option PhaseFault) Spent → Type 0
+StageGives k phase budget operations Next d (Ok None) = Next
+StageGives k phase budget operations Next d (Ok (Some fault)) = IsPhaseFault k phase fault d
+StageGives k phase budget operations Next d (Err spent) = MaySpend k budget phase operations × (length d.nodes ≡ budget)
+
+-- a stage that finds no fault
+abbrev pub StepGives : Comparison → ℕ → ℕ → ℕ → Type 0 → Diagrams → Result Unit Spent → Type 0
+StepGives k phase budget operations Next d (Ok done) = Next
+StepGives k phase budget operations Next d (Err spent) = MaySpend k budget phase operations × (length d.nodes ≡ budget)
 
 -- ---- the store
 
@@ -111,3 +151,69 @@ handles_of w = record {
   values = record { start = w.values.start; len = w.inputs.len - 1 };
   next = record { start = w.values.start + (w.inputs.len - 1); len = w.held.len };
 }
+
+-- ---- the stages of a search
+
+-- of the bare circuit, of the kept one, of the model, and of the wishes
+abbrev pub bare_operations : Comparison → ℕ → PhasePlan → ℕ
+bare_operations k phase plan = steps_operations (in_comparison k phase plan.parts plan.steps (is_observed k phase))
+
+abbrev pub plan_kept_operations : Comparison → PhasePlan → ℕ
+plan_kept_operations k plan = kept_operations k.circuit plan.kept.list
+
+abbrev pub model_operations : Comparison → ℕ
+model_operations k = 2 * model_size k.model
+
+abbrev pub wish_operations : PhasePlan → ℕ
+wish_operations plan = 3 * length plan.wishes
+
+-- the comparison that is searched
+abbrev pub of_search : Search → Comparison
+of_search s = comparison_in s.compared
+
+-- after an opened phase, the bare circuit solved
+abbrev pub SolvesBare : Search → ℕ → Diagrams → Diagrams → Result (Option PhaseFault) Spent → Type 0
+SolvesBare s made old new result =
+    IsOpened (of_search s) s.phase old.budget made s.care s.words old
+    → StageGives (of_search s) s.phase old.budget (made + bare_operations (of_search s) s.phase s.plan.now)
+    (IsSolvedBare (of_search s) s.phase new.budget (made + bare_operations (of_search s) s.phase s.plan.now) s.plan.now s.care s.words new) new result
+
+-- then the kept one
+abbrev pub SolvesKept : Search → ℕ → Diagrams → Diagrams → Result (Option PhaseFault) Spent → Type 0
+SolvesKept s made old new result =
+    IsSolvedBare (of_search s) s.phase old.budget made s.plan.now s.care s.words old
+    → StageGives (of_search s) s.phase old.budget (made + plan_kept_operations (of_search s) s.plan.now)
+    (IsSolvedKept (of_search s) s.phase new.budget (made + plan_kept_operations (of_search s) s.plan.now) s.plan.now s.care s.words new) new result
+
+-- then the model evaluated
+abbrev pub Evaluates : Search → ℕ → Diagrams → Diagrams → Result Unit Spent → Type 0
+Evaluates s made old new result =
+    IsSolvedKept (of_search s) s.phase old.budget made s.plan.now s.care s.words old
+    → StepGives (of_search s) s.phase old.budget (made + model_operations (of_search s))
+    (IsEvaluated (of_search s) s.phase new.budget (made + model_operations (of_search s)) s.plan.now s.care s.words new) new result
+
+-- then what nets ought to have
+abbrev pub ChecksWishes : Search → ℕ → Diagrams → Diagrams → Result (Option PhaseFault) Spent → Type 0
+ChecksWishes s made old new result =
+    IsEvaluated (of_search s) s.phase old.budget made s.plan.now s.care s.words old
+    → StageGives (of_search s) s.phase old.budget (made + wish_operations s.plan.now)
+    (IsWished (of_search s) s.phase new.budget (made + wish_operations s.plan.now) s.plan.now s.care s.words new) new result
+
+-- all of these
+abbrev pub stages_operations : Comparison → ℕ → PhasePlan → ℕ → ℕ
+stages_operations k phase plan made = made + bare_operations k phase plan + plan_kept_operations k plan + model_operations k + wish_operations plan
+
+abbrev pub ChecksStages : Search → ℕ → Diagrams → Diagrams → Result (Option PhaseFault) Spent → Type 0
+ChecksStages s made old new result =
+    IsOpened (of_search s) s.phase old.budget made s.care s.words old
+    → StageGives (of_search s) s.phase old.budget (stages_operations (of_search s) s.phase s.plan.now made)
+    (IsWished (of_search s) s.phase new.budget (stages_operations (of_search s) s.phase s.plan.now made) s.plan.now s.care s.words new) new result
+
+-- ---- the whole search
+
+-- where the phase is clear, the record of its last stage holds, so that the levels of its nets can be asked for
+abbrev pub ClearGives : Comparison → ℕ → ℕ → PhasePlan → Diagrams → PhaseFound → Type 0
+ClearGives k phase operations plan d (Clear open_phase) = IsWished k phase d.budget operations plan open_phase.care open_phase.words d
+ClearGives k phase operations plan d Vacuous = Unit {0}
+ClearGives k phase operations plan d (Fault fault) = Unit {0}
+ClearGives k phase operations plan d IsSpent = Unit {0}

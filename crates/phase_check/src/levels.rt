@@ -1,42 +1,37 @@
-//! The levels of nets, with which the search of an equal phase ends.
+//! The levels of nets, which are told of an equal phase.
 
-ghost use Rattle.std.specs.Prelude.{◌≡◌, ◌<◌, ◌≤◌, length};
+ghost use Rattle.std.specs.Prelude.{ℕ, ◌+◌, ◌≤◌, length};
+ghost use Rattle.drive_levels.specs.NetLevels.{drive_operations};
 ghost use Rattle.drive_levels.specs.PhaseLevels.{HasTables, KeepsTables};
 ghost use Rattle.phase_check.specs.Levels.{TellsLevels};
-ghost use Rattle.phase_check.specs.States.{HasBeenSearched, HasNetBits, KeepsRoom, circuit_spots};
-ghost use Rattle.phase_laws.specs.Sums.{total_operations};
-ghost use Rattle.phase_terms.specs.Found.{PhaseGives};
-ghost use Rattle.phase_terms.specs.Plans.{IsPhasePlan};
-ghost use Rattle.phase_terms.specs.Ready.{IsReady, comparison_in};
-ghost use Rattle.vrt_model.specs.Equal.{IsPhaseEqual};
+ghost use Rattle.phase_check.specs.States.{IsSearchable, IsWished, KeepsRoom};
+ghost use Rattle.phase_terms.specs.Ready.{comparison_in};
 
 use crate::search::Search;
-use bdd_core::Store;
+use bdd_core::{Spent, Store};
 use drive_levels::{NetLevels, net_levels};
-use phase_terms::PhaseFound;
 
-/// The levels of the nets that are asked for, where the phase is equal.
-pub(crate) fn check_levels(
+/// Writes the levels of the nets that are asked for, where the phase is equal: each has exactly the level that it has in the bare and in
+/// the kept circuit at each valuation that meets the constraints, or none.
+///
+/// `Spent` comes only with more than four variables, where the operations so far and those of the levels may add more nodes than the
+/// budget has; then as many nodes are there.
+pub fn write_levels(
     store: &mut Store,
     search: Search<'_>,
     levels: &mut NetLevels,
-) -> PhaseFound
-    requires ready { IsReady (comparison_in search.compared) }
-    requires phase { search.phase < length search.compared.rules.now.phases }
-    requires plan { IsPhasePlan (comparison_in search.compared) search.phase search.plan.now }
+) -> Result<(), Spent>
+    requires search { IsSearchable (comparison_in search.compared) search.phase search.plan.now }
     requires budget { 65536 ≤ store.old.budget }
-    requires searched { HasBeenSearched (comparison_in search.compared) search.phase store.old.budget (total_operations (comparison_in search.compared) search.phase search.plan.now) (circuit_spots (comparison_in search.compared) search.plan.now) search.care search.words store.old }
-    requires nets { HasNetBits (comparison_in search.compared) search.phase search.words store.old }
-    requires equal { IsPhaseEqual (comparison_in search.compared) search.phase }
+    requires wished { (made : ℕ) × IsWished (comparison_in search.compared) search.phase store.old.budget made search.plan.now search.care search.words store.old }
     requires levels { HasTables (length search.compared.circuit.now.nets) levels.old }
-    ensures gives { PhaseGives (comparison_in search.entry.compared) search.entry.phase store.old.budget store.new result }
-    ensures levels { TellsLevels (comparison_in search.entry.compared) search.entry.phase levels.new result }
+    ensures gives { (made : ℕ) → TellsLevels search.entry made store.old store.new levels.new result }
     ensures tables { KeepsTables levels.old levels.new }
     ensures kept { KeepsRoom store.old store.new }
 {
     store.sound();
     let words = search.words;
-    match net_levels(
+    net_levels(
         store,
         search.compared.circuit,
         search.plan.parts.list.as_slice(),
@@ -46,8 +41,5 @@ pub(crate) fn check_levels(
         words.gates,
         words.out,
         levels,
-    ) {
-        Err(_) => PhaseFound::Spent,
-        Ok(()) => PhaseFound::Clear,
-    }
+    )
 }

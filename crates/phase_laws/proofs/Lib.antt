@@ -2,7 +2,9 @@ pub mod EqualPhase
 pub mod Firsts
 pub mod Observed
 pub mod OneModel
+pub mod PartCosts
 pub mod PartSums
+pub mod PhaseWork
 pub mod Planned
 pub mod Sizes
 pub mod Work

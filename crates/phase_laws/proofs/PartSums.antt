@@ -1,4 +1,4 @@
--- How many nets and devices all parts of the bare or of the kept circuit have, and so how many operations on parts are made at most.
+-- How many nets and devices all parts of the bare or of the kept circuit have, and how many outputs of whole instances stand on them.
 use Rattle.std.proofs.Common.{◌≡◌, ℕ, zero, suc, ◌+◌, ◌-◌, ◌*◌, ◌<◌, ◌≤◌, Bool, List, [], ◌∷◌, take, length, arith, ap, refl, sym, subst, ◌∙◌, inl, inr, cond, ltb}
 use Rattle.std.specs.Prelude.{slice_get, slice_index, slice_index_or, sum_by}
 use Rattle.std.proofs.Math.Nat.{add-mul, mul_comm, mul-le-mul, mul-le-mul_right}
@@ -10,7 +10,7 @@ use Rattle.std.proofs.lemmas.Option.{same_Some, slice_get-get_or, slice_get_with
 use Rattle.bdd_core.proofs.Pigeon.{pigeon}
 use Rattle.circuit_faults.proofs.CountLaws.{sum_next}
 use Rattle.circuit_faults.proofs.WholeParts.{rising_once}
-use Rattle.circuit_faults.specs.Operations.{circuit_operations, kept_part_operations, part_operations}
+use Rattle.circuit_faults.specs.Operations.{circuit_operations, part_operations}
 use Rattle.channel_parts.specs.PartLists.{AreParts, IsPartOf, device_numbers, least_of, net_numbers}
 use Rattle.channel_parts.specs.declared.part.Part.{Part}
 use Rattle.channel_parts.specs.declared.part.Parts.{Parts}
@@ -54,15 +54,6 @@ record IsLaidOut (items : Part → List ℕ) (parts : List Part) (k count : ℕ)
 
 abbrev no_part : Part
 no_part = record { rank = 0; nets = []; devices = [] }
-
--- to solve a part at which no output of a whole instance stands
-abbrev solving_operations : Part → ℕ
-solving_operations part = 400 * (length part.nets + 1) * (length part.devices + 1)
-
-solving_is : (c : Circuit) → c.wholes ≡ [] → (part : Part) → kept_part_operations c part ≡ solving_operations part
-solving_is c none part =
-    let same : length part.devices + pins_at part (pins_of c) + 1 ≡ length part.devices + 1 = omega (arith, flat_at c part none) in
-    ap (λ (k : ℕ). 400 * (length part.nets + 1) * k) same
 
 module _ (items : Part → List ℕ) (parts : List Part) (bound : ℕ) (own : HasOwnNumbers items parts bound) where
   abbrev size : Part → ℕ
@@ -163,16 +154,16 @@ module _ (c : Circuit) (phase : Phase) (which : Bool) where
 
 -- ---- the parts of a circuit
 
-abbrev nets_of : Part → List ℕ
+abbrev pub nets_of : Part → List ℕ
 nets_of part = net_numbers part.nets
 
-abbrev devices_in : Part → List ℕ
+abbrev pub devices_in : Part → List ℕ
 devices_in part = device_numbers part.devices
 
-abbrev net_count : Part → ℕ
+abbrev pub net_count : Part → ℕ
 net_count part = length (nets_of part)
 
-abbrev device_count : Part → ℕ
+abbrev pub device_count : Part → ℕ
 device_count part = length (devices_in part)
 
 module _ (c : Circuit) (phase : Phase) (which : Bool) (rank : ℕ → ℕ) (parts : Parts) (are : AreParts c phase which rank parts) where
@@ -191,7 +182,7 @@ module _ (c : Circuit) (phase : Phase) (which : Bool) (rank : ℕ → ℕ) (part
       (together_on c phase which (least_of q) n (least_of p) ((of_q.nets n).0 in_q) (together_back c phase which (least_of p) n ((of_p.nets n).0 in_p)))
 
   -- a net is in one part
-  one_part : (i j : ℕ) (p q : Part) (n : ℕ) → At parts.list i p → At parts.list j q → Among (nets_of p) n → Among (nets_of q) n → i ≡ j
+  pub one_part : (i j : ℕ) (p q : Part) (n : ℕ) → At parts.list i p → At parts.list j q → Among (nets_of p) n → Among (nets_of q) n → i ≡ j
   one_part i j p q n at_p at_q in_p in_q =
       let of_p = are.each p (i, at_p) in
       let of_q = are.each q (j, at_q) in
@@ -246,10 +237,10 @@ module _ (c : Circuit) (phase : Phase) (which : Bool) (rank : ℕ → ℕ) (part
         (subst (λ (d : Device). IsInPart c phase which (least_of q) d) (same_Some y.0 x.0 (sym y.1 ∙ x.1)) y.2);
   }
 
-  nets_few : sum_by net_count parts.list ≤ length c.nets
+  pub nets_few : sum_by net_count parts.list ≤ length c.nets
   nets_few = all_few nets_of parts.list (length c.nets) own_nets
 
-  devices_few : sum_by device_count parts.list ≤ length c.devices
+  pub devices_few : sum_by device_count parts.list ≤ length c.devices
   devices_few = all_few devices_in parts.list (length c.devices) own_devices
 
   -- a part has a net, and no more than the circuit
@@ -263,62 +254,3 @@ module _ (c : Circuit) (phase : Phase) (which : Bool) (rank : ℕ → ℕ) (part
       let next = sum_next net_count parts.list m.0 part m.1 in
       let whole = sum_by-take-le net_count parts.list (m.0 + 1) in
       omega (arith, next, whole, nets_few, length-map part.nets (λ (net : Net). net.0))
-
-  -- ---- operations
-
-  abbrev factor : ℕ
-  factor = 400 * (length c.nets + 1)
-
-  part_few : (part : Part) → Among parts.list part → solving_operations part ≤ (net_count part + device_count part) * factor
-  part_few part m =
-      let some = some_net part m in
-      let few = part_room part m in
-      let nets = length-map part.nets (λ (net : Net). net.0) in
-      let devices = length-map part.devices (λ (device : Dev). device.0) in
-      let product : 400 * (length part.nets + 1) * (length part.devices + 1) ≤ factor * (net_count part + device_count part) =
-      mul-le-mul {n₁ = 400 * (length part.nets + 1)} {m₁ = length part.devices + 1} {n₂ = factor} {m₂ = net_count part + device_count part} (omega (arith, few)) (omega (arith, some, nets, devices)) in
-      let turned : factor * (net_count part + device_count part) ≡ (net_count part + device_count part) * factor = mul_comm factor (net_count part + device_count part) in
-      omega (arith, product, turned)
-
-  parts_few : (xs : List Part) → ((part : Part) → Among xs part → Among parts.list part) → sum_by solving_operations xs ≤ (sum_by net_count xs + sum_by device_count xs) * factor
-  parts_few [] inside = omega arith
-  parts_few (part ∷ xs) inside =
-      let rest = parts_few xs (λ q m. inside q (among_later part xs q m)) in
-      let own = part_few part (inside part (0, refl)) in
-      let operations = sum_by-cons solving_operations part xs in
-      let nets = sum_by-cons net_count part xs in
-      let devices = sum_by-cons device_count part xs in
-      step (sum_by solving_operations xs) (sum_by net_count xs) (sum_by device_count xs) (solving_operations part) (net_count part) (device_count part)
-      (sum_by solving_operations (part ∷ xs)) (sum_by net_count (part ∷ xs)) (sum_by device_count (part ∷ xs)) rest own operations nets devices
-    where
-      step : (o n d x y z o' n' d' : ℕ) → o ≤ (n + d) * factor → x ≤ (y + z) * factor → o' ≡ x + o → n' ≡ y + n → d' ≡ z + d → o' ≤ (n' + d') * factor
-      step o n d x y z o' n' d' before own e f g =
-          let sums : n' + d' ≡ (n + d) + (y + z) = omega (arith, f, g) in
-          let product : (n' + d') * factor ≡ (n + d) * factor + (y + z) * factor = ap (λ (w : ℕ). w * factor) sums ∙ add-mul (n + d) (y + z) factor in
-          omega (arith, before, own, e, product)
-
-  -- the operations that solve all parts
-  pub solved_few : sum_by solving_operations parts.list ≤ (length c.nets + length c.devices) * factor
-  solved_few =
-      let all = parts_few parts.list (λ part m. m) in
-      let product : (sum_by net_count parts.list + sum_by device_count parts.list) * factor ≤ (length c.nets + length c.devices) * factor =
-      mul-le-mul_right {m = sum_by net_count parts.list + sum_by device_count parts.list} {n = length c.nets + length c.devices} factor (omega (arith, nets_few, devices_few)) in
-      omega (arith, all, product)
-
-  pub kept_few : c.wholes ≡ [] → sum_by (kept_part_operations c) parts.list ≤ (length c.nets + length c.devices) * factor
-  kept_few none = omega (arith, solved_few, sum_same (kept_part_operations c) solving_operations (solving_is c none) parts.list)
-
-  -- with four for each net
-  with_nets : (xs : List Part) → sum_by part_operations xs ≡ sum_by solving_operations xs + 4 * sum_by net_count xs
-  with_nets [] = refl
-  with_nets (part ∷ xs) =
-      let rest = with_nets xs in
-      let all = sum_by-cons part_operations part xs in
-      let solved = sum_by-cons solving_operations part xs in
-      let nets = sum_by-cons net_count part xs in
-      omega (arith, rest, all, solved, nets, length-map part.nets (λ (net : Net). net.0))
-
-  pub circuit_few : circuit_operations parts.list ≤ (length c.nets + length c.devices) * factor + 4 * length c.nets
-  circuit_few =
-      let all = with_nets parts.list in
-      omega (arith, all, solved_few, nets_few)

@@ -23,7 +23,7 @@ use Rattle.vrt_model.specs.declared.rules.Phase.{Phase}
 
 -- the limits of a cell, and of the models of cells
 abbrev pub AreFew : WordCounts → Type 0
-AreFew c = (c.nets ≤ 20000) × (c.pins ≤ 20000) × (c.models ≤ 40001) × (c.signals ≤ 20000) × (c.elements ≤ 40000) × (c.variables ≤ 1000)
+AreFew c = (c.nets ≤ 20000) × (c.pins ≤ 1000000) × (c.models ≤ 40001) × (c.signals ≤ 20000) × (c.elements ≤ 40000) × (c.variables ≤ 1000)
 
 -- ---- nets with given values
 

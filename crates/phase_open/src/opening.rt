@@ -1,13 +1,14 @@
 //! What stands in the store of a phase when it is opened.
 
 ghost use Rattle.std.specs.Prelude.{◌≡◌, ◌+◌, ◌*◌, ◌<◌, ◌≤◌, length, IfOk};
+ghost use Rattle.bdd_core.specs.Diagram.{TestsWithin};
 ghost use Rattle.bdd_core.specs.Words.{IsFilled, WritesTwo};
 ghost use Rattle.bdd_ops.specs.Counting.{Counts};
 ghost use Rattle.constraints.specs.Cared.{HasInputs};
 ghost use Rattle.phase_open.specs.Given.{WritesOpened, input_count};
 ghost use Rattle.phase_terms.specs.Opened.{AreRootsOpen, IsModelOpen, IsOpen, opened_operations};
 ghost use Rattle.phase_terms.specs.Ready.{IsReady, comparison_in};
-ghost use Rattle.phase_terms.specs.Stores.{HasPhaseWords, IsPhaseStore, counts_of};
+ghost use Rattle.phase_terms.specs.Stores.{HasPhaseWords, counts_of};
 ghost use Rattle.vrt_model.specs.Held.{sources_of};
 
 use crate::elements::open_elements;
@@ -100,9 +101,9 @@ fn open_model(
     Ok(())
 }
 
-/// Opens a phase in a store whose words for it are 0: writes the held values of holds, over them the bits of supplies, clock ports and
-/// inputs, and then the bits of the model's inputs and the old bits of its elements, all as functions of the variables. Answers
-/// the care set, the valuations that meet the constraints of the phase.
+/// Opens a phase in a store whose words for it are 0, and whose nodes test the variables of the phase: writes the held values of holds,
+/// over them the bits of supplies, clock ports and inputs, and then the bits of the model's inputs and the old bits of its elements, all
+/// as functions of the variables. Answers the care set, the valuations that meet the constraints of the phase.
 ///
 /// Nodes are added, and no words but those of roots, inputs and held bits change, also after `Spent`.
 pub fn open_phase(
@@ -115,7 +116,9 @@ pub fn open_phase(
     requires ready { IsReady (comparison_in compared) }
     requires phase { phase < length compared.rules.now.phases }
     requires vars { vars.now.sources ≡ sources_of (comparison_in compared) phase }
-    requires store { IsPhaseStore (comparison_in compared) phase store.old.budget 0 words store.old }
+    requires words { HasPhaseWords (counts_of (comparison_in compared) store.old.vars) words store.old }
+    requires variables { length (sources_of (comparison_in compared) phase) ≤ store.old.vars }
+    requires tests { TestsWithin (length (sources_of (comparison_in compared) phase)) store.old.nodes }
     requires roots { IsFilled store.old words.roots }
     requires inputs { IsFilled store.old words.inputs }
     requires held { IsFilled store.old words.held }

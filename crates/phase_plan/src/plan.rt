@@ -18,19 +18,21 @@ use channel_parts::Parts;
 use circuit_faults::circuit_steps;
 use phase_ports::observed_nets;
 use phase_terms::{Comparison, PhasePlan};
+use rule_index::RuleIndex;
 use std::alloc::Global;
 use vrt_model::NoMemory;
 
 /// The plan of a phase, where the parts of the bare circuit and the order of the model are there.
 fn plan_with(
     alloc: Global,
+    index: &RuleIndex,
     compared: Comparison<'_>,
     phase: u32,
     parts: Parts,
     model: ModelPlan,
 ) -> Result<PhasePlan, NoMemory>
     requires ready { IsReady (comparison_in compared) }
-    requires tables { AreRuleTables compared.rules.now compared.index.now }
+    requires tables { AreRuleTables compared.rules.now index.now }
     requires phase { phase < length compared.rules.now.phases }
     requires parts { IsPartList compared.circuit.now (phase_at compared.rules.now phase) true parts }
     requires model { HasModelPlan (comparison_in compared) phase model }
@@ -47,7 +49,7 @@ fn plan_with(
     let kept = kept_parts(alloc, compared, phase)?;
     let observed = observed_nets(
         alloc,
-        compared.index,
+        index,
         compared.design,
         compared.rules,
         compared.cell,
@@ -55,7 +57,7 @@ fn plan_with(
         compared.pairing,
         phase,
     )?;
-    let wishes = wishes_of(alloc, compared, phase)?;
+    let wishes = wishes_of(alloc, index, compared, phase)?;
     Ok(PhasePlan {
         parts,
         kept,
@@ -71,18 +73,19 @@ fn plan_with(
 /// the circuit nor the model has a cycle. Else the first cycle is told, that of the circuit before that of the model.
 pub fn plan_phase(
     alloc: Global,
+    index: &RuleIndex,
     compared: Comparison<'_>,
     phase: u32,
 ) -> Result<PhasePlan, PlanFault>
     requires ready { IsReady (comparison_in compared) }
-    requires tables { AreRuleTables compared.rules.now compared.index.now }
+    requires tables { AreRuleTables compared.rules.now index.now }
     requires phase { phase < length compared.rules.now.phases }
     ensures gives { PlanGives (comparison_in compared.entry) phase result }
     ensures acyclic { IfOk result (λ _. IsAcyclic (CircuitArc (comparison_in compared.entry) phase) × IsAcyclic (ModelArc (comparison_in compared.entry) phase)) }
 {
     let parts = bare_parts(alloc, compared, phase)?;
     let model = model_order(alloc, compared, phase)?;
-    match plan_with(alloc, compared, phase, parts, model) {
+    match plan_with(alloc, index, compared, phase, parts, model) {
         Ok(plan) => Ok(plan),
         Err(_) => Err(PlanFault::NoMemory),
     }

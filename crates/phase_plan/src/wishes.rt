@@ -8,6 +8,7 @@ ghost use Rattle.rule_index.specs.Tables.{AreRuleTables};
 use phase_ports::output_wishes;
 use phase_terms::Comparison;
 use phase_wishes::{Wish, hold_wishes};
+use rule_index::RuleIndex;
 use std::alloc::Global;
 use vrt_model::{NoMemory, Seq};
 
@@ -47,16 +48,17 @@ fn add_holds(
 /// what the holds ought to be given.
 pub(crate) fn wishes_of(
     alloc: Global,
+    index: &RuleIndex,
     compared: Comparison<'_>,
     phase: u32,
 ) -> Result<Seq<Wish>, NoMemory>
     requires ready { IsReady (comparison_in compared) }
-    requires tables { AreRuleTables compared.rules.now compared.index.now }
+    requires tables { AreRuleTables compared.rules.now index.now }
     ensures { IfOk result (HasWishes (comparison_in compared.entry) phase) }
 {
     let mut wishes = output_wishes(
         alloc,
-        compared.index,
+        index,
         compared.design,
         compared.rules,
         compared.cell,

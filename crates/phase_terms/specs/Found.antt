@@ -1,5 +1,5 @@
 -- What is found in a phase.
-use Rattle.std.specs.Prelude.{◌≡◌, ◌≢◌, ℕ, ◌+◌, ◌*◌, ◌^◌, ◌<◌, Bool, true, List, [], length, Option, Some, None, option_map}
+use Rattle.std.specs.Prelude.{◌≡◌, ◌≢◌, ℕ, ◌+◌, ◌*◌, ◌^◌, ◌<◌, Bool, true, List, length, Option, Some, None, option_map}
 use Rattle.bdd_core.specs.Diagram.{IsWithin}
 use Rattle.bdd_core.specs.Store.{Diagrams, IsLive, IsSpan, function_of}
 use Rattle.bdd_core.specs.declared.handle.H.{H}
@@ -9,7 +9,6 @@ use Rattle.phase_terms.specs.declared.found.PhaseFault.{PhaseFault}
 use Rattle.phase_terms.specs.declared.found.PhaseFound.{PhaseFound}
 use Rattle.phase_terms.specs.declared.found.PhaseFound.TheVariants.{Clear, Vacuous, Fault, Spent}
 use Rattle.vrt_model.specs.Assignment.{Assignment}
-use Rattle.vrt_model.specs.Budget.{constraints_size, model_size, work}
 use Rattle.vrt_model.specs.Comparison.{Comparison}
 use Rattle.vrt_model.specs.Constraints.{meets}
 use Rattle.vrt_model.specs.Equal.{IsPhaseEqual, IsVacuous}
@@ -56,19 +55,15 @@ pub record IsPhaseFault (k : Comparison) (phase : ℕ) (fault : PhaseFault) (d :
       → at_bits d fault.at bits ≡ true → Solves k phase (setting_of k phase bits) a → Assigns k phase (setting_of k phase bits) g
       → IsPrintedWith k phase (setting_of k phase bits) a g fault.kind fault.place (circuit_bit d fault.values bits) (wanted_bit d fault.values bits)
 
--- more than four variables, and more nodes than the budget has may be needed
-pub record MaySpend (k : Comparison) (budget phase : ℕ) : Type 0 where
+-- more than four variables, and more nodes than the budget has may be added by so many operations
+pub record MaySpend (k : Comparison) (budget phase operations : ℕ) : Type 0 where
   pub many : 4 < length (sources_of k phase)
-  pub passed :
-      budget < 2 + 2 ^ length (sources_of k phase) * work (length k.circuit.nets) (length k.circuit.devices) (model_size k.model) (constraints_size k)
+  pub passed : budget < 2 + 2 ^ length (sources_of k phase) * operations
 
--- the same where no instance is left whole; where some are, nothing is said of when the budget is used up
-abbrev pub MaySpendFlat : Comparison → ℕ → ℕ → Type 0
-MaySpendFlat k budget phase = k.circuit.wholes ≡ [] → MaySpend k budget phase
-
--- equal in the phase; or no valuation meets its constraints; or its first fault; or the budget used up
-abbrev pub PhaseGives : Comparison → ℕ → ℕ → Diagrams → PhaseFound → Type 0
-PhaseGives k phase budget d Clear = IsPhaseEqual k phase
-PhaseGives k phase budget d Vacuous = IsVacuous k phase
-PhaseGives k phase budget d (Fault fault) = IsPhaseFault k phase fault d
-PhaseGives k phase budget d Spent = MaySpendFlat k budget phase
+-- equal in the phase; or no valuation meets its constraints; or its first fault; or the budget used up, where so many operations may do so,
+-- and as many nodes are there
+abbrev pub PhaseGives : Comparison → ℕ → ℕ → ℕ → Diagrams → PhaseFound → Type 0
+PhaseGives k phase budget operations d (Clear open_phase) = IsPhaseEqual k phase
+PhaseGives k phase budget operations d Vacuous = IsVacuous k phase
+PhaseGives k phase budget operations d (Fault fault) = IsPhaseFault k phase fault d
+PhaseGives k phase budget operations d Spent = MaySpend k budget phase operations × (length d.nodes ≡ budget)

@@ -32,7 +32,7 @@ pub record AreCircuitSteps (k : Comparison) (phase : ℕ) (parts : Parts) (steps
   pub work :
       (observed : ℕ → Bool)
       → steps_operations (in_comparison k phase parts steps observed)
-      ≡ circuit_operations parts.list + sum_by (constraint_operations (in_comparison k phase parts steps observed)) k.circuit.instances
+      ≡ circuit_operations k.circuit parts.list + sum_by (constraint_operations (in_comparison k phase parts steps observed)) k.circuit.instances
 
 -- ---- the model
 

@@ -1,6 +1,5 @@
 //! What is compared.
 
-use rule_index::RuleIndex;
 use vrt_model::{Circuit, Design, FlatModel, Group, Pairing, Rules, Seq};
 use whole_steps::WholeTable;
 
@@ -11,8 +10,6 @@ pub struct Comparison<'a> {
     pub design: &'a Design,
     /// The rules.
     pub rules: &'a Rules,
-    /// What the rules say, by the names of cells.
-    pub index: &'a RuleIndex,
     /// The number of the cell.
     pub cell: u32,
     /// Which signals of the model the ports of the cell pair with.

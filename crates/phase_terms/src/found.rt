@@ -1,5 +1,6 @@
 //! What is found in a phase.
 
+use crate::words::PhaseWords;
 use bdd_core::H;
 use node_pool::Span;
 use vrt_model::FaultKind;
@@ -19,11 +20,20 @@ pub struct PhaseFault {
     pub least: Span,
 }
 
+/// A phase that is opened in a store.
+#[derive(Clone, Copy)]
+pub struct OpenPhase {
+    /// The valuations that meet its constraints.
+    pub care: H,
+    /// Its words.
+    pub words: PhaseWords,
+}
+
 /// What is found in a phase.
 #[derive(Clone, Copy)]
 pub enum PhaseFound {
     /// The circuit and the model agree at each valuation that meets the constraints.
-    Clear,
+    Clear(OpenPhase),
     /// No valuation meets the constraints.
     Vacuous,
     /// The first fault.

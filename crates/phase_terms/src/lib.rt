@@ -8,6 +8,6 @@ mod plan;
 mod words;
 
 pub use compared::Comparison;
-pub use found::{PhaseFault, PhaseFound};
+pub use found::{OpenPhase, PhaseFault, PhaseFound};
 pub use plan::PhasePlan;
 pub use words::{PhaseWords, WordCounts};

@@ -24,17 +24,17 @@ returns-in-Err-care-clause-counts c =
     let roots = c.open_roots.new.store in
     let low : length c.args.vars.now.sources ≤ u = omega (arith, ap (λ (ss : List Source). length ss) c.requires.vars) in
     let all : IsSpanWithin u roots c.args.words.roots =
-    span_reads u c.args.words.roots roots c.open_roots.ensures.writes.adds.sound (tests_more u (root_operations k) first roots c.in-Ok.ensures.counts.added c.requires.store.used.within) c.in-Ok.ensures.roots.live in
+    span_reads u c.args.words.roots roots c.open_roots.ensures.writes.adds.sound (tests_more u (root_operations k) first roots c.in-Ok.ensures.counts.added c.requires.tests) c.in-Ok.ensures.roots.live in
     let within : IsSpanWithin u roots c.net_roots.result =
-    subst (IsSpanWithin u roots) (sym c.net_roots.ensures) (λ n lt. all n (omega (arith, lt, c.requires.store.words.roots_len))) in
+    subst (IsSpanWithin u roots) (sym c.net_roots.ensures) (λ n lt. all n (omega (arith, lt, c.requires.words.roots_len))) in
     care_refused k c.args.phase first roots c.care.new.store c.in-Ok.first c.in-Ok.ensures.counts c.in-Err-care.spent (c.in-Err-care.ensures.counts u low within)
 
 pub net_roots-requires : goal.net_roots-requires
-net_roots-requires c = omega (arith, c.requires.store.words.roots_len)
+net_roots-requires c = omega (arith, c.requires.words.roots_len)
 
 pub care-requires-clause-span : goal.care-requires-clause-span
 care-requires-clause-span c =
-    let w = c.requires.store.words in
+    let w = c.requires.words in
     let roots = c.args.words.roots in
     let all : IsSpan c.open_roots.new.store roots =
     two_span roots roots roots c.args.store.now c.open_roots.new.store c.in-Ok.ensures.writes
@@ -43,7 +43,7 @@ care-requires-clause-span c =
 
 pub care-requires-clause-live : goal.care-requires-clause-live
 care-requires-clause-live c =
-    subst (IsFilled c.open_roots.new.store) (sym c.net_roots.ensures) (λ n lt. c.in-Ok.ensures.roots.live n (omega (arith, lt, c.requires.store.words.roots_len)))
+    subst (IsFilled c.open_roots.new.store) (sym c.net_roots.ensures) (λ n lt. c.in-Ok.ensures.roots.live n (omega (arith, lt, c.requires.words.roots_len)))
 
 pub care-requires-clause-len : goal.care-requires-clause-len
 care-requires-clause-len c = ap (λ (s : Span). s.len) c.net_roots.ensures
@@ -54,13 +54,13 @@ care-requires-clause-inputs c =
 
 pub open_model-requires-clause-roots : goal.open_model-requires-clause-roots
 open_model-requires-clause-roots c =
-    roots_added (comparison_in c.args.compared) c.args.phase c.args.words.roots c.open_roots.new.store c.care.new.store (omega (arith, c.requires.store.words.roots_len)) c.in-Ok-care.ensures.gives.adds c.in-Ok.ensures.roots
+    roots_added (comparison_in c.args.compared) c.args.phase c.args.words.roots c.open_roots.new.store c.care.new.store (omega (arith, c.requires.words.roots_len)) c.in-Ok-care.ensures.gives.adds c.in-Ok.ensures.roots
 
 pub returns-in-Ok-open_model-clause-open : goal.returns-in-Ok-open_model-clause-open
 returns-in-Ok-open_model-clause-open c =
     let k : Comparison = comparison_in c.args.compared in
     let words = c.args.words in
-    let w = c.requires.store.words in
+    let w = c.requires.words in
     let mid = c.care.new.store in
     let new = c.open_model.new.store in
     let care = c.in-Ok-care.care in
@@ -86,11 +86,11 @@ returns-in-Ok-open_model-clause-counts c =
     let roots = c.open_roots.new.store in
     let low : length c.args.vars.now.sources ≤ u = omega (arith, ap (λ (ss : List Source). length ss) c.requires.vars) in
     let all : IsSpanWithin u roots c.args.words.roots =
-    span_reads u c.args.words.roots roots c.open_roots.ensures.writes.adds.sound (tests_more u (root_operations k) first roots c.in-Ok.ensures.counts.added c.requires.store.used.within) c.in-Ok.ensures.roots.live in
+    span_reads u c.args.words.roots roots c.open_roots.ensures.writes.adds.sound (tests_more u (root_operations k) first roots c.in-Ok.ensures.counts.added c.requires.tests) c.in-Ok.ensures.roots.live in
     let within : IsSpanWithin u roots c.net_roots.result =
-    subst (IsSpanWithin u roots) (sym c.net_roots.ensures) (λ n lt. all n (omega (arith, lt, c.requires.store.words.roots_len))) in
+    subst (IsSpanWithin u roots) (sym c.net_roots.ensures) (λ n lt. all n (omega (arith, lt, c.requires.words.roots_len))) in
     model_counted k c.args.phase first roots c.care.new.store c.in-Ok.first c.in-Ok.ensures.counts c.in-Ok-care.care (c.in-Ok-care.ensures.counts u low within) c.open_model.new.store c.args.words.held.len
-    c.requires.store.words.held_len c.in-Ok-open_model.field-0 c.in-Ok-open_model.ensures.counts
+    c.requires.words.held_len c.in-Ok-open_model.field-0 c.in-Ok-open_model.ensures.counts
 
 pub returns-in-Err-open_model-clause-counts : goal.returns-in-Err-open_model-clause-counts
 returns-in-Err-open_model-clause-counts c =
@@ -100,8 +100,8 @@ returns-in-Err-open_model-clause-counts c =
     let roots = c.open_roots.new.store in
     let low : length c.args.vars.now.sources ≤ u = omega (arith, ap (λ (ss : List Source). length ss) c.requires.vars) in
     let all : IsSpanWithin u roots c.args.words.roots =
-    span_reads u c.args.words.roots roots c.open_roots.ensures.writes.adds.sound (tests_more u (root_operations k) first roots c.in-Ok.ensures.counts.added c.requires.store.used.within) c.in-Ok.ensures.roots.live in
+    span_reads u c.args.words.roots roots c.open_roots.ensures.writes.adds.sound (tests_more u (root_operations k) first roots c.in-Ok.ensures.counts.added c.requires.tests) c.in-Ok.ensures.roots.live in
     let within : IsSpanWithin u roots c.net_roots.result =
-    subst (IsSpanWithin u roots) (sym c.net_roots.ensures) (λ n lt. all n (omega (arith, lt, c.requires.store.words.roots_len))) in
+    subst (IsSpanWithin u roots) (sym c.net_roots.ensures) (λ n lt. all n (omega (arith, lt, c.requires.words.roots_len))) in
     model_refused k c.args.phase first roots c.care.new.store c.in-Ok.first c.in-Ok.ensures.counts c.in-Ok-care.care (c.in-Ok-care.ensures.counts u low within) c.open_model.new.store c.args.words.held.len
-    c.requires.store.words.held_len c.in-Err-open_model.spent c.in-Err-open_model.ensures.counts
+    c.requires.words.held_len c.in-Err-open_model.spent c.in-Err-open_model.ensures.counts
