@@ -30,7 +30,7 @@ use Rattle.vrt_model.specs.FlatCircuit.{flat_circuit_of}
 use Rattle.vrt_model.specs.Held.{setting_of}
 use Rattle.vrt_model.specs.Lists.{At}
 use Rattle.vrt_model.specs.Networks.{HasRanges}
-use Rattle.vrt_model.specs.Places.{Finding, IsFinding, IsFirst}
+use Rattle.vrt_model.specs.Places.{Finding, IsFinding, IsFirstInPhase}
 use Rattle.vrt_model.specs.Reading.{Partial}
 use Rattle.vrt_model.specs.State.{Setting}
 use Rattle.vrt_model.specs.Unrolled.{Top, all_places}
@@ -109,9 +109,9 @@ module _ {all_soft : Bool} (k : Comparison) (cut : Cut) (blif : Blif) (facts : L
       (always_solved k cut blif facts c h 0 k.circuit ((chain_begins_flat cut blif facts k.circuit).1 h.flat) (some_place t))
 
   module _ (fault : FaultAt) (f : Finding) (ok : IsFoundByRank f.kind)
-      (describes : Describes (with_circuit k c) fault f) (first : IsFirst (with_circuit k c) f) where
+      (describes : Describes (with_circuit k c) fault f) (first : IsFirstInPhase (with_circuit k c) f) where
     abbrev found : IsFinding (with_circuit k c) f
-    found = first.in_phase.found
+    found = first.found
 
     abbrev setting : Setting
     setting = setting_of k f.phase f.bits
@@ -129,7 +129,7 @@ module _ {all_soft : Bool} (k : Comparison) (cut : Cut) (blif : Blif) (facts : L
     firm =
         let ordered = chain_circuits_are_ordered k cut blif facts c last.0 c f.phase (setting_of (with_circuit k c) f.phase f.bits) h last.2 lt in
         subst (λ (s : Setting). IsOnFirmGround (with_circuit k c) (whole_instances (before cut last.0)) f.phase s f.kind f.at) same_setting
-        (first_fault_is_firm (with_circuit k c) (whole_instances (before cut last.0)) f ordered.0 ordered.1 first.in_phase ok)
+        (first_fault_is_firm (with_circuit k c) (whole_instances (before cut last.0)) f ordered.0 ordered.1 first ok)
 
     down : (m : ℕ) × IsSamePlace cut f.kind m f.at × IsOnFirmGround k [] f.phase setting f.kind m
     down =

@@ -42,7 +42,7 @@ use Rattle.vrt_model.specs.FlatCircuit.{flat_instance}
 use Rattle.vrt_model.specs.Held.{setting_of}
 use Rattle.vrt_model.specs.Known.{IsPlain}
 use Rattle.vrt_model.specs.Lists.{Among}
-use Rattle.vrt_model.specs.Places.{Finding, IsFinding, IsFirst, comes_before, greatest_rank, named_nets, standing}
+use Rattle.vrt_model.specs.Places.{Finding, IsFinding, IsFirstInPhase, comes_before, greatest_rank, named_nets, standing}
 use Rattle.vrt_model.specs.Reading.{Partial, bare}
 use Rattle.vrt_model.specs.Response.{Fight as FightResponse}
 use Rattle.vrt_model.specs.Solution.{SameObserved}
@@ -129,16 +129,16 @@ own_place cut Apart at ok = refl
 own_place cut Enter at ok = refl
 
 -- where a fault of a later stage is first, none of the first stage stands
-module _ (k : Comparison) (f : Finding) (first : IsFirst k f) (later : IsFoundLater f.kind) where
+module _ (k : Comparison) (f : Finding) (first : IsFirstInPhase k f) (later : IsFoundLater f.kind) where
   abbrev found : IsFinding k f
-  found = first.in_phase.found
+  found = first.found
 
   abbrev setting_there : Setting
   setting_there = setting_of k f.phase f.bits
 
   nothing_bare : (kind : FaultKind) (at : ℕ) → IsFoundByRank kind → ¬ Stands k f.phase setting_there found.stands.0 found.stands.1 kind at
   nothing_bare kind at bare stands =
-      let order = first.in_phase.first in
+      let order = first.first in
       let other : Finding = record { phase = f.phase; kind = kind; at = at; bits = f.bits } in
       let is : IsFinding k other = record { phase = found.phase; meets = found.meets; stands = (found.stands.0, found.stands.1, found.stands.2, found.stands.3, stands) } in
       elim (order.3 other is refl) [
@@ -303,9 +303,9 @@ module _ {all_soft : Bool} (k : Comparison) (cut : Cut) (blif : Blif) (facts : L
 -- ---- the first fault
 
 module _ {all_soft : Bool} (k : Comparison) (cut : Cut) (blif : Blif) (facts : List CellFacts) (c : Circuit) (f : Finding) (h : IsCheckedByFacts all_soft k cut blif facts c) (later : IsFoundLater f.kind)
-    (first : IsFirst (with_circuit k c) f) where
+    (first : IsFirstInPhase (with_circuit k c) f) where
   abbrev last_found : IsFinding (with_circuit k c) f
-  last_found = first.in_phase.found
+  last_found = first.found
 
   abbrev last : (n : ℕ) × (n < length (all_places cut.top)) × IsCircuitWith (before cut n) blif facts c
   last = at_last k cut blif facts c h
@@ -323,7 +323,7 @@ module _ {all_soft : Bool} (k : Comparison) (cut : Cut) (blif : Blif) (facts : L
   all_defined n seen =
       let lt = subst (λ (u : Top). f.phase < length u.rules.phases) (sym h.top) last_found.phase in
       let determined = subst (λ (u : Top). AreDetermined c (phase_at u.rules f.phase) (is_observed (with_circuit k c) f.phase)) h.top (determined_at k cut blif facts c h last.0 c last.2 f.phase lt) in
-      let order = first.in_phase.first in
+      let order = first.first in
       let bit =
       solutions_are_defined c (phase_at k.rules f.phase) (is_observed (with_circuit k c) f.phase) (setting_of (with_circuit k c) f.phase f.bits) order.0 last_found.stands.0 (ranges_at k cut blif facts c h last.0 c last.2)
       (nets_observed k cut blif facts c h last.0 c last.2 f.phase lt) determined order.2.ranking last_found.stands.2

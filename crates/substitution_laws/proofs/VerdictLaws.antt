@@ -60,7 +60,7 @@ module _ {all_soft : Bool} (k : Comparison) (cut : Cut) (blif : Blif) (facts : L
   by_verdict : (verdict : Verdict) → HasVerdict (with_circuit k c) blif budget verdict → HasCheckedVerdict k blif facts budget verdict
   by_verdict Equal equal = λ phase lt. phase_equal k (with_circuit k c) whole.0 phase lt (equal phase lt)
   by_verdict (Fault fault) (earlier, (f, describes, first)) =
-      let flat = whole.1 fault f describes first in
+      let flat = whole.1 fault f describes first.in_phase in
       let lt = subst (λ (p : ℕ). p < length k.rules.phases) (sym describes.phase) first.in_phase.found.phase in (
         before fault.phase lt earlier,
         (cut, c, flat.0, f, h.top, record { chosen = h.choice.tried; circuit = h.circuit }, flat.1, flat.2, describes, first, flat.3),

@@ -7,7 +7,7 @@ use Rattle.vrt_model.specs.Checked.{IsCircuitWith, before, with_circuit}
 use Rattle.vrt_model.specs.CheckedVerdicts.{IsSamePlace}
 use Rattle.vrt_model.specs.Comparison.{Comparison}
 use Rattle.vrt_model.specs.Cut.{Cut}
-use Rattle.vrt_model.specs.Places.{Finding, IsFinding, IsFirst}
+use Rattle.vrt_model.specs.Places.{Finding, IsFinding, IsFirstInPhase}
 use Rattle.vrt_model.specs.State.{Setting}
 use Rattle.vrt_model.specs.Verdicts.{Describes}
 use Rattle.vrt_model.specs.declared.blif.Blif.{Blif}
@@ -28,5 +28,5 @@ abbrev pub FirstFaultsStandBelow : Bool → Type 0
 FirstFaultsStandBelow all_soft =
     (k : Comparison) (cut : Cut) (blif : Blif) (facts : List CellFacts) (c : Circuit) (fault : FaultAt) (f : Finding)
     → IsCheckedByFacts all_soft k cut blif facts c → IsFoundByRank f.kind
-    → Describes (with_circuit k c) fault f → IsFirst (with_circuit k c) f
+    → Describes (with_circuit k c) fault f → IsFirstInPhase (with_circuit k c) f
     → (flat : Finding) × Describes k fault flat × IsFinding k flat × IsSamePlace cut fault.kind flat.at f.at

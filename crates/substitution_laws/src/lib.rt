@@ -25,7 +25,7 @@ pub use later::later_faults_stand_below;
 pub use pins::{step_has_cell_pins, step_has_one_more_whole};
 pub use steps::steps_are_one_more_whole;
 pub use substitution::substitution_holds;
-pub use verdicts::{chain_needs_no_more, checked_verdicts_hold};
+pub use verdicts::{chain_has_no_more_work, chain_needs_no_more, checked_verdicts_hold};
 pub use wholes::{
     circuits_have_ranges, cuts_have_ranges, trials_are_wired, wholes_are_determined,
     wholes_stand_for_cells,
