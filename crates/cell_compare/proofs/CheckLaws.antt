@@ -1,9 +1,15 @@
 -- Phases that are equal have no finding, so that the first finding of a later phase is the first.
-use Rattle.std.proofs.Common.{◌≡◌, ◌⊎◌, ℕ, ◌≤◌, ◌<◌, Option, Some, None, length, refl, sym, subst, inl, inr}
+use Rattle.std.proofs.Common.{◌≡◌, ◌⊎◌, ℕ, ◌+◌, ◌*◌, ◌^◌, ◌≤◌, ◌<◌, Option, Some, None, length, arith, refl, sym, subst, inl, inr}
+use Rattle.std.proofs.Math.Nat.{mul-le-mul_left}
 use Rattle.std.proofs.lemmas.Bool.{cases_lt}
-use Rattle.cell_compare.specs.Works.{IsChecked, IsStop, PhaseTells}
+use Rattle.cell_compare.specs.Works.{IsChecked, IsStop, MayUseUp, PhaseTells}
+use Rattle.phase_laws.specs.Sums.{phase_operations, search_operations}
+use Rattle.phase_terms.specs.Found.{MaySpend}
+use Rattle.phase_terms.specs.Plans.{IsPhasePlan}
+use Rattle.phase_terms.specs.declared.plan.PhasePlan.{PhasePlan}
 use Rattle.vrt_model.specs.Comparison.{Comparison}
 use Rattle.vrt_model.specs.Equal.{IsPhaseEqual}
+use Rattle.vrt_model.specs.Held.{sources_of}
 use Rattle.vrt_model.specs.Places.{Finding, IsFinding, IsFirst, IsFirstInPhase}
 use Rattle.vrt_model.specs.Verdicts.{Describes, EqualBefore}
 use Rattle.vrt_model.specs.declared.verdict.FaultAt.{FaultAt}
@@ -41,3 +47,13 @@ stopped k budget phase (Unsupported why) equal lt stop = absurd stop
 pub equal_phase : (k : Comparison) (budget phase : ℕ) (found : Option Verdict) → ((verdict : Verdict) → found ≡ Some verdict → ⊥) → PhaseTells k budget phase found → IsPhaseEqual k phase
 equal_phase k budget phase None none tells = tells
 equal_phase k budget phase (Some verdict) none tells = absurd (none verdict refl)
+
+-- a search that uses up a budget may do so by all operations of its phase
+pub used_up : (k : Comparison) (budget other phase : ℕ) (plan : PhasePlan) → other ≡ budget → IsPhasePlan k phase plan → MaySpend k other phase (search_operations k phase plan) → MayUseUp k budget phase
+used_up k budget other phase plan same is spend =
+    let v : ℕ = length (sources_of k phase) in
+    let few : ℕ = search_operations k phase plan in
+    let many : ℕ = phase_operations k phase plan in
+    let passed = spend.passed in
+    let product : 2 ^ v * few ≤ 2 ^ v * many = mul-le-mul_left {m = few} {n = many} (2 ^ v) (omega arith) in
+    (plan, is, record { many = spend.many; passed = omega (arith, passed, product, same) })

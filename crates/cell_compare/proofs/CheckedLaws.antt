@@ -1,27 +1,29 @@
 -- A comparison may be looked through by its checked circuit, and what is found there is its verdict.
-use Rattle.std.proofs.Common.{◌≡◌, ℕ, ◌+◌, ◌*◌, ◌^◌, ◌<◌, ◌≤◌, Bool, true, false, List, [], Option, Some, None, length, arith, ap, refl, sym, subst, ◌∙◌}
-use Rattle.std.specs.Prelude.{nat_lt, option_map, slice_get, unwrap_or}
-use Rattle.std.proofs.Math.Nat.{pow-le-pow_right}
-use Rattle.std.proofs.lemmas.Bool.{and_parts, ltb-true, true≢false}
-use Rattle.std.proofs.lemmas.Nat.{mul-le}
+use Rattle.std.proofs.Common.{◌≡◌, ℕ, ◌+◌, ◌*◌, ◌<◌, ◌≤◌, false, List, [], Option, length, arith, ap, sym, subst, ◌∙◌}
+use Rattle.std.specs.Prelude.{min}
+use Rattle.std.proofs.Math.Nat.{min-le_left}
 use Rattle.blif_eval.specs.declared.plan.ModelPlan.{ModelPlan}
 use Rattle.cell_compare.proofs.Causes.{comparison_is}
 use Rattle.cell_compare.proofs.CheckedReady.{ready_over}
 use Rattle.cell_compare.proofs.GroundLaws.{ground_of}
-use Rattle.cell_compare.proofs.Passing.{may_pass}
+use Rattle.cell_compare.proofs.Passing.{may_pass, passed_more}
 use Rattle.cell_compare.proofs.VerdictLaws.{read_cell, supported}
-use Rattle.cell_compare.specs.Checked.{IsCheckable, has_many, is_fault, is_passed, is_settled, over}
+use Rattle.cell_compare.specs.Checked.{IsCheckable, over}
 use Rattle.cell_compare.specs.Compared.{AreInputs, IsFlattened, comparison}
-use Rattle.cell_compare.specs.Works.{AreVars, IsChecked, IsPlanned}
+use Rattle.cell_compare.specs.Works.{AreVars, IsChecked, IsPlanned, MayUseUp}
 use Rattle.cell_compare.specs.declared.flattened.Flattened.{Flattened}
-use Rattle.checked_cells.proofs.CircuitLaws.{checked_circuits_are_formed, checked_circuits_share}
+use Rattle.checked_cells.proofs.CircuitLaws.{chain, checked_circuits_are_formed, checked_circuits_share}
 use Rattle.checked_cells.proofs.GivenLaws.{checked_cells_are_by_facts}
 use Rattle.checked_cells.proofs.VerdictLaws.{checked_variables_are_same, flat_verdicts_hold, found_verdicts_hold}
 use Rattle.checked_cells.proofs.WholeLaws.{checked_circuits_are_wired, checked_wholes_are_determined, checked_wholes_are_logic}
 use Rattle.checked_cells.specs.Given.{AreTrueFacts, IsCheckedOf}
 use Rattle.checked_cells.specs.Verdicts.{IsFoundIn}
 use Rattle.circuit_faults.specs.Wholes.{HasSoundWholes}
+use Rattle.path_fixpoint.specs.Parts.{pins_of}
+use Rattle.phase_laws.proofs.PhaseWork.{spent_passes}
+use Rattle.phase_laws.specs.Sums.{HasFewOutputs, work_within}
 use Rattle.phase_terms.specs.Ready.{IsReady}
+use Rattle.substitution_laws.proofs.BudgetLaws.{chain_has_no_more_work, fewer_devices}
 use Rattle.substitution_laws.specs.Agreement.{IsCheckedByFacts}
 use Rattle.vrt_model.specs.Budget.{work_of}
 use Rattle.vrt_model.specs.Checked.{top_of, with_circuit}
@@ -34,6 +36,7 @@ use Rattle.vrt_model.specs.Unrolled.{Top}
 use Rattle.vrt_model.specs.Verdicts.{HasVerdict, MayPassBudget}
 use Rattle.vrt_model.specs.declared.blif.Blif.{Blif}
 use Rattle.vrt_model.specs.declared.circuit.Circuit.{Circuit}
+use Rattle.vrt_model.specs.declared.circuit.FlatNet.{FlatNet}
 use Rattle.vrt_model.specs.declared.design.Design.{Design}
 use Rattle.vrt_model.specs.declared.groups.Group.{Group}
 use Rattle.vrt_model.specs.declared.groups.Source.{Source}
@@ -75,69 +78,20 @@ unfolding flat_circuit_of
 no_whole t c e = ap (λ (x : Circuit). x.wholes) e
 
 -- what is found phase by phase in the flat circuit, as the definitions have it
-found_flat : (k : Comparison) (blif : Blif) (budget : ℕ) (verdict : Verdict) → k.circuit.wholes ≡ [] → IsChecked k budget verdict → HasVerdict k blif budget verdict
-found_flat k blif budget Equal none found = found
-found_flat k blif budget (Fault fault) none found = found
-found_flat k blif budget (Vacuous phase) none found = found
-found_flat k blif budget (Budget nodes phase) none found = (found.0, found.1, may_pass k blif budget phase (found.2 none), found.3)
-found_flat k blif budget Skipped none found = absurd found
-found_flat k blif budget (Unsupported why) none found = absurd found
+found_flat : (k : Comparison) (blif : Blif) (budget : ℕ) (verdict : Verdict) → IsReady k → k.circuit.wholes ≡ [] → IsChecked k budget verdict → HasVerdict k blif budget verdict
+found_flat k blif budget Equal ready none found = found
+found_flat k blif budget (Fault fault) ready none found = found
+found_flat k blif budget (Vacuous phase) ready none found = found
+found_flat k blif budget (Budget nodes phase) ready none found = (found.0, found.1, may_pass k blif none budget phase ready found.2, found.3)
+found_flat k blif budget Skipped ready none found = absurd found
+found_flat k blif budget (Unsupported why) ready none found = absurd found
 
 -- it is the verdict where the checked circuit is the flat one
-pub flat_found : (k : Comparison) (blif : Blif) (facts : List CellFacts) (budget : ℕ) (verdict : Verdict) → IsCheckable k blif facts → IsPlanned k → IsCheckedOf k blif facts k.circuit
+pub flat_found : (k : Comparison) (blif : Blif) (facts : List CellFacts) (budget : ℕ) (verdict : Verdict) → IsReady k → IsCheckable k blif facts → IsPlanned k → IsCheckedOf k blif facts k.circuit
     → IsChecked k budget verdict → HasCheckedVerdict k blif facts budget verdict
-flat_found k blif facts budget verdict able planned is found =
+flat_found k blif facts budget verdict ready able planned is found =
     flat_verdicts_hold k is.0 blif facts budget verdict (able.by_facts k.circuit planned is)
-    (found_flat k blif budget verdict (no_whole (top_of k) k.circuit able.flat) found)
-
--- where it is no fault, it is the verdict whichever circuit is the checked one
-pub flat_tells : (k : Comparison) (blif : Blif) (facts : List CellFacts) (budget : ℕ) (verdict : Verdict) → IsCheckable k blif facts
-    → is_fault verdict ≡ false → IsChecked k budget verdict → HasCheckedVerdict k blif facts budget verdict
-flat_tells k blif facts budget Equal able none found = found
-flat_tells k blif facts budget (Fault fault) able none found = absurd (true≢false none)
-flat_tells k blif facts budget (Vacuous phase) able none found = found
-flat_tells k blif facts budget (Budget nodes phase) able none found = found_flat k blif budget (Budget nodes phase) (no_whole (top_of k) k.circuit able.flat) found
-flat_tells k blif facts budget Skipped able none found = absurd found
-flat_tells k blif facts budget (Unsupported why) able none found = absurd found
-
--- more than four variables, and a budget that the nets and devices pass
-passed : (k : Comparison) (blif : Blif) (budget phase : ℕ) → 4 < length (sources_of k phase) → is_passed budget k.circuit ≡ true → MayPassBudget k blif budget phase
-passed k blif budget phase many e =
-    let v = length (sources_of k phase) in
-    let nets = length k.circuit.nets in
-    let devices = length k.circuit.devices in
-    let all = work_of k blif in
-    let lt = ltb-true budget (32 * (1000 * (nets + 1) * (nets + devices + 1))) e in
-    let least : 1000 * (nets + 1) * (nets + devices + 1) ≤ all = omega arith in
-    let power : 32 ≤ 2 ^ v = pow-le-pow_right {n = 2} (omega arith) {i = 5} {j = v} (omega (arith, many)) in
-    let more = mul-le 32 all (2 ^ v) all power (omega arith) in
-    (many, omega (arith, lt, least, more))
-
--- a phase has more than four variables
-many_sources : (k : Comparison) (upto : ℕ) (vars : List Vars) (phase : ℕ) → AreVars k upto vars → has_many vars phase ≡ true → 4 < length (sources_of k phase)
-many_sources k upto vars phase are many = by_entry (slice_get vars phase) refl
-  where
-    test : Option Vars → Bool
-    test o = unwrap_or (option_map (λ (v : Vars). nat_lt 4 (length v.sources)) o) false
-
-    by_entry : (o : Option Vars) → slice_get vars phase ≡ o → 4 < length (sources_of k phase)
-    by_entry None is = absurd (true≢false (sym many ∙ ap test is))
-    by_entry (Some v) is = subst (λ (sources : List Source). 4 < length sources) (are.each phase v is).sources (ltb-true 4 (length v.sources) (sym (ap test is) ∙ many))
-
--- what is found phase by phase in a checked circuit is the verdict, where the budget is told as used up only where it may be in the flat one
-pub whole_found : (k : Comparison) (cut : Cut) (blif : Blif) (facts : List CellFacts) (c : Circuit) (budget upto : ℕ) (vars : List Vars) (verdict : Verdict) → IsCheckedByFacts false k cut blif facts c
-    → AreVars k upto vars → IsChecked (with_circuit k c) budget verdict → is_settled budget k.circuit vars verdict ≡ true → HasCheckedVerdict k blif facts budget verdict
-whole_found k cut blif facts c budget upto vars verdict h are found settled = found_verdicts_hold k cut blif facts c budget verdict h (by_verdict verdict found settled)
-  where
-    by_verdict : (verdict : Verdict) → IsChecked (with_circuit k c) budget verdict → is_settled budget k.circuit vars verdict ≡ true → IsFoundIn k blif c budget verdict
-    by_verdict Equal found settled = found
-    by_verdict (Fault fault) found settled = found
-    by_verdict (Vacuous phase) found settled = found
-    by_verdict (Budget nodes phase) found settled =
-        let both = and_parts (has_many vars phase) (is_passed budget k.circuit) settled in
-        (found.0, found.1, passed k blif budget phase (many_sources k upto vars phase are both.0) both.1, found.3)
-    by_verdict Skipped found settled = absurd found
-    by_verdict (Unsupported why) found settled = absurd found
+    (found_flat k blif budget verdict ready (no_whole (top_of k) k.circuit able.flat) found)
 
 -- ---- another circuit
 
@@ -175,3 +129,39 @@ ready_with k cut blif facts c ready h =
 pub table_with : (k : Comparison) (cut : Cut) (blif : Blif) (facts : List CellFacts) (c : Circuit) (drivers : List (Option OutputPlace)) (orders : List ModelPlan) → IsCheckedByFacts false k cut blif facts c
     → AreDrivers c (output_pins c) drivers → AreOrders c.wholes (length c.wholes) orders → IsWholeTable c drivers orders
 table_with k cut blif facts c drivers orders h outputs plans = whole_table c drivers orders outputs plans (λ w on. checked_wholes_are_logic k cut blif facts c w h on)
+
+-- ---- what is found in it
+
+-- a budget that may be used up in a phase of the checked circuit lies below what the flat one may need
+passed_over : (k : Comparison) (cut : Cut) (blif : Blif) (facts : List CellFacts) (c : Circuit) (budget phase : ℕ) → IsCheckedByFacts false k cut blif facts c → IsReady k → budget ≤ 64000000
+    → HasFewOutputs c (length k.circuit.devices) → MayUseUp (with_circuit k c) budget phase → MayPassBudget k blif budget phase
+passed_over k cut blif facts c budget phase h ready small few (plan, is, spend) =
+    let x = with_circuit k c in
+    let all_ready : IsReady x = subst IsReady (sym (over_is k cut blif facts c h)) (ready_with k cut blif facts c ready h) in
+    let devices : length c.devices ≤ length k.circuit.devices = fewer_devices k blif facts cut c (chain k cut blif facts c h) in
+    let there = spent_passes x phase plan (length k.circuit.devices) all_ready is devices few budget small spend in
+    let same : sources_of x phase ≡ sources_of k phase = (checked_variables_are_same k cut blif facts c phase h).0 in
+    let less : work_within x (length k.circuit.devices) ≤ work_of k blif = chain_has_no_more_work k blif facts cut c (chain k cut blif facts c h) in
+    passed_more (length (sources_of x phase)) (length (sources_of k phase)) (work_within x (length k.circuit.devices)) (work_of k blif) budget (ap (λ (ss : List Source). length ss) same) less there
+
+-- a circuit with no more outputs than this has few
+pub few_outputs : (k : Comparison) (cut : Cut) (blif : Blif) (facts : List CellFacts) (c : Circuit) (most : ℕ) → IsCheckedByFacts false k cut blif facts c
+    → most ≡ min (40 * ((length k.circuit.nets + 1) * (length k.circuit.nets + length k.circuit.devices + 1))) 1000000 → length (pins_of c) ≤ most → HasFewOutputs c (length k.circuit.devices)
+few_outputs k cut blif facts c most h is le =
+    let devices : ℕ = length k.circuit.devices in
+    let pairs : ℕ = 40 * ((length k.circuit.nets + 1) * (length k.circuit.nets + devices + 1)) in
+    let low : min pairs 1000000 ≤ pairs = min-le_left pairs 1000000 in
+    subst (λ (nets : List FlatNet). length (pins_of c) ≤ 40 * ((length nets + 1) * (length nets + devices + 1))) (sym (checked_circuits_share k cut blif facts c h).nets) (omega (arith, le, is, low))
+
+-- what is found phase by phase in a checked circuit is the verdict
+pub whole_found : (k : Comparison) (cut : Cut) (blif : Blif) (facts : List CellFacts) (c : Circuit) (budget : ℕ) (verdict : Verdict) → IsCheckedByFacts false k cut blif facts c → IsReady k
+    → budget ≤ 64000000 → HasFewOutputs c (length k.circuit.devices) → IsChecked (with_circuit k c) budget verdict → HasCheckedVerdict k blif facts budget verdict
+whole_found k cut blif facts c budget verdict h ready small few found = found_verdicts_hold k cut blif facts c budget verdict h (by_verdict verdict found)
+  where
+    by_verdict : (verdict : Verdict) → IsChecked (with_circuit k c) budget verdict → IsFoundIn k blif c budget verdict
+    by_verdict Equal found = found
+    by_verdict (Fault fault) found = found
+    by_verdict (Vacuous phase) found = found
+    by_verdict (Budget nodes phase) found = (found.0, found.1, passed_over k cut blif facts c budget phase h ready small few found.2, found.3)
+    by_verdict Skipped found = absurd found
+    by_verdict (Unsupported why) found = absurd found

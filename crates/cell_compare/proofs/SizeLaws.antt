@@ -97,10 +97,10 @@ module _ (k : Comparison) (vars : List Vars) (are : AreVars k (length k.rules.ph
       omega (arith, few, low)
 
   -- and all counts are within the limits
-  pub few_counts : IsReady k → (variables : ℕ) (counts : WordCounts) → variables ≤ 1000 → counts ≡ counts_of k variables → counts.pins ≤ 20000 → AreFew counts
+  pub few_counts : IsReady k → (variables : ℕ) (counts : WordCounts) → variables ≤ 1000 → counts ≡ counts_of k variables → counts.pins ≤ 1000000 → AreFew counts
   few_counts ready variables counts few is pins =
       subst AreFew (sym is)
-      (ready.circuit.net_limit, subst (λ (c : WordCounts). c.pins ≤ 20000) is pins, models_few k.circuit.wholes (whole_signals k.circuit ready.circuit), ready.model.signal_limit, (let low = few_elements ready.rules.some_phase in omega (arith, low)), few)
+      (ready.circuit.net_limit, subst (λ (c : WordCounts). c.pins ≤ 1000000) is pins, models_few k.circuit.wholes (whole_signals k.circuit ready.circuit), ready.model.signal_limit, (let low = few_elements ready.rules.some_phase in omega (arith, low)), few)
 
 -- ---- the greatest count
 

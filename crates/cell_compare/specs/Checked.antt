@@ -1,5 +1,5 @@
 -- What is told of a comparison whose checked circuit is looked through.
-use Rattle.std.specs.Prelude.{◌≡◌, ℕ, ◌+◌, ◌*◌, ◌⊎◌, ◌&&◌, Bool, true, false, List, length, nat_lt, Option, Some, None, option_map, slice_get, unwrap_or}
+use Rattle.std.specs.Prelude.{◌≡◌, ℕ, ◌⊎◌, false, List, Option, Some, None}
 use Rattle.cell_compare.specs.Works.{IsPlanned, IsToldWhy}
 use Rattle.checked_cells.specs.Given.{IsCheckedOf}
 use Rattle.substitution_laws.specs.Agreement.{IsCheckedByFacts}
@@ -9,9 +9,8 @@ use Rattle.vrt_model.specs.Comparison.{Comparison}
 use Rattle.vrt_model.specs.FlatCircuit.{flat_circuit_of}
 use Rattle.vrt_model.specs.declared.blif.Blif.{Blif}
 use Rattle.vrt_model.specs.declared.circuit.Circuit.{Circuit}
-use Rattle.vrt_model.specs.declared.groups.Vars.{Vars}
 use Rattle.vrt_model.specs.declared.verdict.Verdict.{Verdict}
-use Rattle.vrt_model.specs.declared.verdict.Verdict.TheVariants.{Equal, Skipped, Fault, Vacuous, Budget, Unsupported}
+use Rattle.vrt_model.specs.declared.verdict.Verdict.TheVariants.{Unsupported}
 use Rattle.vrt_model.specs.declared.verdict.Why.{Why}
 use Rattle.vrt_model.specs.declared.whole.CellFacts.{CellFacts}
 use Rattle.substitute.specs.Candidates.{IsGround}
@@ -38,34 +37,6 @@ over k c = record k { circuit = c }
 abbrev pub compared_over : Comparison → Option Circuit → Comparison
 compared_over k None = k
 compared_over k (Some c) = with_circuit k c
-
--- ---- the budget
-
--- a phase with more than four variables may pass the budget by the nets and devices of the circuit alone
-abbrev pub is_passed : ℕ → Circuit → Bool
-is_passed budget c = nat_lt budget (32 * (1000 * (length c.nets + 1) * (length c.nets + length c.devices + 1)))
-
--- a phase has more than four variables
-abbrev pub has_many : List Vars → ℕ → Bool
-has_many vars phase = unwrap_or (option_map (λ (v : Vars). nat_lt 4 (length v.sources)) (slice_get vars phase)) false
-
--- a verdict may be told: where it says that the budget is used up, it is so by the variables of the phase and the flat circuit alone
-abbrev pub is_settled : ℕ → Circuit → List Vars → Verdict → Bool
-is_settled budget c vars (Budget nodes phase) = has_many vars phase && is_passed budget c
-is_settled budget c vars Equal = true
-is_settled budget c vars (Fault fault) = true
-is_settled budget c vars (Vacuous phase) = true
-is_settled budget c vars Skipped = true
-is_settled budget c vars (Unsupported why) = true
-
--- a verdict tells a fault
-abbrev pub is_fault : Verdict → Bool
-is_fault (Fault fault) = true
-is_fault Equal = false
-is_fault (Vacuous phase) = false
-is_fault (Budget nodes phase) = false
-is_fault Skipped = false
-is_fault (Unsupported why) = false
 
 -- ---- what is told
 

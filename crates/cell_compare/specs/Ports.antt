@@ -5,8 +5,6 @@ use Rattle.drive_levels.specs.PhaseLevels.{ArePhaseLevels}
 use Rattle.drive_levels.specs.PortLevels.{ArePortLevels}
 use Rattle.drive_levels.specs.declared.table.NetLevels.{NetLevels}
 use Rattle.drive_levels.specs.declared.table.PortLevels.{PortLevels}
-use Rattle.lone_outputs.specs.Lone.{AreOutputNets}
-use Rattle.port_drives.specs.Drives.{AreOwnLevels}
 use Rattle.vrt_model.specs.Checked.{IsChecked, top_of, with_circuit}
 use Rattle.vrt_model.specs.Comparison.{Comparison}
 use Rattle.vrt_model.specs.Cut.{Cut}
@@ -25,11 +23,6 @@ pub record ArePortsOf (k : Comparison) (ports : PortLevels) : Type 0 where
   pub within : All (λ (n : Net). n.0 < length k.circuit.nets) ports.nets
   pub len : length ports.levels.items ≡ length ports.nets
 
--- they are at the nets of the outputs, in port order
-pub record AreOutputPorts (k : Comparison) (ports : PortLevels) : Type 0 where
-  pub are : ArePortsOf k ports
-  pub nets : AreOutputNets k ports.nets
-
 -- a phase that is equal has these levels
 abbrev pub TellsPhaseLevels : Comparison → ℕ → NetLevels → Option Verdict → Type 0
 TellsPhaseLevels k phase levels None = ArePhaseLevels k phase levels
@@ -38,10 +31,6 @@ TellsPhaseLevels k phase levels (Some verdict) = Unit {0}
 -- where all are equal, ports at these nets have the levels of all phases
 abbrev pub TellsPorts : Comparison → List Net → PortLevels → Verdict → Type 0
 TellsPorts k nets ports verdict = verdict ≡ Equal → ArePortLevels k (length k.rules.phases) nets ports.levels.items
-
--- and so they have where no output of a whole instance that meets gates alone is there
-abbrev pub TellsOwnLevels : Comparison → List CellFacts → List Net → PortLevels → Verdict → Type 0
-TellsOwnLevels k facts nets ports verdict = verdict ≡ Equal → AreOwnLevels k facts nets ports.levels.items
 
 -- these are the drives of its output ports that the facts of its cell tell, over its checked circuit
 abbrev pub HasDrives : Comparison → Blif → List CellFacts → List Drive → Type 0

@@ -3,7 +3,8 @@ use Rattle.std.specs.Prelude.{◌≡◌, ℕ, ◌+◌, ◌<◌, ◌≤◌, ◌�
 use Rattle.bdd_core.specs.Store.{Diagrams}
 use Rattle.cell_compare.specs.Steps.{Stops}
 use Rattle.cell_compare.specs.declared.hindrance.Hindrance.{Hindrance}
-use Rattle.phase_terms.specs.Found.{MaySpendFlat}
+use Rattle.phase_laws.specs.Sums.{phase_operations}
+use Rattle.phase_terms.specs.Found.{MaySpend}
 use Rattle.phase_terms.specs.Plans.{IsPhasePlan}
 use Rattle.phase_terms.specs.Stores.{counts_of, word_count}
 use Rattle.phase_terms.specs.declared.plan.PhasePlan.{PhasePlan}
@@ -110,11 +111,15 @@ pub record HasRoom (k : Comparison) (budget variables mark : ℕ) (d : Diagrams)
 abbrev pub AreWithin : List Vars → ℕ → Type 0
 AreWithin vars variables = (p : ℕ) (v : Vars) → At vars p v → length v.sources ≤ variables
 
+-- a phase may use up the budget: by all operations of its plan
+abbrev pub MayUseUp : Comparison → ℕ → ℕ → Type 0
+MayUseUp k budget phase = (plan : PhasePlan) × IsPhasePlan k phase plan × MaySpend k budget phase (phase_operations k phase plan)
+
 -- a phase stops the search: at its first fault; as no valuation meets its constraints; or the budget is used up
 abbrev pub IsStop : Comparison → ℕ → ℕ → Verdict → Type 0
 IsStop k budget phase (Fault fault) = (fault.phase ≡ phase) × ((f : Finding) × Describes k fault f × IsFirstInPhase k f)
 IsStop k budget phase (Vacuous p) = (p ≡ phase) × IsVacuous k phase
-IsStop k budget phase (Budget nodes p) = (p ≡ phase) × (nodes ≡ budget) × MaySpendFlat k budget phase
+IsStop k budget phase (Budget nodes p) = (p ≡ phase) × (nodes ≡ budget) × MayUseUp k budget phase
 IsStop k budget phase Equal = ⊥
 IsStop k budget phase Skipped = ⊥
 IsStop k budget phase (Unsupported why) = ⊥
@@ -131,7 +136,7 @@ abbrev pub IsChecked : Comparison → ℕ → Verdict → Type 0
 IsChecked k budget Equal = IsEqual k
 IsChecked k budget (Fault fault) = EqualBefore k fault.phase × ((f : Finding) × Describes k fault f × IsFirst k f)
 IsChecked k budget (Vacuous phase) = (phase < length k.rules.phases) × IsVacuous k phase × EqualBefore k phase
-IsChecked k budget (Budget nodes phase) = (phase < length k.rules.phases) × (nodes ≡ budget) × MaySpendFlat k budget phase × EqualBefore k phase
+IsChecked k budget (Budget nodes phase) = (phase < length k.rules.phases) × (nodes ≡ budget) × MayUseUp k budget phase × EqualBefore k phase
 IsChecked k budget Skipped = ⊥
 IsChecked k budget (Unsupported why) = ⊥
 

@@ -2,16 +2,16 @@
 
 ghost use Rattle.std.specs.Prelude.{◌≡◌, ◌&&◌, ◌≤◌, [], true, length, IfOk};
 ghost use Rattle.std.specs.List.{list_any};
-ghost use Rattle.cell_compare.specs.Checked.{CheckedGives, IsCheckable, IsTold, has_many, is_fault, compared_over, is_passed, is_settled, over};
-ghost use Rattle.cell_compare.specs.Ports.{AreOutputPorts, ArePortsOf, HasDrives, TellsOwnLevels, TellsPorts};
+ghost use Rattle.cell_compare.specs.Checked.{CheckedGives, IsCheckable, IsTold, compared_over, over};
+ghost use Rattle.cell_compare.specs.Ports.{ArePortsOf, HasDrives, TellsPorts};
 ghost use Rattle.cell_compare.specs.Works.{AreVars, ArePlans, IsChecked, IsPlanned};
 ghost use Rattle.checked_cells.specs.Given.{IsCheckedOf, is_candidate};
+ghost use Rattle.path_fixpoint.specs.Parts.{pins_of};
 ghost use Rattle.phase_terms.specs.Ready.{IsReady, comparison_in};
 ghost use Rattle.prepared_tables.specs.Prepared.{ArePrepared};
 ghost use Rattle.rule_index.specs.Tables.{AreRuleTables};
 ghost use Rattle.vrt_model.specs.Checked.{has_fact, with_circuit};
 ghost use Rattle.vrt_model.specs.CheckedVerdicts.{HasCheckedVerdict};
-ghost use Rattle.vrt_model.specs.Circuits.{IsCircuit};
 ghost use Rattle.vrt_model.specs.Networks.{HasRanges};
 ghost use Rattle.vrt_model.specs.declared.verdict.Verdict.TheVariants.{Equal};
 ghost use Rattle.vrt_model.specs.declared.whole.CellFacts.{CellFacts as FactsValue};
@@ -21,11 +21,13 @@ use crate::drives::{Told, lone_in, output_ports, told_drives};
 use crate::hindrance::Hindrance;
 use crate::known_facts::both;
 use crate::phases::check_phases;
+use crate::sizes::most_outputs;
 use crate::works::{add_plans, work_out};
 use blif_eval::{ModelPlan, PlanFault};
 use drive_levels::{PortLevels, ports_at};
 use phase_terms::{Comparison, PhasePlan};
 use prepared_tables::Prepared;
+use rule_index::RuleIndex;
 use std::alloc::Global;
 use substitute::whole_with;
 use vrt_model::{Blif, CellFacts, Circuit, NoMemory, Seq, Vars, Verdict};
@@ -85,56 +87,6 @@ fn checked_circuit(
     Ok(whole)
 }
 
-/// Whether a phase with more than four variables may pass the budget by the nets and devices of the circuit alone.
-fn is_passed(budget: u32, circuit: &Circuit) -> bool
-    requires { IsCircuit circuit.now }
-    ensures { result ≡ is_passed budget circuit.now }
-{
-    let nets = circuit.nets.len() as u64;
-    let devices = circuit.devices.len() as u64;
-    (budget as u64) < 32 * (1000 * (nets + 1) * (nets + devices + 1))
-}
-
-/// Whether a phase has more than four variables.
-fn has_many(vars: &[Vars], phase: u32) -> bool
-    ensures { result ≡ has_many vars.now phase }
-{
-    match vars.get(phase as usize) {
-        Some(one) => 4 < one.sources.len(),
-        None => false,
-    }
-}
-
-/// Whether a verdict may be told: where it says that the budget is used up, the phase has more than four variables, and the nets and
-/// devices of the flat circuit alone pass the budget.
-fn is_settled(budget: u32, flat: &Circuit, vars: &[Vars], verdict: &Verdict) -> bool
-    requires { IsCircuit flat.now }
-    ensures { result ≡ is_settled budget flat.now vars.now verdict.now }
-{
-    match verdict {
-        Verdict::Budget { phase, .. } => both(has_many(vars, *phase), is_passed(budget, flat)),
-        Verdict::Equal => true,
-        Verdict::Skipped => true,
-        Verdict::Fault(_) => true,
-        Verdict::Vacuous { .. } => true,
-        Verdict::Unsupported(_) => true,
-    }
-}
-
-/// Whether a verdict tells a fault.
-fn is_fault(verdict: &Verdict) -> bool
-    ensures { result ≡ is_fault verdict.now }
-{
-    match verdict {
-        Verdict::Fault(_) => true,
-        Verdict::Equal => false,
-        Verdict::Skipped => false,
-        Verdict::Vacuous { .. } => false,
-        Verdict::Budget { .. } => false,
-        Verdict::Unsupported(_) => false,
-    }
-}
-
 /// The orders of the models of whole instances. No model leads around, where each is that of a supported cell.
 fn orders_of(alloc: Global, circuit: &Circuit) -> Result<Seq<ModelPlan>, NoMemory>
     requires { HasRanges circuit.now }
@@ -156,13 +108,11 @@ fn over<'a>(
 ) -> Comparison<'a>
     requires wholes { IsWholeTable circuit.now wholes.drivers.now wholes.plans.now }
     ensures is { comparison_in result ≡ over (comparison_in compared.entry) circuit.now }
-    ensures index { result.index.now ≡ compared.entry.index.now }
     ensures wholes { IsWholeTable result.circuit.now result.wholes.drivers.now result.wholes.plans.now }
 {
     Comparison {
         design: compared.design,
         rules: compared.rules,
-        index: compared.index,
         cell: compared.cell,
         pairing: compared.pairing,
         circuit,
@@ -176,24 +126,29 @@ fn over<'a>(
 fn check_over(
     alloc: Global,
     budget: u32,
+    index: &RuleIndex,
     compared: Comparison<'_>,
     vars: &[Vars],
+    most: u32,
     ports: &mut PortLevels,
 ) -> Result<Verdict, NoMemory>
     requires budget { (65536 ≤ budget) × (budget ≤ 64000000) }
+    requires most { most ≤ 1000000 }
     requires ready { IsReady (comparison_in compared) }
     requires wholes { IsWholeTable compared.circuit.now compared.wholes.drivers.now compared.wholes.plans.now }
-    requires tables { AreRuleTables compared.rules.now compared.index.now }
+    requires tables { AreRuleTables compared.rules.now index.now }
     requires vars { AreVars (comparison_in compared) (length compared.rules.now.phases) vars.now }
     requires ports { ArePortsOf (comparison_in compared) ports.old }
     ensures checked { IfOk result (IsChecked (comparison_in compared.entry) budget) }
     ensures nets { ports.new.nets ≡ ports.old.nets }
     ensures len { length ports.new.levels.items ≡ length ports.new.nets }
+    ensures few { IfOk result (λ _. length (pins_of compared.entry.circuit.now) ≤ most) }
     ensures ports { IfOk result (TellsPorts (comparison_in compared.entry) ports.old.nets ports.new) }
 {
     let mut plans = Seq::new(alloc);
-    match add_plans(alloc, compared, &mut plans) {
-        Ok(()) => check_phases(alloc, budget, compared, vars, plans.as_slice(), ports),
+    match add_plans(alloc, index, compared, &mut plans) {
+        Ok(()) => check_phases(alloc, budget, compared, vars, plans.as_slice(), most, ports),
+        // the arcs of the checked circuit and of its model have no cycle, as those of the flat one have none
         Err(_) => Err(NoMemory),
     }
 }
@@ -203,16 +158,19 @@ fn check_over(
 fn found_with(
     alloc: Global,
     budget: u32,
+    index: &RuleIndex,
     blif: &Blif,
     compared: Comparison<'_>,
     facts: &[CellFacts],
     vars: &[Vars],
     circuit: &Circuit,
+    most: u32,
     ports: &mut PortLevels,
 ) -> Result<Verdict, NoMemory>
     requires budget { (65536 ≤ budget) × (budget ≤ 64000000) }
+    requires most { most ≤ 1000000 }
     requires ready { IsReady (comparison_in compared) }
-    requires tables { AreRuleTables compared.rules.now compared.index.now }
+    requires tables { AreRuleTables compared.rules.now index.now }
     requires checkable { IsCheckable (comparison_in compared) blif.now facts.now }
     requires planned { IsPlanned (comparison_in compared) }
     requires vars { AreVars (comparison_in compared) (length compared.rules.now.phases) vars.now }
@@ -221,6 +179,7 @@ fn found_with(
     ensures checked { IfOk result (IsChecked (with_circuit (comparison_in compared.entry) circuit.now) budget) }
     ensures nets { ports.new.nets ≡ ports.old.nets }
     ensures len { length ports.new.levels.items ≡ length ports.new.nets }
+    ensures few { IfOk result (λ _. length (pins_of circuit.now) ≤ most) }
     ensures ports { IfOk result (TellsPorts (with_circuit (comparison_in compared.entry) circuit.now) ports.old.nets ports.new) }
 {
     let _blif = blif;
@@ -231,81 +190,46 @@ fn found_with(
         drivers: drivers.as_slice(),
         plans: orders.as_slice(),
     };
-    let found = check_over(alloc, budget, over(compared, circuit, wholes), vars, ports)?;
+    let found = check_over(
+        alloc,
+        budget,
+        index,
+        over(compared, circuit, wholes),
+        vars,
+        most,
+        ports,
+    )?;
     Ok(found)
 }
 
-/// The verdict on a comparison by its flat circuit, where what is found in the checked one may not be told: equal, vacuous, or a
-/// budget that is used up. Which fault is the first of the checked circuit is not known then, so the diagrams of a comparison that has a
-/// fault do not fit. The ports of an equal one have the levels of the checked circuit, but where an output of a whole instance meets gates
-/// alone there.
-fn check_unrolled(
-    alloc: Global,
-    budget: u32,
-    blif: &Blif,
-    compared: Comparison<'_>,
-    circuit: &Circuit,
-    facts: &[CellFacts],
-    vars: &[Vars],
-    plans: &[PhasePlan],
-    ports: &mut PortLevels,
-) -> Result<Verdict, NoMemory>
-    requires budget { (65536 ≤ budget) × (budget ≤ 64000000) }
-    requires ready { IsReady (comparison_in compared) }
-    requires wholes { IsWholeTable compared.circuit.now compared.wholes.drivers.now compared.wholes.plans.now }
-    requires checkable { IsCheckable (comparison_in compared) blif.now facts.now }
-    requires planned { IsPlanned (comparison_in compared) }
-    requires vars { AreVars (comparison_in compared) (length compared.rules.now.phases) vars.now }
-    requires plans { ArePlans (comparison_in compared) (length compared.rules.now.phases) plans.now }
-    requires checked { IsCheckedOf (comparison_in compared) blif.now facts.now circuit.now }
-    requires ports { AreOutputPorts (comparison_in compared) ports.old }
-    ensures verdict { IfOk result (HasCheckedVerdict (comparison_in compared.entry) blif.now facts.now budget) }
-    ensures nets { ports.new.nets ≡ ports.old.nets }
-    ensures ports { IfOk result (TellsOwnLevels (with_circuit (comparison_in compared.entry) circuit.now) facts.now ports.old.nets ports.new) }
-{
-    let _blif = blif;
-    let _facts = facts;
-    let _circuit = circuit;
-    let verdict = check_phases(alloc, budget, compared, vars, plans, ports)?;
-    if is_fault(&verdict) {
-        return Err(NoMemory);
-    }
-    Ok(verdict)
-}
-
-/// The verdict on a comparison by its checked circuit, in which some instance is whole; where what is found in it may not be told, by
-/// the flat one.
+/// The verdict on a comparison by its checked circuit, in which some instance is whole.
 fn check_whole(
     alloc: Global,
     budget: u32,
+    index: &RuleIndex,
     blif: &Blif,
     compared: Comparison<'_>,
     facts: &[CellFacts],
     vars: &[Vars],
-    plans: &[PhasePlan],
     circuit: &Circuit,
     ports: &mut PortLevels,
 ) -> Result<Verdict, NoMemory>
     requires budget { (65536 ≤ budget) × (budget ≤ 64000000) }
     requires ready { IsReady (comparison_in compared) }
-    requires wholes { IsWholeTable compared.circuit.now compared.wholes.drivers.now compared.wholes.plans.now }
-    requires tables { AreRuleTables compared.rules.now compared.index.now }
+    requires tables { AreRuleTables compared.rules.now index.now }
     requires checkable { IsCheckable (comparison_in compared) blif.now facts.now }
     requires planned { IsPlanned (comparison_in compared) }
     requires vars { AreVars (comparison_in compared) (length compared.rules.now.phases) vars.now }
-    requires plans { ArePlans (comparison_in compared) (length compared.rules.now.phases) plans.now }
     requires checked { IsCheckedOf (comparison_in compared) blif.now facts.now circuit.now }
-    requires ports { AreOutputPorts (comparison_in compared) ports.old }
+    requires ports { ArePortsOf (comparison_in compared) ports.old }
     ensures verdict { IfOk result (HasCheckedVerdict (comparison_in compared.entry) blif.now facts.now budget) }
     ensures nets { ports.new.nets ≡ ports.old.nets }
-    ensures ports { IfOk result (TellsOwnLevels (with_circuit (comparison_in compared.entry) circuit.now) facts.now ports.old.nets ports.new) }
+    ensures ports { IfOk result (TellsPorts (with_circuit (comparison_in compared.entry) circuit.now) ports.old.nets ports.new) }
 {
-    let found = found_with(alloc, budget, blif, compared, facts, vars, circuit, ports)?;
-    if !is_settled(budget, compared.circuit, vars, &found) {
-        return check_unrolled(
-            alloc, budget, blif, compared, circuit, facts, vars, plans, ports,
-        );
-    }
+    let most = most_outputs(compared.circuit);
+    let found = found_with(
+        alloc, budget, index, blif, compared, facts, vars, circuit, most, ports,
+    )?;
     Ok(found)
 }
 
@@ -328,14 +252,14 @@ fn check_flat(
     requires vars { AreVars (comparison_in compared) (length compared.rules.now.phases) vars.now }
     requires plans { ArePlans (comparison_in compared) (length compared.rules.now.phases) plans.now }
     requires checked { IsCheckedOf (comparison_in compared) blif.now facts.now compared.circuit.now }
-    requires ports { AreOutputPorts (comparison_in compared) ports.old }
+    requires ports { ArePortsOf (comparison_in compared) ports.old }
     ensures verdict { IfOk result (HasCheckedVerdict (comparison_in compared.entry) blif.now facts.now budget) }
     ensures nets { ports.new.nets ≡ ports.old.nets }
-    ensures ports { IfOk result (TellsOwnLevels (comparison_in compared.entry) facts.now ports.old.nets ports.new) }
+    ensures ports { IfOk result (TellsPorts (comparison_in compared.entry) ports.old.nets ports.new) }
 {
     let _blif = blif;
     let _facts = facts;
-    let verdict = check_phases(alloc, budget, compared, vars, plans, ports)?;
+    let verdict = check_phases(alloc, budget, compared, vars, plans, 0, ports)?;
     Ok(verdict)
 }
 
@@ -343,6 +267,7 @@ fn check_flat(
 fn check_circuit(
     alloc: Global,
     budget: u32,
+    index: &RuleIndex,
     blif: &Blif,
     compared: Comparison<'_>,
     facts: &[CellFacts],
@@ -354,21 +279,21 @@ fn check_circuit(
     requires budget { (65536 ≤ budget) × (budget ≤ 64000000) }
     requires ready { IsReady (comparison_in compared) }
     requires wholes { IsWholeTable compared.circuit.now compared.wholes.drivers.now compared.wholes.plans.now }
-    requires tables { AreRuleTables compared.rules.now compared.index.now }
+    requires tables { AreRuleTables compared.rules.now index.now }
     requires checkable { IsCheckable (comparison_in compared) blif.now facts.now }
     requires planned { IsPlanned (comparison_in compared) }
     requires vars { AreVars (comparison_in compared) (length compared.rules.now.phases) vars.now }
     requires plans { ArePlans (comparison_in compared) (length compared.rules.now.phases) plans.now }
     requires checked { CheckedGives (comparison_in compared) blif.now facts.now checked.now }
-    requires ports { AreOutputPorts (comparison_in compared) ports.old }
+    requires ports { ArePortsOf (comparison_in compared) ports.old }
     ensures verdict { IfOk result (HasCheckedVerdict (comparison_in compared.entry) blif.now facts.now budget) }
     ensures nets { ports.new.nets ≡ ports.old.nets }
-    ensures ports { IfOk result (TellsOwnLevels (compared_over (comparison_in compared.entry) checked.now) facts.now ports.old.nets ports.new) }
+    ensures ports { IfOk result (TellsPorts (compared_over (comparison_in compared.entry) checked.now) ports.old.nets ports.new) }
 {
     match checked {
         None => check_flat(alloc, budget, blif, compared, facts, vars, plans, ports),
         Some(circuit) => check_whole(
-            alloc, budget, blif, compared, facts, vars, plans, circuit, ports,
+            alloc, budget, index, blif, compared, facts, vars, circuit, ports,
         ),
     }
 }
@@ -389,7 +314,7 @@ fn check_planned(
     requires prepared { ArePrepared compared.design.now blif.now compared.rules.now prepared.now }
     requires ready { IsReady (comparison_in compared) }
     requires wholes { IsWholeTable compared.circuit.now compared.wholes.drivers.now compared.wholes.plans.now }
-    requires tables { AreRuleTables compared.rules.now compared.index.now }
+    requires tables { AreRuleTables compared.rules.now prepared.now.index }
     requires checkable { IsCheckable (comparison_in compared) blif.now facts.now }
     requires planned { IsPlanned (comparison_in compared) }
     requires vars { AreVars (comparison_in compared) (length compared.rules.now.phases) vars.now }
@@ -402,7 +327,16 @@ fn check_planned(
     let lone = lone_in(alloc, blif, compared, facts, plans, nets.as_slice())?;
     let mut ports = ports_at(alloc, nets)?;
     let verdict = check_circuit(
-        alloc, budget, blif, compared, facts, vars, plans, &checked, &mut ports,
+        alloc,
+        budget,
+        &prepared.index,
+        blif,
+        compared,
+        facts,
+        vars,
+        plans,
+        &checked,
+        &mut ports,
     )?;
     let drives = told_drives(
         alloc,
@@ -429,14 +363,14 @@ pub(crate) fn check_cell(
     requires prepared { ArePrepared compared.design.now blif.now compared.rules.now prepared.now }
     requires ready { IsReady (comparison_in compared) }
     requires wholes { IsWholeTable compared.circuit.now compared.wholes.drivers.now compared.wholes.plans.now }
-    requires tables { AreRuleTables compared.rules.now compared.index.now }
+    requires tables { AreRuleTables compared.rules.now prepared.now.index }
     requires checkable { IsCheckable (comparison_in compared) blif.now facts.now }
     ensures told { IfOk result (λ told. IsTold (comparison_in compared.entry) blif.now facts.now budget told.verdict) }
     ensures drives { IfOk result (λ told. told.verdict ≡ Equal → HasDrives (comparison_in compared.entry) blif.now facts.now told.drives) }
 {
     let mut vars = Seq::new(alloc);
     let mut plans = Seq::new(alloc);
-    match work_out(alloc, compared, &mut vars, &mut plans) {
+    match work_out(alloc, &prepared.index, compared, &mut vars, &mut plans) {
         Ok(()) => check_planned(
             alloc,
             budget,

@@ -9,13 +9,11 @@ ghost use Rattle.whole_steps.specs.Tables.{IsWholeTable};
 use crate::flattened::Flattened;
 use blif_eval::ModelPlan;
 use phase_terms::Comparison;
-use prepared_tables::Prepared;
 use vrt_model::{Design, Rules};
 use whole_steps::{OutputPlace, WholeTable};
 
 /// The comparison of a flattened cell with its model, where no instance is left whole.
 pub(crate) fn flat_comparison<'a>(
-    prepared: &'a Prepared,
     design: &'a Design,
     rules: &'a Rules,
     cell: u32,
@@ -23,7 +21,6 @@ pub(crate) fn flat_comparison<'a>(
 ) -> Comparison<'a>
     requires flat { IsFlat flattened.now.circuit }
     ensures comparison { comparison_in result ≡ comparison design.entry.now rules.entry.now cell flattened.entry.now }
-    ensures index { result.index.now ≡ prepared.entry.now.index }
     ensures wholes { IsWholeTable result.circuit.now result.wholes.drivers.now result.wholes.plans.now }
 {
     let drivers: &[Option<OutputPlace>] = &[];
@@ -31,7 +28,6 @@ pub(crate) fn flat_comparison<'a>(
     Comparison {
         design,
         rules,
-        index: &prepared.index,
         cell,
         pairing: &flattened.pairing,
         circuit: &flattened.circuit,

@@ -61,8 +61,8 @@ fn early_with(
         Err(Hindrance::Because(why)) => return Ok(stopped(Verdict::Unsupported(why))),
         Err(Hindrance::NoMemory) => return Err(NoMemory),
     };
-    let compared = flat_comparison(prepared, design, rules, cell, &flattened);
-    let verdict = hindered(alloc, compared)?;
+    let compared = flat_comparison(design, rules, cell, &flattened);
+    let verdict = hindered(alloc, &prepared.index, compared)?;
     Ok(EarlyCell {
         verdict,
         flattened: Some(flattened),

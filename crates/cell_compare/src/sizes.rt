@@ -1,6 +1,6 @@
 //! How large the store of a comparison is.
 
-ghost use Rattle.std.specs.Prelude.{◌≡◌, ◌≤◌, ◌+◌, All, length, IfOk};
+ghost use Rattle.std.specs.Prelude.{◌≡◌, ◌≤◌, ◌+◌, ◌*◌, All, length, min, IfOk};
 ghost use Rattle.cell_compare.specs.Works.{AreWithin};
 ghost use Rattle.cell_compare.specs.Sizes.{elements_in};
 ghost use Rattle.path_fixpoint.specs.Parts.{pins_of};
@@ -57,36 +57,57 @@ fn model_elements(model: &FlatModel) -> Result<u32, NoMemory>
     elements_of(model.latches.as_slice())
 }
 
-/// So many and as many more, where these are 20,000 at most; else there is no room for them.
-fn more_pins(count: u32, outputs: usize) -> Result<u32, NoMemory>
-    requires { count ≤ 20000 }
-    ensures { IfOk result (λ all. (all ≡ count + outputs) × (all ≤ 20000)) }
+/// How many outputs of whole instances a checked circuit has words for, by its flat circuit: forty for each pair of a net with a net or a
+/// device, and no more than a million. Each circuit has fewer: an output that is soft is alone at its net, and one with a level has a device
+/// of its own inside its instance, which is one of the flat circuit.
+pub(crate) fn most_outputs(flat: &Circuit) -> u32
+    requires { IsCircuit flat.now }
+    ensures { result ≡ min (40 * ((length flat.now.nets + 1) * (length flat.now.nets + length flat.now.devices + 1))) 1000000 }
 {
-    if outputs > (20000 - count) as usize {
+    let nets = flat.nets.len() as u64;
+    let devices = flat.devices.len() as u64;
+    let outputs = 40 * ((nets + 1) * (nets + devices + 1));
+    if outputs < 1_000_000 {
+        outputs as u32
+    } else {
+        1_000_000
+    }
+}
+
+/// So many and as many more, where these are no more than there is room for.
+fn more_pins(count: u32, outputs: usize, most: u32) -> Result<u32, NoMemory>
+    requires { count ≤ most }
+    ensures { IfOk result (λ all. (all ≡ count + outputs) × (all ≤ most)) }
+{
+    if outputs > (most - count) as usize {
         return Err(NoMemory);
     }
     Ok(count + outputs as u32)
 }
 
-/// How many outputs the whole instances of a circuit have, 20,000 at most; there is no room for the words of more.
-fn pin_count(circuit: &Circuit) -> Result<u32, NoMemory>
-    ensures { IfOk result (λ count. (count ≡ length (pins_of circuit.now)) × (count ≤ 20000)) }
+/// How many outputs the whole instances of a circuit have, `most` at most; there is no room for the words of more.
+fn pin_count(circuit: &Circuit, most: u32) -> Result<u32, NoMemory>
+    ensures { IfOk result (λ count. (count ≡ length (pins_of circuit.now)) × (count ≤ most)) }
 {
     let mut count = 0;
     for whole in circuit.wholes.as_slice() {
-        count = more_pins(count, whole.outputs.len())?;
+        count = more_pins(count, whole.outputs.len(), most)?;
     }
     Ok(count)
 }
 
-/// The words of a comparison, for so many variables.
-pub(crate) fn counts_with(compared: Comparison<'_>, variables: u32) -> Result<WordCounts, NoMemory>
+/// The words of a comparison, for so many variables, and for at most so many outputs of whole instances.
+pub(crate) fn counts_with(
+    compared: Comparison<'_>,
+    variables: u32,
+    most: u32,
+) -> Result<WordCounts, NoMemory>
     requires circuit { IsCircuit compared.circuit.now }
     requires model { IsFlatModel compared.model.now }
     ensures is { IfOk result (λ counts. counts ≡ counts_of (comparison_in compared.entry) variables) }
-    ensures few { IfOk result (λ counts. counts.pins ≤ 20000) }
+    ensures few { IfOk result (λ counts. counts.pins ≤ most) }
 {
-    let pins = pin_count(compared.circuit)?;
+    let pins = pin_count(compared.circuit, most)?;
     let elements = model_elements(compared.model)?;
     Ok(WordCounts {
         nets: compared.circuit.nets.len() as u32,

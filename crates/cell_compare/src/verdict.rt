@@ -74,7 +74,7 @@ fn compare_with(
         Err(Hindrance::Because(why)) => return Ok(without(alloc, Verdict::Unsupported(why))),
         Err(Hindrance::NoMemory) => return Err(NoMemory),
     };
-    let compared = flat_comparison(prepared, design, rules, cell, &flattened);
+    let compared = flat_comparison(design, rules, cell, &flattened);
     let told = check_cell(alloc, budget, prepared, blif, compared, facts)?;
     let bare = is_bare(&flattened.circuit, &flattened.model);
     let Told { verdict, drives } = told;

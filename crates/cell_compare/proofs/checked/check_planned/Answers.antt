@@ -2,6 +2,7 @@
 use Rattle.std.proofs.Common.{◌<◌, List, length, map, sym, subst, ◌∙◌}
 use Rattle.std.specs.Prelude.{All}
 use Rattle.cell_compare.proofs.DriveLaws.{ports_there}
+use Rattle.cell_compare.proofs.PortLaws.{own_levels}
 use Rattle.cell_compare.specs.Checked.{compared_over}
 use Rattle.lone_outputs.specs.Lone.{AreLoneBefore, AreOutputNets}
 use Rattle.phase_terms.specs.Ready.{comparison_in}
@@ -15,11 +16,7 @@ lone_in-requires-clause-nets c =
 
 pub check_circuit-requires-clause-ports : goal.check_circuit-requires-clause-ports
 check_circuit-requires-clause-ports c =
-    let k = comparison_in c.args.compared in
-    record {
-      are = ports_there k c.in_ok-nets.nets c.in_ok-ports.ports c.in_ok-nets.ensures.within c.in_ok-ports.ensures.nets c.in_ok-ports.ensures.len;
-      nets = subst (AreOutputNets k) (sym c.in_ok-ports.ensures.nets) c.in_ok-nets.ensures.nets;
-    }
+    ports_there (comparison_in c.args.compared) c.in_ok-nets.nets c.in_ok-ports.ports c.in_ok-nets.ensures.within c.in_ok-ports.ensures.nets c.in_ok-ports.ensures.len
 
 pub told_drives-requires-clause-nets : goal.told_drives-requires-clause-nets
 told_drives-requires-clause-nets c =
@@ -35,9 +32,9 @@ told_drives-requires-clause-lone c =
 
 pub returns-clause-drives : goal.returns-clause-drives
 returns-clause-drives c =
-    let k = comparison_in c.args.compared in
-    let checked = c.in_ok-checked.checked in
-    let ports = c.check_circuit.new.ports in
+    let k = compared_over (comparison_in c.args.compared) c.in_ok-checked.checked in
+    let facts = c.args.facts.now in
+    let levels = c.check_circuit.new.ports.levels.items in
     λ equal.
     c.in_ok-drives.ensures
-    (subst (λ (nets : List Net). AreOwnLevels (compared_over k checked) c.args.facts.now nets ports.levels.items) (sym c.check_circuit.ensures.nets) (c.in_ok-verdict.ensures.ports equal))
+    (subst (λ (nets : List Net). AreOwnLevels k facts nets levels) (sym c.check_circuit.ensures.nets) (own_levels k facts c.in_ok-ports.ports.nets levels (c.in_ok-verdict.ensures.ports equal)))

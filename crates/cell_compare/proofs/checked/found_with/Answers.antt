@@ -1,5 +1,5 @@
 -- The checked circuit has the variables of the flat one, and it is looked through as this one is.
-use Rattle.std.proofs.Common.{◌∙◌, List, length, subst, sym}
+use Rattle.std.proofs.Common.{◌∙◌, ◌≤◌, List, length, subst, sym}
 use Rattle.std.specs.Prelude.{Option}
 use Rattle.cell_compare.proofs.CheckedLaws.{over_is, ready_with, table_with, vars_over}
 use Rattle.cell_compare.proofs.PortLaws.{ports_over}
@@ -7,9 +7,9 @@ use Rattle.cell_compare.specs.Ports.{ArePortsOf, TellsPorts}
 use Rattle.cell_compare.specs.Works.{AreVars, IsChecked}
 use Rattle.checked_cells.proofs.CircuitLaws.{checked_circuits_share}
 use Rattle.checked_cells.proofs.WholeLaws.{checked_circuits_are_wired}
+use Rattle.path_fixpoint.specs.Parts.{pins_of}
 use Rattle.phase_terms.specs.Ready.{IsReady, comparison_in}
 use Rattle.rule_index.specs.Tables.{AreRuleTables}
-use Rattle.rule_index.specs.declared.index.RuleIndex.{RuleIndex}
 use Rattle.vrt_model.specs.Comparison.{Comparison}
 use Rattle.whole_steps.specs.Tables.{IsWholeTable}
 use Rattle.whole_steps.specs.declared.table.OutputPlace.{OutputPlace}
@@ -50,9 +50,7 @@ check_over-requires-clause-vars c =
     (vars_over k is.0 c.args.blif.now c.args.facts.now c.args.circuit.now (length c.args.compared.rules.now.phases) c.args.vars.now h c.requires.vars)
 
 pub check_over-requires-clause-tables : goal.check_over-requires-clause-tables
-check_over-requires-clause-tables c =
-    subst (λ (index : RuleIndex). AreRuleTables c.over.result.rules.now index) (sym c.over.ensures.index)
-    (subst (λ (x : Comparison). AreRuleTables x.rules c.args.compared.index.now) (sym c.over.ensures.is) c.requires.tables)
+check_over-requires-clause-tables c = subst (λ (x : Comparison). AreRuleTables x.rules c.args.index.now) (sym c.over.ensures.is) c.requires.tables
 
 pub check_over-requires-clause-ports : goal.check_over-requires-clause-ports
 check_over-requires-clause-ports c =
@@ -76,3 +74,6 @@ returns-clause-checked c =
     let is = c.requires.checked in
     let h = c.requires.checkable.by_facts c.args.circuit.now c.requires.planned is in
     subst (λ (x : Comparison). IsChecked x c.args.budget c.in_ok-found.found) (c.over.ensures.is ∙ sym (over_is k is.0 c.args.blif.now c.args.facts.now c.args.circuit.now h)) c.in_ok-found.ensures.checked
+
+pub returns-clause-few : goal.returns-clause-few
+returns-clause-few c = subst (λ (x : Comparison). length (pins_of x.circuit) ≤ c.args.most) c.over.ensures.is c.in_ok-found.ensures.few

@@ -20,8 +20,7 @@ hindered-requires-clause-ready c =
 pub hindered-requires-clause-tables : goal.hindered-requires-clause-tables
 hindered-requires-clause-tables c =
     let rules = ap (λ (k : Comparison). k.rules) c.flat_comparison-compared.ensures.comparison in
-    subst (λ i. AreRuleTables c.flat_comparison-compared.result.rules.now i) (sym c.flat_comparison-compared.ensures.index)
-    (subst (λ (r : Rules). AreRuleTables r c.args.prepared.now.index) (sym rules) c.requires.prepared.index_is.rules_are)
+    subst (λ (r : Rules). AreRuleTables r c.args.prepared.now.index) (sym rules) c.requires.prepared.index_is.rules_are
 
 pub returns-clause-early : goal.returns-clause-early
 returns-clause-early c =

@@ -1,5 +1,5 @@
 -- The counts are within the limits.
-use Rattle.std.proofs.Common.{◌<◌, ℕ, List, length, subst, sym}
+use Rattle.std.proofs.Common.{◌<◌, ℕ, List, arith, length, subst, sym}
 use Rattle.std.specs.Prelude.{All}
 use Rattle.cell_compare.proofs.SizeLaws.{all_few, few_counts}
 use Rattle.drive_levels.specs.PhaseLevels.{HasTables}
@@ -13,11 +13,11 @@ most_variables-requires c = all_few (comparison_in c.args.compared) c.args.vars.
 
 pub word_count-words-requires : goal.word_count-words-requires
 word_count-words-requires c =
-    record { few = few_counts (comparison_in c.args.compared) c.args.vars.now c.requires.vars c.requires.ready c.most_variables.result c.in_ok-counts.counts c.most_variables.ensures.few c.in_ok-counts.ensures.is c.in_ok-counts.ensures.few }
+    record { few = few_counts (comparison_in c.args.compared) c.args.vars.now c.requires.vars c.requires.ready c.most_variables.result c.in_ok-counts.counts c.most_variables.ensures.few c.in_ok-counts.ensures.is (omega (arith, c.in_ok-counts.ensures.few, c.requires.most)) }
 
 pub search-requires-clause-few : goal.search-requires-clause-few
 search-requires-clause-few c =
-    few_counts (comparison_in c.args.compared) c.args.vars.now c.requires.vars c.requires.ready c.most_variables.result c.in_ok-counts.counts c.most_variables.ensures.few c.in_ok-counts.ensures.is c.in_ok-counts.ensures.few
+    few_counts (comparison_in c.args.compared) c.args.vars.now c.requires.vars c.requires.ready c.most_variables.result c.in_ok-counts.counts c.most_variables.ensures.few c.in_ok-counts.ensures.is (omega (arith, c.in_ok-counts.ensures.few, c.requires.most))
 
 pub search-requires-clause-levels : goal.search-requires-clause-levels
 search-requires-clause-levels c = (

@@ -5,5 +5,5 @@ use Rattle.cell_compare.proofs.sizes.pin_count.Given as goal
 abbrev pub invariant-loop-whole : goal.invariant-loop-whole
 invariant-loop-whole l = record {
   counted : l.count ≡ length (pins_before l.circuit l.whole-index);
-  few : l.count ≤ 20000;
+  few : l.count ≤ l.most;
 }

@@ -25,8 +25,7 @@ check_cell-requires-clause-ready c =
 pub check_cell-requires-clause-tables : goal.check_cell-requires-clause-tables
 check_cell-requires-clause-tables c =
     let rules = ap (λ (k : Comparison). k.rules) c.flat_comparison-compared.ensures.comparison in
-    subst (λ i. AreRuleTables c.flat_comparison-compared.result.rules.now i) (sym c.flat_comparison-compared.ensures.index)
-    (subst (λ (r : Rules). AreRuleTables r c.args.prepared.now.index) (sym rules) c.requires.prepared.index_is.rules_are)
+    subst (λ (r : Rules). AreRuleTables r c.args.prepared.now.index) (sym rules) c.requires.prepared.index_is.rules_are
 
 pub returns-clause-verdict : goal.returns-clause-verdict
 returns-clause-verdict c =

@@ -1,2 +1,0 @@
-pub mod SameLevels
-pub mod StepUp
