@@ -6,7 +6,7 @@ use Rattle.std.proofs.lemmas.List.{map-append, take_all, take_more}
 use Rattle.std.proofs.lemmas.List.Elements.{All-append, All-cons, All-nil}
 use Rattle.std.proofs.lemmas.List.Folds.{list_any-append}
 use Rattle.verity_run.proofs.PutLaws.{appended, front_behind, joined_behind, kept_behind, nothing_put, rose_since, split_at}
-use Rattle.cell_compare.specs.Cells.{HasRuns}
+use Rattle.cell_compare.specs.Cells.{HasRuns, IsComplete}
 use Rattle.verity_run.specs.Asked.{ReportsGenerated}
 use Rattle.verity_run.specs.Messages.{joined, last_line}
 use Rattle.verity_run.specs.Reports.{AreVerdicts, Begins, IsChecked, IsEnded, PutsCell, PutsReport, Reports, ReportsCells, ReportsFrom, ReportsKnowing, StopsCell, StopsReport, answer_lines, counted, is_fault, is_undecided, more, no_cell, no_verdict, none, nothing_known, one_more, one_verdict, status_by, with_count}
@@ -112,7 +112,7 @@ ReportsKnown design blif rules budget cells status lines known = (r : ReportsCel
 
 -- the report of no cell, and of one more
 verdicts_none : (design : Design) (blif : Blif) (rules : Rules) (budget : ℕ) → ReportsKnown design blif rules budget [] AllEqual [] (nothing_known design)
-verdicts_none design blif rules budget = (record { answers = []; on = refl; verdicts = (nothing_known design, no_verdict); runs = All-nil (λ (a : Answer). HasRuns design blif rules a.cell a.verdict); ended = refl; lines_are = refl; text = refl }, no_verdict)
+verdicts_none design blif rules budget = (record { answers = []; on = refl; verdicts = (nothing_known design, no_verdict); complete = All-nil (λ (a : Answer). IsComplete design blif rules budget a.cell a.verdict); runs = All-nil (λ (a : Answer). HasRuns design blif rules a.cell a.verdict); ended = refl; lines_are = refl; text = refl }, no_verdict)
 
 verdicts_more : (design : Design) (blif : Blif) (rules : Rules) (budget n : ℕ) (cells cells' : List ℕ) (status status' : Status) (lines lines' own : List (List ℕ)) (known known' : List CellFacts) (count : Count)
     → ReportsKnown design blif rules budget cells status lines known → IsChecked design blif rules budget known n count own known'
@@ -127,6 +127,9 @@ verdicts_more design blif rules budget n cells cells' status status' lines lines
         answers = r.answers ++ a ∷ [];
         on = map-append (λ (a : Answer). a.cell) r.answers (a ∷ []) ∙ ap (λ xs. xs ++ n ∷ []) r.on ∙ sym on;
         verdicts = (known', now);
+        complete =
+            let P : Answer → Type 0 = λ b. IsComplete design blif rules budget b.cell b.verdict in
+            All-append P r.answers (a ∷ []) r.complete (All-cons P a [] is.complete (All-nil P));
         runs =
             let P : Answer → Type 0 = λ b. HasRuns design blif rules b.cell b.verdict in
             All-append P r.answers (a ∷ []) r.runs (All-cons P a [] is.runs (All-nil P));

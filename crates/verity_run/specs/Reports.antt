@@ -3,7 +3,7 @@ use Rattle.std.specs.Prelude.{◌≡◌, ◌≢◌, ◌⊎◌, ◌<◌, ◌++◌
 use Rattle.std.specs.Io.KnownBytes.{Appends, Keeps}
 use Rattle.std.specs.List.{list_any}
 use Rattle.std.specs.declared.option.Option.{Option}
-use Rattle.cell_compare.specs.Cells.{HasFacts, HasRuns}
+use Rattle.cell_compare.specs.Cells.{HasFacts, HasRuns, IsComplete}
 use Rattle.vrt_io.specs.Causes.{Rose}
 use Rattle.verity_run.specs.Messages.{joined}
 use Rattle.verity_run.specs.declared.status.Count.{Count}
@@ -87,12 +87,13 @@ cell_line design blif rules cell verdict = answer_line design blif rules (record
 abbrev pub nothing_known : Design → List CellFacts
 nothing_known design = replicate (length design.cells) (record { equal = false; stateless = false; drives = [] })
 
--- What a check writes of a cell, where this is known of the cells before: the line of its verdict; where it is equal, each of its runs
--- shows the bits of its model; and what is then known of it is noted.
+-- What a check writes of a cell, where this is known of the cells before: the line of its verdict, which is equal or a fault where the cell is
+-- within reach of the budget; where it is equal, each of its runs shows the bits of its model; and what is then known of it is noted.
 pub record IsChecked (design : Design) (blif : Blif) (rules : Rules) (budget : ℕ) (known : List CellFacts) (cell : ℕ) (count : Count) (lines : List (List ℕ)) (then : List CellFacts) : Type 0 where
   pub verdict : Verdict
   pub facts : CellFacts
   pub is : IsCheckedVerdict design blif rules known budget cell verdict
+  pub complete : IsComplete design blif rules budget cell verdict
   pub runs : HasRuns design blif rules cell verdict
   pub is_so : HasFacts design blif rules known cell verdict facts
   pub noted : then ≡ set known cell facts
@@ -136,11 +137,13 @@ status_by answers =
 abbrev pub answer_lines : Design → Blif → Rules → List Answer → List (List ℕ)
 answer_lines design blif rules answers = map (λ (a : Answer). answer_line design blif rules a ++ 10 ∷ []) answers
 
--- the report of the verdicts on cells in this order, and its status; each run of an equal one shows the bits of its model
+-- the report of the verdicts on cells in this order, and its status; each that is within reach of the budget is decided, and each run of an
+-- equal one shows the bits of its model
 pub record ReportsCells (design : Design) (blif : Blif) (rules : Rules) (budget : ℕ) (cells : List ℕ) (status : Status) (lines : List (List ℕ)) : Type 0 where
   pub answers : List Answer
   pub on : map (λ (a : Answer). a.cell) answers ≡ cells
   pub verdicts : (known : List CellFacts) × AreVerdicts design blif rules budget answers known
+  pub complete : All (λ (a : Answer). IsComplete design blif rules budget a.cell a.verdict) answers
   pub runs : All (λ (a : Answer). HasRuns design blif rules a.cell a.verdict) answers
   pub ended : status ≡ status_by answers
   pub lines_are : lines ≡ answer_lines design blif rules answers
