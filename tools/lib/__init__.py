@@ -1,0 +1,9 @@
+"""What the tools share, in Python 3 without other packages.
+
+tool      the frame of a tool: its words, its help, its exit status, files that are read and written, runs of the program
+netlist   the cards of a netlist with their lines, its cells, their transistors and instances
+flat      the circuit of a cell with all instances unrolled, each name with its path
+rules     the lines of a rules file, and what they say of supplies, kinds, levels, holds and keepers
+models    the models of a BLIF file
+verdicts  the lines that the program prints
+"""
