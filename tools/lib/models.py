@@ -118,21 +118,6 @@ def read_models(path):
     return models_of(tool.read(path), path)
 
 
-def model_of(models, rules, cell):
-    """The model with which a cell pairs, by a `pair` line or by its name; None where it has none."""
-    said = rules.model(cell)
-    if said is not None:
-        return models.get(said)
-    fitting = [model for model in models.values() if lowered(model.name) == cell]
-    return fitting[0] if len(fitting) == 1 else None
-
-
-def port_of(rules, cell, signal):
-    """The port that pairs with a signal, by a `port` line or by its name."""
-    said = [port for port, name in rules.signals(cell).items() if name == signal]
-    return said[0] if said else lowered(signal)
-
-
 def is_models(path):
     """Whether a file has models, and so is no file of rules."""
     return bool(re.search(r"(?m)^[ \t]*\.model[ \t]", tool.read(path)))
@@ -159,3 +144,18 @@ def inputs_of(models, rules, cell, devices):
         if not any(net in rules.supplies for net in seen):
             inputs.add(port)
     return inputs
+
+
+def model_of(models, rules, cell):
+    """The model with which a cell pairs, by a `pair` line or by its name; None where it has none."""
+    said = rules.model(cell)
+    if said is not None:
+        return models.get(said)
+    fitting = [model for model in models.values() if lowered(model.name) == cell]
+    return fitting[0] if len(fitting) == 1 else None
+
+
+def port_of(rules, cell, signal):
+    """The port that pairs with a signal, by a `port` line or by its name."""
+    said = [port for port, name in rules.signals(cell).items() if name == signal]
+    return said[0] if said else lowered(signal)
