@@ -1,0 +1,4 @@
+pub mod CardKinds
+pub mod NoFaults
+pub mod OneModel
+pub mod ReadBack
