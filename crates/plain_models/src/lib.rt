@@ -1,7 +1,8 @@
-//! Models that are made of covers alone as texts: a text that is written line by line is read back as it was meant. Laws alone, each the
+//! Models that are made of covers alone: their texts, which are read back as they were meant, and their flat form. Laws alone, each the
 //! contract of a function that does nothing.
 #![tactic(auto)]
 
+ghost use Rattle.plain_models.specs.Flat.{DrivenModelsAreFlat, DrivenModelsAreGood};
 ghost use Rattle.plain_models.specs.Lines.{LinesAreRead};
 ghost use Rattle.plain_models.specs.Texts.{PlainTextsAreClean, PlainTextsAreRead};
 
@@ -18,4 +19,14 @@ pub fn plain_texts_are_clean()
 /// What is read of the text of a model is the model alone.
 pub fn plain_texts_are_read()
     ensures { PlainTextsAreRead }
+{}
+
+/// A model each signal of which has one driver can be unrolled.
+pub fn driven_models_are_good()
+    ensures { DrivenModelsAreGood }
+{}
+
+/// The flat form of such a model.
+pub fn driven_models_are_flat()
+    ensures { DrivenModelsAreFlat }
 {}
