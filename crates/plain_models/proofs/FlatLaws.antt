@@ -20,7 +20,7 @@ mentions : (covers : List PlainCover) (line : ℕ) → flat_map cover_signals (c
 mentions [] line = refl
 mentions (cover ∷ covers) line = ap (λ (xs : List (List ℕ)). (cover.inputs ++ cover.output ∷ []) ++ xs) (mentions covers (line + 1 + length cover.rows))
 
-kept_all : (inputs clocks : List (List ℕ)) → Each (λ x. has_name inputs x ≡ false) clocks → filter (λ name. not (has_name inputs name)) clocks ≡ clocks
+pub kept_all : (inputs clocks : List (List ℕ)) → Each (λ x. has_name inputs x ≡ false) clocks → filter (λ name. not (has_name inputs name)) clocks ≡ clocks
 kept_all inputs [] e = refl
 kept_all inputs (x ∷ xs) e =
     ap (λ (t : Bool). cond (not t) (x ∷ filter (λ name. not (has_name inputs name)) xs) (filter (λ name. not (has_name inputs name)) xs)) e.0

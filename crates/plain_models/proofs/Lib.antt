@@ -5,3 +5,5 @@ pub mod NamesApart
 pub mod NoFaults
 pub mod OneModel
 pub mod ReadBack
+pub mod InterfaceLaws
+pub mod PairingLaws

@@ -3,6 +3,7 @@
 #![tactic(auto)]
 
 ghost use Rattle.plain_models.specs.Flat.{DrivenModelsAreFlat, DrivenModelsAreGood};
+ghost use Rattle.plain_models.specs.Interfaces.{InterfacesAreKept, PairingsAreKept};
 ghost use Rattle.plain_models.specs.Lines.{LinesAreRead};
 ghost use Rattle.plain_models.specs.Texts.{PlainTextsAreClean, PlainTextsAreRead};
 
@@ -29,4 +30,14 @@ pub fn driven_models_are_good()
 /// The flat form of such a model.
 pub fn driven_models_are_flat()
     ensures { DrivenModelsAreFlat }
+{}
+
+/// A model of a file and one of covers alone with its interface have it at the same numbers.
+pub fn interfaces_are_kept()
+    ensures { InterfacesAreKept }
+{}
+
+/// How a cell pairs with a model, and what is in the way, depends on the interface alone.
+pub fn pairings_are_kept()
+    ensures { PairingsAreKept }
 {}
