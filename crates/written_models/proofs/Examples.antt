@@ -1,10 +1,12 @@
 -- What the definitions compute of small cells.
-use Rattle.std.proofs.Common.{◌≡◌, ℕ, true, not, ◌&&◌, ◌||◌, List, [], ◌∷◌, ◌++◌, refl}
+use Rattle.std.proofs.Common.{◌≡◌, ℕ, true, false, not, ◌&&◌, ◌||◌, List, [], ◌∷◌, ◌++◌, length, arith, refl}
 use Rattle.std.specs.Fmt.{digits}
 use Rattle.std.specs.Prelude.{codes}
+use Rattle.names.proofs.ApartLaws.{apart}
 use Rattle.plain_models.specs.Texts.{model_lines}
-use Rattle.vrt_model.specs.Lists.{bit_at}
-use Rattle.written_models.specs.Written.{Logic, written_model}
+use Rattle.vrt_model.specs.Lists.{bit_at, has_name}
+use Rattle.written_models.proofs.Covers.{named_each}
+use Rattle.written_models.specs.Written.{IsWritable, Logic, nodes_in, written_model}
 
 -- the lines of the interface and of the constants, of a node, and of an output
 abbrev head : List ℕ → List (List ℕ) → List (List ℕ) → List (List (List ℕ))
@@ -28,6 +30,24 @@ inverter = record { name = codes "inv"; inputs = codes "a" ∷ []; clocks = []; 
 inverter_is : model_lines (written_model inverter) ≡ head (codes "inv") (codes "a" ∷ []) (codes "y" ∷ []) ++ node (codes "a") (codes "=1") (codes "=0") (codes "=2") ++ last (codes "=2") (codes "y") ++ end
 unfolding digits
 inverter_is = refl
+
+-- what is asked of what may be written is so of it
+inverter_is_writable : IsWritable inverter
+inverter_is_writable =
+    let one : length (nodes_in inverter) ≡ 1 = refl in
+    record {
+      name = refl;
+      inputs = refl;
+      clocks = refl;
+      outputs = refl;
+      inputs_apart = apart (codes "a" ∷ []) (refl, tt);
+      clocks_apart = apart [] tt;
+      outputs_apart = apart (codes "y" ∷ []) (refl, tt);
+      outputs_other = λ name t. named_each (λ n. has_name (codes "a" ∷ []) n ≡ false) (codes "y" ∷ []) name (refl, tt) t;
+      variables_there = λ name t. t;
+      functions = refl;
+      few = omega (arith, one);
+    }
 
 -- a gate of two inputs
 abbrev gate : Logic

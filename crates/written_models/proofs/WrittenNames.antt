@@ -229,7 +229,7 @@ module _ (l : Logic) (good : IsWritable l) where
       (λ name t. list_any-append (bytes_eq name) (first_numbers total) l.outputs
       ∙ or_from (has_name (first_numbers total) name) (has_name l.outputs name)
       (numbers_are_other total name (free_other name (free_given name (given_back name t))))
-      (false_from_ne_true (has_name l.outputs name) (λ o. false≢true (sym (good.outputs_driven name o) ∙ given_back name t)))))
+      (false_from_ne_true (has_name l.outputs name) (λ o. false≢true (sym (good.outputs_other name o) ∙ given_back name t)))))
 
   abbrev IsDriven : List ℕ → Type 0
   IsDriven name = has_name ((l.inputs ++ other_clocks l) ++ (first_numbers total ++ l.outputs)) name ≡ true

@@ -97,7 +97,7 @@ pub record IsWritable (l : Logic) : Type 0 where
   pub inputs_apart : AllApart bytes_eq l.inputs
   pub clocks_apart : AllApart bytes_eq l.clocks
   pub outputs_apart : AllApart bytes_eq l.outputs
-  pub outputs_driven : (name : List ℕ) → has_name l.outputs name ≡ true → has_name (l.inputs ++ l.clocks) name ≡ false
+  pub outputs_other : (name : List ℕ) → has_name l.outputs name ≡ true → has_name (l.inputs ++ l.clocks) name ≡ false
   pub variables_there : (name : List ℕ) → has_name l.variables name ≡ true → has_name (l.inputs ++ l.clocks) name ≡ true
   pub functions : length l.functions ≡ length l.outputs
   pub few : length (nodes_in l) + 2 ≤ most_signals
