@@ -68,7 +68,8 @@ def main(help_text, run):
     for stream in (sys.stdout, sys.stderr):
         stream.reconfigure(encoding="ascii", errors="surrogateescape")
     words = sys.argv[1:]
-    if "--help" in words or "-h" in words:
+    own = words[: words.index("--")] if "--" in words else words
+    if "--help" in own or "-h" in own:
         print(help_text.strip())
         sys.exit(0)
     try:
