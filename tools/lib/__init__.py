@@ -6,4 +6,7 @@ flat      the circuit of a cell with all instances unrolled, each name with its 
 rules     the lines of a rules file, and what they say of supplies, kinds, levels, holds and keepers
 models    the models of a BLIF file
 verdicts  the lines that the program prints
+values    the bits of a circuit and its model at one valuation
+paths     the conducting paths of a circuit at one valuation
+picture   a picture of the transistors about a net
 """
