@@ -29,11 +29,13 @@ class FlatDevice(NamedTuple):
 
 
 class Circuit:
-    """A circuit: its devices, and its held nets with their sizes. Supplies keep their names."""
+    """A circuit: its devices, its held nets with their sizes, and the elements of the cell's model that these are matched with, as
+    [!]LATCH. Supplies keep their names."""
 
     def __init__(self):
         self.devices: List[FlatDevice] = []
         self.holds: Dict[str, int] = {}
+        self.elements: Dict[str, str] = {}
 
 
 def is_common(netlist, rules, net):
@@ -44,14 +46,22 @@ def is_common(netlist, rules, net):
 def unrolled(netlist, rules, name):
     """The circuit of a cell; a cell that is not there, or that contains itself, is refused with status 3."""
     circuit = Circuit()
-    _unroll(circuit, netlist, rules, cell_named(netlist, name), "", {}, 0)
+    _unroll(circuit, netlist, rules, cell_named(netlist, name), "", {}, lambda literal: literal)
     return circuit
 
 
-def _unroll(circuit, netlist, rules, cell, path, ties, depth):
-    if depth > 32:
+def _literal(literal, inner):
+    """What an element of an instance is above, as [!]LATCH, where `inner` says it of the element alone."""
+    above = inner(literal.lstrip("!"))
+    if above and literal.startswith("!"):
+        return above[1:] if above.startswith("!") else "!" + above
+    return above
+
+
+def _unroll(circuit, netlist, rules, cell, path, ties, above):
+    if path.count("/") > 32:
         raise tool.Refused(f"{cell.card.place}: deeper than 32")
-    keepers, holds = rules.keepers(cell.name), rules.holds(cell.name)
+    keepers, holds, matches = rules.keepers(cell.name), rules.holds(cell.name), rules.matches(cell.name)
 
     def net(name):
         if name in rules.supplies:
@@ -64,10 +74,17 @@ def _unroll(circuit, netlist, rules, cell, path, ties, depth):
             rules.level(cell.name, d), d.name in keepers, cell.name, d.card))
     for held, size in holds.items():
         circuit.holds.setdefault(net(held), size)
+        if held in matches and above(matches[held]):
+            circuit.elements.setdefault(net(held), above(matches[held]))
     for i in cell.instances:
         if i.cell not in netlist.cells:
             raise tool.Refused(f"{i.card.place}: no cell {i.cell}")
         inner = netlist.cells[i.cell]
         if len(i.nets) != len(inner.ports):
             raise tool.Refused(f"{i.card.place}: {len(i.nets)} nets for {len(inner.ports)} ports")
-        _unroll(circuit, netlist, rules, inner, path + i.name + "/", dict(zip(inner.ports, map(net, i.nets))), depth + 1)
+        ties_inside = dict(zip(inner.ports, map(net, i.nets)))
+
+        def said(literal, name=i.name):
+            return _literal(literal, lambda latch: above(matches[f"{name}:{latch}"]) if f"{name}:{latch}" in matches else None)
+
+        _unroll(circuit, netlist, rules, inner, path + i.name + "/", ties_inside, said)

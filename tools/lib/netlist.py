@@ -238,6 +238,23 @@ def below(netlist, names):
     return [cell for cell in netlist.cells.values() if cell.name in wanted]
 
 
+def written(netlist, cards_of=lambda cell: cell.cards):
+    """The lines of a netlist with the cards that `cards_of` gives for each cell in place of the cell's own; none for None."""
+    lines, cell = ["* cards" if netlist.title is None else netlist.title], None
+    for card in netlist.cards:
+        if cell:
+            cell = None if card is cell.end else cell
+            continue
+        if card.word != ".subckt":
+            lines.append(card.text)
+            continue
+        cell = cell_named(netlist, card.words[1])
+        cards = cards_of(cell)
+        if cards is not None:
+            lines += [card.text, *(inner.text for inner in cards), cell.end.text]
+    return lines
+
+
 def hint(text):
     """What a text without cells may be, as a hint; None where nothing is known of it."""
     if text[:2] == "\x1f\udc8b":

@@ -85,7 +85,12 @@ class Rules:
 
     def matches(self, cell):
         """What each held net of a cell is matched with, as written: net, or INST:LATCH, and then [!]LATCH."""
-        return {lowered(line.words[2]): line.words[3] for line in self.of("match", cell) if len(line.words) > 3}
+        found = {}
+        for line in self.of("match", cell):
+            if len(line.words) > 3:
+                head, colon, latch = line.words[2].partition(":")
+                found[lowered(head) + colon + latch] = line.words[3]
+        return found
 
     def clock_ports(self, cell):
         """The ports of a cell that carry a clock, with the clock or its inverse, as [!]CLOCK."""
