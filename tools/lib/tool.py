@@ -69,11 +69,12 @@ def main(help_text, run):
         stream.reconfigure(encoding="ascii", errors="surrogateescape")
     words = sys.argv[1:]
     own = words[: words.index("--")] if "--" in words else words
-    if "--help" in own or "-h" in own:
-        print(help_text.strip())
-        sys.exit(0)
     try:
-        status = run(words) or 0
+        if "--help" in own or "-h" in own:
+            print(help_text.strip())
+            status = 0
+        else:
+            status = run(words) or 0
         sys.stdout.flush()
     except Refused as refused:
         status = refused.status
