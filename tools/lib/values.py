@@ -9,7 +9,7 @@ import re
 from typing import Dict, List, NamedTuple, Optional
 
 from lib import tool
-from lib.models import Cover, Latch, model_of, port_of
+from lib.models import Cover, Latch, model_of, port_of, unrolled_model
 from lib.netlist import Card, cell_named, lowered
 
 
@@ -167,12 +167,14 @@ class Evaluation:
 
     def __init__(self, moment, model):
         self.moment = moment
-        self.drivers = {}  # of each signal: its cover or latch, and the signals that this reads
+        self.drivers = unrolled_model(moment.models, model)
         self.readers = {}
         self.bits = {}
+        for signal, (_, inputs) in self.drivers.items():
+            for name in inputs:
+                self.readers.setdefault(name, []).append(signal)
         for signal in model.inputs + model.clocks:
             self.bits[signal] = moment.given.get(port_of(moment.rules, moment.cell, signal), "0")
-        self._place(model, "", {}, 0)
         todo = [signal for signal in self.drivers if signal not in self.bits]
         while todo:
             signal = todo.pop()
@@ -180,21 +182,6 @@ class Evaluation:
             if bit is not None:
                 self.bits[signal] = bit
                 todo += self.readers.get(signal, [])
-
-    def _place(self, model, path, ties, depth):
-        def flat(signal):
-            return ties.get(signal) or path + signal
-
-        for driver in model.covers + model.latches:
-            own = driver.inputs if isinstance(driver, Cover) else [driver.input] + [driver.control] * bool(driver.control)
-            inputs = [flat(signal) for signal in own]
-            self.drivers[flat(driver.output)] = (driver, inputs)
-            for signal in inputs:
-                self.readers.setdefault(signal, []).append(flat(driver.output))
-        for number, sub in enumerate(model.subs):
-            inner = self.moment.models.get(sub.model)
-            if inner and depth < 32:
-                self._place(inner, f"{path}{number}/", {formal: flat(name) for formal, name in sub.ties.items()}, depth + 1)
 
     def _bit(self, signal):
         """The bit of a signal that a cover or a latch drives; None while what it hangs at is not known."""
