@@ -9,15 +9,23 @@ from lib import tool
 from lib.netlist import Card, lowered, parted
 
 # Names that are supplies by common use, asked where no rules say what is one.
-USUAL_SUPPLY = re.compile(r"(vdd|vcc|vpwr|vpp|vee|vss|gnd|vgnd|agnd|dgnd)[a-z0-9_]*!?|[^!]+!")
+USUAL_1 = re.compile(r"(vdd|vcc|vpwr|vpp)[a-z0-9_]*!?")
+USUAL_0 = re.compile(r"(gnd|vss|vgnd|vee|agnd|dgnd)[a-z0-9_]*!?")
 
 
 def kept_nets(netlist, rules):
-    """A test of a net's name: a supply, by the rules or else by its usual name, or a global net."""
-    global_nets = set(netlist.global_nets) | {"0"}
-    if rules:
-        return lambda net: net in global_nets or net in rules.supplies
-    return lambda net: net in global_nets or USUAL_SUPPLY.fullmatch(net)
+    """What a net is that keeps its name: the value "0" or "1" of a supply, by the rules or else by its usual name, "?" for another
+    global net, and None for a net without such a name."""
+    global_nets = set(netlist.global_nets)
+
+    def value(net):
+        if net == "0" or rules and net in rules.supplies:
+            return rules.supplies[net] if rules else "0"
+        if not rules and (USUAL_1.fullmatch(net) or USUAL_0.fullmatch(net)):
+            return "1" if USUAL_1.fullmatch(net) else "0"
+        return "?" if net in global_nets or not rules and net.endswith("!") else None
+
+    return value
 
 
 def renamed(card, name):
@@ -35,10 +43,10 @@ def renamed(card, name):
     return Card(card.file, card.line, words[:1] + nets + words[count:] + rest)
 
 
-def shorted(cell, is_kept, rules=None):
-    """The cards of a cell without its resistors. A net has the name of the port, supply or global net among those that are one
-    net, or else of the first. Where two such names would be one net the cell is refused with status 3, but for supplies of one
-    value."""
+def shorted(cell, kept, wires="r"):
+    """The cards of a cell without its resistors, or other cards that begin with a letter of `wires`. A net has the name of the port,
+    supply or global net among those that are one net, or else of the first. Where two such names would be one net the cell is
+    refused with status 3, but for supplies of one value."""
     joined = {}
 
     def root(net):
@@ -46,21 +54,18 @@ def shorted(cell, is_kept, rules=None):
             net = joined[net]
         return net
 
-    def stays(net):
-        return net in cell.ports or is_kept(net)
-
     for card in cell.cards:
-        if card.word[0] != "r":
+        if card.word[0] not in wires:
             continue
         if len(card.words) < 3:
             raise tool.Refused(f"{card.place}: too few words")
         a, b = root(lowered(card.words[1])), root(lowered(card.words[2]))
-        if a == b or rules and a in rules.supplies and rules.supplies[a] == rules.supplies.get(b):
+        if a == b or kept(a) in ("0", "1") and kept(a) == kept(b):
             continue
-        if stays(a) and stays(b):
+        if (a in cell.ports or kept(a)) and (b in cell.ports or kept(b)):
             raise tool.Refused(f"{card.place}: {card.words[0]}: cell {cell.name}: joined: {a} {b}")
-        if stays(b):
+        if b in cell.ports or kept(b):
             joined[a] = b
         else:
             joined[b] = a
-    return [renamed(card, root) for card in cell.cards if card.word[0] != "r"]
+    return [renamed(card, root) for card in cell.cards if card.word[0] not in wires]
