@@ -190,15 +190,23 @@ class Channels:
                 return hops
             return [hop for hop in hops if hop.net in self.reached[bit] and self._is_clear_step(at, hop, hop.net)]
 
+        edges, todo = {}, [net]
+        while todo:
+            at = todo.pop()
+            if at not in edges:
+                edges[at] = steps(at)
+                todo += [hop.net for hop in edges[at]]
+        distance = self._distances(edges, is_root)
+
         def leads(start, passed):
             """Whether a root that is asked for can be had from a net without passing some nets."""
             seen, todo = {start}, [start]
             while todo:
                 at = todo.pop()
-                if any(is_root(root) for root in self.roots.get(at, [])):
+                if distance.get(at) == 0:
                     return True
-                for hop in steps(at):
-                    if hop.net not in seen and hop.net not in passed:
+                for hop in edges[at]:
+                    if hop.net in distance and hop.net not in seen and hop.net not in passed:
                         seen.add(hop.net)
                         todo.append(hop.net)
             return False
@@ -208,20 +216,35 @@ class Channels:
             at, hops = todo.pop()
             passed = {net} | {hop.net for hop in hops}
             found += [(hops, root) for root in self.roots.get(at, []) if is_root(root)]
-            for hop in reversed(steps(at)):
+            for hop in reversed(sorted(edges[at], key=lambda hop: distance.get(hop.net, 0))):
                 if hop.net not in passed and leads(hop.net, passed):
                     todo.append((hop.net, hops + [hop]))
-        return found[:MOST_PATHS], len(found) > MOST_PATHS
+        return sorted(found[:MOST_PATHS], key=lambda pair: len(pair[0])), len(found) > MOST_PATHS
+
+    def _distances(self, edges, is_root):
+        """How many steps lie between each net and the nearest root that is asked for, where there is one."""
+        back = {}
+        for at, hops in edges.items():
+            for hop in hops:
+                back.setdefault(hop.net, []).append(at)
+        found = {at: 0 for at in edges if any(is_root(root) for root in self.roots.get(at, []))}
+        todo = list(found)
+        for at in todo:
+            for before in back.get(at, []):
+                if before not in found:
+                    found[before] = found[at] + 1
+                    todo.append(before)
+        return found
 
     def joined(self, net):
         """The nets that conducting channels join to a net, no given net among them, in the order in which they are found."""
-        found, todo = [net], [net]
+        found, todo = {net: True}, [net]
         while todo:
             for hop in self.hops(todo.pop()):
                 if hop.net not in found and not self.is_given(hop.net):
-                    found.append(hop.net)
+                    found[hop.net] = True
                     todo.append(hop.net)
-        return found
+        return list(found)
 
     def off_at(self, nets):
         """The devices with one end at these nets that do not conduct, or whose gates have no bit."""

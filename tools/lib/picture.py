@@ -15,7 +15,7 @@ from xml.sax.saxutils import escape
 from lib import tool
 from lib.flat import FlatDevice
 
-# A part with more transistors is drawn only as far as its conducting transistors join it.
+# A part with more transistors is drawn only as far as its conducting transistors join it, and one with more of these only along the paths.
 MOST_DEVICES = 60
 
 COLORS = {"0": "#b35c00", "1": "#0b5fa5", "fight": "#c00000", "float": "#7a3fa0", "-": "#7a3fa0", "off": "#999999", "on": "#000000"}
@@ -47,6 +47,8 @@ def part_of(channels, net):
         nets = set(channels.joined(net))
         devices = [device for device in channels.devices if {device.drain, device.source} & nets]
     marks = path_marks(channels, net)
+    if len(devices) > MOST_DEVICES:
+        devices = [device for device in devices if device.name in marks or net in (device.drain, device.source)]
     order = ordered_nets(channels, devices, net)
     return Part(devices, order, [marks.get(device.name) or {True: "on", False: "off", None: "-"}[channels.conducts(device)] for device in devices])
 
