@@ -213,6 +213,10 @@ class Evaluation:
             return self.bits.get(inputs[0]) if is_master else self.moment.at.get(element + "#m", "0")
         return held
 
+    def operands(self, signal):
+        """The signals that the driver of a signal reads, each once."""
+        return list(dict.fromkeys(self.drivers[signal][1])) if signal in self.drivers else []
+
     def told(self, signal):
         """What drives a signal, as a line of text."""
         if signal not in self.drivers:
