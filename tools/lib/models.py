@@ -118,6 +118,34 @@ def read_models(path):
     return models_of(tool.read(path), path)
 
 
+def is_models(path):
+    """Whether a file has models, and so is no file of rules."""
+    return bool(re.search(r"(?m)^[ \t]*\.model[ \t]", tool.read(path)))
+
+
+def inputs_of(models, rules, cell, devices):
+    """The ports of a cell that are inputs, clocks among them. Where there are no models (None) they are the ports that no transistors
+    join with a supply by way of nets that are no gates."""
+    if models is not None:
+        model = model_of(models, rules, cell.name)
+        signals = model.inputs + model.clocks if model else []
+        return {port_of(rules, cell.name, signal) for signal in signals} - set(rules.supplies)
+    gates, at, inputs = {d.gate for d in devices}, {}, set()
+    for d in devices:
+        at.setdefault(d.drain, []).append(d.source)
+        at.setdefault(d.source, []).append(d.drain)
+    for port in cell.ports:
+        seen, todo = {port}, [port]
+        while todo:
+            for net in at.get(todo.pop(), []):
+                if net not in seen and (net in rules.supplies or net not in gates):
+                    seen.add(net)
+                    todo += [net] * (net not in rules.supplies)
+        if not any(net in rules.supplies for net in seen):
+            inputs.add(port)
+    return inputs
+
+
 def model_of(models, rules, cell):
     """The model with which a cell pairs, by a `pair` line or by its name; None where it has none."""
     said = rules.model(cell)

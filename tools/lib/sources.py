@@ -14,10 +14,9 @@ import re
 from typing import List, NamedTuple
 
 from lib import tool
-from lib.includes import path_named
+from lib.includes import INCLUDE, path_named
 from lib.netlist import Card, lowered, uncommented, words_of
 
-INCLUDE = re.compile(r"[ \t]*\.inc(?:lude)?[ \t]+(.*)", re.IGNORECASE)
 LIB = re.compile(r"[ \t]*\.lib[ \t]+(\"[^\"]*\"|'[^']*'|[^ \t]+)(?:[ \t]+([^ \t\r]+))?", re.IGNORECASE)
 END_OF_SECTION = re.compile(r"[ \t]*\.endl\b", re.IGNORECASE)
 COMMENTED = re.compile(r"[ \t]*\*+[ \t]*(\.(?:subckt|ends)\b.*)", re.IGNORECASE)
