@@ -9,8 +9,9 @@ import re
 from typing import Dict, List, NamedTuple, Optional
 
 from lib import tool
+from lib.flat import net_of, placed_instances
 from lib.models import Cover, Latch, model_of, port_of, unrolled_model
-from lib.netlist import Card, cell_named, lowered
+from lib.netlist import cell_named, lowered
 
 
 class Held(NamedTuple):
@@ -28,35 +29,9 @@ class Held(NamedTuple):
     enters: list
 
 
-class Placed(NamedTuple):
-    """An instance in its place: its path, its card, the name of its cell, and the nets at the ports of that."""
-
-    path: str
-    card: Card
-    cell: str
-    nets: Dict[str, str]
-
-
 def inverse(bit, is_inverted=True):
     """A bit, inverted where it is to be; None stays None."""
     return {"0": "1", "1": "0"}.get(bit) if is_inverted else bit
-
-
-def net_of(name, path, ties, netlist, rules):
-    """The flat net of a name that stands in the cell at a path."""
-    if name in rules.supplies:
-        return name
-    return ties.get(name) or (name if name in netlist.global_nets else path + name)
-
-
-def placed_instances(netlist, rules, cell, path="", ties=None):
-    """Each instance of a cell at any depth, those around before those inside."""
-    for instance in netlist.cells[cell].instances:
-        inner = netlist.cells[instance.cell]
-        nets = [net_of(net, path, ties or {}, netlist, rules) for net in instance.nets]
-        placed = Placed(path + instance.name, instance.card, instance.cell, dict(zip(inner.ports, nets)))
-        yield placed
-        yield from placed_instances(netlist, rules, instance.cell, placed.path + "/", placed.nets)
 
 
 class Moment:
