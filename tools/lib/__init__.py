@@ -10,4 +10,7 @@ sources   the lines of netlists as other tools write them
 rules     the lines of a rules file, and what they say of supplies, kinds, levels, holds and keepers
 models    the models of a BLIF file
 verdicts  the lines that the program prints
+values    the bits of a circuit and its model at one valuation
+paths     the conducting paths of a circuit at one valuation
+picture   a picture of the transistors about a net
 """

@@ -28,6 +28,15 @@ class FlatDevice(NamedTuple):
         return self.source if net == self.drain else self.drain
 
 
+class Placed(NamedTuple):
+    """An instance in its place: its path, its card, the name of its cell, and the nets at the ports of that."""
+
+    path: str
+    card: Card
+    cell: str
+    nets: Dict[str, str]
+
+
 class Circuit:
     """A circuit: its devices, its held nets with their sizes, and the elements of the cell's model that these are matched with, as
     [!]LATCH. Supplies keep their names."""
@@ -41,6 +50,23 @@ class Circuit:
 def is_common(netlist, rules, net):
     """Whether a name that is no port is one net in all cells: a supply or a global net."""
     return net in rules.supplies or net in netlist.global_nets
+
+
+def net_of(name, path, ties, netlist, rules):
+    """The flat net of a name that stands in the cell at a path."""
+    if name in rules.supplies:
+        return name
+    return ties.get(name) or (name if is_common(netlist, rules, name) else path + name)
+
+
+def placed_instances(netlist, rules, cell, path="", ties=None):
+    """Each instance of a cell at any depth, those around before those inside."""
+    for instance in netlist.cells[cell].instances:
+        inner = netlist.cells[instance.cell]
+        nets = [net_of(net, path, ties or {}, netlist, rules) for net in instance.nets]
+        placed = Placed(path + instance.name, instance.card, instance.cell, dict(zip(inner.ports, nets)))
+        yield placed
+        yield from placed_instances(netlist, rules, instance.cell, placed.path + "/", placed.nets)
 
 
 def unrolled(netlist, rules, name):
@@ -64,9 +90,7 @@ def _unroll(circuit, netlist, rules, cell, path, ties, above):
     keepers, holds, matches = rules.keepers(cell.name), rules.holds(cell.name), rules.matches(cell.name)
 
     def net(name):
-        if name in rules.supplies:
-            return name
-        return ties.get(name) or (name if is_common(netlist, rules, name) else path + name)
+        return net_of(name, path, ties, netlist, rules)
 
     for d in cell.devices:
         circuit.devices.append(FlatDevice(

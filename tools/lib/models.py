@@ -159,3 +159,30 @@ def port_of(rules, cell, signal):
     """The port that pairs with a signal, by a `port` line or by its name."""
     said = [port for port, name in rules.signals(cell).items() if name == signal]
     return said[0] if said else lowered(signal)
+
+
+def unrolled_model(models, model):
+    """The drivers of a model with its sub-models unrolled: of each signal, by its path, its cover or latch and the signals that this reads."""
+    drivers, todo = {}, [(model, "", {}, 0)]
+    while todo:
+        inner, path, ties, depth = todo.pop()
+        flat = {name: ties.get(name) or path + name for name in signals_of(inner)}
+        for driver in inner.covers + inner.latches:
+            own = driver.inputs if isinstance(driver, Cover) else [driver.input] + [driver.control] * bool(driver.control)
+            drivers[flat[driver.output]] = (driver, [flat[name] for name in own])
+        for number, sub in enumerate(inner.subs):
+            if sub.model in models and depth < 32:
+                todo.append((models[sub.model], f"{path}{number}/", {formal: flat[name] for formal, name in sub.ties.items()}, depth + 1))
+    return drivers
+
+
+def signals_of(model):
+    """The names of the signals of a model, each once."""
+    names = dict.fromkeys(model.inputs + model.clocks + model.outputs)
+    for cover in model.covers:
+        names.update(dict.fromkeys(cover.inputs + [cover.output]))
+    for latch in model.latches:
+        names.update(dict.fromkeys([latch.input, latch.output] + [latch.control] * bool(latch.control)))
+    for sub in model.subs:
+        names.update(dict.fromkeys(sub.ties.values()))
+    return names

@@ -123,7 +123,7 @@ def cut(text, file="-"):
             continue
         more = re.match(r"[ \t]*\+", raw)
         if more and whole:
-            whole += " " + uncommented(raw[more.end():])
+            whole += " " + uncommented(raw)[more.end():]
             continue
         raw = uncommented(raw)
         if not raw.strip(" \t"):

@@ -68,11 +68,13 @@ def main(help_text, run):
     for stream in (sys.stdout, sys.stderr):
         stream.reconfigure(encoding="ascii", errors="surrogateescape")
     words = sys.argv[1:]
-    if "--help" in words or "-h" in words:
-        print(help_text.strip())
-        sys.exit(0)
+    own = words[: words.index("--")] if "--" in words else words
     try:
-        status = run(words) or 0
+        if "--help" in own or "-h" in own:
+            print(help_text.strip())
+            status = 0
+        else:
+            status = run(words) or 0
         sys.stdout.flush()
     except Refused as refused:
         status = refused.status
