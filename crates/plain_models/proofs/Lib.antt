@@ -1,0 +1,9 @@
+pub mod CardKinds
+pub mod DriverLaws
+pub mod FlatLaws
+pub mod NamesApart
+pub mod NoFaults
+pub mod OneModel
+pub mod ReadBack
+pub mod InterfaceLaws
+pub mod PairingLaws

@@ -1,0 +1,4 @@
+pub mod Flat
+pub mod Interfaces
+pub mod Lines
+pub mod Texts

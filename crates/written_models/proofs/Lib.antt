@@ -1,0 +1,8 @@
+pub mod Covers
+pub mod Examples
+pub mod NodeBits
+pub mod NodeOrder
+pub mod Numbers
+pub mod WrittenBits
+pub mod WrittenNames
+pub mod WrittenSignals

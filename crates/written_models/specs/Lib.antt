@@ -1,0 +1,4 @@
+pub mod Functions
+pub mod NodeLaws
+pub mod Written
+pub mod WrittenLaws
