@@ -76,10 +76,10 @@ ends_in_all (condition c ∷ outer) e =
     }
 
 -- tokens that end an expression
-record Ends (r : Reading) : Type 0 where
-  rest : List Part
-  formula : Formula
-  is : read_on (Some r) rest ≡ Some formula
+pub record Ends (r : Reading) : Type 0 where
+  pub rest : List Part
+  pub formula : Formula
+  pub is : read_on (Some r) rest ≡ Some formula
 
 ends_behind : (w : Waiting) (outer : List Around) (f : Formula) → Ends (record { inner = w; outer = outer; operand = Some f })
 ends_behind w outer f =
@@ -90,11 +90,11 @@ ends_open w outer =
     let x = ends_behind (record { ors = w.ors; xors = w.xors; ands = w.ands; nots = 0 }) outer (negated w.nots a_name) in
     record { rest = Name [] ∷ x.rest; formula = x.formula; is = x.is }
 
-ends_by : (w : Waiting) (outer : List Around) (operand : Option Formula) → Ends (record { inner = w; outer = outer; operand = operand })
+pub ends_by : (w : Waiting) (outer : List Around) (operand : Option Formula) → Ends (record { inner = w; outer = outer; operand = operand })
 ends_by w outer None = ends_open w outer
 ends_by w outer (Some f) = ends_behind w outer f
 
-read_reached : (ts rest : List Part) (r : Option Reading) → read_on r (ts ++ rest) ≡ read_on (reached r ts) rest
+pub read_reached : (ts rest : List Part) (r : Option Reading) → read_on r (ts ++ rest) ≡ read_on (reached r ts) rest
 read_reached ts rest None = refl
 read_reached [] rest (Some r) = refl
 read_reached (t ∷ ts) rest (Some r) = read_reached ts rest (taken r t)
