@@ -4,7 +4,8 @@ use Rattle.verilog_expression.specs.Grammar.Formula.{a_net}
 use Rattle.verilog_expression.specs.Readings.{Reading, nothing as nothing_waits, start, with_operand}
 use Rattle.verilog_expression.proofs.Begun.{ends_by}
 use Rattle.verilog_source.specs.Grammar.{Begins, closing, name, named, opening, port_entries, signs}
-use Rattle.verilog_source.specs.Modules.{Actual, Direction, Entry}
+use Rattle.verilog_source.specs.Modules.{Actual, Entry}
+use Rattle.verilog_source.specs.declared.position.Direction.{Direction}
 use Rattle.verilog_source.specs.Modules.Entry.{assigned, gate, instance}
 use Rattle.verilog_source.specs.Places.{Event, GateSoFar, InstanceSoFar, Place, Step, behind_step, events_from, events_of, reached, step, value_read, with_tie}
 use Rattle.verilog_source.specs.Places.Event.{begins, has, ends}

@@ -24,9 +24,10 @@ use Rattle.verilog_source.specs.Grammar.IsTerminals.{inputs, input, output}
 use Rattle.verilog_source.specs.Grammar.IsTie.{a_tie, no_tie}
 use Rattle.verilog_source.specs.Grammar.IsWire.{no_wire, a_wire}
 use Rattle.verilog_source.specs.Grammar.Lists.{last, more}
-use Rattle.verilog_source.specs.Modules.{Actual, Direction, Entry, Module, PortTie}
+use Rattle.verilog_source.specs.Modules.{Actual, Entry, Module, PortTie}
+use Rattle.verilog_source.specs.declared.position.Direction.{Direction}
 use Rattle.verilog_source.specs.Modules.Actual.{to_net, to_constant}
-use Rattle.verilog_source.specs.Modules.Direction.{Inputs, Outputs}
+use Rattle.verilog_source.specs.declared.position.Direction.TheVariants.{Inputs, Outputs}
 use Rattle.verilog_source.specs.Modules.Entry.{assigned, gate, instance}
 use Rattle.verilog_source.specs.Places.{Event, GateSoFar, InstanceSoFar, Place, Step, behind_step, events_from, events_of, gate_read, in_terminal, input_read, output_read, plain, step, value_read, with_input, with_output, with_tie}
 use Rattle.verilog_source.specs.Places.Event.{begins, has, ends}

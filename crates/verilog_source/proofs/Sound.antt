@@ -22,9 +22,10 @@ use Rattle.verilog_source.specs.Grammar.IsTerminals.{inputs, input, output}
 use Rattle.verilog_source.specs.Grammar.IsTie.{a_tie, no_tie}
 use Rattle.verilog_source.specs.Grammar.IsWire.{no_wire, a_wire}
 use Rattle.verilog_source.specs.Grammar.Lists.{last, more}
-use Rattle.verilog_source.specs.Modules.{Actual, Direction, Entry, Module, PortTie}
+use Rattle.verilog_source.specs.Modules.{Actual, Entry, Module, PortTie}
+use Rattle.verilog_source.specs.declared.position.Direction.{Direction}
 use Rattle.verilog_source.specs.Modules.Actual.{to_net, to_constant}
-use Rattle.verilog_source.specs.Modules.Direction.{Inputs, Outputs}
+use Rattle.verilog_source.specs.declared.position.Direction.TheVariants.{Inputs, Outputs}
 use Rattle.verilog_source.specs.Modules.Entry.{assigned, gate, instance}
 use Rattle.verilog_source.specs.Places.{Event, GateSoFar, InstanceSoFar, Place, Step, Tells, at_end, behind_step, events_from, events_of, from_actual_read, from_body, from_direction_word, from_gate_named, from_gate_read, from_gate_wanted, from_instance_named, from_instance_read, from_instance_wanted, from_module_name, from_module_word, from_name_read, from_name_wanted, from_outside, from_output_read, from_output_wanted, from_port_direction, from_port_read, from_port_wanted, from_port_wire, from_ports_read, from_target_read, from_target_wanted, from_terminal_open, from_terminal_wanted, from_tie_dot, from_tie_open, from_tie_port, from_tie_read, from_tie_wanted, from_value_open, gate_read, in_terminal, input_read, output_read, plain, step, value_read, with_input, with_output, with_tie}
 use Rattle.verilog_source.specs.Places.Event.{begins, has, ends}

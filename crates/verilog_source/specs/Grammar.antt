@@ -1,9 +1,10 @@
 -- The forms of a text of modules.
 use Rattle.std.specs.Prelude.{◌≡◌, ℕ, List, [], ◌∷◌, ◌++◌, Bool, true, false, map, flat_map, Option, Some, None}
 use Rattle.verilog_expression.specs.Grammar.{Formula, IsExpression}
-use Rattle.verilog_source.specs.Modules.{Actual, Direction, Entry, Module, PortTie}
+use Rattle.verilog_source.specs.Modules.{Actual, Entry, Module, PortTie}
+use Rattle.verilog_source.specs.declared.position.Direction.{Direction}
 use Rattle.verilog_source.specs.Modules.Actual.{to_net, to_constant}
-use Rattle.verilog_source.specs.Modules.Direction.{Inputs, Outputs}
+use Rattle.verilog_source.specs.declared.position.Direction.TheVariants.{Inputs, Outputs}
 use Rattle.verilog_source.specs.Modules.Entry.{listed, directed, assigned, gate, instance}
 use Rattle.verilog_tokens.specs.Signs.{Part, Sign, Token}
 use Rattle.verilog_tokens.specs.Signs.Part.{Name, Bit, Opening, Closing}

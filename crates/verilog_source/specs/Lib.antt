@@ -1,3 +1,4 @@
 pub mod Modules
 pub mod Grammar
 pub mod Places
+pub mod Positions

@@ -1,12 +1,8 @@
 -- What a text of modules says.
 use Rattle.std.specs.Prelude.{ℕ, Bool, List, [], ◌∷◌, Option, Some, None}
 use Rattle.verilog_expression.specs.Grammar.{Formula}
+use Rattle.verilog_source.specs.declared.position.Direction.{Direction}
 use Rattle.verilog_tokens.specs.declared.token.GateKind.{GateKind}
-
--- the directions of ports
-pub data Direction : Type 0 where
-  Inputs : Direction
-  Outputs : Direction
 
 -- what a port of an instance is tied to
 pub data Actual : Type 0 where

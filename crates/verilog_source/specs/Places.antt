@@ -4,9 +4,10 @@ use Rattle.verilog_expression.specs.Grammar.{Formula}
 use Rattle.verilog_expression.specs.Kept.{is_inside}
 use Rattle.verilog_expression.specs.Readings.{Reading, ended, start, taken}
 use Rattle.verilog_source.specs.Grammar.{IsSource, has_one_input, named, port_entries}
-use Rattle.verilog_source.specs.Modules.{Actual, Direction, Entry, Module, PortTie}
+use Rattle.verilog_source.specs.Modules.{Actual, Entry, Module, PortTie}
+use Rattle.verilog_source.specs.declared.position.Direction.{Direction}
 use Rattle.verilog_source.specs.Modules.Actual.{to_net, to_constant}
-use Rattle.verilog_source.specs.Modules.Direction.{Inputs, Outputs}
+use Rattle.verilog_source.specs.declared.position.Direction.TheVariants.{Inputs, Outputs}
 use Rattle.verilog_source.specs.Modules.Entry.{listed, directed, assigned, gate, instance}
 use Rattle.verilog_tokens.specs.Signs.{Part, Sign, Token}
 use Rattle.verilog_tokens.specs.Signs.Part.{Name, Bit, Opening, Closing}
