@@ -1,0 +1,105 @@
+-- The faults of a text of modules.
+use Rattle.std.specs.Prelude.{ℕ, List, [], ◌∷◌, Bool, true, false, not, ◌||◌, ◌&&◌, nat_le, length, find, if◌then◌else◌, is_none, is_some, Option, Some, None, option_map}
+use Rattle.std.specs.Option.{option_or}
+use Rattle.text_lines.specs.Faults.{first_of, when}
+use Rattle.verilog_source.specs.Known.{Known, counted, known_by}
+use Rattle.verilog_source.specs.Places.{Place, step}
+use Rattle.verilog_source.specs.Places.Place.{Outside, Body, ModuleWord, TerminalWanted}
+use Rattle.verilog_source.specs.declared.faults.VerilogFault.{VerilogFault}
+use Rattle.verilog_source.specs.declared.faults.VerilogFault.TheVariants.{NotText as NotTextFault, Unsupported as UnsupportedFault, Syntax, ModuleTwice, PortForm, Unfinished, Limit}
+use Rattle.verilog_tokens.specs.Signs.{Sign, Token}
+use Rattle.verilog_tokens.specs.Signs.Part.{Name}
+use Rattle.verilog_tokens.specs.Signs.Sign.{Of, EndModule, NotText, Unsupported, OpenComment, End}
+use Rattle.verilog_tokens.specs.declared.token.GateKind.{GateKind}
+use Rattle.verilog_tokens.specs.declared.token.GateKind.TheVariants.{And, Nand, Or, Nor, Xor, Xnor, Buf, Not}
+use Rattle.vrt_model.specs.Lists.{has_name}
+
+-- what one token shows: a byte that is not text, and what is not supported
+abbrev pub sign_fault : ℕ → Sign → Option VerilogFault
+sign_fault line NotText = Some (NotTextFault line)
+sign_fault line (Unsupported word) = Some (UnsupportedFault line word)
+sign_fault line s = None
+
+-- the end of the text, or a comment that does not end
+abbrev pub is_end : Sign → Bool
+is_end OpenComment = true
+is_end End = true
+is_end s = false
+
+-- a token with which, behind those before it, no text of modules begins
+abbrev pub is_refused : Known → Token → Bool
+is_refused k t = not (is_end t.sign) && is_none (step k.place t.line t.sign)
+
+-- the name that a module begins with
+abbrev pub module_name : Place → Sign → Option (List ℕ)
+module_name (ModuleWord l) (Of (Name n)) = Some n
+module_name place s = None
+
+abbrev pub twice_by : Known → ℕ → Option (List ℕ) → Option VerilogFault
+twice_by k line None = None
+twice_by k line (Some n) = when (has_name k.modules n) (ModuleTwice line n)
+
+-- a listed port with no direction, with two, or listed twice; a name with a direction that is not listed
+abbrev pub is_bad_port : Known → List ℕ → Bool
+is_bad_port k n = not (has_name k.ports.once n) || has_name k.ports.again n || not (has_name k.directions.once n) || has_name k.directions.again n
+
+-- the first one: the listed ports in their order, then the names with directions in theirs
+abbrev pub bad_port : Known → Option (List ℕ)
+bad_port k = option_or (find (is_bad_port k) k.ports.once) (find (is_bad_port k) k.directions.once)
+
+abbrev pub ends_module : Place → Sign → Bool
+ends_module Body EndModule = true
+ends_module place s = false
+
+abbrev pub port_fault : Known → Token → Option VerilogFault
+port_fault k t = if ends_module k.place t.sign then option_map (λ n. PortForm t.line n) (bad_port k) else None
+
+-- the line of the module that is open
+abbrev pub open_line : Known → Place → Option ℕ
+open_line k Outside = None
+open_line k (ModuleWord l) = Some l
+open_line k place = Some k.line
+
+-- the text ends in a module, else in a comment
+abbrev pub unfinished : Known → Token → Sign → Option VerilogFault
+unfinished k t End = option_map Unfinished (open_line k k.place)
+unfinished k t OpenComment = option_or (option_map Unfinished (open_line k k.place)) (Some (Unfinished t.line))
+unfinished k t s = None
+
+-- the kinds of gates that become one cover, which has 1,000 inputs at most
+abbrev pub is_limited : GateKind → Bool
+is_limited And = true
+is_limited Nand = true
+is_limited Or = true
+is_limited Nor = true
+is_limited Xor = false
+is_limited Xnor = false
+is_limited Buf = false
+is_limited Not = false
+
+abbrev pub is_full : Place → Bool
+is_full (TerminalWanted g) = is_limited g.kind && nat_le 1000 (length g.inputs)
+is_full place = false
+
+-- 4,096 modules, at the name of the next; 1,000 operators and 64 open parentheses of an expression; 1,000 inputs of a gate, at the next
+abbrev pub passes_limit : Known → Sign → Bool
+passes_limit k s =
+    (is_some (module_name k.place s) && nat_le 4096 (length k.modules)) || is_none (counted k.place k.counts s) || is_full k.place
+
+-- the faults at a token, by their numbers
+abbrev pub faults_at : Known → Token → List (Option VerilogFault)
+faults_at k t =
+    sign_fault t.line t.sign
+    ∷ when (is_refused k t) (Syntax t.line)
+    ∷ twice_by k t.line (module_name k.place t.sign)
+    ∷ port_fault k t
+    ∷ unfinished k t t.sign
+    ∷ when (not (is_end t.sign) && passes_limit k t.sign) (Limit t.line)
+    ∷ []
+
+-- of several faults at one token the one of the lowest number
+unfoldable pub fault_by : Known → Token → Option VerilogFault
+fault_by k t = first_of (faults_at k t)
+
+abbrev pub fault_of : List Token → Token → Option VerilogFault
+fault_of before t = fault_by (known_by before) t
