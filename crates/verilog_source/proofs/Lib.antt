@@ -1,3 +1,4 @@
 pub mod Sound
 pub mod Complete
 pub mod Begun
+pub mod KnownLaws

@@ -1,8 +1,8 @@
 -- The faults of a text of modules.
-use Rattle.std.specs.Prelude.{ℕ, List, [], ◌∷◌, Bool, true, false, not, ◌||◌, ◌&&◌, nat_le, length, find, if◌then◌else◌, is_none, is_some, Option, Some, None, option_map}
+use Rattle.std.specs.Prelude.{ℕ, List, [], ◌∷◌, Bool, true, false, not, ◌||◌, ◌&&◌, nat_le, length, find, is_none, is_some, Option, Some, None, option_map}
 use Rattle.std.specs.Option.{option_or}
 use Rattle.text_lines.specs.Faults.{first_of, when}
-use Rattle.verilog_source.specs.Known.{Known, counted, known_by}
+use Rattle.verilog_source.specs.Known.{Gathered, Known, counted, known_by}
 use Rattle.verilog_source.specs.Places.{Place, step}
 use Rattle.verilog_source.specs.Places.Place.{Outside, Body, ModuleWord, TerminalWanted}
 use Rattle.verilog_source.specs.declared.faults.VerilogFault.{VerilogFault}
@@ -35,36 +35,37 @@ abbrev pub module_name : Place → Sign → Option (List ℕ)
 module_name (ModuleWord l) (Of (Name n)) = Some n
 module_name place s = None
 
-abbrev pub twice_by : Known → ℕ → Option (List ℕ) → Option VerilogFault
-twice_by k line None = None
-twice_by k line (Some n) = when (has_name k.modules n) (ModuleTwice line n)
+abbrev pub twice_by : List (List ℕ) → ℕ → Option (List ℕ) → Option VerilogFault
+twice_by modules line None = None
+twice_by modules line (Some n) = when (has_name modules n) (ModuleTwice line n)
 
 -- a listed port with no direction, with two, or listed twice; a name with a direction that is not listed
-abbrev pub is_bad_port : Known → List ℕ → Bool
-is_bad_port k n = not (has_name k.ports.once n) || has_name k.ports.again n || not (has_name k.directions.once n) || has_name k.directions.again n
+abbrev pub is_bad_port : Gathered → Gathered → List ℕ → Bool
+is_bad_port ports directions n = not (has_name ports.once n) || has_name ports.again n || not (has_name directions.once n) || has_name directions.again n
 
 -- the first one: the listed ports in their order, then the names with directions in theirs
-abbrev pub bad_port : Known → Option (List ℕ)
-bad_port k = option_or (find (is_bad_port k) k.ports.once) (find (is_bad_port k) k.directions.once)
+abbrev pub bad_port : Gathered → Gathered → Option (List ℕ)
+bad_port ports directions = option_or (find (is_bad_port ports directions) ports.once) (find (is_bad_port ports directions) directions.once)
 
 abbrev pub ends_module : Place → Sign → Bool
 ends_module Body EndModule = true
 ends_module place s = false
 
-abbrev pub port_fault : Known → Token → Option VerilogFault
-port_fault k t = if ends_module k.place t.sign then option_map (λ n. PortForm t.line n) (bad_port k) else None
+abbrev pub port_fault : Gathered → Gathered → ℕ → Bool → Option VerilogFault
+port_fault ports directions line true = option_map (λ n. PortForm line n) (bad_port ports directions)
+port_fault ports directions line false = None
 
 -- the line of the module that is open
-abbrev pub open_line : Known → Place → Option ℕ
-open_line k Outside = None
-open_line k (ModuleWord l) = Some l
-open_line k place = Some k.line
+abbrev pub open_line : ℕ → Place → Option ℕ
+open_line line Outside = None
+open_line line (ModuleWord l) = Some l
+open_line line place = Some line
 
 -- the text ends in a module, else in a comment
-abbrev pub unfinished : Known → Token → Sign → Option VerilogFault
-unfinished k t End = option_map Unfinished (open_line k k.place)
-unfinished k t OpenComment = option_or (option_map Unfinished (open_line k k.place)) (Some (Unfinished t.line))
-unfinished k t s = None
+abbrev pub unfinished : Option ℕ → ℕ → Sign → Option VerilogFault
+unfinished open_on line End = option_map Unfinished open_on
+unfinished open_on line OpenComment = option_or (option_map Unfinished open_on) (Some (Unfinished line))
+unfinished open_on line s = None
 
 -- the kinds of gates that become one cover, which has 1,000 inputs at most
 abbrev pub is_limited : GateKind → Bool
@@ -86,14 +87,19 @@ abbrev pub passes_limit : Known → Sign → Bool
 passes_limit k s =
     (is_some (module_name k.place s) && nat_le 4096 (length k.modules)) || is_none (counted k.place k.counts s) || is_full k.place
 
+-- the fault of a token that can stand where it does
+abbrev pub next_fault : List (List ℕ) → Gathered → Gathered → Place → Bool → ℕ → Sign → Option VerilogFault
+next_fault modules ports directions place has_passed line s =
+    first_of (twice_by modules line (module_name place s) ∷ port_fault ports directions line (ends_module place s) ∷ when has_passed (Limit line) ∷ [])
+
 -- the faults at a token, by their numbers
 abbrev pub faults_at : Known → Token → List (Option VerilogFault)
 faults_at k t =
     sign_fault t.line t.sign
     ∷ when (is_refused k t) (Syntax t.line)
-    ∷ twice_by k t.line (module_name k.place t.sign)
-    ∷ port_fault k t
-    ∷ unfinished k t t.sign
+    ∷ twice_by k.modules t.line (module_name k.place t.sign)
+    ∷ port_fault k.ports k.directions t.line (ends_module k.place t.sign)
+    ∷ unfinished (open_line k.line k.place) t.line t.sign
     ∷ when (not (is_end t.sign) && passes_limit k t.sign) (Limit t.line)
     ∷ []
 

@@ -1,10 +1,12 @@
 //! Laws of the grammar.
 
-ghost use Rattle.std.specs.Prelude.{◌≡◌, List, None, Some};
+ghost use Rattle.std.specs.Prelude.{◌≡◌, ◌++◌, ◌∷◌, [], List, None, Some, false, true};
 ghost use Rattle.verilog_source.specs.Grammar.{Begins, IsSource};
+ghost use Rattle.verilog_source.specs.Known.{known_by};
 ghost use Rattle.verilog_source.specs.Modules.{Module};
 ghost use Rattle.verilog_source.specs.Places.{Event, Tells, events_from, events_of, reached};
 ghost use Rattle.verilog_source.specs.Places.Place.{Outside};
+ghost use Rattle.verilog_source.specs.Refused.{is_end, is_refused};
 ghost use Rattle.verilog_tokens.specs.Signs.{Token};
 
 /// Tokens are a text of one list of modules at most, and reading them token by token tells what is in these.
@@ -20,4 +22,12 @@ pub fn one_source()
 pub fn good_beginnings()
     ensures refused { (ts : List Token) → reached (Some Outside) ts ≡ None → Begins ts → ⊥ }
     ensures taken { (ts : List Token) → (reached (Some Outside) ts ≡ None → ⊥) → Begins ts }
+{}
+
+/// The fault of a statement that does not fit comes exactly at the first token with which no text of modules begins, as
+/// the tokens before it do.
+#[tactic(auto, using(crate::proofs::KnownLaws::goes_on_more, crate::proofs::KnownLaws::refused_more))]
+pub fn first_refused()
+    ensures refused { (ts : List Token) (t : Token) → Begins ts → is_refused (known_by ts) t ≡ true → Begins (ts ++ t ∷ []) → ⊥ }
+    ensures taken { (ts : List Token) (t : Token) → Begins ts → is_end t.sign ≡ false → is_refused (known_by ts) t ≡ false → Begins (ts ++ t ∷ []) }
 {}
