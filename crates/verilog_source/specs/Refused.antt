@@ -3,7 +3,7 @@ use Rattle.std.specs.Prelude.{ℕ, List, [], ◌∷◌, Bool, true, false, not, 
 use Rattle.std.specs.Option.{option_or}
 use Rattle.text_lines.specs.Faults.{first_of, when}
 use Rattle.verilog_source.specs.Known.{Gathered, Known, counted, known_by}
-use Rattle.verilog_source.specs.Places.{Place, step}
+use Rattle.verilog_source.specs.Places.{Place, Step, step}
 use Rattle.verilog_source.specs.Places.Place.{Outside, Body, ModuleWord, TerminalWanted}
 use Rattle.verilog_source.specs.declared.faults.VerilogFault.{VerilogFault}
 use Rattle.verilog_source.specs.declared.faults.VerilogFault.TheVariants.{NotText as NotTextFault, Unsupported as UnsupportedFault, Syntax, ModuleTwice, PortForm, Unfinished, Limit}
@@ -91,6 +91,11 @@ passes_limit k s =
 abbrev pub next_fault : List (List ℕ) → Gathered → Gathered → Place → Bool → ℕ → Sign → Option VerilogFault
 next_fault modules ports directions place has_passed line s =
     first_of (twice_by modules line (module_name place s) ∷ port_fault ports directions line (ends_module place s) ∷ when has_passed (Limit line) ∷ [])
+
+-- the fault of a token that is not the end
+abbrev pub fault_within : Known → Token → Option Step → Option VerilogFault
+fault_within k t None = Some (Syntax t.line)
+fault_within k t (Some s) = next_fault k.modules k.ports k.directions k.place (passes_limit k t.sign) t.line t.sign
 
 -- the faults at a token, by their numbers
 abbrev pub faults_at : Known → Token → List (Option VerilogFault)

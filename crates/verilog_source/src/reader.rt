@@ -1,20 +1,24 @@
 //! The reader: token by token, up to the first fault.
 
-ghost use Rattle.std.specs.Prelude.{◌≡◌, ◌∷◌, [], ℕ, List, OnOk, IfNone, IfSome};
+ghost use Rattle.std.specs.Prelude.{◌≡◌, ◌∷◌, [], ℕ, List, OnOk, IfNone, IfOk, IfSome, unwrap_or};
 ghost use Rattle.text_lines.specs.Faults.{Judges};
-ghost use Rattle.verilog_source.specs.Kept.{gathered, seen_known};
-ghost use Rattle.verilog_source.specs.Known.{with_events, with_one};
+ghost use Rattle.verilog_expression.specs.Limits.{uncounted};
+ghost use Rattle.verilog_source.specs.Kept.{gathered, seen_known, step_told};
+ghost use Rattle.verilog_source.specs.Known.{counted, learned, with_events, with_one};
 ghost use Rattle.verilog_source.specs.Places.Event.{begins};
+ghost use Rattle.verilog_source.specs.Places.{step};
 ghost use Rattle.verilog_source.specs.Positions.{events, place};
-ghost use Rattle.verilog_source.specs.Refused.{next_fault, passes_limit};
+ghost use Rattle.verilog_source.specs.Refused.{fault_within, next_fault, passes_limit};
 ghost use Rattle.verilog_source.specs.declared.position.Work.{Work};
-ghost use Rattle.verilog_tokens.specs.Signs.{sign_of};
+ghost use Rattle.verilog_tokens.specs.Signs.{sign_of, token_of};
 
 use crate::faults::VerilogFault;
 use crate::judge::{is_full_gate, is_module_name, judge_name, judge_ports};
 use crate::known::{Gathering, Known, count_token, gather, no_names};
 use crate::position::{Direction, Position, Told};
+use crate::steps::take_step;
 use std::alloc::Global;
+use verilog_expression::Counts;
 use verilog_tokens::Kind;
 use vrt_model::NoMemory;
 
@@ -90,4 +94,70 @@ fn judge_next(
         return Err(VerilogFault::Limit { line });
     }
     Ok(())
+}
+
+/// What is counted of an expression behind a token, from 0 where it is a part of none.
+fn counts_after(position: Position, counts: Counts, kind: Kind) -> Counts
+    ensures { (w : Work) (bytes : List ℕ) → result ≡ unwrap_or (counted (place position w) counts (sign_of kind bytes)) uncounted }
+{
+    match count_token(position, counts, kind) {
+        Some(counts) => counts,
+        None => Counts {
+            operators: 0,
+            depth: 0,
+        },
+    }
+}
+
+/// Takes the step of a token, and answers what the token tells. None where it cannot stand there.
+fn take_place(
+    alloc: Global,
+    known: &mut Known,
+    line: u32,
+    kind: Kind,
+    bytes: &[u8],
+) -> Result<Option<Told>, NoMemory>
+    ensures step { IfOk result (λ told. step_told told bytes.now known.new.position known.new.work ≡ step (place known.old.position known.old.work) line (sign_of kind bytes.now)) }
+    ensures counts { IfOk result (λ told. IfSome told (λ _. known.new.counts ≡ unwrap_or (counted (place known.old.position known.old.work) known.old.counts (sign_of kind bytes.now)) uncounted)) }
+    ensures modules { known.new.modules ≡ known.old.modules }
+    ensures line { known.new.line ≡ known.old.line }
+    ensures ports { known.new.ports ≡ known.old.ports }
+    ensures directions { known.new.directions ≡ known.old.directions }
+{
+    let position = known.position;
+    let counts = counts_after(position, known.counts, kind);
+    match take_step(alloc, position, &mut known.work, line, kind, bytes)? {
+        Some(next) => {
+            known.position = next.position;
+            known.counts = counts;
+            Ok(Some(next.told))
+        }
+        None => Ok(None),
+    }
+}
+
+/// Takes a token that is not the end of the text.
+pub fn take_within(
+    alloc: Global,
+    known: &mut Known,
+    line: u32,
+    kind: Kind,
+    bytes: &[u8],
+) -> Result<Told, VerilogFault>
+    ensures fault { Judges VerilogFault.NoMemory result (fault_within (seen_known known.old) (token_of line kind bytes.now) (step (place known.old.position known.old.work) line (sign_of kind bytes.now))) }
+    ensures next { OnOk result (seen_known known.new ≡ learned (seen_known known.old) (token_of line kind bytes.now)) }
+{
+    let position = known.position;
+    let has_passed = is_past_limit(known, kind);
+    let Ok(taken) = take_place(alloc, known, line, kind, bytes) else {
+        return Err(VerilogFault::NoMemory);
+    };
+    let Some(told) = taken else {
+        return Err(VerilogFault::Syntax { line });
+    };
+    judge_next(alloc, known, position, has_passed, line, kind, bytes)?;
+    match learn(alloc, known, told, bytes) {
+        Ok(()) => Ok(told),
+        Err(_) => Err(VerilogFault::NoMemory),
+    }
 }
