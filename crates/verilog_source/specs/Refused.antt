@@ -97,11 +97,10 @@ abbrev pub fault_within : Known → Token → Option Step → Option VerilogFaul
 fault_within k t None = Some (Syntax t.line)
 fault_within k t (Some s) = next_fault k.modules k.ports k.directions k.place (passes_limit k t.sign) t.line t.sign
 
--- the faults at a token, by their numbers
-abbrev pub faults_at : Known → Token → List (Option VerilogFault)
-faults_at k t =
-    sign_fault t.line t.sign
-    ∷ when (is_refused k t) (Syntax t.line)
+-- the faults at a token but those that it shows itself, by their numbers
+abbrev pub later_faults : Known → Token → List (Option VerilogFault)
+later_faults k t =
+    when (is_refused k t) (Syntax t.line)
     ∷ twice_by k.modules t.line (module_name k.place t.sign)
     ∷ port_fault k.ports k.directions t.line (ends_module k.place t.sign)
     ∷ unfinished (open_line k.line k.place) t.line t.sign
@@ -110,7 +109,7 @@ faults_at k t =
 
 -- of several faults at one token the one of the lowest number
 unfoldable pub fault_by : Known → Token → Option VerilogFault
-fault_by k t = first_of (faults_at k t)
+fault_by k t = first_of (sign_fault t.line t.sign ∷ later_faults k t)
 
 abbrev pub fault_of : List Token → Token → Option VerilogFault
 fault_of before t = fault_by (known_by before) t

@@ -21,5 +21,5 @@ pub use laws::{first_refused, good_beginnings, one_source};
 pub use position::{
     Actual, Assign, Direction, Gate, Header, Instance, Listing, Next, PortTie, Position, Told, Work,
 };
-pub use reader::{is_past_limit, learn, take_within};
+pub use reader::{is_past_limit, learn, take_token};
 pub use steps::{no_work, take_step};

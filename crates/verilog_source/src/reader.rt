@@ -8,12 +8,14 @@ ghost use Rattle.verilog_source.specs.Known.{counted, learned, with_events, with
 ghost use Rattle.verilog_source.specs.Places.Event.{begins};
 ghost use Rattle.verilog_source.specs.Places.{step};
 ghost use Rattle.verilog_source.specs.Positions.{events, place};
-ghost use Rattle.verilog_source.specs.Refused.{fault_within, next_fault, passes_limit};
+ghost use Rattle.verilog_source.specs.Refused.{fault_by, fault_within, next_fault, passes_limit};
 ghost use Rattle.verilog_source.specs.declared.position.Work.{Work};
 ghost use Rattle.verilog_tokens.specs.Signs.{sign_of, token_of};
 
 use crate::faults::VerilogFault;
-use crate::judge::{is_full_gate, is_module_name, judge_name, judge_ports};
+use crate::judge::{
+    is_end_kind, is_full_gate, is_module_name, judge_end, judge_name, judge_ports, judge_sign,
+};
 use crate::known::{Gathering, Known, count_token, gather, no_names};
 use crate::position::{Direction, Position, Told};
 use crate::steps::take_step;
@@ -137,7 +139,7 @@ fn take_place(
 }
 
 /// Takes a token that is not the end of the text.
-pub fn take_within(
+fn take_within(
     alloc: Global,
     known: &mut Known,
     line: u32,
@@ -160,4 +162,25 @@ pub fn take_within(
         Ok(()) => Ok(told),
         Err(_) => Err(VerilogFault::NoMemory),
     }
+}
+
+/// Takes a token, and answers what it tells; what it tells of the statement stands in `known.work`. Refused with the
+/// fault at the token, or for want of memory; then nothing more may be taken.
+pub fn take_token(
+    alloc: Global,
+    known: &mut Known,
+    line: u32,
+    kind: Kind,
+    bytes: &[u8],
+) -> Result<Told, VerilogFault>
+    ensures fault { Judges VerilogFault.NoMemory result (fault_by (seen_known known.old) (token_of line kind bytes.now)) }
+    ensures next { OnOk result (seen_known known.new ≡ learned (seen_known known.old) (token_of line kind bytes.now)) }
+{
+    judge_sign(alloc, line, kind, bytes)?;
+    if is_end_kind(kind) {
+        judge_end(known.position, known.line, line, kind)?;
+        return Ok(Told::Nothing);
+    }
+    let told = take_within(alloc, known, line, kind, bytes)?;
+    Ok(told)
 }
