@@ -1,0 +1,5 @@
+pub mod Sound
+pub mod Complete
+pub mod Begun
+pub mod KnownLaws
+pub mod JudgeLaws
