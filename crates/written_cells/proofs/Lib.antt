@@ -1,0 +1,4 @@
+pub mod ExchangeLaws
+pub mod OutputLaws
+pub mod WrittenArcs
+pub mod WrittenComparisons

@@ -1,0 +1,4 @@
+pub mod Arcs
+pub mod Exchanged
+pub mod Outputs
+pub mod Written
