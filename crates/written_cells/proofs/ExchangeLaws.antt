@@ -60,10 +60,10 @@ module _ (k : Comparison) (flat : FlatModel) (number : ℕ) (none : HasNoState k
   abbrev other : Comparison
   other = exchanged k flat number
 
-  groups_same : other.groups ≡ k.groups
+  pub groups_same : other.groups ≡ k.groups
   groups_same = no_groups k.circuit flat none.holds ∙ sym (none.groups ∙ no_groups k.circuit k.model none.holds)
 
-  sources_same : (phase : ℕ) → sources_of other phase ≡ sources_of k phase
+  pub sources_same : (phase : ℕ) → sources_of other phase ≡ sources_of k phase
   sources_same phase =
       ap (λ (gs : List HoldGroup). variables_of k.circuit flat gs phase) groups_same
       ∙ variables_same k.circuit flat k.model k.groups phase (no_elements flat plain ∙ sym none.elements)

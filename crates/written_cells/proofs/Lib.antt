@@ -1,3 +1,4 @@
+pub mod CauseLaws
 pub mod ExchangeLaws
 pub mod OutputLaws
 pub mod WrittenArcs

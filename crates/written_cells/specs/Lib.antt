@@ -1,4 +1,5 @@
 pub mod Arcs
+pub mod Causes
 pub mod Exchanged
 pub mod Outputs
 pub mod Written

@@ -3,6 +3,7 @@
 #![tactic(auto)]
 
 ghost use Rattle.written_cells.specs.Arcs.{WrittenModelsAreAcyclic};
+ghost use Rattle.written_cells.specs.Causes.{NoCauseIsAdded};
 ghost use Rattle.written_cells.specs.Exchanged.{ModelsAreExchanged};
 ghost use Rattle.written_cells.specs.Outputs.{FunctionsAreShown, OutputsAreShown};
 ghost use Rattle.written_cells.specs.Written.{ComparisonsAreExchanged, WrittenCellsAreEqual};
@@ -35,4 +36,9 @@ pub fn comparisons_are_exchanged()
 /// With a written model in the place of all models the cell is equal.
 pub fn written_cells_are_equal()
     ensures { WrittenCellsAreEqual }
+{}
+
+/// Where nothing stands against a cell without state, nothing stands against it with another model without latches.
+pub fn no_cause_is_added()
+    ensures { NoCauseIsAdded }
 {}
