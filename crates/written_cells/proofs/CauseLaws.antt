@@ -23,7 +23,7 @@ use Rattle.vrt_model.specs.declared.verdict.Why.TheVariants.{NoClock, TooManyVar
 use Rattle.written_cells.proofs.ExchangeLaws.{no_elements, sources_same}
 use Rattle.written_cells.specs.Exchanged.{HasNoState, exchanged}
 
-first_none : {X : Type 0} (f : X → Why) (o : Option X) (rest : Option Why) → option_or (why_of f o) rest ≡ None → (o ≡ None) × (rest ≡ None)
+pub first_none : {X : Type 0} (f : X → Why) (o : Option X) (rest : Option Why) → option_or (why_of f o) rest ≡ None → (o ≡ None) × (rest ≡ None)
 first_none f None rest e = (refl, e)
 first_none f (Some x) rest e = absurd (none-some (f x) (sym e))
 
@@ -31,11 +31,11 @@ none_either : {X : Type 0} (b : Bool) (o : Option X) → o ≡ None → cond b N
 none_either true o e = refl
 none_either false o e = e
 
-no_cause : {X : Type 0} (f : X → Why) (o : Option X) (rest : Option Why) → o ≡ None → rest ≡ None → option_or (why_of f o) rest ≡ None
+pub no_cause : {X : Type 0} (f : X → Why) (o : Option X) (rest : Option Why) → o ≡ None → rest ≡ None → option_or (why_of f o) rest ≡ None
 no_cause f None rest e t = t
 no_cause f (Some x) rest e t = absurd (none-some x (sym e))
 
-no_item : {X : Type 0} (o p : Option X) → o ≡ None → p ≡ None → option_or o p ≡ None
+pub no_item : {X : Type 0} (o p : Option X) → o ≡ None → p ≡ None → option_or o p ≡ None
 no_item None p e t = t
 no_item (Some x) p e t = absurd (none-some x (sym e))
 

@@ -2,4 +2,5 @@ pub mod Arcs
 pub mod Causes
 pub mod Exchanged
 pub mod Outputs
+pub mod Supported
 pub mod Written

@@ -6,6 +6,7 @@ ghost use Rattle.written_cells.specs.Arcs.{WrittenModelsAreAcyclic};
 ghost use Rattle.written_cells.specs.Causes.{NoCauseIsAdded};
 ghost use Rattle.written_cells.specs.Exchanged.{ModelsAreExchanged};
 ghost use Rattle.written_cells.specs.Outputs.{FunctionsAreShown, OutputsAreShown};
+ghost use Rattle.written_cells.specs.Supported.{WrittenCellsAreSupported};
 ghost use Rattle.written_cells.specs.Written.{ComparisonsAreExchanged, WrittenCellsAreEqual};
 
 /// In each phase that observes an output the solution has the bit of the output's function.
@@ -41,4 +42,9 @@ pub fn written_cells_are_equal()
 /// Where nothing stands against a cell without state, nothing stands against it with another model without latches.
 pub fn no_cause_is_added()
     ensures { NoCauseIsAdded }
+{}
+
+/// With a written model in the place of all models the cell is supported.
+pub fn written_cells_are_supported()
+    ensures { WrittenCellsAreSupported }
 {}
