@@ -1,5 +1,6 @@
 pub mod CauseLaws
 pub mod ExchangeLaws
+pub mod LimitLaws
 pub mod OutputLaws
 pub mod SupportLaws
 pub mod WrittenArcs

@@ -1,6 +1,7 @@
 pub mod Arcs
 pub mod Causes
 pub mod Exchanged
+pub mod Limits
 pub mod Outputs
 pub mod Supported
 pub mod Written

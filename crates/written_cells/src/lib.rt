@@ -5,6 +5,7 @@
 ghost use Rattle.written_cells.specs.Arcs.{WrittenModelsAreAcyclic};
 ghost use Rattle.written_cells.specs.Causes.{NoCauseIsAdded};
 ghost use Rattle.written_cells.specs.Exchanged.{ModelsAreExchanged};
+ghost use Rattle.written_cells.specs.Limits.{WrittenModelsAreSmall};
 ghost use Rattle.written_cells.specs.Outputs.{FunctionsAreShown, OutputsAreShown};
 ghost use Rattle.written_cells.specs.Supported.{WrittenCellsAreSupported};
 ghost use Rattle.written_cells.specs.Written.{ComparisonsAreExchanged, WrittenCellsAreEqual};
@@ -47,4 +48,9 @@ pub fn no_cause_is_added()
 /// With a written model in the place of all models the cell is supported.
 pub fn written_cells_are_supported()
     ensures { WrittenCellsAreSupported }
+{}
+
+/// A written model of few signals and outputs passes no limit.
+pub fn written_models_are_small()
+    ensures { WrittenModelsAreSmall }
 {}
