@@ -7,6 +7,7 @@ ghost use Rattle.written_cells.specs.Causes.{NoCauseIsAdded};
 ghost use Rattle.written_cells.specs.Exchanged.{ModelsAreExchanged};
 ghost use Rattle.written_cells.specs.Limits.{WrittenModelsAreSmall};
 ghost use Rattle.written_cells.specs.Outputs.{FunctionsAreShown, OutputsAreShown};
+ghost use Rattle.written_cells.specs.Pairs.{WrittenModelsPair};
 ghost use Rattle.written_cells.specs.Supported.{WrittenCellsAreSupported};
 ghost use Rattle.written_cells.specs.Written.{ComparisonsAreExchanged, WrittenCellsAreEqual};
 
@@ -53,4 +54,9 @@ pub fn written_cells_are_supported()
 /// A written model of few signals and outputs passes no limit.
 pub fn written_models_are_small()
     ensures { WrittenModelsAreSmall }
+{}
+
+/// A cell that pairs with a model pairs with the written one of its name.
+pub fn written_models_pair()
+    ensures { WrittenModelsPair }
 {}
