@@ -21,7 +21,7 @@ use Rattle.same_phases.proofs.PhaseLaws.{unclocked_phases_are_alike}
 use Rattle.same_phases.specs.Phases.{AreAlike, IsStateless, IsTheSolution, IsUnclocked}
 
 -- a circuit without holds has no groups
-no_groups : (c : Circuit) (flat : FlatModel) → c.holds ≡ [] → groups_of c flat ≡ []
+pub no_groups : (c : Circuit) (flat : FlatModel) → c.holds ≡ [] → groups_of c flat ≡ []
 unfolding groups_of
 no_groups c flat none =
     let make : ℕ × Hold → Placed = λ p. record { place = p.0; hold = p.1 } in

@@ -36,7 +36,7 @@ all_at (suc n) p (true ∷ xs) e l =
 constant_at : (n : ℕ) (b : Bool) (f : Function) (xs : List Bool) → is_constant n b f ≡ true → length xs ≡ n → f xs ≡ b
 constant_at n b f xs e l = (same_bit_is (f xs) b).0 (all_at n (λ bits. same_bit (f bits) b) xs e l)
 
-same_at : (n : ℕ) (f g : Function) (xs : List Bool) → are_same n f g ≡ true → length xs ≡ n → f xs ≡ g xs
+pub same_at : (n : ℕ) (f g : Function) (xs : List Bool) → are_same n f g ≡ true → length xs ≡ n → f xs ≡ g xs
 same_at n f g xs e l = (same_bit_is (f xs) (g xs)).0 (all_at n (λ bits. same_bit (f bits) (g bits)) xs e l)
 
 -- ---- the first that passes
@@ -50,7 +50,7 @@ first_or_later : {X : Type 0} (p : X → Bool) (x : X) (xs : List X) (b : Bool) 
 first_or_later p x xs true is e later = (x, refl, is)
 first_or_later p x xs false is e later = later e
 
-found : {X : Type 0} (p : X → Bool) (xs : List X) → list_any p xs ≡ true → (x : X) × At xs (place_where p xs) x × (p x ≡ true)
+pub found : {X : Type 0} (p : X → Bool) (xs : List X) → list_any p xs ≡ true → (x : X) × At xs (place_where p xs) x × (p x ≡ true)
 found p [] e = absurd (false≢true e)
 found p (x ∷ xs) e = first_or_later p x xs (p x) refl e (λ t. found p xs t)
 

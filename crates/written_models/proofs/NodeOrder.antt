@@ -57,7 +57,7 @@ record IsAdded (inputs left input : ℕ) (f : Function) (nodes new : List Node) 
   ordered : AreOrdered inputs new
   there : is_there left input f new ≡ true
 
-all_same : (f : Function) (xs : List (List Bool)) → list_all (λ bits. same_bit (f bits) (f bits)) xs ≡ true
+pub all_same : (f : Function) (xs : List (List Bool)) → list_all (λ bits. same_bit (f bits) (f bits)) xs ≡ true
 all_same f [] = refl
 all_same f (x ∷ xs) = and_from (same_bit (f x) (f x)) (list_all (λ bits. same_bit (f bits) (f bits)) xs) ((same_bit_is (f x) (f x)).1 refl) (all_same f xs)
 

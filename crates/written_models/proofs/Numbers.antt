@@ -71,7 +71,7 @@ one_number j k sj sk e = decimal_injective j k sj sk (ap behind_first e)
 pub same_name : (xs : List ℕ) → bytes_eq xs xs ≡ true
 same_name xs = (bytes_eq-Decides xs xs).1 refl
 
-other_number : (j k : ℕ) → j < 2 ^ 64 → k < 2 ^ 64 → (j ≡ k → ⊥) → bytes_eq (numbered j) (numbered k) ≡ false
+pub other_number : (j k : ℕ) → j < 2 ^ 64 → k < 2 ^ 64 → (j ≡ k → ⊥) → bytes_eq (numbered j) (numbered k) ≡ false
 other_number j k sj sk apart = false_from_ne_true (bytes_eq (numbered j) (numbered k)) (λ t. apart (one_number j k sj sk ((bytes_eq-Decides (numbered j) (numbered k)).0 t)))
 
 -- a name that does not begin with `=` is none of them
