@@ -3,7 +3,7 @@
 ghost use Rattle.std.specs.Prelude.{◌≡◌, ◌∷◌, [], ℕ, List, OnOk, IfNone, IfOk, IfSome, unwrap_or};
 ghost use Rattle.text_lines.specs.Faults.{Judges};
 ghost use Rattle.verilog_expression.specs.Limits.{uncounted};
-ghost use Rattle.verilog_source.specs.Kept.{gathered, seen_known, step_told};
+ghost use Rattle.verilog_source.specs.Kept.{gathered, seen_known, step_told, told_events};
 ghost use Rattle.verilog_source.specs.Known.{counted, learned, with_events, with_one};
 ghost use Rattle.verilog_source.specs.Places.Event.{begins};
 ghost use Rattle.verilog_source.specs.Places.{step};
@@ -35,7 +35,8 @@ pub fn is_past_limit(known: &Known, kind: Kind) -> bool
 
 /// A module begins, of which nothing else is known.
 fn begin_module(alloc: Global, known: &mut Known, line: u32, name: &[u8]) -> Result<(), NoMemory>
-    ensures { OnOk result (seen_known known.new ≡ with_events (seen_known known.old) (begins line name.now ∷ [])) }
+    ensures known { OnOk result (seen_known known.new ≡ with_events (seen_known known.old) (begins line name.now ∷ [])) }
+    ensures work { known.new.work ≡ known.old.work }
 {
     known.modules.number(name)?;
     known.line = line;
@@ -61,7 +62,8 @@ fn add_direction(
 
 /// Learns what a token tells of the modules.
 pub fn learn(alloc: Global, known: &mut Known, told: Told, name: &[u8]) -> Result<(), NoMemory>
-    ensures { OnOk result (seen_known known.new ≡ with_events (seen_known known.old) (events told name.now known.old.work)) }
+    ensures known { OnOk result (seen_known known.new ≡ with_events (seen_known known.old) (events told name.now known.old.work)) }
+    ensures work { known.new.work ≡ known.old.work }
 {
     match told {
         Told::Begins(line) => begin_module(alloc, known, line, name),
@@ -148,6 +150,7 @@ fn take_within(
 ) -> Result<Told, VerilogFault>
     ensures fault { Judges VerilogFault.NoMemory result (fault_within (seen_known known.old) (token_of line kind bytes.now) (step (place known.old.position known.old.work) line (sign_of kind bytes.now))) }
     ensures next { OnOk result (seen_known known.new ≡ learned (seen_known known.old) (token_of line kind bytes.now)) }
+    ensures told { IfOk result (λ told. events told bytes.now known.new.work ≡ told_events (step (place known.old.position known.old.work) line (sign_of kind bytes.now))) }
 {
     let position = known.position;
     let has_passed = is_past_limit(known, kind);
@@ -175,6 +178,7 @@ pub fn take_token(
 ) -> Result<Told, VerilogFault>
     ensures fault { Judges VerilogFault.NoMemory result (fault_by (seen_known known.old) (token_of line kind bytes.now)) }
     ensures next { OnOk result (seen_known known.new ≡ learned (seen_known known.old) (token_of line kind bytes.now)) }
+    ensures told { IfOk result (λ told. events told bytes.now known.new.work ≡ told_events (step (place known.old.position known.old.work) line (sign_of kind bytes.now))) }
 {
     judge_sign(alloc, line, kind, bytes)?;
     if is_end_kind(kind) {
