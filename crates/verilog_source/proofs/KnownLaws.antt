@@ -18,6 +18,17 @@ pub values_known : (k : Known) (line : ℕ) (n : List ℕ) (es : List Expression
 values_known k line n [] = refl
 values_known k line n (e ∷ es) = values_known k line n es
 
+-- ---- what is known behind one token more
+
+from_more : (k : Known) (ts : List Token) (t : Token) → known_from k (ts ++ t ∷ []) ≡ learned (known_from k ts) t
+from_more k [] t = refl
+from_more k (u ∷ ts) t = from_more (learned k u) ts t
+
+-- the last token is learned behind those before it
+pub known_more : (ts : List Token) (t : Token) → known_by (ts ++ t ∷ []) ≡ learned (known_by ts) t
+unfolding known_by
+known_more ts t = from_more nothing_known ts t
+
 -- ---- the place that is known is the one that is reached
 
 same_place_entry : (k : Known) (e : Entry) → (with_entry k e).place ≡ k.place
