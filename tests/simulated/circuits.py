@@ -5,7 +5,6 @@ one or two things of the circuit, the rules or the model may be turned. The same
 """
 
 from itertools import product
-from random import Random
 
 from cells import CARRIED, CLOCKED, UNCLOCKED, empty, port
 from designs import SUPPLIES, Cover, Design, Expression, Instance, Model, Phase, Reference, Rules, SubModel
@@ -291,8 +290,3 @@ class Maker:
                 named = ties.get(output, f"{number}/{output}") + mark
                 drawing.instance_matches[(instance.name, element)] = Reference(named)
         return model
-
-
-def random_design(seed, number):
-    """The design of a number among those of a seed."""
-    return Maker(Random(f"{seed} {number}")).make()

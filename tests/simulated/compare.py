@@ -11,9 +11,14 @@ from collections import Counter
 from itertools import zip_longest
 from pathlib import Path
 
-from circuits import random_design
+from budgets import USUAL_BUDGET
+from cases import compare_cases
+from counts import Counts
 from designs import models_text, netlist_text, rules_text
+from drawn import Words, random_design
+from replays import replay_lines
 from report import Report
+from verdicts import Comparison, PhaseCheck
 
 FILES = ("c.sp", "m.blif", "r.txt")
 
@@ -29,18 +34,18 @@ def write_files(design, folder):
         (folder / name).write_text(text, encoding="ascii")
 
 
-def printed(program, folder):
+def printed(program, words, folder):
     """The lines that the program prints for the files of a folder, and its exit status behind them."""
-    run = subprocess.run([program, *FILES], cwd=folder, capture_output=True, text=True, check=False)
+    run = subprocess.run([program, *words, *FILES], cwd=folder, capture_output=True, text=True, check=False)
     return run.stdout.splitlines() + [f"status {run.returncode}"]
 
 
 def with_status(lines):
-    """Lines, and behind them the status: 1 where a cell has a fault, else 4 where one was not decided."""
+    """Lines of verdicts, and behind them the status: 1 where a cell has a fault, else 4 where one was not decided."""
     kinds = {line.split()[2] for line in lines}
-    if kinds - {"equal", "skipped", "unsupported", "vacuous"}:
+    if kinds - {"equal", "skipped", "unsupported", "vacuous", "budget"}:
         return lines + ["status 1"]
-    return lines + ["status 4" if kinds & {"unsupported", "vacuous"} else "status 0"]
+    return lines + ["status 4" if kinds & {"unsupported", "vacuous", "budget"} else "status 0"]
 
 
 def kind_of(line):
@@ -62,53 +67,74 @@ class Comparing:
 
     def __init__(self, program):
         self.program = program
+        self.counts = Counts()
         self.verdicts = Counter()
         self.wholes = Counter()
+        self.replays = 0
         self.wrong = 0  # designs for which the program prints other lines
         self.disagreeing = 0  # designs of which flat circuits and circuits with whole instances say different things
 
-    def design(self, design, name, folder):
+    def design(self, design, words, name, folder):
         """Compares what is printed for a design with what is simulated."""
-        report = Report(design, LEAVES_WHOLE, TELLS_LEVELS)
-        lines = wanted = with_status(report.lines)
+        report = Report(design, LEAVES_WHOLE, TELLS_LEVELS, words.budget or USUAL_BUDGET)
+        differences = []
         if self.program:
             write_files(design, folder)
-            lines = printed(self.program, folder)
+            differences = self.differences(words.check(), with_status(report.lines), folder)
+            if words.cell is not None:
+                differences += self.replay(design, words, report, folder)
         self.verdicts.update(kind_of(line) for line in report.lines)
+        self.counts.add(design, report.lines)
         self.wholes.update(designs=report.with_wholes > 0, cells=report.with_wholes, exposed=report.exposed, moved=report.moved)
-        if lines != wanted or report.wrong:
+        if differences or report.wrong:
             print(f"design {name}, files in {keep_files(design, f'simulated-{name}')}")
-        if lines != wanted:
-            self.wrong += 1
-            for line, other in zip_longest(lines, wanted, fillvalue=""):
-                if line != other:
-                    print(f"    printed:   {line}\n    simulated: {other}")
-        if report.wrong:
-            self.disagreeing += 1
-            print("\n".join(f"    THE DEFINITIONS DISAGREE: {text}" for text in report.wrong))
+            print("\n".join(differences + [f"    THE DEFINITIONS DISAGREE: {text}" for text in report.wrong]))
+        self.wrong += bool(differences)
+        self.disagreeing += bool(report.wrong)
+
+    def differences(self, words, wanted, folder):
+        """Where the program prints other lines than are wanted, or has another status; behind them the words that it was given."""
+        pairs = zip_longest(printed(self.program, words, folder), wanted, fillvalue="")
+        found = [f"    printed:   {line}\n    simulated: {other}" for line, other in pairs if line != other]
+        return found + [f"    words: {' '.join(words)}"] if found and words else found
+
+    def replay(self, design, words, report, folder):
+        """The differences of a replay; of a cell that cannot be checked it prints the line of its verdict."""
+        self.replays += 1
+        line = next(line for line in report.lines if line.split()[1] == words.cell)
+        if line.split()[2] in ("skipped", "unsupported"):
+            return self.differences(words.replay({}), with_status([line]), folder)
+        comparison = Comparison(design, words.cell)
+        bits = words.bits(PhaseCheck(comparison, words.phase, words.phase).variable_names())
+        wanted = replay_lines(comparison, words.phase, bits) + ["status 0"]
+        return self.differences(words.replay(bits), wanted, folder)
 
     def print_counts(self, count):
         """Prints the counts; the last line says how many designs were compared."""
+        self.counts.print()
+        print("cells:")
         for verdict, times in sorted(self.verdicts.items()):
-            print(f"{times:8} {verdict}")
+            print(f"{times:6} {verdict}")
         counts = [self.wholes[name] for name in ("designs", "cells", "exposed", "moved")]
         print("whole instances: {} designs, {} cells, {} of them with outputs at channels, {} with another first fault than the flat circuit".format(*counts))
         if self.disagreeing:
             print(f"simulated: THE DEFINITIONS DISAGREE on flat circuits and whole instances in {self.disagreeing} designs")
         told = f"{self.wrong} of them not as simulated" if self.wrong else "all as simulated"
-        print(f"simulated: {count} designs, {self.verdicts.total()} cells, {told}")
+        print(f"simulated: {count} designs, {self.verdicts.total()} cells, {self.replays} replays, {told}")
 
 
 def compare(count, seed, program):
     """Compares the designs of a seed; the exit status: 2 where the definitions disagree, 1 where other lines are printed."""
     comparing = Comparing(program)
+    are_cases_right = compare_cases()
     with tempfile.TemporaryDirectory() as place:
         for number in range(count):
-            comparing.design(random_design(seed, number), f"{seed}-{number}", Path(place))
+            design = random_design(seed, number)
+            comparing.design(design, Words(seed, number, design), f"{seed}-{number}", Path(place))
     comparing.print_counts(count)
     if comparing.disagreeing:
         return 2
-    return 1 if comparing.wrong or not comparing.verdicts else 0
+    return 1 if comparing.wrong or not comparing.verdicts or not are_cases_right else 0
 
 
 if __name__ == "__main__":

@@ -70,12 +70,12 @@ class Cover:
 
 @dataclass
 class Latch:
-    """A storage element (`ah`, `al`) or a master and a slave (`re`, `fe`), with its control."""
+    """A storage element (`ah`, `al`) or a master and a slave (`re`, `fe`), with its control, or with none: the default clock's bit."""
 
     source: str
     output: str
     kind: str
-    control: str
+    control: str | None
 
 
 @dataclass
@@ -96,6 +96,7 @@ class Model:
     covers: list = field(default_factory=list)
     latches: list = field(default_factory=list)
     submodels: list = field(default_factory=list)
+    clocks: list = field(default_factory=list)  # those of the inputs that a `.clock` card lists
 
 
 @dataclass(frozen=True)
@@ -157,7 +158,10 @@ class Rules:
 
     clocks: list = field(default_factory=list)
     phases: list = field(default_factory=lambda: [Phase("all", {})])
+    default_clock: str | None = None
     skipped: set = field(default_factory=set)  # cells that have no model on purpose
+    pairs: dict = field(default_factory=dict)  # cell: the name of its model, where it is another
+    ports: dict = field(default_factory=dict)  # (cell, port): the name of its signal, where it is another
     clock_ports: dict = field(default_factory=dict)  # (cell, port): Reference
     holds: dict = field(default_factory=dict)  # (cell, net): size
     keepers: set = field(default_factory=set)  # (cell, device)
@@ -174,6 +178,11 @@ class Rules:
     def assumed(self, cell, phase):
         """The expressions that a cell assumes in a phase."""
         return [text for name, named, text in self.assumes if name == cell and named in (None, phase.name)]
+
+    def matched(self, cell):
+        """What the `match` lines of a cell name, in the order in which they are written."""
+        lines = list(self.matches.items()) + list(self.instance_matches.items())
+        return [element for key, element in lines if key[0] == cell]
 
     def clocks_of(self, cell):
         """The clock ports of a cell, each with what it carries."""
@@ -202,6 +211,13 @@ class Design:
         if net in self.globals and net in self.cells[cell].inner_nets():
             return True
         return any(self.names_global(instance.cell, net) for instance in self.cells[cell].instances)
+
+    def model_of(self, cell):
+        """The model of a cell: that of its `pair` line, else the one whose name in lower case is the cell's; None without one."""
+        if cell in self.rules.pairs:
+            return self.models.get(self.rules.pairs[cell])
+        like = [model for model in self.models.values() if model.name.lower() == cell]
+        return like[0] if len(like) == 1 else None
 
     def order(self):
         """The cells as their lines are printed: by depth, and of one depth in the order of the netlist."""
@@ -232,9 +248,12 @@ def models_text(design):
     """The BLIF file of a design."""
     lines = []
     for model in design.models.values():
-        lines += [f".model {model.name}", " ".join([".inputs"] + model.inputs), " ".join([".outputs"] + model.outputs)]
+        inputs = [name for name in model.inputs if name not in model.clocks]
+        lines += [f".model {model.name}", " ".join([".inputs"] + inputs), " ".join([".outputs"] + model.outputs)]
+        lines += [f".clock {name}" for name in model.clocks]
         for latch in model.latches:
-            lines.append(f".latch {latch.source} {latch.output} {latch.kind} {latch.control} 3")
+            controlled = f"{latch.kind} {latch.control or 'NIL'} "
+            lines.append(f".latch {latch.source} {latch.output} {controlled if latch.control or latch.kind != 're' else ''}3")
         for submodel in model.submodels:
             ties = [f"{formal}={actual}" for formal, actual in submodel.ties.items()]
             lines.append(" ".join([".subckt", submodel.model] + ties))
@@ -251,6 +270,8 @@ def clock_lines(rules):
         lines.append(" ".join(["clock"] + rules.clocks))
         for phase in rules.phases:
             lines.append(" ".join(["phase", phase.name] + [f"{clock}={bit}" for clock, bit in phase.bits.items()]))
+    if rules.default_clock:
+        lines.append(f"defaultclock {rules.default_clock}")
     return lines
 
 
@@ -270,6 +291,8 @@ def rules_text(design):
     lines = clock_lines(rules)
     lines += [f"clockport {cell} {port} {clock.text()}" for (cell, port), clock in rules.clock_ports.items()]
     lines += [f"pair {cell} -" for cell in sorted(rules.skipped)]
+    lines += [f"pair {cell} {model}" for cell, model in rules.pairs.items() if cell not in rules.skipped]
+    lines += [f"port {cell} {port} {signal}" for (cell, port), signal in rules.ports.items()]
     for cell in design.cells.values():
         for device in cell.devices:
             if device.level != USUAL_LEVEL:

@@ -12,7 +12,7 @@ def is_alone(comparison, port):
     others = [other for name, other in comparison.outputs.items() if name != port]
     for phase in comparison.rules.phases:
         circuit = comparison.in_phase(phase)
-        if net in circuit.known or any(net in part and not set(part).isdisjoint(others) for part in circuit.kept_parts()):
+        if net in circuit.known or any(net in part.nets and not set(part.nets).isdisjoint(others) for part in circuit.kept_regions):
             return False
     return True
 

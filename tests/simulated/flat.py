@@ -144,6 +144,7 @@ class FlatModel:
     outputs: list
     covers: dict = field(default_factory=dict)  # by output
     latches: dict = field(default_factory=dict)  # by output
+    signals: dict = field(default_factory=dict)  # their names, in the order of their numbers
 
     def elements(self):
         """The names of the storage elements: of an edge-triggered latch the master `q#m` and the slave `q`."""
@@ -161,7 +162,8 @@ class FlatModel:
 def flat_model(design, name):
     """The flat model of a model; a signal of a sub-model that is tied to none has a path name."""
     top = design.models[name]
-    flat = FlatModel(top.inputs, top.outputs)
+    listed = [signal for signal in top.inputs if signal not in top.clocks]
+    flat = FlatModel(listed + top.clocks, top.outputs)
 
     def visit(model, prefix, ties):
         """Adds the covers and the latches of a model at its place, and of those in it."""
@@ -170,12 +172,14 @@ def flat_model(design, name):
             """The flat name of a signal."""
             return ties.get(local, prefix + local)
 
+        flat.signals.update(dict.fromkeys(signal(local) for local in mentioned(model)))
         for cover in model.covers:
             output = signal(cover.output)
             flat.covers[output] = Cover([signal(local) for local in cover.inputs], output, cover.rows, cover.value)
         for latch in model.latches:
             output = signal(latch.output)
-            flat.latches[output] = Latch(signal(latch.source), output, latch.kind, signal(latch.control))
+            control = None if latch.control is None else signal(latch.control)
+            flat.latches[output] = Latch(signal(latch.source), output, latch.kind, control)
         for number, submodel in enumerate(model.submodels):
             tied = {formal: signal(actual) for formal, actual in submodel.ties.items()}
             visit(design.models[submodel.model], f"{prefix}{number}/", tied)
@@ -184,8 +188,20 @@ def flat_model(design, name):
     return flat
 
 
+def mentioned(model):
+    """The signals of a model as they are first mentioned: its interface, then the covers, the latches and the ties of its sub-models."""
+    names = [signal for signal in model.inputs if signal not in model.clocks] + model.clocks + model.outputs
+    for cover in model.covers:
+        names += [*cover.inputs, cover.output]
+    for latch in model.latches:
+        names += [latch.source, latch.output] + ([] if latch.control is None else [latch.control])
+    for submodel in model.submodels:
+        names += submodel.ties.values()
+    return names
+
+
 class Assignment:
-    """Gives the signals of a model their bits, each as its cover or its latch asks for."""
+    """Gives the signals of a model their bits, each as its cover or its latch asks for. The default clock is given as None."""
 
     def __init__(self, model, given, held):
         self.model = model

@@ -2,9 +2,9 @@
 Transactions on Computers C-33, 1984), as docs/MODEL.md tells it. It speaks of one valuation at a time, and searches: it
 has no diagrams, and shares no code with the program that it is compared with.
 
-Left out: `.model` cards, `defaultclock`, `port` lines and `pair` lines with a
-model, latches without a control, latches or covers that lead around in a model, budgets, and the other modes of the program.
-Of the causes of `unsupported` there are `supplytie`, `unmatched` and `cycle`; what else may be wrong in the files is not judged.
+Left out: `.model` cards, supplies of other names than `vdd` and `gnd`, and the modes `classes` and `gen`. Of the causes of `unsupported`
+there are `nomodel`, `supplytie`, `ports`, `outputisinput`, `noclock`, `unmatched`, `cycle` and `modelcycle`; what else may be wrong in the
+files is not judged. Of a budget it says that it suffices where all valuations can be tried, and else whether it need not suffice.
 """
 
 from dataclasses import dataclass
@@ -100,6 +100,8 @@ class Part:
     def __post_init__(self):
         """The nets of the part, and those at which the channels of its devices end: only roots there matter to it."""
         self.touched = set(self.nets).union(*(device.ends for device in self.devices))
+        self.gates = list({device.gate: None for device in self.devices})
+        self.shown = {}  # what was found before, by the bits of the gates and the roots
 
 
 class Cycle(Exception):
@@ -131,6 +133,7 @@ class PhaseCircuit:
         self.parts = self.make_parts()
         self.part_of = {net: part for part in self.parts for net in part.nets}
         self.rank_parts()
+        self.kept_regions = self.make_kept_regions()
 
     def learn(self):
         """Learns what the nets of a shut region show; whether a net was learned. With it regions may become larger.
@@ -213,7 +216,7 @@ class PhaseCircuit:
     def roots(self, nets, bits, held):
         """Where paths begin: given nets with their bits, holds with what they hold, and outputs of whole instances."""
         given = [(net, SOURCE_LEVEL, bits[net]) for net in self.given if net in nets]
-        given += [(net, self.circuit.holds[net].size, bit) for net, bit in held.items() if net in nets]
+        given += [(net, self.circuit.holds[net].size, held[net]) for net in self.circuit.holds if net in nets]
         for whole in self.wholes:
             given += whole.roots(nets, bits)
         return given
@@ -226,16 +229,23 @@ class PhaseCircuit:
         """The strength of each net with the keepers."""
         return strengths(self.roots(range(len(self.circuit.names)), bits, held), conducting(self.circuit.devices, bits))
 
-    def kept_parts(self):
-        """The nets of each part with the keepers. A device that is known not to conduct joins nothing."""
-        devices = [device for device in self.circuit.devices if device.gate not in self.known or device.conducts(self.known[device.gate])]
-        return joined(self.plain, [device.ends for device in devices])
+    def make_kept_regions(self):
+        """The parts with the keepers. A device that is known not to conduct joins nothing."""
+        channels = [device for device in self.circuit.devices if device.gate not in self.known or device.conducts(self.known[device.gate])]
+        regions = joined(self.plain, [device.ends for device in channels])
+        return [Part(nets, [device for device in channels if not set(nets).isdisjoint(device.ends)], set(), set()) for nets in regions]
 
     def part_responses(self, part, bits, held):
-        """What the nets of a part show, where each gate of its devices has a bit."""
-        return responses(part.nets, self.roots(part.touched, bits, held), conducting(part.devices, bits))
+        """What the nets of a part show, where each gate of its devices has a bit. It hangs on these bits and the roots alone."""
+        roots = self.roots(part.touched, bits, held)
+        key = (tuple(bits[gate] for gate in part.gates), tuple(roots))
+        if key not in part.shown:
+            part.shown[key] = responses(part.nets, roots, conducting(part.devices, bits))
+        return part.shown[key]
 
     def kept_responses(self, bits, held):
         """What all plain nets show with the keepers."""
-        all_nets = range(len(self.circuit.names))
-        return responses(self.plain, self.roots(all_nets, bits, held), conducting(self.circuit.devices, bits))
+        shown = {}
+        for region in self.kept_regions:
+            shown.update(self.part_responses(region, bits, held))
+        return shown

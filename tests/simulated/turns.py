@@ -49,6 +49,39 @@ def turn_hold(random, drawing):
         drawing.holds[net] = random.choice([1, 2, 3])
 
 
+def turn_enter(random, drawing):
+    """Another constant of an `enter` line, one less, or one more at another net."""
+    lines = sorted(drawing.enters)
+    if lines and random.random() < 0.3:
+        del drawing.enters[random.choice(lines)]
+    elif lines and random.random() < 0.5:
+        key = random.choice(lines)
+        drawing.enters[key] = 1 - drawing.enters[key]
+    elif lines and drawing.holds:
+        phase, _ = random.choice(lines)
+        drawing.enters[(phase, random.choice(sorted(drawing.holds)))] = random.choice([0, 1])
+
+
+def turn_write(random, drawing):
+    """Another gate or source of a device that writes a net that keeps its charge, mostly not the first one, or another level."""
+    behind = list(drawing.holds)[1:] if len(drawing.holds) > 1 and random.random() < 0.7 else list(drawing.holds)
+    writing = [device for device in drawing.cell.devices if device.drain in behind or device.source in behind]
+    if not writing:
+        return
+    device = random.choice(writing)
+    change = random.choice(["gate", "other end", "level", "keeper"])
+    if change == "level":
+        device.level = random.choice([4, 5, 7])
+    elif change == "gate":
+        device.gate = random.choice(drawing.inputs + list(drawing.clocks) + list(SUPPLIES))
+    elif change == "keeper":
+        drawing.keepers.append(device.name)
+    elif device.drain in drawing.holds:
+        device.source = random.choice(drawing.inputs + list(SUPPLIES))
+    else:
+        device.drain = random.choice(drawing.inputs + list(SUPPLIES))
+
+
 def turn_keeper(random, drawing):
     """A device more or less that is called a keeper, or another level or gate of a keeper."""
     keepers = [device for device in drawing.cell.devices if device.name in drawing.keepers]
@@ -95,6 +128,23 @@ def turn_assume(random, drawing):
         left, right = (Expression("port", (random.choice(drawing.inputs),)) for _ in range(2))
         right = Expression("!", (right,)) if random.random() < 0.5 else right
         drawing.assumes.append((None, Expression(random.choice("&^||"), (left, right))))
+
+
+def turn_feedback(random, drawing):
+    """A keeper that always conducts, or a weaker one."""
+    keepers = [device for device in drawing.cell.devices if device.name in drawing.keepers]
+    if keepers:
+        device = random.choice(keepers)
+        device.gate = "gnd" if device.kind == "p" else "vdd"
+        device.level = random.choice([4, 6, 6, 6, 7])
+
+
+def turn_supply(random, drawing):
+    """Another net at a port of an instance that is named as a supply."""
+    tied = [(instance, at) for instance in drawing.cell.instances for at, net in enumerate(instance.nets) if net in SUPPLIES]
+    if tied:
+        instance, at = random.choice(tied)
+        instance.nets[at] = random.choice([*SUPPLIES, *drawing.inputs])
 
 
 def turn_model(random, drawing):

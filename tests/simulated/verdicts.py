@@ -5,6 +5,7 @@ from itertools import product
 
 from designs import SUPPLIES
 from flat import flat_circuit, flat_model
+from pairing import Pairing
 from simulator import FIGHT, FLOAT, Cycle, Part, PhaseCircuit
 
 
@@ -58,12 +59,12 @@ class Comparison:
         self.rules = design.rules
         self.cell = cell
         self.circuit = flat_circuit(design, cell)
-        self.model = flat_model(design, cell)
-        clocks = self.rules.clocks_of(cell)
+        self.model = flat_model(design, design.model_of(cell).name)
+        self.pairing = Pairing(design, cell, self.model)
         ports = {port: net for port, net in self.circuit.ports.items() if port not in SUPPLIES}
-        self.clock_nets = {ports[port]: clock for port, clock in clocks.items()}
-        self.outputs = {port: net for port, net in ports.items() if port in self.model.outputs}
-        self.inputs = [net for port, net in ports.items() if port not in self.outputs and port not in clocks]
+        self.clock_nets = {ports[port]: clock for port, clock in self.pairing.clocks.items() if port in ports}
+        self.outputs = {port: ports[port] for port in self.pairing.outputs}
+        self.inputs = [ports[port] for port in self.pairing.inputs]
         self.groups = self.make_groups()
         self.wholes = []  # the instances that are left whole
 
@@ -77,9 +78,24 @@ class Comparison:
         return [Group(holds, elements.get(end)) for end, holds in by_end.items()]
 
     def unmatched(self):
-        """The first element of the model that no hold stores, or None."""
+        """The first element of the model that no hold stores, else what the first `match` line names that is no element, or None."""
         stored = {group.element for group in self.groups}
-        return next((name for name in self.model.elements() if name not in stored), None)
+        elements = self.model.elements()
+        named = [reference.name for reference in self.rules.matched(self.cell)]
+        found = [name for name in elements if name not in stored] + [name for name in named if name not in elements]
+        return found[0] if found else None
+
+    def latch_without_clock(self):
+        """The first latch without a control, where there is no default clock, or None."""
+        latches = [] if self.rules.default_clock else self.model.latches.values()
+        return next((latch.output for latch in latches if latch.control is None), None)
+
+    def carried(self, phase):
+        """The bits of the signals that carry clocks, and under None that of the default clock."""
+        bits = {signal: phase.bits[clock.name] ^ clock.inverted for signal, clock in self.pairing.carried.items()}
+        if self.rules.default_clock:
+            bits[None] = phase.bits[self.rules.default_clock]
+        return bits
 
     def in_phase(self, phase):
         """The circuit in a phase; raises Cycle where its gates lead around."""
@@ -129,12 +145,36 @@ class PhaseCheck:
         inputs = [self.circuit.names[net] for net in self.comparison.inputs]
         return inputs + self.comparison.model.elements() + [self.circuit.names[group.holds[0].net] for group in self.free]
 
+    def assumed_bits(self):
+        """The bits that inputs have at each valuation that meets the constraints, by `assume` lines of ports, inverses, and `&` of these."""
+        waiting, bits = self.comparison.rules.assumed(self.comparison.cell, self.phase), {}
+        for expression in waiting:
+            if expression.operator == "&":
+                waiting.extend(expression.operands)
+            elif expression.operator == "port":
+                bits[self.circuit.ports[expression.operands[0]]] = 1
+            elif expression.operator == "!" and expression.operands[0].operator == "port":
+                bits[self.circuit.ports[expression.operands[0].operands[0]]] = 0
+        return bits
+
+    def variable_count(self):
+        """The variables of which both bits are tried."""
+        assumed = self.assumed_bits()
+        return sum(net not in assumed for net in self.comparison.inputs) + len(self.comparison.model.elements()) + len(self.free)
+
     def settings(self):
-        """Each valuation with what it gives, the lesser valuations first."""
+        """Each valuation with what it gives, the lesser valuations first, but for those that cannot meet the constraints."""
+        assumed = self.assumed_bits()
+        choices = [(assumed[net],) if net in assumed else (0, 1) for net in self.comparison.inputs]
+        others = len(self.comparison.model.elements()) + len(self.free)
+        return self.settings_of(product(*choices, *[(0, 1)] * others))
+
+    def settings_of(self, valuations):
+        """Valuations with what they give."""
         elements = self.comparison.model.elements()
         first_element = len(self.comparison.inputs)
         first_group = first_element + len(elements)
-        for bits in product((0, 1), repeat=first_group + len(self.free)):
+        for bits in valuations:
             values = dict(zip(elements, bits[first_element:first_group]))
             held = {}
             for group in self.comparison.groups:
@@ -222,13 +262,15 @@ class PhaseCheck:
     def model_faults(self, setting, bits):
         """The observed outputs that are not what the model says, then the holds that are not the new bits of their elements."""
         model = self.comparison.model
-        given = {name: bits[self.circuit.ports[name]] for name in model.inputs}
+        pairing, given = self.comparison.pairing, self.comparison.carried(self.phase)
+        given.update({signal: bits[self.circuit.ports[port]] for signal, port in pairing.input_ports().items()})
         signals, new = model.assignment(given, setting.elements)
         for number, port in enumerate(self.circuit.ports):
             if port in self.comparison.outputs and self.comparison.is_observed_port(port, self.phase):
                 bit = bits[self.circuit.ports[port]]
-                if bit != signals[port]:
-                    yield Fault((2, number), "differs", port, f"circuit {bit} model {signals[port]}")
+                wanted = signals[pairing.signals[port]]
+                if bit != wanted:
+                    yield Fault((2, number), "differs", port, f"circuit {bit} model {wanted}")
         stored = [(hold, group.element) for group in self.comparison.groups if group.element is not None for hold in group.holds]
         for hold, element in sorted(stored, key=lambda item: item[0].net):
             yield from self.hold_fault(3, "next", hold, bits, new[element] ^ hold.is_inverted)

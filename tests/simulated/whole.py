@@ -82,7 +82,8 @@ class Inside:
         k = self.comparison
         net, end = k.circuit.ports[port], in_phase.part_of[k.outputs[output]]
         if net in k.inputs:
-            return end in in_phase.parts_behind(net) or port in self.signals_before(output)
+            signals = k.pairing.signals
+            return end in in_phase.parts_behind(net) or signals[port] in self.signals_before(signals[output])
         if port in k.outputs and port != output:
             return any(end in in_phase.parts_behind(member) for member in in_phase.part_of[net].nets)
         return False
@@ -144,15 +145,14 @@ class WholeInPhase:
     def bit(self, port, bits):
         """The bit that the model gives an output; an input without a bit is to make no difference."""
         k = self.inside.comparison
-        clocks = k.rules.clocks_of(k.cell)
-        nets = {name: self.ports[name] for name in k.model.inputs if name not in clocks}
-        carried = {name: self.phase.bits[clock.name] ^ clock.inverted for name, clock in clocks.items()}
+        nets = {signal: self.ports[name] for signal, name in k.pairing.input_ports().items()}
+        carried = k.carried(self.phase)
         missing = sorted(set(nets.values()) - set(bits))
         shown = set()
         for values in product((0, 1), repeat=len(missing)):
             full = {**bits, **dict(zip(missing, values))}
             given = {**{name: full[tied] for name, tied in nets.items()}, **carried}
-            shown.add(Assignment(k.model, given, {}).bit(port))
+            shown.add(Assignment(k.model, given, {}).bit(k.pairing.signals[port]))
         if len(shown) > 1:
             raise Undetermined
         return shown.pop()
