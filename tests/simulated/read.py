@@ -94,7 +94,7 @@ class Reader:
         read = getattr(self, f"read_{words[0]}", None)
         if read is None:
             raise NotRead(" ".join(words))
-        read(*[word if words[0] == "assume" else word for word in words[1:]])
+        read(*words[1:])
 
     def read_supply(self, value, *nets):
         """The supplies have fixed names."""

@@ -6,7 +6,7 @@ from itertools import product
 from designs import SUPPLIES
 from flat import flat_circuit, flat_model
 from pairing import Pairing
-from simulator import FIGHT, FLOAT, Cycle, Part, PhaseCircuit
+from simulator import FIGHT, FLOAT, Part, PhaseCircuit
 
 
 @dataclass

@@ -6,7 +6,7 @@ valuation.
 """
 
 from cells import CARRIED, empty, port
-from designs import Cover, Design, Expression, Instance, Model, Phase, Reference, Rules
+from designs import Cover, Design, Expression, Instance, Model, Phase, Rules
 
 # The pairs of inputs of the wide cell: a diagram of more nodes than the least budget has.
 PAIRS = 16
