@@ -96,6 +96,9 @@ class Part:
     sources: set  # the nets from which arcs lead to it: gates that are not known, and ports of whole instances
     counted: set  # those of them that count for ranks
     rank: int = 0
+    given: list = ()  # the given nets that its channels meet
+    held: list = ()  # the nets of holds there, with their sizes
+    wholes: list = ()  # the whole instances with an output there
 
     def __post_init__(self):
         """The nets of the part, and those at which the channels of its devices end: only roots there matter to it."""
@@ -134,6 +137,10 @@ class PhaseCircuit:
         self.part_of = {net: part for part in self.parts for net in part.nets}
         self.rank_parts()
         self.kept_regions = self.make_kept_regions()
+        for part in self.parts + self.kept_regions:
+            part.given = [net for net in self.given if net in part.touched]
+            part.held = [(net, hold.size) for net, hold in circuit.holds.items() if net in part.touched]
+            part.wholes = [whole for whole in wholes if not part.touched.isdisjoint(whole.driven())]
 
     def learn(self):
         """Learns what the nets of a shut region show; whether a net was learned. With it regions may become larger.
@@ -213,21 +220,29 @@ class PhaseCircuit:
             further = {part for part in self.parts if any(self.part_of.get(source) in found for source in part.sources)} - found
         return found
 
-    def roots(self, nets, bits, held):
+    def roots(self, bits, held):
         """Where paths begin: given nets with their bits, holds with what they hold, and outputs of whole instances."""
-        given = [(net, SOURCE_LEVEL, bits[net]) for net in self.given if net in nets]
-        given += [(net, self.circuit.holds[net].size, held[net]) for net in self.circuit.holds if net in nets]
+        given = [(net, SOURCE_LEVEL, bits[net]) for net in self.given]
+        given += [(net, hold.size, held[net]) for net, hold in self.circuit.holds.items()]
         for whole in self.wholes:
-            given += whole.roots(nets, bits)
+            given += whole.roots(set(self.plain), bits)
         return given
+
+    def part_roots(self, part, bits, held):
+        """Where paths begin that matter to a part."""
+        roots = [(net, SOURCE_LEVEL, bits[net]) for net in part.given]
+        roots += [(net, size, held[net]) for net, size in part.held]
+        for whole in part.wholes:
+            roots += whole.roots(part.touched, bits)
+        return roots
 
     def part_strengths(self, part, bits, held):
         """The strength of each net of a part, where each gate of its devices has a bit."""
-        return strengths(self.roots(part.touched, bits, held), conducting(part.devices, bits))
+        return strengths(self.part_roots(part, bits, held), conducting(part.devices, bits))
 
     def kept_strengths(self, bits, held):
         """The strength of each net with the keepers."""
-        return strengths(self.roots(range(len(self.circuit.names)), bits, held), conducting(self.circuit.devices, bits))
+        return strengths(self.roots(bits, held), conducting(self.circuit.devices, bits))
 
     def make_kept_regions(self):
         """The parts with the keepers. A device that is known not to conduct joins nothing."""
@@ -237,7 +252,7 @@ class PhaseCircuit:
 
     def part_responses(self, part, bits, held):
         """What the nets of a part show, where each gate of its devices has a bit. It hangs on these bits and the roots alone."""
-        roots = self.roots(part.touched, bits, held)
+        roots = self.part_roots(part, bits, held)
         key = (tuple(bits[gate] for gate in part.gates), tuple(roots))
         if key not in part.shown:
             part.shown[key] = responses(part.nets, roots, conducting(part.devices, bits))

@@ -33,13 +33,15 @@ def turn_instance(random, drawing):
     """Another net at a port of an instance."""
     if drawing.cell.instances:
         instance = random.choice(drawing.cell.instances)
-        nets = drawing.cell.ports + drawing.cell.inner_nets()
+        nets = drawing.cell.ports + drawing.cell.inner_nets() + list(SUPPLIES)
         instance.nets[random.randrange(len(instance.nets))] = random.choice(nets)
 
 
 def turn_hold(random, drawing):
-    """A net more or less that keeps its charge, or another size."""
+    """A net more or less that keeps its charge, or another size; now and then an input or a clock port, which has its value anyway."""
     nets = drawing.outputs + drawing.cell.inner_nets()
+    if random.random() < 0.3:
+        nets = drawing.inputs + list(drawing.clocks)
     if not nets:
         return
     net = random.choice(nets)
@@ -125,7 +127,8 @@ def turn_assume(random, drawing):
         if random.random() < 0.4:
             drawing.assumes.append((phase, Expression("!", (expression,))))
     elif drawing.inputs:
-        left, right = (Expression("port", (random.choice(drawing.inputs),)) for _ in range(2))
+        names = drawing.inputs + list(drawing.clocks) + [port for port in drawing.cell.ports if port in SUPPLIES]
+        left, right = (Expression("port", (random.choice(names),)) for _ in range(2))
         right = Expression("!", (right,)) if random.random() < 0.5 else right
         drawing.assumes.append((None, Expression(random.choice("&^||"), (left, right))))
 
