@@ -16,7 +16,7 @@ from cases import compare_cases
 from counts import Counts
 from designs import models_text, netlist_text, rules_text
 from drawn import Words, random_design
-from replays import replay_lines
+from modes import class_lines, replay_lines
 from report import Report
 from verdicts import Comparison, PhaseCheck
 
@@ -71,6 +71,7 @@ class Comparing:
         self.verdicts = Counter()
         self.wholes = Counter()
         self.replays = 0
+        self.classed = 0  # designs of which the classes were compared
         self.wrong = 0  # designs for which the program prints other lines
         self.disagreeing = 0  # designs of which flat circuits and circuits with whole instances say different things
 
@@ -83,6 +84,8 @@ class Comparing:
             differences = self.differences(words.check(), with_status(report.lines), folder)
             if words.cell is not None:
                 differences += self.replay(design, words, report, folder)
+            if words.has_classes:
+                differences += self.classes(design, report, folder)
         self.verdicts.update(kind_of(line) for line in report.lines)
         self.counts.add(design, report.lines)
         self.wholes.update(designs=report.with_wholes > 0, cells=report.with_wholes, exposed=report.exposed, moved=report.moved)
@@ -109,6 +112,16 @@ class Comparing:
         wanted = replay_lines(comparison, words.phase, bits) + ["status 0"]
         return self.differences(words.replay(bits), wanted, folder)
 
+    def classes(self, design, report, folder):
+        """The differences of the classes of all parts; of a cell that cannot be checked the line of its verdict is printed."""
+        self.classed += 1
+        wanted, undecided = [], []
+        for line in report.lines:
+            _, cell, verdict = line.split()[:3]
+            undecided += [line] if verdict in ("skipped", "unsupported") else []
+            wanted += [line] if verdict in ("skipped", "unsupported") else class_lines(Comparison(design, cell))
+        return self.differences(["--do", "classes"], wanted + with_status(undecided)[-1:], folder)
+
     def print_counts(self, count):
         """Prints the counts; the last line says how many designs were compared."""
         self.counts.print()
@@ -120,7 +133,7 @@ class Comparing:
         if self.disagreeing:
             print(f"simulated: THE DEFINITIONS DISAGREE on flat circuits and whole instances in {self.disagreeing} designs")
         told = f"{self.wrong} of them not as simulated" if self.wrong else "all as simulated"
-        print(f"simulated: {count} designs, {self.verdicts.total()} cells, {self.replays} replays, {told}")
+        print(f"simulated: {count} designs, {self.verdicts.total()} cells, {self.replays} replays, {self.classed} of classes, {told}")
 
 
 def compare(count, seed, program):

@@ -26,7 +26,8 @@ class Words:
         self.budget = random.choice([None, None, 65536, 70000, 100000])
         if "wide" in design.cells:
             self.budget = random.choice([65536, 66000, 70000])
-        self.cell = random.choice(list(design.cells)) if random.random() < 0.6 else None
+        self.cell = random.choice(list(design.cells)) if random.random() < 0.5 else None
+        self.has_classes = self.cell is None and random.random() < 0.4
         self.phase = random.choice(design.rules.phases)
         self.random = random
 

@@ -2,7 +2,7 @@
 Transactions on Computers C-33, 1984), as docs/MODEL.md tells it. It speaks of one valuation at a time, and searches: it
 has no diagrams, and shares no code with the program that it is compared with.
 
-Left out: `.model` cards, supplies of other names than `vdd` and `gnd`, and the modes `classes` and `gen`. Of the causes of `unsupported`
+Left out: `.model` cards, supplies of other names than `vdd` and `gnd`, and the mode `gen`. Of the causes of `unsupported`
 there are `nomodel`, `supplytie`, `ports`, `outputisinput`, `noclock`, `unmatched`, `cycle` and `modelcycle`; what else may be wrong in the
 files is not judged. Of a budget it says that it suffices where all valuations can be tried, and else whether it need not suffice.
 """
