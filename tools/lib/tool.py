@@ -13,6 +13,7 @@ The exit status of a tool:
     7   a run of the program did not end as it should, or memory was wanting
 """
 
+import io
 import os
 import subprocess
 import sys
@@ -65,8 +66,8 @@ def misused(text=None):
 
 def main(help_text, run):
     """Runs a tool on the words behind its name, and ends with the status that it gives (0 where it gives none)."""
-    for stream in (sys.stdout, sys.stderr):
-        stream.reconfigure(encoding="ascii", errors="surrogateescape")
+    # In place of `reconfigure`, which Python 3.6 has not.
+    sys.stdout, sys.stderr = (io.TextIOWrapper(it.detach(), "ascii", "surrogateescape", line_buffering=it.line_buffering) for it in (sys.stdout, sys.stderr))
     words = sys.argv[1:]
     own = words[: words.index("--")] if "--" in words else words
     try:
@@ -129,7 +130,7 @@ def verity(*words, seconds=None):
     except subprocess.TimeoutExpired as late:
         return Run(None, lines_of((late.stdout or b"").decode("ascii", "surrogateescape")))
     except OSError as error:
-        raise Refused(f"{program()}: {error.strerror}", 7) from None
+        raise Refused(f"{program()}: {os.strerror(error.errno)}", 7) from None
     return Run(done.returncode, lines_of(done.stdout.decode("ascii", "surrogateescape")))
 
 
