@@ -8,9 +8,9 @@ The exit status of a tool:
     1   done, and a fault was found
     2   the words are not understood
     3   a file cannot be read, or is faulty, or a name is not there
-    4   done in part, or there was nothing to do: what is left out is told on standard error
+    4   done in part, or there was nothing to do: what is left out is named on standard error
     5   what was printed could not be written
-    7   a run of the program did not end as it should, or memory was wanting
+    7   a run of the program did not end as it should, or there was not enough memory
 """
 
 import io
@@ -92,7 +92,7 @@ def main(help_text, run):
     except KeyboardInterrupt:
         status = 130
     except (MemoryError, RecursionError):
-        tell("memory was wanting")
+        tell("there was not enough memory")
         status = 7
     except Exception:  # a mistake of the tool itself is no fault of what it reads
         traceback.print_exc()
