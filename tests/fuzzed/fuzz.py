@@ -119,6 +119,8 @@ def tried(work):
     case, full = made(seed, number, CORPUS)
     write(ROOM, case)
     run = ran(program, case.words, ROOM, full)
+    if run.seconds > SECONDS:  # a machine with much other work counts some of it: the lesser of two runs
+        run = min(run, ran(program, case.words, ROOM, full), key=lambda it: it.seconds)
     seen, wrong = wrong_of(case, run, full)
     if full and run.status == 0 and ran(program, case.words, ROOM, False).out:
         wrong.append("status 0 where the output is full")
