@@ -95,7 +95,8 @@ def models(text, parts, draw):
     lines = text.split(b"\n")
     kind = draw.randrange(6)
     if kind <= 1:
-        flip = lambda words: [re.sub(rb"[01-]", lambda it: draw.choice((it.group(), b"0", b"1", b"-")), words[0]), *words[1:]] if len(words) > 1 else words
+        bits = lambda word: re.sub(rb"[01-]", lambda it: draw.choice((it.group(), b"0", b"1", b"-")), word)
+        flip = lambda words: [bits(words[0]), draw.choice((*words[1:] * 9, b"0", b"1"))]
         return b"\n".join(changed_line(lines, lambda line: re.fullmatch(rb"[01-]+ [01]", line), draw, flip))
     if kind == 2:
         return b"\n".join(changed_line(lines, lambda line: line.startswith(b".names "), draw, lambda words: other_word(words, 1, -1, parts.signals, draw)))
