@@ -1,5 +1,6 @@
 /* Makes one call of the program fail, for tests/failing/run: the FAIL_ALLOC-th of malloc and realloc, or of open (FAIL_OPEN), read
-   (FAIL_READ) or write (FAIL_WRITE); a negative number makes that call and all behind it fail. COUNTS names a file for how many there were. */
+   (FAIL_READ) or write (FAIL_WRITE); a negative number makes that call and all behind it fail. SHORT_READ and SHORT_WRITE make one
+   take a single byte, likewise. COUNTS names a file for how many there were. */
 #define _GNU_SOURCE
 #include <dlfcn.h>
 #include <errno.h>
@@ -12,12 +13,18 @@ enum { ALLOC, OPEN, READ, WRITE, KINDS };
 static const char *const NAMES[KINDS] = {"FAIL_ALLOC", "FAIL_OPEN", "FAIL_READ", "FAIL_WRITE"};
 static long calls[KINDS];
 
+/* Whether the call that was counted last is one that a variable names. */
+static int is_named(int kind, const char *name)
+{
+    const char *text = getenv(name);
+    long number = text ? atol(text) : 0;
+    return number > 0 ? calls[kind] == number : number < 0 && calls[kind] >= -number;
+}
+
 static int fails(int kind)
 {
-    const char *text = getenv(NAMES[kind]);
-    long number = text ? atol(text) : 0;
     calls[kind]++;
-    return number > 0 ? calls[kind] == number : number < 0 && calls[kind] >= -number;
+    return is_named(kind, NAMES[kind]);
 }
 
 static int error(int number)
@@ -55,14 +62,16 @@ ssize_t read(int file, void *into, size_t size)
 {
     static ssize_t (*real)(int, void *, size_t);
     if (!real) real = dlsym(RTLD_NEXT, "read");
-    return fails(READ) ? error(EIO) : real(file, into, size);
+    if (fails(READ)) return error(EIO);
+    return real(file, into, size > 1 && is_named(READ, "SHORT_READ") ? 1 : size);
 }
 
 ssize_t write(int file, const void *from, size_t size)
 {
     static ssize_t (*real)(int, const void *, size_t);
     if (!real) real = dlsym(RTLD_NEXT, "write");
-    return fails(WRITE) ? error(EIO) : real(file, from, size);
+    if (fails(WRITE)) return error(EIO);
+    return real(file, from, size > 1 && is_named(WRITE, "SHORT_WRITE") ? 1 : size);
 }
 
 __attribute__((destructor)) static void tell(void)

@@ -29,7 +29,7 @@ def path_named(file, words):
 def joined(file, depth=0):
     """The lines of a file, with the lines of other files in place of the cards that include them."""
     if depth > 32:
-        raise tool.Refused(f"includes lead around: {file}")
+        raise tool.Refused(f"includes form a loop: {file}")
     for number, text in enumerate(tool.lines_of(tool.read(file)), 1):
         found = INCLUDE.match(text)
         if found:

@@ -80,7 +80,7 @@ class Sources:
 
     def _take(self, path, lines, depth, is_library):
         if depth > 32:
-            raise tool.Refused(f"includes lead around: {path}")
+            raise tool.Refused(f"includes form a loop: {path}")
         for number, text in lines:
             include, library = INCLUDE.match(text), LIB.match(text)
             if include:

@@ -8,11 +8,12 @@ The exit status of a tool:
     1   done, and a fault was found
     2   the words are not understood
     3   a file cannot be read, or is faulty, or a name is not there
-    4   done in part, or there was nothing to do: what is left out is told on standard error
+    4   done in part, or there was nothing to do: what is left out is named on standard error
     5   what was printed could not be written
-    7   a run of the program did not end as it should, or memory was wanting
+    7   a run of the program did not end as it should, or there was not enough memory
 """
 
+import io
 import os
 import subprocess
 import sys
@@ -65,8 +66,8 @@ def misused(text=None):
 
 def main(help_text, run):
     """Runs a tool on the words behind its name, and ends with the status that it gives (0 where it gives none)."""
-    for stream in (sys.stdout, sys.stderr):
-        stream.reconfigure(encoding="ascii", errors="surrogateescape")
+    # In place of `reconfigure`, which Python 3.6 has not.
+    sys.stdout, sys.stderr = (io.TextIOWrapper(it.detach(), "ascii", "surrogateescape", line_buffering=it.line_buffering) for it in (sys.stdout, sys.stderr))
     words = sys.argv[1:]
     own = words[: words.index("--")] if "--" in words else words
     try:
@@ -91,7 +92,7 @@ def main(help_text, run):
     except KeyboardInterrupt:
         status = 130
     except (MemoryError, RecursionError):
-        tell("memory was wanting")
+        tell("there was not enough memory")
         status = 7
     except Exception:  # a mistake of the tool itself is no fault of what it reads
         traceback.print_exc()
@@ -129,7 +130,7 @@ def verity(*words, seconds=None):
     except subprocess.TimeoutExpired as late:
         return Run(None, lines_of((late.stdout or b"").decode("ascii", "surrogateescape")))
     except OSError as error:
-        raise Refused(f"{program()}: {error.strerror}", 7) from None
+        raise Refused(f"{program()}: {os.strerror(error.errno)}", 7) from None
     return Run(done.returncode, lines_of(done.stdout.decode("ascii", "surrogateescape")))
 
 
