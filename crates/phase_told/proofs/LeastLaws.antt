@@ -1,27 +1,18 @@
--- The least valuation of a function, and its bits that are read one by one.
-use Rattle.std.proofs.Common.{◌≡◌, ℕ, zero, suc, ◌+◌, ◌<◌, ◌≤◌, ◌++◌, ◌∷◌, [], Bool, true, false, cond, List, get_or, length, arith, ap, refl, sym, ◌∙◌, inl, inr}
+-- The least valuation of a function, and the words in which it stands.
+use Rattle.std.proofs.Common.{◌≡◌, ℕ, zero, suc, ◌<◌, ◌≤◌, ◌∷◌, [], Bool, true, false, cond, List, length, arith, ap, refl, sym, ◌∙◌, inl, inr}
 use Rattle.std.specs.Prelude.{ltb}
-use Rattle.std.proofs.Math.Path.{fun_ext}
-use Rattle.std.proofs.Math.Seq.{get_or-append_seam}
-use Rattle.std.proofs.lemmas.Bool.{cases_eq, cases_lt, false_from_ne_true, false≢true, le-ltb, lt-ltb}
-use Rattle.std.proofs.lemmas.List.{get_or_append_left, get_or_past}
+use Rattle.std.proofs.lemmas.Bool.{cases_lt, false_from_ne_true, false≢true, le-ltb, lt-ltb}
+use Rattle.std.proofs.lemmas.List.{get_or_past}
+use Rattle.std.proofs.lemmas.List.FromFn.{get_or-map-range_with_len, length-map-range_with_len}
 use Rattle.node_pool.specs.declared.region.Span.{Span}
 use Rattle.bdd_core.specs.Diagram.{Function, IsWithin, Valuation}
 use Rattle.bdd_core.specs.Store.{Diagrams}
 use Rattle.bdd_ops.specs.Ops.{IsLeast, bits_in, bits_of}
 use Rattle.fault_places.specs.Searches.{IsLeastOf}
-use Rattle.phase_told.specs.Told.{AreBitsOf}
+use Rattle.phase_told.specs.Valuations.{StandsIn, valuation_in}
 use Rattle.vrt_model.specs.Comparison.{Comparison}
 use Rattle.vrt_model.specs.Held.{sources_of}
 use Rattle.vrt_model.specs.Variables.{is_less}
-
--- one bit more
-pub bits_more : (f : ℕ → Bool) (bits : List Bool) (n : ℕ) (b : Bool) → length bits ≡ n → b ≡ f n → ((y : ℕ) → y < n → bits_of bits y ≡ f y)
-    → (y : ℕ) → y < n + 1 → bits_of (bits ++ b ∷ []) y ≡ f y
-bits_more f bits n b len is same y lt = elim (cases_eq y n) [
-  | inl e ↦ ap (λ (k : ℕ). get_or (bits ++ b ∷ []) k false) (e ∙ sym len) ∙ get_or-append_seam bits b [] false ∙ is ∙ ap f (sym e)
-  | inr ne ↦ get_or_append_left bits (b ∷ []) false y (omega (arith, lt, ne, len)) ∙ same y (omega (arith, lt, ne))
-]
 
 -- ---- the first place at which a lesser list differs
 
@@ -78,25 +69,21 @@ least_of k phase vars f b bits within few least len same = record {
         let before : (y : ℕ) → y < p.0 → bits_of more y ≡ b y = λ y under. p.1.1 y under ∙ same y (omega (arith, under, lt)) in
         false≢true (sym (least.least (bits_of more) p.0 (omega (arith, lt, few)) before p.1.2 (sym (same p.0 lt) ∙ p.1.3)) ∙ one)
 
--- the bits of all variables are those of the first
-pub same_bits : (u vars : ℕ) (f : Function) (d : Diagrams) (words : Span) (whole bits : List Bool) → IsWithin u f → u ≤ vars
-    → IsLeast vars f (bits_in d.words words.start) → AreBitsOf d words vars whole → AreBitsOf d words u bits → bits_of whole ≡ bits_of bits
-same_bits u vars f d words whole bits within few least all first = fun_ext at
+-- ---- the valuation that stands in words
+
+-- its bits
+pub bit_read : (d : Diagrams) (words : Span) (count x : ℕ) → x < count → bits_of (valuation_in d words count) x ≡ bits_in d.words words.start x
+bit_read d words count x lt = get_or-map-range_with_len (bits_in d.words words.start) 0 count x x false lt (omega arith)
+
+-- the bits of the first variables stand there where the least valuation of a function of these does
+pub first_stands : (u : ℕ) (f : Function) (d : Diagrams) (words : Span) → IsWithin u f → IsLeast d.vars f (bits_in d.words words.start)
+    → StandsIn d words (bits_of (valuation_in d words u))
+first_stands u f d words within least x lt = elim (cases_lt x u) [
+  | inl low ↦ bit_read d words u x low
+  | inr high ↦ past high ∙ sym (zeros_behind u d.vars f (bits_in d.words words.start) within least x high lt)
+]
   where
-    b : Valuation
-    b = bits_in d.words words.start
-
-    past : (xs : List Bool) (x : ℕ) → length xs ≤ x → bits_of xs x ≡ false
-    past xs x high = get_or_past xs x false high
-
-    behind : (x : ℕ) → u ≤ x → bits_of whole x ≡ false
-    behind x high = elim (cases_lt x vars) [
-      | inl lt ↦ all.same x lt ∙ zeros_behind u vars f b within least x high lt
-      | inr le ↦ past whole x (omega (arith, le, all.len))
-    ]
-
-    at : (x : ℕ) → bits_of whole x ≡ bits_of bits x
-    at x = elim (cases_lt x u) [
-      | inl lt ↦ all.same x (omega (arith, lt, few)) ∙ sym (first.same x lt)
-      | inr le ↦ behind x le ∙ sym (past bits x (omega (arith, le, first.len)))
-    ]
+    past : u ≤ x → bits_of (valuation_in d words u) x ≡ false
+    past high =
+        let len : length (valuation_in d words u) ≡ u = length-map-range_with_len (bits_in d.words words.start) 0 u in
+        get_or_past (valuation_in d words u) x false (omega (arith, high, len))

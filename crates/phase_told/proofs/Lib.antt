@@ -1,2 +1,3 @@
 pub mod LeastLaws
-pub mod ToldLaws
+pub mod NetLaws
+pub mod SiteLaws

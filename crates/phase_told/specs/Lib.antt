@@ -1,1 +1,3 @@
-pub mod Told
+pub mod Nets
+pub mod Sites
+pub mod Valuations

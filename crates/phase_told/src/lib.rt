@@ -1,8 +1,13 @@
-//! The fault of a phase as it is told: its place by name, the least valuation at which it stands, and the bits that are there.
+//! The first fault of a phase told: where it stands, by numbers and without memory, at the least valuation with the bits that are there;
+//! and then by names.
 #![tactic(auto)]
 
 mod bits;
 mod fault;
 mod places;
+mod ports;
+mod site;
+mod values;
 
-pub use fault::told_fault;
+pub use fault::{name_fault, told_fault};
+pub use site::{FoundFault, Site, find_site};
