@@ -11,7 +11,7 @@ use Rattle.cell_compare.proofs.VerdictLaws.{read_cell, supported}
 use Rattle.cell_compare.specs.Checked.{IsCheckable, over}
 use Rattle.cell_compare.specs.Compared.{AreInputs, IsFlattened, comparison}
 use Rattle.cell_compare.specs.Works.{AreVars, IsChecked, IsPlanned, MayUseUp}
-use Rattle.cell_compare.specs.declared.flattened.Flattened.{Flattened}
+use Rattle.cell_compare.specs.Flat.{Flattened}
 use Rattle.checked_cells.proofs.CircuitLaws.{chain, checked_circuits_are_formed, checked_circuits_share}
 use Rattle.checked_cells.proofs.GivenLaws.{checked_cells_are_by_facts}
 use Rattle.checked_cells.proofs.VerdictLaws.{checked_variables_are_same, flat_verdicts_hold, found_verdicts_hold}

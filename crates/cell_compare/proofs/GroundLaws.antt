@@ -4,7 +4,7 @@ use Rattle.std.specs.Prelude.{unwrap_or}
 use Rattle.std.proofs.lemmas.Option.{slice_get_within}
 use Rattle.cell_compare.specs.Compared.{AreInputs, IsFlattened, comparison}
 use Rattle.cell_compare.specs.Works.{IsPlanned}
-use Rattle.cell_compare.specs.declared.flattened.Flattened.{Flattened}
+use Rattle.cell_compare.specs.Flat.{Flattened}
 use Rattle.checked_cells.proofs.PlacesAlone.{ties_same}
 use Rattle.checked_cells.specs.Given.{AreTrueFacts}
 use Rattle.vrt_model.specs.Checked.{top_of}

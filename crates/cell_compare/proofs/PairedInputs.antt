@@ -2,7 +2,7 @@
 use Rattle.std.proofs.Common.{◌≡◌, ℕ, suc, ◌+◌, ◌<◌, List, ◌++◌, map, length, Some, None, arith, ap, subst, sym, ◌∙◌, inl, inr}
 use Rattle.std.specs.Prelude.{flat_map, slice_get}
 use Rattle.cell_compare.specs.Compared.{comparison}
-use Rattle.cell_compare.specs.declared.flattened.Flattened.{Flattened}
+use Rattle.cell_compare.specs.Flat.{Flattened}
 use Rattle.paired_ports.proofs.PortLists.{port_flat, port_placed}
 use Rattle.paired_ports.proofs.PortSignals.{IsPortOf, clocked_apart, clocked_there, input_paired, one_clock, one_net, output_there, port_of, tied_back}
 use Rattle.paired_ports.proofs.RoleLaws.{IsFreePairing, free_pairing}

@@ -7,7 +7,7 @@ use Rattle.std.proofs.lemmas.Option.{none-some}
 use Rattle.cell_compare.proofs.InstanceLaws.{all_sound}
 use Rattle.cell_compare.proofs.PairedInputs.{circuit_nets, output_below, paired_inputs}
 use Rattle.cell_compare.specs.Compared.{AreInputs, IsFlattened, comparison}
-use Rattle.cell_compare.specs.declared.flattened.Flattened.{Flattened}
+use Rattle.cell_compare.specs.Flat.{Flattened}
 use Rattle.circuit_faults.proofs.FlatWholes.{flat_wholes}
 use Rattle.constraints.proofs.OrderedLaws.{are_named}
 use Rattle.flatten.proofs.CellTests.{cell_there}

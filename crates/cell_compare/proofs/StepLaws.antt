@@ -6,7 +6,7 @@ use Rattle.std.proofs.lemmas.Option.{none-some, same_Some}
 use Rattle.cell_compare.proofs.Causes.{circuit_count, clock_in_way, device_model, group_in_way, model_count, output_in_way, port_in_way, tied_supply}
 use Rattle.cell_compare.specs.Steps.{CircuitGrouped, CircuitTells, FlattenedTells, GroupsTell, IsEarlyWhy, IsFoundBy, Stops, circuit_why, clock_why, device_why, group_why, model_why, pairing_why}
 use Rattle.cell_compare.specs.Compared.{IsFlattened, IsGrouped}
-use Rattle.cell_compare.specs.declared.flattened.Flattened.{Flattened}
+use Rattle.cell_compare.specs.Flat.{Flattened}
 use Rattle.cell_compare.specs.declared.hindrance.Hindrance.{Hindrance}
 use Rattle.cell_compare.specs.declared.hindrance.Hindrance.TheVariants.{Because, NoMemory}
 use Rattle.flatten.specs.Circuits.{IsFlatCircuit}

@@ -10,7 +10,7 @@ use Rattle.cell_compare.specs.Compared.{AreInputs, IsFlattened, comparison}
 use Rattle.cell_compare.specs.Checked.{IsTold}
 use Rattle.cell_compare.specs.Ports.{HasDrives}
 use Rattle.cell_compare.specs.Works.{AreTold, IsPlanned, IsToldEarly, IsToldWhy}
-use Rattle.cell_compare.specs.declared.flattened.Flattened.{Flattened}
+use Rattle.cell_compare.specs.Flat.{Flattened}
 use Rattle.checked_cells.proofs.ToldFactLaws.{told_facts_are_true}
 use Rattle.checked_cells.specs.Given.{AreTrueFacts, IsReadCell}
 use Rattle.run_laws.proofs.WellFormed.{equal_runs}

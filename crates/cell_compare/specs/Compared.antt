@@ -1,6 +1,6 @@
 -- What is compared of a cell, and what is known of it before its phases.
 use Rattle.std.specs.Prelude.{◌≡◌, ℕ, ◌<◌, None, length}
-use Rattle.cell_compare.specs.declared.flattened.Flattened.{Flattened}
+use Rattle.cell_compare.specs.Flat.{Flattened}
 use Rattle.flatten.specs.Structures.{IsStructured}
 use Rattle.hold_groups.specs.Grouped.{AreGroups}
 use Rattle.vrt_model.specs.Circuits.{IsCircuit, IsFlat}

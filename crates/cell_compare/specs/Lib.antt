@@ -1,6 +1,8 @@
 pub mod Cells
 pub mod Checked
 pub mod Compared
+pub mod Flat
+pub mod Planned
 pub mod Ports
 pub mod Sizes
 pub mod Steps

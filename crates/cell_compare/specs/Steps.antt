@@ -2,7 +2,7 @@
 use Rattle.std.specs.Prelude.{◌≡◌, ℕ, Option, Some, None, Result, Ok, Err}
 use Rattle.std.specs.Option.{option_or}
 use Rattle.cell_compare.specs.Compared.{IsFlattened, IsGrouped}
-use Rattle.cell_compare.specs.declared.flattened.Flattened.{Flattened}
+use Rattle.cell_compare.specs.Flat.{Flattened}
 use Rattle.cell_compare.specs.declared.hindrance.Hindrance.{Hindrance}
 use Rattle.cell_compare.specs.declared.hindrance.Hindrance.TheVariants.{Because, NoMemory}
 use Rattle.flatten.specs.Circuits.{IsFlatCircuit}

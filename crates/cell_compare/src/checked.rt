@@ -3,8 +3,9 @@
 ghost use Rattle.std.specs.Prelude.{◌≡◌, ◌&&◌, ◌≤◌, [], true, length, IfOk};
 ghost use Rattle.std.specs.List.{list_any};
 ghost use Rattle.cell_compare.specs.Checked.{CheckedGives, IsCheckable, IsTold, compared_over, over};
+ghost use Rattle.cell_compare.specs.Planned.{ArePhases};
 ghost use Rattle.cell_compare.specs.Ports.{ArePortsOf, HasDrives, TellsPorts};
-ghost use Rattle.cell_compare.specs.Works.{AreVars, ArePlans, IsChecked, IsPlanned};
+ghost use Rattle.cell_compare.specs.Works.{AreVars, IsChecked};
 ghost use Rattle.checked_cells.specs.Given.{IsCheckedOf, is_candidate};
 ghost use Rattle.path_fixpoint.specs.Parts.{pins_of};
 ghost use Rattle.phase_terms.specs.Ready.{IsReady, comparison_in};
@@ -15,22 +16,25 @@ ghost use Rattle.vrt_model.specs.CheckedVerdicts.{HasCheckedVerdict};
 ghost use Rattle.vrt_model.specs.Networks.{HasRanges};
 ghost use Rattle.vrt_model.specs.declared.verdict.Verdict.TheVariants.{Equal};
 ghost use Rattle.vrt_model.specs.declared.whole.CellFacts.{CellFacts as FactsValue};
+ghost use Rattle.whole_cells.specs.Kept.{AreKept};
 ghost use Rattle.whole_steps.specs.Tables.{AreOrders, IsWholeTable};
 
 use crate::drives::{Told, lone_in, output_ports, told_drives};
 use crate::hindrance::Hindrance;
 use crate::known_facts::both;
 use crate::phases::check_phases;
+use crate::planned::{Phases, phases_of};
 use crate::sizes::most_outputs;
 use crate::works::{add_plans, work_out};
 use blif_eval::{ModelPlan, PlanFault};
 use drive_levels::{PortLevels, ports_at};
-use phase_terms::{Comparison, PhasePlan};
+use phase_terms::Comparison;
 use prepared_tables::Prepared;
 use rule_index::RuleIndex;
 use std::alloc::Global;
 use substitute::whole_with;
 use vrt_model::{Blif, CellFacts, Circuit, NoMemory, Seq, Vars, Verdict};
+use whole_cells::KeptCells;
 use whole_steps::{WholeTable, model_orders, output_drivers};
 
 /// Whether a cell is known as equal and stateless.
@@ -62,27 +66,29 @@ fn has_candidate(circuit: &Circuit, facts: &[CellFacts]) -> bool
 fn checked_circuit(
     alloc: Global,
     prepared: &Prepared,
-    blif: &Blif,
-    compared: Comparison<'_>,
-    facts: &[CellFacts],
+    phases: Phases<'_>,
+    kept: &mut KeptCells,
 ) -> Result<Option<Circuit>, NoMemory>
-    requires prepared { ArePrepared compared.design.now blif.now compared.rules.now prepared.now }
-    requires checkable { IsCheckable (comparison_in compared) blif.now facts.now }
-    requires planned { IsPlanned (comparison_in compared) }
-    ensures { IfOk result (CheckedGives (comparison_in compared.entry) blif.now facts.now) }
+    requires prepared { ArePrepared phases.compared.design.now phases.blif.now phases.compared.rules.now prepared.now }
+    requires phases { ArePhases phases }
+    requires kept { AreKept phases.compared.design.now phases.blif.now phases.compared.rules.now phases.facts.now kept.old }
+    ensures checked { IfOk result (CheckedGives (comparison_in phases.entry.compared) phases.entry.blif.now phases.entry.facts.now) }
+    ensures kept { IfOk result (λ _. AreKept phases.entry.compared.design.now phases.entry.blif.now phases.entry.compared.rules.now phases.entry.facts.now kept.new) }
 {
-    if !has_candidate(compared.circuit, facts) {
+    let compared = phases.compared;
+    if !has_candidate(compared.circuit, phases.facts) {
         return Ok(None);
     }
     let whole = whole_with(
         alloc,
         prepared,
         compared.design,
-        blif,
+        phases.blif,
         compared.rules,
         compared.cell,
         compared.circuit,
-        facts,
+        phases.facts,
+        kept,
     )?;
     Ok(whole)
 }
@@ -159,31 +165,23 @@ fn found_with(
     alloc: Global,
     budget: u32,
     index: &RuleIndex,
-    blif: &Blif,
-    compared: Comparison<'_>,
-    facts: &[CellFacts],
-    vars: &[Vars],
+    phases: Phases<'_>,
     circuit: &Circuit,
     most: u32,
     ports: &mut PortLevels,
 ) -> Result<Verdict, NoMemory>
     requires budget { (65536 ≤ budget) × (budget ≤ 64000000) }
     requires most { most ≤ 1000000 }
-    requires ready { IsReady (comparison_in compared) }
-    requires tables { AreRuleTables compared.rules.now index.now }
-    requires checkable { IsCheckable (comparison_in compared) blif.now facts.now }
-    requires planned { IsPlanned (comparison_in compared) }
-    requires vars { AreVars (comparison_in compared) (length compared.rules.now.phases) vars.now }
-    requires checked { IsCheckedOf (comparison_in compared) blif.now facts.now circuit.now }
-    requires ports { ArePortsOf (comparison_in compared) ports.old }
-    ensures checked { IfOk result (IsChecked (with_circuit (comparison_in compared.entry) circuit.now) budget) }
+    requires tables { AreRuleTables phases.compared.rules.now index.now }
+    requires phases { ArePhases phases }
+    requires checked { IsCheckedOf (comparison_in phases.compared) phases.blif.now phases.facts.now circuit.now }
+    requires ports { ArePortsOf (comparison_in phases.compared) ports.old }
+    ensures checked { IfOk result (IsChecked (with_circuit (comparison_in phases.entry.compared) circuit.now) budget) }
     ensures nets { ports.new.nets ≡ ports.old.nets }
     ensures len { length ports.new.levels.items ≡ length ports.new.nets }
     ensures few { IfOk result (λ _. length (pins_of circuit.now) ≤ most) }
-    ensures ports { IfOk result (TellsPorts (with_circuit (comparison_in compared.entry) circuit.now) ports.old.nets ports.new) }
+    ensures ports { IfOk result (TellsPorts (with_circuit (comparison_in phases.entry.compared) circuit.now) ports.old.nets ports.new) }
 {
-    let _blif = blif;
-    let _facts = facts;
     let drivers = output_drivers(alloc, circuit)?;
     let orders = orders_of(alloc, circuit)?;
     let wholes = WholeTable {
@@ -194,8 +192,8 @@ fn found_with(
         alloc,
         budget,
         index,
-        over(compared, circuit, wholes),
-        vars,
+        over(phases.compared, circuit, wholes),
+        phases.vars,
         most,
         ports,
     )?;
@@ -207,29 +205,21 @@ fn check_whole(
     alloc: Global,
     budget: u32,
     index: &RuleIndex,
-    blif: &Blif,
-    compared: Comparison<'_>,
-    facts: &[CellFacts],
-    vars: &[Vars],
+    phases: Phases<'_>,
     circuit: &Circuit,
     ports: &mut PortLevels,
 ) -> Result<Verdict, NoMemory>
     requires budget { (65536 ≤ budget) × (budget ≤ 64000000) }
-    requires ready { IsReady (comparison_in compared) }
-    requires tables { AreRuleTables compared.rules.now index.now }
-    requires checkable { IsCheckable (comparison_in compared) blif.now facts.now }
-    requires planned { IsPlanned (comparison_in compared) }
-    requires vars { AreVars (comparison_in compared) (length compared.rules.now.phases) vars.now }
-    requires checked { IsCheckedOf (comparison_in compared) blif.now facts.now circuit.now }
-    requires ports { ArePortsOf (comparison_in compared) ports.old }
-    ensures verdict { IfOk result (HasCheckedVerdict (comparison_in compared.entry) blif.now facts.now budget) }
+    requires tables { AreRuleTables phases.compared.rules.now index.now }
+    requires phases { ArePhases phases }
+    requires checked { IsCheckedOf (comparison_in phases.compared) phases.blif.now phases.facts.now circuit.now }
+    requires ports { ArePortsOf (comparison_in phases.compared) ports.old }
+    ensures verdict { IfOk result (HasCheckedVerdict (comparison_in phases.entry.compared) phases.entry.blif.now phases.entry.facts.now budget) }
     ensures nets { ports.new.nets ≡ ports.old.nets }
-    ensures ports { IfOk result (TellsPorts (with_circuit (comparison_in compared.entry) circuit.now) ports.old.nets ports.new) }
+    ensures ports { IfOk result (TellsPorts (with_circuit (comparison_in phases.entry.compared) circuit.now) ports.old.nets ports.new) }
 {
-    let most = most_outputs(compared.circuit);
-    let found = found_with(
-        alloc, budget, index, blif, compared, facts, vars, circuit, most, ports,
-    )?;
+    let most = most_outputs(phases.compared.circuit);
+    let found = found_with(alloc, budget, index, phases, circuit, most, ports)?;
     Ok(found)
 }
 
@@ -237,29 +227,26 @@ fn check_whole(
 fn check_flat(
     alloc: Global,
     budget: u32,
-    blif: &Blif,
-    compared: Comparison<'_>,
-    facts: &[CellFacts],
-    vars: &[Vars],
-    plans: &[PhasePlan],
+    phases: Phases<'_>,
     ports: &mut PortLevels,
 ) -> Result<Verdict, NoMemory>
     requires budget { (65536 ≤ budget) × (budget ≤ 64000000) }
-    requires ready { IsReady (comparison_in compared) }
-    requires wholes { IsWholeTable compared.circuit.now compared.wholes.drivers.now compared.wholes.plans.now }
-    requires checkable { IsCheckable (comparison_in compared) blif.now facts.now }
-    requires planned { IsPlanned (comparison_in compared) }
-    requires vars { AreVars (comparison_in compared) (length compared.rules.now.phases) vars.now }
-    requires plans { ArePlans (comparison_in compared) (length compared.rules.now.phases) plans.now }
-    requires checked { IsCheckedOf (comparison_in compared) blif.now facts.now compared.circuit.now }
-    requires ports { ArePortsOf (comparison_in compared) ports.old }
-    ensures verdict { IfOk result (HasCheckedVerdict (comparison_in compared.entry) blif.now facts.now budget) }
+    requires phases { ArePhases phases }
+    requires checked { IsCheckedOf (comparison_in phases.compared) phases.blif.now phases.facts.now phases.compared.circuit.now }
+    requires ports { ArePortsOf (comparison_in phases.compared) ports.old }
+    ensures verdict { IfOk result (HasCheckedVerdict (comparison_in phases.entry.compared) phases.entry.blif.now phases.entry.facts.now budget) }
     ensures nets { ports.new.nets ≡ ports.old.nets }
-    ensures ports { IfOk result (TellsPorts (comparison_in compared.entry) ports.old.nets ports.new) }
+    ensures ports { IfOk result (TellsPorts (comparison_in phases.entry.compared) ports.old.nets ports.new) }
 {
-    let _blif = blif;
-    let _facts = facts;
-    let verdict = check_phases(alloc, budget, compared, vars, plans, 0, ports)?;
+    let verdict = check_phases(
+        alloc,
+        budget,
+        phases.compared,
+        phases.vars,
+        phases.plans,
+        0,
+        ports,
+    )?;
     Ok(verdict)
 }
 
@@ -268,33 +255,22 @@ fn check_circuit(
     alloc: Global,
     budget: u32,
     index: &RuleIndex,
-    blif: &Blif,
-    compared: Comparison<'_>,
-    facts: &[CellFacts],
-    vars: &[Vars],
-    plans: &[PhasePlan],
+    phases: Phases<'_>,
     checked: &Option<Circuit>,
     ports: &mut PortLevels,
 ) -> Result<Verdict, NoMemory>
     requires budget { (65536 ≤ budget) × (budget ≤ 64000000) }
-    requires ready { IsReady (comparison_in compared) }
-    requires wholes { IsWholeTable compared.circuit.now compared.wholes.drivers.now compared.wholes.plans.now }
-    requires tables { AreRuleTables compared.rules.now index.now }
-    requires checkable { IsCheckable (comparison_in compared) blif.now facts.now }
-    requires planned { IsPlanned (comparison_in compared) }
-    requires vars { AreVars (comparison_in compared) (length compared.rules.now.phases) vars.now }
-    requires plans { ArePlans (comparison_in compared) (length compared.rules.now.phases) plans.now }
-    requires checked { CheckedGives (comparison_in compared) blif.now facts.now checked.now }
-    requires ports { ArePortsOf (comparison_in compared) ports.old }
-    ensures verdict { IfOk result (HasCheckedVerdict (comparison_in compared.entry) blif.now facts.now budget) }
+    requires tables { AreRuleTables phases.compared.rules.now index.now }
+    requires phases { ArePhases phases }
+    requires checked { CheckedGives (comparison_in phases.compared) phases.blif.now phases.facts.now checked.now }
+    requires ports { ArePortsOf (comparison_in phases.compared) ports.old }
+    ensures verdict { IfOk result (HasCheckedVerdict (comparison_in phases.entry.compared) phases.entry.blif.now phases.entry.facts.now budget) }
     ensures nets { ports.new.nets ≡ ports.old.nets }
-    ensures ports { IfOk result (TellsPorts (compared_over (comparison_in compared.entry) checked.now) ports.old.nets ports.new) }
+    ensures ports { IfOk result (TellsPorts (compared_over (comparison_in phases.entry.compared) checked.now) ports.old.nets ports.new) }
 {
     match checked {
-        None => check_flat(alloc, budget, blif, compared, facts, vars, plans, ports),
-        Some(circuit) => check_whole(
-            alloc, budget, index, blif, compared, facts, vars, circuit, ports,
-        ),
+        None => check_flat(alloc, budget, phases, ports),
+        Some(circuit) => check_whole(alloc, budget, index, phases, circuit, ports),
     }
 }
 
@@ -304,49 +280,24 @@ fn check_planned(
     alloc: Global,
     budget: u32,
     prepared: &Prepared,
-    blif: &Blif,
-    compared: Comparison<'_>,
-    facts: &[CellFacts],
-    vars: &[Vars],
-    plans: &[PhasePlan],
+    phases: Phases<'_>,
+    kept: &mut KeptCells,
 ) -> Result<Told, NoMemory>
     requires budget { (65536 ≤ budget) × (budget ≤ 64000000) }
-    requires prepared { ArePrepared compared.design.now blif.now compared.rules.now prepared.now }
-    requires ready { IsReady (comparison_in compared) }
-    requires wholes { IsWholeTable compared.circuit.now compared.wholes.drivers.now compared.wholes.plans.now }
-    requires tables { AreRuleTables compared.rules.now prepared.now.index }
-    requires checkable { IsCheckable (comparison_in compared) blif.now facts.now }
-    requires planned { IsPlanned (comparison_in compared) }
-    requires vars { AreVars (comparison_in compared) (length compared.rules.now.phases) vars.now }
-    requires plans { ArePlans (comparison_in compared) (length compared.rules.now.phases) plans.now }
-    ensures verdict { IfOk result (λ told. HasCheckedVerdict (comparison_in compared.entry) blif.now facts.now budget told.verdict) }
-    ensures drives { IfOk result (λ told. told.verdict ≡ Equal → HasDrives (comparison_in compared.entry) blif.now facts.now told.drives) }
+    requires prepared { ArePrepared phases.compared.design.now phases.blif.now phases.compared.rules.now prepared.now }
+    requires phases { ArePhases phases }
+    requires kept { AreKept phases.compared.design.now phases.blif.now phases.compared.rules.now phases.facts.now kept.old }
+    ensures verdict { IfOk result (λ told. HasCheckedVerdict (comparison_in phases.entry.compared) phases.entry.blif.now phases.entry.facts.now budget told.verdict) }
+    ensures drives { IfOk result (λ told. told.verdict ≡ Equal → HasDrives (comparison_in phases.entry.compared) phases.entry.blif.now phases.entry.facts.now told.drives) }
+    ensures kept { IfOk result (λ _. AreKept phases.entry.compared.design.now phases.entry.blif.now phases.entry.compared.rules.now phases.entry.facts.now kept.new) }
 {
-    let checked = checked_circuit(alloc, prepared, blif, compared, facts)?;
-    let nets = output_ports(alloc, compared)?;
-    let lone = lone_in(alloc, blif, compared, facts, plans, nets.as_slice())?;
+    let checked = checked_circuit(alloc, prepared, phases, kept)?;
+    let nets = output_ports(alloc, phases.compared)?;
+    let lone = lone_in(alloc, phases, nets.as_slice())?;
     let mut ports = ports_at(alloc, nets)?;
-    let verdict = check_circuit(
-        alloc,
-        budget,
-        &prepared.index,
-        blif,
-        compared,
-        facts,
-        vars,
-        plans,
-        &checked,
-        &mut ports,
-    )?;
-    let drives = told_drives(
-        alloc,
-        blif,
-        compared,
-        facts,
-        &checked,
-        lone.as_slice(),
-        &ports,
-    )?;
+    let index = &prepared.index;
+    let verdict = check_circuit(alloc, budget, index, phases, &checked, &mut ports)?;
+    let drives = told_drives(alloc, phases, &checked, lone.as_slice(), &ports)?;
     Ok(Told { verdict, drives })
 }
 
@@ -358,29 +309,25 @@ pub(crate) fn check_cell(
     blif: &Blif,
     compared: Comparison<'_>,
     facts: &[CellFacts],
+    kept: &mut KeptCells,
 ) -> Result<Told, NoMemory>
     requires budget { (65536 ≤ budget) × (budget ≤ 64000000) }
     requires prepared { ArePrepared compared.design.now blif.now compared.rules.now prepared.now }
     requires ready { IsReady (comparison_in compared) }
     requires wholes { IsWholeTable compared.circuit.now compared.wholes.drivers.now compared.wholes.plans.now }
-    requires tables { AreRuleTables compared.rules.now prepared.now.index }
     requires checkable { IsCheckable (comparison_in compared) blif.now facts.now }
+    requires kept { AreKept compared.design.now blif.now compared.rules.now facts.now kept.old }
     ensures told { IfOk result (λ told. IsTold (comparison_in compared.entry) blif.now facts.now budget told.verdict) }
     ensures drives { IfOk result (λ told. told.verdict ≡ Equal → HasDrives (comparison_in compared.entry) blif.now facts.now told.drives) }
+    ensures kept { IfOk result (λ _. AreKept compared.entry.design.now blif.now compared.entry.rules.now facts.now kept.new) }
 {
     let mut vars = Seq::new(alloc);
     let mut plans = Seq::new(alloc);
     match work_out(alloc, &prepared.index, compared, &mut vars, &mut plans) {
-        Ok(()) => check_planned(
-            alloc,
-            budget,
-            prepared,
-            blif,
-            compared,
-            facts,
-            vars.as_slice(),
-            plans.as_slice(),
-        ),
+        Ok(()) => {
+            let phases = phases_of(compared, blif, facts, vars.as_slice(), plans.as_slice());
+            check_planned(alloc, budget, prepared, phases, kept)
+        }
         Err(Hindrance::Because(why)) => Ok(Told {
             verdict: Verdict::Unsupported(why),
             drives: Seq::new(alloc),

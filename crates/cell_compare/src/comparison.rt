@@ -29,10 +29,10 @@ pub(crate) fn flat_comparison<'a>(
         design,
         rules,
         cell,
-        pairing: &flattened.pairing,
-        circuit: &flattened.circuit,
+        pairing: flattened.pairing(),
+        circuit: flattened.circuit(),
         wholes: WholeTable { drivers, plans },
-        model: &flattened.model,
-        groups: &flattened.groups,
+        model: flattened.model(),
+        groups: flattened.groups(),
     }
 }

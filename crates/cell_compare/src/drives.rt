@@ -1,19 +1,20 @@
 //! What is told of a comparison beside its verdict: the drives of its output ports, where it is equal.
 
 ghost use Rattle.std.specs.Prelude.{◌≡◌, ◌<◌, All, IfOk, length, map, unwrap_or};
-ghost use Rattle.cell_compare.specs.Checked.{CheckedGives, IsCheckable, compared_over};
+ghost use Rattle.cell_compare.specs.Checked.{CheckedGives, compared_over};
+ghost use Rattle.cell_compare.specs.Planned.{ArePhases};
 ghost use Rattle.cell_compare.specs.Ports.{HasDrives};
-ghost use Rattle.cell_compare.specs.Works.{ArePlans, IsPlanned};
 ghost use Rattle.lone_outputs.specs.Lone.{AreLoneBefore, AreOutputNets};
 ghost use Rattle.phase_terms.specs.Ready.{IsReady, comparison_in};
 ghost use Rattle.port_drives.specs.Drives.{AreOwnLevels};
 ghost use Rattle.vrt_model.specs.declared.ids.Net.{Net as NetValue};
 
+use crate::planned::Phases;
 use drive_levels::PortLevels;
-use phase_terms::{Comparison, PhasePlan};
+use phase_terms::Comparison;
 use port_drives::{lone_ports, output_nets, port_drives};
 use std::alloc::Global;
-use vrt_model::{Blif, CellFacts, Circuit, Drive, Net, NoMemory, Seq, Verdict};
+use vrt_model::{Circuit, Drive, Net, NoMemory, Seq, Verdict};
 
 /// What is told of a comparison.
 #[derive(Drop)]
@@ -37,21 +38,14 @@ pub(crate) fn output_ports(alloc: Global, compared: Comparison<'_>) -> Result<Se
 /// Which of its output ports are alone inside its flat circuit in each phase.
 pub(crate) fn lone_in(
     alloc: Global,
-    blif: &Blif,
-    compared: Comparison<'_>,
-    facts: &[CellFacts],
-    plans: &[PhasePlan],
+    phases: Phases<'_>,
     nets: &[Net],
 ) -> Result<Vec<bool>, NoMemory>
-    requires ready { IsReady (comparison_in compared) }
-    requires checkable { IsCheckable (comparison_in compared) blif.now facts.now }
-    requires plans { ArePlans (comparison_in compared) (length compared.rules.now.phases) plans.now }
-    requires nets { All (λ (n : NetValue). n.0 < length compared.circuit.now.nets) nets.now }
-    ensures { IfOk result (λ lone. AreLoneBefore (comparison_in compared.entry) (length compared.entry.rules.now.phases) (map (λ (n : NetValue). n.0) nets.now) lone.items) }
+    requires phases { ArePhases phases }
+    requires nets { All (λ (n : NetValue). n.0 < length phases.compared.circuit.now.nets) nets.now }
+    ensures { IfOk result (λ lone. AreLoneBefore (comparison_in phases.entry.compared) (length phases.entry.compared.rules.now.phases) (map (λ (n : NetValue). n.0) nets.now) lone.items) }
 {
-    let _blif = blif;
-    let _facts = facts;
-    let lone = lone_ports(alloc, compared.circuit, plans, nets)?;
+    let lone = lone_ports(alloc, phases.compared.circuit, phases.plans, nets)?;
     Ok(lone)
 }
 
@@ -69,22 +63,18 @@ fn circuit_of<'a>(checked: &'a Option<Circuit>, flat: &'a Circuit) -> &'a Circui
 /// are alone inside the cell is told by the flat one.
 pub(crate) fn told_drives(
     alloc: Global,
-    blif: &Blif,
-    compared: Comparison<'_>,
-    facts: &[CellFacts],
+    phases: Phases<'_>,
     checked: &Option<Circuit>,
     lone: &[bool],
     ports: &PortLevels,
 ) -> Result<Seq<Drive>, NoMemory>
-    requires checkable { IsCheckable (comparison_in compared) blif.now facts.now }
-    requires planned { IsPlanned (comparison_in compared) }
-    requires checked { CheckedGives (comparison_in compared) blif.now facts.now checked.now }
-    requires nets { AreOutputNets (comparison_in compared) ports.now.nets }
-    requires lone { AreLoneBefore (comparison_in compared) (length compared.rules.now.phases) (map (λ (n : NetValue). n.0) ports.now.nets) lone.now }
-    ensures { IfOk result (λ drives. AreOwnLevels (compared_over (comparison_in compared.entry) checked.now) facts.now ports.now.nets ports.now.levels.items → HasDrives (comparison_in compared.entry) blif.now facts.now drives) }
+    requires phases { ArePhases phases }
+    requires checked { CheckedGives (comparison_in phases.compared) phases.blif.now phases.facts.now checked.now }
+    requires nets { AreOutputNets (comparison_in phases.compared) ports.now.nets }
+    requires lone { AreLoneBefore (comparison_in phases.compared) (length phases.compared.rules.now.phases) (map (λ (n : NetValue). n.0) ports.now.nets) lone.now }
+    ensures { IfOk result (λ drives. AreOwnLevels (compared_over (comparison_in phases.entry.compared) checked.now) phases.entry.facts.now ports.now.nets ports.now.levels.items → HasDrives (comparison_in phases.entry.compared) phases.entry.blif.now phases.entry.facts.now drives) }
 {
-    let _blif = blif;
-    let circuit = circuit_of(checked, compared.circuit);
-    let drives = port_drives(alloc, circuit, facts, lone, ports)?;
+    let circuit = circuit_of(checked, phases.compared.circuit);
+    let drives = port_drives(alloc, circuit, phases.facts, lone, ports)?;
     Ok(drives)
 }

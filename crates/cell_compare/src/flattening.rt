@@ -5,6 +5,7 @@ ghost use Rattle.std.specs.Option.{option_copied};
 ghost use Rattle.blif_flat.specs.Counts.{AreModelTables};
 ghost use Rattle.cell_compare.specs.Compared.{AreInputs};
 ghost use Rattle.cell_compare.specs.Steps.{CircuitGrouped, CircuitTells, ClockTells, FlattenedTells, GroupsTell, ModelTells, PairingTells};
+ghost use Rattle.flatten.specs.Structures.{IsStructured};
 ghost use Rattle.latch_match.specs.Paired.{PairGives};
 ghost use Rattle.prepared_tables.specs.Prepared.{ArePrepared};
 ghost use Rattle.rule_index.specs.Tables.{AreIndexed};
@@ -20,7 +21,7 @@ ghost use Rattle.vrt_model.specs.declared.flat_model.FlatLatch.{FlatLatch as Lat
 use crate::flattened::Flattened;
 use crate::hindrance::Hindrance;
 use blif_flat::{FlatModelFault, ModelTables, flat_model_with};
-use flatten::{FlatFault, flat_with, structure_with};
+use flatten::{FlatFault, structure_with, structured_circuit};
 use hold_groups::{MatchFault, groups};
 use latch_match::{PairFault, pair_ports_with};
 use prepared_tables::Prepared;
@@ -170,18 +171,14 @@ fn grouped(
     ensures { GroupsTell design.now rules.now cell pairing circuit model result }
 {
     match groups(alloc, design, &circuit, &model, rules, cell) {
-        Ok(groups) => Ok(Flattened {
-            pairing,
-            circuit,
-            model,
-            groups,
-        }),
+        Ok(groups) => Ok(Flattened::new(pairing, circuit, model, groups)),
         Err(MatchFault::Unmatched { name }) => Err(Hindrance::Because(Why::Unmatched { name })),
         Err(MatchFault::NoMemory) => Err(Hindrance::NoMemory),
     }
 }
 
-/// The flat circuit of a cell that pairs with a model by this, with the groups of its holds.
+/// The flat circuit of a cell that nothing stands in the way of and that pairs with a model by this, with the groups of its
+/// holds.
 fn with_circuit(
     alloc: Global,
     prepared: &Prepared,
@@ -194,11 +191,12 @@ fn with_circuit(
 ) -> Result<Flattened, Hindrance>
     requires prepared { ArePrepared design.now blif.now rules.now prepared.now }
     requires inputs { AreInputs design.now blif.now rules.now cell }
+    requires structured { IsStructured (top_before design.now rules.now cell) }
     ensures { CircuitGrouped design.now rules.now cell pairing model result }
 {
     // the models are in the tables
     let _unread = blif;
-    match flat_with(
+    match structured_circuit(
         alloc,
         &prepared.index,
         &prepared.nets,

@@ -11,6 +11,7 @@ mod hindrance;
 mod known_facts;
 mod not_compared;
 mod phases;
+mod planned;
 mod sizes;
 mod verdict;
 mod works;

@@ -10,6 +10,7 @@ ghost use Rattle.vrt_model.specs.Inputs.{AreRules, IsBlif, IsDesign};
 ghost use Rattle.vrt_model.specs.Models.{AreModels};
 ghost use Rattle.vrt_model.specs.PairedPorts.{Model, model_of_paired, paired_model};
 ghost use Rattle.vrt_model.specs.CheckedVerdicts.{IsCheckedVerdict};
+ghost use Rattle.whole_cells.specs.Kept.{AreKept};
 
 use crate::checked::check_cell;
 use crate::comparison::flat_comparison;
@@ -21,6 +22,7 @@ use crate::known_facts::{facts_of, is_bare, no_facts};
 use prepared_tables::{Prepared, is_skipped_with, model_of_with, prepare};
 use std::alloc::Global;
 use vrt_model::{Blif, CellFacts, Design, NoMemory, Rules, Seq, Verdict, Why};
+use whole_cells::KeptCells;
 
 /// The verdict on a cell, and what is known of the cell then, with its flat circuit and flat model, by which what the
 /// verdict speaks of is named.
@@ -56,18 +58,21 @@ fn compare_with(
     cell: u32,
     model: u32,
     facts: &[CellFacts],
+    kept: &mut KeptCells,
 ) -> Result<Compared, NoMemory>
     requires budget { (65536 ≤ budget) × (budget ≤ 64000000) }
     requires prepared { ArePrepared design.now blif.now rules.now prepared.now }
     requires inputs { AreInputs design.now blif.now rules.now cell }
     requires facts { AreTrueFacts design.now blif.now rules.now facts.now }
     requires paired { paired_model design.now blif.now rules.now cell ≡ Model model }
+    requires kept { AreKept design.now blif.now rules.now facts.now kept.old }
     ensures verdict { IfOk result (λ c. IsCheckedVerdict design.now blif.now rules.now facts.now budget cell c.verdict) }
     ensures line { IfOk result (λ c. HasLine design.now blif.now rules.now cell c.verdict c.flattened) }
     ensures flattened { IfOk result (λ c. IsFlattenedTo design.now blif.now rules.now cell (Some c.verdict) c.flattened) }
     ensures facts { IfOk result (λ c. HasFacts design.now blif.now rules.now facts.now cell c.verdict c.facts) }
     ensures complete { IfOk result (λ c. IsComplete design.now blif.now rules.now budget cell c.verdict) }
     ensures runs { IfOk result (λ c. HasRuns design.now blif.now rules.now cell c.verdict) }
+    ensures kept { IfOk result (λ _. AreKept design.now blif.now rules.now facts.now kept.new) }
 {
     let flattened = match flatten_cell(alloc, prepared, design, blif, rules, cell, model) {
         Ok(flattened) => flattened,
@@ -75,8 +80,8 @@ fn compare_with(
         Err(Hindrance::NoMemory) => return Err(NoMemory),
     };
     let compared = flat_comparison(design, rules, cell, &flattened);
-    let told = check_cell(alloc, budget, prepared, blif, compared, facts)?;
-    let bare = is_bare(&flattened.circuit, &flattened.model);
+    let told = check_cell(alloc, budget, prepared, blif, compared, facts, kept)?;
+    let bare = is_bare(flattened.circuit(), flattened.model());
     let Told { verdict, drives } = told;
     let facts = facts_of(alloc, &verdict, drives, bare);
     Ok(Compared {
@@ -103,7 +108,8 @@ pub(crate) fn paired_number(
 }
 
 /// The verdict on a cell by the tables of the netlist, the models and the rules, which `prepare` makes: the same as `compare`,
-/// in a time that does not grow with the numbers of cells and models.
+/// in a time that does not grow with the numbers of cells and models. What the instances of cells have in common is taken from what is kept,
+/// and made and kept where it is wanting.
 pub fn compare_prepared(
     alloc: Global,
     budget: u32,
@@ -113,6 +119,7 @@ pub fn compare_prepared(
     rules: &Rules,
     cell: u32,
     facts: &[CellFacts],
+    kept: &mut KeptCells,
 ) -> Result<Compared, NoMemory>
     requires budget { (65536 ≤ budget) × (budget ≤ 64000000) }
     requires prepared { ArePrepared design.now blif.now rules.now prepared.now }
@@ -123,19 +130,21 @@ pub fn compare_prepared(
     requires cell { cell < length design.now.cells }
     requires ordered { IsOrdered design.now rules.now }
     requires facts { AreTrueFacts design.now blif.now rules.now facts.now }
+    requires kept { AreKept design.now blif.now rules.now facts.now kept.old }
     ensures verdict { IfOk result (λ c. IsCheckedVerdict design.now blif.now rules.now facts.now budget cell c.verdict) }
     ensures line { IfOk result (λ c. HasLine design.now blif.now rules.now cell c.verdict c.flattened) }
     ensures flattened { IfOk result (λ c. IsFlattenedTo design.now blif.now rules.now cell (Some c.verdict) c.flattened) }
     ensures facts { IfOk result (λ c. HasFacts design.now blif.now rules.now facts.now cell c.verdict c.facts) }
     ensures complete { IfOk result (λ c. IsComplete design.now blif.now rules.now budget cell c.verdict) }
     ensures runs { IfOk result (λ c. HasRuns design.now blif.now rules.now cell c.verdict) }
+    ensures kept { IfOk result (λ _. AreKept design.now blif.now rules.now facts.now kept.new) }
 {
     if is_skipped_with(prepared, design, rules, cell) {
         return Ok(without(alloc, Verdict::Skipped));
     }
     match paired_number(prepared, design, blif, rules, cell) {
         Some(model) => compare_with(
-            alloc, budget, prepared, design, blif, rules, cell, model, facts,
+            alloc, budget, prepared, design, blif, rules, cell, model, facts, kept,
         ),
         None => Ok(without(alloc, Verdict::Unsupported(Why::NoModel))),
     }
@@ -174,6 +183,7 @@ pub fn compare(
     ensures runs { IfOk result (λ c. HasRuns design.now blif.now rules.now cell c.verdict) }
 {
     let prepared = prepare(alloc, design, blif, rules)?;
+    let mut kept = KeptCells::none(alloc, design.cells.len())?;
     compare_prepared(
         alloc,
         budget,
@@ -183,5 +193,6 @@ pub fn compare(
         rules,
         cell,
         facts.as_slice(),
+        &mut kept,
     )
 }

@@ -1,14 +1,15 @@
 -- The global nets of a cell, by the cells that stand in it; and the counts of its flat circuit.
-use Rattle.std.proofs.Common.{◌≡◌, ◌<◌, ◌≤◌, ◌+◌, ◌*◌, ◌∷◌, ◌||◌, ◌&&◌, [], ℕ, zero, suc, List, Bool, true, false, cond, nat_lt, length, filter, get_or, drop, refl, ap, ap₂, sym, ◌∙◌, arith, add-one, inl, inr}
+use Rattle.std.proofs.Common.{◌≡◌, ◌<◌, ◌≤◌, ◌+◌, ◌*◌, ◌∷◌, ◌||◌, ◌&&◌, [], ℕ, zero, suc, List, Bool, true, false, cond, nat_lt, length, filter, get_or, drop, refl, ap, ap₂, sym, ◌∙◌, arith, inl, inr}
 use Rattle.std.specs.Prelude.{is_none}
 use Rattle.std.specs.List.{list_any}
 use Rattle.std.proofs.Math.Nat.{add-zero}
 use Rattle.std.proofs.lemmas.Bool.{cases_lt}
 use Rattle.std.proofs.lemmas.Bool.Decides.{nat_tests}
-use Rattle.std.proofs.lemmas.List.{drop_all, drop_more}
-use Rattle.std.proofs.lemmas.List.Sums.{sum_by-cons}
+use Rattle.std.proofs.lemmas.List.{drop_all}
+use Rattle.std.proofs.lemmas.List.Sums.{sum_by-cons, sum_by-drop_more}
 use Rattle.flat_sizes.proofs.PlaceLaws.{devices_counted, nets_counted}
-use Rattle.flat_sizes.specs.Totals.{AreInside, global_weight, inside, names_inside, over, weighed, within}
+use Rattle.flat_sizes.specs.Totals.{AreInside, global_weight, inside, names_inside, over, stood, within}
+use Rattle.flat_sizes.specs.declared.stands.Stand.{Stand}
 use Rattle.vrt_model.specs.CellRules.{supply_of}
 use Rattle.vrt_model.specs.Comparison.{cell_at}
 use Rattle.vrt_model.specs.FlatCircuit.{flat_devices, flat_nets}
@@ -80,31 +81,33 @@ module _ (design : Design) (rules : Rules) (name : List ℕ) where
   pub at_once : (k : ℕ) (b : Bool) → b ≡ nat_lt 0 (f k) → b ≡ true → b ≡ names_inside design rules k name
   at_once k b e t = t ∙ sym (named_is k ∙ ap (λ (c : Bool). c || nat_lt 0 (inside design f k)) (sym e ∙ t))
 
-  pub further_in : (k : ℕ) (counts : List ℕ) (b c : Bool) → AreInside design k counts → b ≡ nat_lt 0 (f k) → b ≡ false → c ≡ nat_lt 0 (weighed f 0 counts) → c ≡ names_inside design rules k name
-  further_in k counts b c are e n g =
-      g ∙ same_some (weighed f 0 counts) (inside design f k) (are f) ∙ sym (named_is k ∙ ap (λ (x : Bool). x || nat_lt 0 (inside design f k)) (sym e ∙ n))
+  pub further_in : (k : ℕ) (stands : List Stand) (b c : Bool) → AreInside design k stands → b ≡ nat_lt 0 (f k) → b ≡ false → c ≡ nat_lt 0 (stood f stands) → c ≡ names_inside design rules k name
+  further_in k stands b c are e n g =
+      g ∙ same_some (stood f stands) (inside design f k) (are f) ∙ sym (named_is k ∙ ap (λ (x : Bool). x || nat_lt 0 (inside design f k)) (sym e ∙ n))
 
-  -- cell by cell: those that are left decide
-  abbrev pub Left : List ℕ → ℕ → Type 0
-  Left counts k = nat_lt 0 (weighed f k (drop k counts)) ≡ nat_lt 0 (weighed f 0 counts)
+  -- stand by stand: those that are left decide
+  abbrev pub Left : List Stand → ℕ → Type 0
+  Left stands i = nat_lt 0 (stood f (drop i stands)) ≡ nat_lt 0 (stood f stands)
 
-  split : (counts : List ℕ) (k count : ℕ) → k < length counts → count ≡ get_or counts k 0
-      → nat_lt 0 (weighed f k (drop k counts)) ≡ (nat_lt 0 (count * f k) || nat_lt 0 (weighed f (k + 1) (drop (k + 1) counts)))
-  split counts k count lt is =
-      ap (nat_lt 0) (ap (weighed f k) (drop_more counts k 0 lt) ∙ ap₂ (λ (x m : ℕ). x * f k + weighed f m (drop (k + 1) counts)) (sym is) (sym (add-one k)))
-      ∙ sym (some_sum (count * f k) (weighed f (k + 1) (drop (k + 1) counts)))
+  split : (stands : List Stand) (i : ℕ) (s d : Stand) → i < length stands → s ≡ get_or stands i d
+      → nat_lt 0 (stood f (drop i stands)) ≡ (nat_lt 0 (s.count * f s.cell) || nat_lt 0 (stood f (drop (i + 1) stands)))
+  split stands i s d lt is =
+      ap (nat_lt 0)
+      (sum_by-drop_more (λ (x : Stand). x.count * f x.cell) stands i d lt ∙ ap (λ (x : Stand). x.count * f x.cell + stood f (drop (i + 1) stands)) (sym is))
+      ∙ sym (some_sum (s.count * f s.cell) (stood f (drop (i + 1) stands)))
 
-  pub one_less : (counts : List ℕ) (k count : ℕ) (b : Bool) → k < length counts → count ≡ get_or counts k 0 → b ≡ nat_lt 0 (count * f k) → b ≡ false → Left counts k → Left counts (k + 1)
-  one_less counts k count b lt is e n left =
-      sym (split counts k count lt is ∙ ap (λ (x : Bool). x || nat_lt 0 (weighed f (k + 1) (drop (k + 1) counts))) (sym e ∙ n)) ∙ left
+  pub one_less : (stands : List Stand) (i : ℕ) (s d : Stand) (b : Bool) → i < length stands → s ≡ get_or stands i d → b ≡ nat_lt 0 (s.count * f s.cell) → b ≡ false → Left stands i
+      → Left stands (i + 1)
+  one_less stands i s d b lt is e n left =
+      sym (split stands i s d lt is ∙ ap (λ (x : Bool). x || nat_lt 0 (stood f (drop (i + 1) stands))) (sym e ∙ n)) ∙ left
 
-  pub one_found : (counts : List ℕ) (k count : ℕ) (b : Bool) → k < length counts → count ≡ get_or counts k 0 → b ≡ nat_lt 0 (count * f k) → b ≡ true → Left counts k
-      → true ≡ nat_lt 0 (weighed f 0 counts)
-  one_found counts k count b lt is e t left =
-      sym (split counts k count lt is ∙ ap (λ (x : Bool). x || nat_lt 0 (weighed f (k + 1) (drop (k + 1) counts))) (sym e ∙ t)) ∙ left
+  pub one_found : (stands : List Stand) (i : ℕ) (s d : Stand) (b : Bool) → i < length stands → s ≡ get_or stands i d → b ≡ nat_lt 0 (s.count * f s.cell) → b ≡ true → Left stands i
+      → true ≡ nat_lt 0 (stood f stands)
+  one_found stands i s d b lt is e t left =
+      sym (split stands i s d lt is ∙ ap (λ (x : Bool). x || nat_lt 0 (stood f (drop (i + 1) stands))) (sym e ∙ t)) ∙ left
 
-  pub none_left : (counts : List ℕ) (k : ℕ) → length counts ≤ k → Left counts k → false ≡ nat_lt 0 (weighed f 0 counts)
-  none_left counts k end left = ap (λ (xs : List ℕ). nat_lt 0 (weighed f k xs)) (sym (drop_all k counts end)) ∙ left
+  pub none_left : (stands : List Stand) (i : ℕ) → length stands ≤ i → Left stands i → false ≡ nat_lt 0 (stood f stands)
+  none_left stands i end left = ap (λ (xs : List Stand). nat_lt 0 (stood f xs)) (sym (drop_all i stands end)) ∙ left
 
 -- ---- the counts
 

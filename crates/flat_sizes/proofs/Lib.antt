@@ -5,4 +5,6 @@ pub mod LastCounts
 pub mod NameLaws
 pub mod OwnLaws
 pub mod PlaceLaws
+pub mod StandLaws
+pub mod Tallies
 pub mod TotalLaws

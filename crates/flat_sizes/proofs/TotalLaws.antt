@@ -1,33 +1,25 @@
 -- Tables of how often cells stand in a cell.
-use Rattle.std.proofs.Common.{◌≡◌, ◌<◌, ◌≤◌, ◌+◌, ◌*◌, ◌∷◌, [], ℕ, zero, suc, List, Option, length, get_or, drop, replicate, true, refl, ap, ap₂, sym, ◌∙◌, arith}
+use Rattle.std.proofs.Common.{◌≡◌, ◌<◌, ◌≤◌, ◌+◌, ◌*◌, ◌∷◌, [], ℕ, zero, suc, List, Option, length, get_or, drop, take, replicate, true, refl, ap, ap₂, sym, ◌∙◌, arith, add-one}
 use Rattle.std.specs.Prelude.{◌==◌, slice_set, unwrap_or}
 use Rattle.std.specs.List.{list_all}
-use Rattle.std.proofs.Math.Nat.{add-mul, mul-add, mul-zero, zero-mul}
+use Rattle.std.proofs.Math.Nat.{mul-add, mul-zero, zero-mul}
 use Rattle.std.proofs.lemmas.Bool.{and_parts, eqb-true}
-use Rattle.std.proofs.lemmas.List.{drop_all, drop_more, get_or-replicate, length-replicate}
-use Rattle.std.proofs.lemmas.List.Sums.{sum_by-cons}
+use Rattle.std.proofs.lemmas.List.{drop_all, drop_more, get_or-replicate, length-replicate, take_all, take_more_set}
+use Rattle.std.proofs.lemmas.List.Sums.{sum_by_push}
 use Rattle.std.proofs.lemmas.Option.{slice_get_past}
-use Rattle.flat_sizes.proofs.Carried.{carried_times}
-use Rattle.flat_sizes.specs.Totals.{AddsAll, AddsOne, AreInside, below, inside, over, weighed, within}
-use Rattle.vrt_model.specs.Unrolled.{cell_named}
+use Rattle.flat_sizes.proofs.Tallies.{IsDown, IsTally, Tally, four, later, level_done, level_down, level_last, more_there, none_more}
+use Rattle.flat_sizes.specs.Totals.{AreCounted, AreInside, CountsAll, CountsOne, IsListed, below, inside, over, stood, weighed, within}
+use Rattle.flat_sizes.specs.declared.stands.Stand.{Stand}
 use Rattle.vrt_model.specs.Unsupported.{carried}
 use Rattle.vrt_model.specs.declared.design.Cell.{Cell}
 use Rattle.vrt_model.specs.declared.design.Design.{Design}
-use Rattle.vrt_model.specs.declared.design.InstanceCard.{InstanceCard}
-use Rattle.vrt_model.proofs.Sums.{carried_both}
 
 -- ---- tables
-
-four : (a b c d : ℕ) → a + b + (c + d) ≡ a + c + (b + d)
-four a b c d = omega arith
 
 weighed_sum : (f g : ℕ → ℕ) (at : ℕ) (xs : List ℕ) → weighed (λ k. f k + g k) at xs ≡ weighed f at xs + weighed g at xs
 weighed_sum f g at [] = refl
 weighed_sum f g at (x ∷ xs) =
     ap₂ ◌+◌ (mul-add x (f at) (g at)) (weighed_sum f g (suc at) xs) ∙ four (x * f at) (x * g at) (weighed f (suc at) xs) (weighed g (suc at) xs)
-
-none_more : (a b : ℕ) → a ≡ 0 → b ≡ 0 → a + b ≡ 0
-none_more a b e f = omega (arith, e, f)
 
 weighed_none : (at : ℕ) (xs : List ℕ) → weighed (λ k. 0) at xs ≡ 0
 weighed_none at [] = refl
@@ -37,21 +29,13 @@ pub weighed_zeros : (weight : ℕ → ℕ) (at n : ℕ) → weighed weight at (r
 weighed_zeros weight at zero = refl
 weighed_zeros weight at (suc n) = none_more _ _ (zero-mul (weight at)) (weighed_zeros weight (suc at) n)
 
-here : (x count r w n : ℕ) → n ≡ (x + count) * w → n + r ≡ x * w + r + count * w
-here x count r w n e = let d = add-mul x count w in omega (arith, d, e)
-
-later : (a b c d : ℕ) → carried b ≡ carried (c + d) → carried (a + b) ≡ carried (a + c + d)
-later a b c d e = omega (arith, e)
-
 -- one number larger, up to the greatest
 set_more : (weight : ℕ → ℕ) (at k count new : ℕ) (xs : List ℕ) → k < length xs → new ≡ carried (get_or xs k 0 + count)
     → carried (weighed weight at (slice_set xs k new)) ≡ carried (weighed weight at xs + count * weight (at + k))
 set_more weight at k count new [] lt e = absurd (omega (arith, lt))
 set_more weight at zero count new (x ∷ xs) lt e =
     let same : at ≡ at + 0 = omega arith in
-    ap (λ (n : ℕ). carried (n * weight at + weighed weight (suc at) xs)) e
-    ∙ carried_both (carried (x + count) * weight at) (weighed weight (suc at) xs) ((x + count) * weight at) (weighed weight (suc at) xs) (carried_times (x + count) (weight at)) refl
-    ∙ ap carried (here x count (weighed weight (suc at) xs) (weight at) ((x + count) * weight at) refl)
+    more_there x count new (weight at) (weighed weight (suc at) xs) e
     ∙ ap (λ (n : ℕ). carried (x * weight at + weighed weight (suc at) xs + count * weight n)) same
 set_more weight at (suc k) count new (x ∷ xs) lt e =
     let same : suc at + k ≡ at + suc k = omega arith in
@@ -60,36 +44,15 @@ set_more weight at (suc k) count new (x ∷ xs) lt e =
     ∙ ap (λ (n : ℕ). carried (x * weight at + weighed weight (suc at) xs + count * weight n)) same
 
 -- one cell stands so often more
-pub one_more : (k count new : ℕ) (xs : List ℕ) → k < length xs → new ≡ carried (get_or xs k 0 + count) → AddsOne k count xs (slice_set xs k new)
+pub one_more : (k count new : ℕ) (xs : List ℕ) → k < length xs → new ≡ carried (get_or xs k 0 + count) → CountsOne k count xs (slice_set xs k new)
 one_more k count new xs lt e weight =
     let same : 0 + k ≡ k = omega arith in
     set_more weight 0 k count new xs lt e ∙ ap (λ (n : ℕ). carried (weighed weight 0 xs + count * weight n)) same
 
--- ---- the cells of instances
-
-card_step : (a b n p q r : ℕ) → carried b ≡ carried (a + p) → n ≡ p + q → carried (a + n) ≡ carried r → carried (b + q) ≡ carried r
-card_step a b n p q r e f g = omega (arith, e, f, g)
-
--- what is added, with what the rest adds, is what all add
-abbrev pub Adding : Design → List InstanceCard → ℕ → List ℕ → List ℕ → List InstanceCard → Type 0
-Adding design cards count old now left =
-    (weight : ℕ → ℕ) → carried (weighed weight 0 now + count * over design weight left) ≡ carried (weighed weight 0 old + count * over design weight cards)
-
-pub card_added : (design : Design) (cards : List InstanceCard) (count i : ℕ) (card : InstanceCard) (first old new : List ℕ) → i < length cards → card ≡ get_or cards i card
-    → AddsOne (cell_named design card.cell) count old new → Adding design cards count first old (drop i cards) → Adding design cards count first new (drop (i + 1) cards)
-card_added design cards count i card first old new lt is adds so_far weight =
-    let rest = drop (i + 1) cards in
-    let w : InstanceCard → ℕ = λ (c : InstanceCard). weight (cell_named design c.cell) in
-    let n : count * over design weight (drop i cards) ≡ count * w card + count * over design weight rest =
-    ap (λ (cs : List InstanceCard). count * over design weight cs) (drop_more cards i card lt)
-    ∙ ap (λ (c : InstanceCard). count * over design weight (c ∷ rest)) (sym is)
-    ∙ ap (λ (m : ℕ). count * m) (sum_by-cons w card rest) ∙ mul-add count (w card) (over design weight rest) in
-    card_step (weighed weight 0 old) (weighed weight 0 new) (count * over design weight (drop i cards)) (count * w card) (count * over design weight rest) _ (adds weight) n (so_far weight)
-
 -- ---- the cells of a level
 
-abbrev pub AddingAll : Design → List ℕ → List ℕ → List ℕ → ℕ → Type 0
-AddingAll design level old now k =
+abbrev pub CountingAll : Design → List ℕ → List ℕ → List ℕ → ℕ → Type 0
+CountingAll design level old now k =
     (weight : ℕ → ℕ) → carried (weighed weight 0 now + weighed (below design weight) k (drop k level)) ≡ carried (weighed weight 0 old + weighed (below design weight) 0 level)
 
 -- no cell stands behind the last one
@@ -103,7 +66,7 @@ none_weighed design weight k (x ∷ xs) past =
     none_more _ _ (ap (λ (n : ℕ). x * n) (none_below design weight k past) ∙ mul-zero x) (none_weighed design weight (suc k) xs (omega (arith, past)))
 
 -- so those of all cells are all that is added
-pub all_added : (design : Design) (level old now : List ℕ) (k : ℕ) → length design.cells ≤ k → AddingAll design level old now k → AddsAll design level old now
+pub all_added : (design : Design) (level old now : List ℕ) (k : ℕ) → length design.cells ≤ k → CountingAll design level old now k → CountsAll design level old now
 all_added design level old now k past adding weight =
     let z : weighed (below design weight) k (drop k level) ≡ 0 = none_weighed design weight k (drop k level) past in
     let all : weighed weight 0 now ≡ weighed weight 0 now + weighed (below design weight) k (drop k level) = omega (arith, z) in
@@ -118,26 +81,24 @@ weighed_empty weight at (x ∷ xs) e =
 
 -- ---- level by level
 
+abbrev pub tally_of : List ℕ → Tally
+tally_of table weight = weighed weight 0 table
+
+pub is_tally : (table : List ℕ) → IsTally (tally_of table)
+is_tally table = record { sum = λ f g. weighed_sum f g 0 table; none = weighed_none 0 table }
+
 -- what is counted so far, with what stands in a level at most so deep, is what stands in the cell
-abbrev pub IsDown : Design → ℕ → ℕ → List ℕ → List ℕ → Type 0
-IsDown design k depth all level =
-    (weight : ℕ → ℕ) → carried (weighed weight 0 all + weighed (within design weight depth) 0 level) ≡ carried (inside design weight k)
+abbrev pub IsCountedDown : Design → ℕ → ℕ → List ℕ → List ℕ → Type 0
+IsCountedDown design k depth all level = IsDown design depth (λ weight. inside design weight k) (tally_of all) (tally_of level)
 
-level_step : (a b n x y l z t : ℕ) → z ≡ 0 → carried y ≡ carried (a + b) → carried n ≡ carried (z + b) → carried (n + x) ≡ carried (z + l) → carried (a + l) ≡ carried t → carried (y + x) ≡ carried t
-level_step a b n x y l z t none e f g h = omega (arith, none, e, f, g, h)
+without : (z a b : ℕ) → z ≡ 0 → carried a ≡ carried (z + b) → carried a ≡ carried b
+without z a b none e = omega (arith, none, e)
 
-pub level_down : (design : Design) (k depth below_it : ℕ) (all new level zeros next : List ℕ) → depth ≡ suc below_it → ((weight : ℕ → ℕ) → weighed weight 0 zeros ≡ 0)
-    → AddsAll design level zeros next → AddsAll design level all new → IsDown design k depth all level → IsDown design k below_it new next
-level_down design k depth d all new level zeros next e none nexts news down weight =
-    let f : ℕ → ℕ = λ m. weight m + within design weight d m in
-    let deep : carried (weighed weight 0 all + weighed (below design f) 0 level) ≡ carried (inside design weight k) =
-    ap (λ (n : ℕ). carried (weighed weight 0 all + weighed (within design weight n) 0 level)) (sym e) ∙ down weight in
-    let split : carried (weighed weight 0 next + weighed (within design weight d) 0 next) ≡ carried (weighed f 0 zeros + weighed (below design f) 0 level) =
-    ap carried (sym (weighed_sum weight (within design weight d) 0 next)) ∙ nexts f in
-    let zeroed : weighed f 0 zeros ≡ weighed weight 0 zeros = none f ∙ sym (none weight) in
-    level_step (weighed weight 0 all) (weighed (below design weight) 0 level) (weighed weight 0 next) (weighed (within design weight d) 0 next) (weighed weight 0 new)
-    (weighed (below design f) 0 level) (weighed weight 0 zeros) (inside design weight k) (none weight) (news weight) (nexts weight)
-    (split ∙ ap (λ (n : ℕ). carried (n + weighed (below design f) 0 level)) zeroed) deep
+pub counted_down : (design : Design) (k depth below_it : ℕ) (all new level zeros next : List ℕ) → depth ≡ suc below_it → ((weight : ℕ → ℕ) → weighed weight 0 zeros ≡ 0)
+    → CountsAll design level zeros next → CountsAll design level all new → IsCountedDown design k depth all level → IsCountedDown design k below_it new next
+counted_down design k depth d all new level zeros next e none nexts news down =
+    level_down design depth d (λ weight. inside design weight k) (tally_of all) (tally_of new) (tally_of level) (tally_of next) e (is_tally next)
+    (λ weight. without (weighed weight 0 zeros) (weighed weight 0 next) (weighed (below design weight) 0 level) (none weight) (nexts weight)) news down
 
 first_step : (z a y t : ℕ) → z ≡ 0 → y ≡ 0 → carried a ≡ carried (y + 1 * t) → carried (z + a) ≡ carried t
 first_step z a y t e f g = omega (arith, e, f, g)
@@ -156,28 +117,45 @@ module _ (design : Design) (n k : ℕ) (all zeros : List ℕ) (first : all ≡ r
       let none : get_or zeros k 0 ≡ 0 = ap (λ (xs : List ℕ). get_or xs k 0) second ∙ get_or-replicate n k 0 0 lt in
       one_more k 1 1 zeros (omega (arith, size, lt)) (omega (arith, none)) f
 
-  pub level_first : IsDown design k 32 all level
+  pub counted_first : IsCountedDown design k 32 all level
   unfolding inside
-  level_first weight =
+  counted_first weight =
       let f = within design weight 32 in
       first_step (weighed weight 0 all) (weighed f 0 level) (weighed f 0 zeros) (f k) (zeros_none n all first weight) (zeros_none n zeros second f) (one_there f)
 
--- nothing stands below a level that counts nothing
-level_done : (design : Design) (k depth : ℕ) (all level : List ℕ) → ((weight : ℕ → ℕ) → weighed (within design weight depth) 0 level ≡ 0) → IsDown design k depth all level → AreInside design k all
-level_done design k depth all level nothing down weight =
-    let z : weighed (within design weight depth) 0 level ≡ 0 = nothing weight in
-    let none : weighed weight 0 all ≡ weighed weight 0 all + weighed (within design weight depth) 0 level = omega (arith, z) in
-    ap carried none ∙ down weight
+pub counted_last : (design : Design) (k depth : ℕ) (all level : List ℕ) → depth ≡ 0 → IsCountedDown design k depth all level → AreCounted design k all
+counted_last design k depth all level e = level_last design depth (λ weight. inside design weight k) (tally_of all) (tally_of level) (is_tally level) e
 
-pub level_last : (design : Design) (k depth : ℕ) (all level : List ℕ) → depth ≡ 0 → IsDown design k depth all level → AreInside design k all
-level_last design k depth all level e =
-    level_done design k depth all level (λ weight. ap (λ (d : ℕ). weighed (within design weight d) 0 level) e ∙ weighed_none 0 level)
+pub counted_empty : (design : Design) (k depth : ℕ) (all level : List ℕ) → list_all (λ (count : ℕ). count == 0) level ≡ true → IsCountedDown design k depth all level → AreCounted design k all
+counted_empty design k depth all level e =
+    level_done design depth (λ weight. inside design weight k) (tally_of all) (tally_of level) (λ weight. weighed_empty (within design weight depth) 0 level e)
 
-pub level_empty : (design : Design) (k depth : ℕ) (all level : List ℕ) → list_all (λ (count : ℕ). count == 0) level ≡ true → IsDown design k depth all level → AreInside design k all
-level_empty design k depth all level e = level_done design k depth all level (λ weight. weighed_empty (within design weight depth) 0 level e)
+-- ---- as a list of stands
 
--- ---- sums
+listed_step : (a b n p q r : ℕ) → b ≡ a + p → n ≡ p + q → a + n ≡ r → b + q ≡ r
+listed_step a b n p q r e f g = omega (arith, e, f, g)
 
-pub all_summed : (weight : ℕ → ℕ) (table : List ℕ) (k sum all : ℕ) → length table ≤ k → sum ≤ 18446744073709551615 → carried (sum + weighed weight k (drop k table)) ≡ carried all → sum ≡ carried all
-all_summed weight table k sum all end few so_far =
-    let z : weighed weight k (drop k table) ≡ 0 = ap (weighed weight k) (drop_all k table end) in omega (arith, z, few, so_far)
+-- the stands so far, with the counts that are left
+abbrev pub Listing : List ℕ → List Stand → ℕ → Type 0
+Listing table stands k = (weight : ℕ → ℕ) → stood weight (take k stands) + weighed weight k (drop k table) ≡ weighed weight 0 table
+
+pub listed_first : (table : List ℕ) (stands : List Stand) → Listing table stands 0
+listed_first table stands weight = let all : 0 + weighed weight 0 table ≡ weighed weight 0 table = omega arith in all
+
+pub listed_more : (table : List ℕ) (stands : List Stand) (k : ℕ) (s : Stand) → k < length table → k < length stands → s.cell ≡ k → s.count ≡ get_or table k 0
+    → Listing table stands k → Listing table (slice_set stands k s) (k + 1)
+listed_more table stands k s lt there cell count so_far weight =
+    let w : Stand → ℕ = λ (x : Stand). x.count * weight x.cell in
+    listed_step (stood weight (take k stands)) (stood weight (take (k + 1) (slice_set stands k s))) (weighed weight k (drop k table)) (s.count * weight s.cell)
+    (weighed weight (k + 1) (drop (k + 1) table)) (weighed weight 0 table) (ap (stood weight) (take_more_set stands k s there) ∙ sum_by_push w (take k stands) s)
+    (ap (weighed weight k) (drop_more table k 0 lt) ∙ ap₂ (λ (x m : ℕ). x * weight m + weighed weight (suc k) (drop (k + 1) table)) (sym count) (sym cell)
+    ∙ ap (λ (m : ℕ). s.count * weight s.cell + weighed weight m (drop (k + 1) table)) (sym (add-one k))) (so_far weight)
+
+pub all_listed : (table : List ℕ) (stands : List Stand) (k : ℕ) → length table ≤ k → length stands ≤ k → Listing table stands k → IsListed table stands
+all_listed table stands k end all so_far weight =
+    let z : weighed weight k (drop k table) ≡ 0 = ap (weighed weight k) (drop_all k table end) in
+    let t : stood weight (take k stands) ≡ stood weight stands = ap (stood weight) (take_all k stands all) in
+    let is : stood weight (take k stands) + weighed weight k (drop k table) ≡ weighed weight 0 table = so_far weight in omega (arith, z, t, is)
+
+pub listed_inside : (design : Design) (k : ℕ) (table : List ℕ) (stands : List Stand) → IsListed table stands → AreCounted design k table → AreInside design k stands
+listed_inside design k table stands listed counted weight = ap carried (listed weight) ∙ counted weight

@@ -2,7 +2,7 @@
 
 ghost use Rattle.std.specs.Prelude.{◌≡◌, ◌<◌, ◌+◌, ◌*◌, filter, is_none, length, nat_lt};
 ghost use Rattle.flat_sizes.specs.Sizes.{AreSizes};
-ghost use Rattle.flat_sizes.specs.Totals.{AreInside, global_weight, inside, names_inside, nets_weight, weighed, weight_of};
+ghost use Rattle.flat_sizes.specs.Totals.{AreInside, global_weight, inside, names_inside, nets_weight, stood, weight_of};
 ghost use Rattle.vrt_model.specs.CellRules.{supply_of};
 ghost use Rattle.vrt_model.specs.Comparison.{cell_at};
 ghost use Rattle.vrt_model.specs.FlatCircuit.{flat_devices, flat_nets};
@@ -11,7 +11,8 @@ ghost use Rattle.vrt_model.specs.Unsupported.{carried, top_before};
 
 use crate::last_mentions::own_count;
 use crate::mentions::{names_global, net_count};
-use crate::totals::cells_inside;
+use crate::stands::Stand;
+use crate::totals::{cells_inside, listed};
 use vrt_model::{Design, Rules, Text};
 
 /// How many nets, devices and instances a flat circuit has; a count past the greatest number is that number.
@@ -78,12 +79,12 @@ fn weight_at(design: &Design, rules: &Rules, cell: usize, counted: Counted, coun
 }
 
 /// What cells count that stand so often.
-fn sum_of(design: &Design, rules: &Rules, counted: Counted, counts: &[u64; 4096]) -> u64
-    ensures { result ≡ carried (weighed (weight_of counted design.now rules.now) 0 counts.now) }
+fn sum_of(design: &Design, rules: &Rules, counted: Counted, stands: &[Stand]) -> u64
+    ensures { result ≡ carried (stood (weight_of counted design.now rules.now) stands.now) }
 {
     let mut sum = 0u64;
-    for cell in 0..4096usize {
-        sum = sum.saturating_add(weight_at(design, rules, cell, counted, counts[cell]));
+    for stand in stands {
+        sum = sum.saturating_add(weight_at(design, rules, stand.cell, counted, stand.count));
     }
     sum
 }
@@ -94,12 +95,12 @@ fn inner_count(
     rules: &Rules,
     cell: usize,
     counted: Counted,
-    counts: &[u64; 4096],
+    stands: &[Stand],
 ) -> u64
-    requires { AreInside design.now cell counts.now }
+    requires { AreInside design.now cell stands.now }
     ensures { result ≡ carried (inside design.now (weight_of counted design.now rules.now) cell) }
 {
-    sum_of(design, rules, counted, counts)
+    sum_of(design, rules, counted, stands)
 }
 
 /// Whether a card of a cell names a global net.
@@ -123,11 +124,11 @@ fn is_named_at(design: &Design, rules: &Rules, cell: usize, count: u64, name: &T
 }
 
 /// Whether a card of a cell that stands somewhere names a global net.
-fn is_named(design: &Design, rules: &Rules, counts: &[u64; 4096], name: &Text) -> bool
-    ensures { result ≡ nat_lt 0 (weighed (global_weight design.now rules.now name.now) 0 counts.now) }
+fn is_named(design: &Design, rules: &Rules, stands: &[Stand], name: &Text) -> bool
+    ensures { result ≡ nat_lt 0 (stood (global_weight design.now rules.now name.now) stands.now) }
 {
-    for cell in 0..4096usize {
-        if is_named_at(design, rules, cell, counts[cell], name) {
+    for stand in stands {
+        if is_named_at(design, rules, stand.cell, stand.count, name) {
             return true;
         }
     }
@@ -135,23 +136,23 @@ fn is_named(design: &Design, rules: &Rules, counts: &[u64; 4096], name: &Text) -
 }
 
 /// Whether a card of a cell, or of a cell in it, names a global net.
-fn is_global(design: &Design, rules: &Rules, cell: usize, counts: &[u64; 4096], name: &Text) -> bool
-    requires { AreInside design.now cell counts.now }
+fn is_global(design: &Design, rules: &Rules, cell: usize, stands: &[Stand], name: &Text) -> bool
+    requires { AreInside design.now cell stands.now }
     ensures { result ≡ names_inside design.now rules.now cell name.now }
 {
-    is_global_at(design, rules, cell, name) || is_named(design, rules, counts, name)
+    is_global_at(design, rules, cell, name) || is_named(design, rules, stands, name)
 }
 
 /// How many global nets a cell has.
-fn global_count(design: &Design, rules: &Rules, cell: usize, counts: &[u64; 4096]) -> usize
-    requires { AreInside design.now cell counts.now }
+fn global_count(design: &Design, rules: &Rules, cell: usize, stands: &[Stand]) -> usize
+    requires { AreInside design.now cell stands.now }
     ensures { result ≡ length (filter (names_inside design.now rules.now cell) design.now.globals) }
 {
     design
         .globals
         .as_slice()
         .iter()
-        .filter(|name| is_global(design, rules, cell, counts, name))
+        .filter(|name| is_global(design, rules, cell, stands, name))
         .count()
 }
 
@@ -168,18 +169,18 @@ fn all_nets(
     design: &Design,
     rules: &Rules,
     cell: usize,
-    counts: &[u64; 4096],
+    stands: &[Stand],
     own: u64,
     inner: u64,
 ) -> u64
     requires there { cell < length design.now.cells }
-    requires counts { AreInside design.now cell counts.now }
+    requires stands { AreInside design.now cell stands.now }
     requires own { own ≡ carried (nets_weight design.now rules.now cell) }
     requires inner { inner ≡ carried (inside design.now (nets_weight design.now rules.now) cell) }
     ensures { result ≡ carried (length (flat_nets (top_before design.now rules.now cell))) }
 {
     let ports = port_count(design, rules, cell) as u64;
-    let globals = global_count(design, rules, cell, counts) as u64;
+    let globals = global_count(design, rules, cell, stands) as u64;
     ports
         .saturating_add(globals)
         .saturating_add(own)
@@ -188,11 +189,11 @@ fn all_nets(
 }
 
 /// How many devices a cell has.
-fn all_devices(design: &Design, rules: &Rules, cell: usize, counts: &[u64; 4096]) -> u64
-    requires { AreInside design.now cell counts.now }
+fn all_devices(design: &Design, rules: &Rules, cell: usize, stands: &[Stand]) -> u64
+    requires { AreInside design.now cell stands.now }
     ensures { result ≡ carried (length (flat_devices (top_before design.now rules.now cell))) }
 {
-    let inner = inner_count(design, rules, cell, Counted::Devices, counts);
+    let inner = inner_count(design, rules, cell, Counted::Devices, stands);
     devices_of(design, cell).saturating_add(inner)
 }
 
@@ -201,21 +202,32 @@ pub(crate) fn sizes_by(
     design: &Design,
     rules: &Rules,
     cell: usize,
-    counts: &[u64; 4096],
+    stands: &[Stand],
     own: u64,
     inner: u64,
 ) -> FlatSizes
     requires there { cell < length design.now.cells }
-    requires counts { AreInside design.now cell counts.now }
+    requires stands { AreInside design.now cell stands.now }
     requires own { own ≡ carried (nets_weight design.now rules.now cell) }
     requires inner { inner ≡ carried (inside design.now (nets_weight design.now rules.now) cell) }
     ensures { AreSizes (top_before design.now rules.now cell) result }
 {
     FlatSizes {
-        nets: all_nets(design, rules, cell, counts, own, inner),
-        devices: all_devices(design, rules, cell, counts),
-        instances: inner_count(design, rules, cell, Counted::Instances, counts),
+        nets: all_nets(design, rules, cell, stands, own, inner),
+        devices: all_devices(design, rules, cell, stands),
+        instances: inner_count(design, rules, cell, Counted::Instances, stands),
     }
+}
+
+/// How many nets, devices and instances a cell has, with the own nets of each cell counted without memory.
+fn sizes_of(design: &Design, rules: &Rules, cell: usize, stands: &[Stand]) -> FlatSizes
+    requires there { cell < length design.now.cells }
+    requires stands { AreInside design.now cell stands.now }
+    ensures { AreSizes (top_before design.now rules.now cell) result }
+{
+    let own = nets_of(design, rules, cell);
+    let inner = inner_count(design, rules, cell, Counted::Nets, stands);
+    sizes_by(design, rules, cell, stands, own, inner)
 }
 
 /// How many nets, devices and instances the flat circuit of a cell has. It takes no memory and unrolls no instance; its
@@ -226,8 +238,6 @@ pub fn sizes(design: &Design, rules: &Rules, cell: u32) -> FlatSizes
     ensures { AreSizes (top_before design.now rules.now cell) result }
 {
     let cell = cell as usize;
-    let counts = cells_inside(design, cell);
-    let own = nets_of(design, rules, cell);
-    let inner = inner_count(design, rules, cell, Counted::Nets, &counts);
-    sizes_by(design, rules, cell, &counts, own, inner)
+    let stands = listed(&cells_inside(design, cell));
+    sizes_of(design, rules, cell, stands.as_slice())
 }

@@ -6,6 +6,7 @@ mod last_mentions;
 mod linear;
 mod mentions;
 mod own;
+mod stands;
 mod totals;
 
 pub use counts::{FlatSizes, sizes};

@@ -2,13 +2,14 @@
 
 ghost use Rattle.std.specs.Prelude.{◌≡◌, ◌<◌, ◌*◌, IfOk, length};
 ghost use Rattle.flat_sizes.specs.Sizes.{AreSizes};
-ghost use Rattle.flat_sizes.specs.Totals.{AreInside, inside, nets_weight, weighed};
+ghost use Rattle.flat_sizes.specs.Totals.{AreInside, AreNumbered, inside, nets_weight, stood};
 ghost use Rattle.vrt_model.specs.Inputs.{IsDesign};
 ghost use Rattle.vrt_model.specs.Unsupported.{carried, top_before};
 
 use crate::counts::{FlatSizes, sizes_by};
 use crate::own::own_count;
-use crate::totals::cells_inside;
+use crate::stands::{Stand, stands_inside};
+use rule_index::FirstValues;
 use std::alloc::Global;
 use vrt_model::{Design, NoMemory, Rules};
 
@@ -44,13 +45,13 @@ fn sum_with(
     alloc: Global,
     design: &Design,
     rules: &Rules,
-    counts: &[u64; 4096],
+    stands: &[Stand],
 ) -> Result<u64, NoMemory>
-    ensures { IfOk result (λ sum. sum ≡ carried (weighed (nets_weight design.now rules.now) 0 counts.now)) }
+    ensures { IfOk result (λ sum. sum ≡ carried (stood (nets_weight design.now rules.now) stands.now)) }
 {
     let mut sum = 0u64;
-    for cell in 0..4096usize {
-        let weight = weight_with(alloc, design, rules, cell, counts[cell])?;
+    for stand in stands {
+        let weight = weight_with(alloc, design, rules, stand.cell, stand.count)?;
         sum = sum.saturating_add(weight);
     }
     Ok(sum)
@@ -62,30 +63,49 @@ fn inner_with(
     design: &Design,
     rules: &Rules,
     cell: usize,
-    counts: &[u64; 4096],
+    stands: &[Stand],
 ) -> Result<u64, NoMemory>
-    requires { AreInside design.now cell counts.now }
+    requires { AreInside design.now cell stands.now }
     ensures { IfOk result (λ count. count ≡ carried (inside design.now (nets_weight design.now rules.now) cell)) }
 {
-    sum_with(alloc, design, rules, counts)
+    sum_with(alloc, design, rules, stands)
 }
 
-/// How many nets, devices and instances the flat circuit of a cell has: the same as `sizes`. Its time is in proportion to
-/// what the cards of the cells name, and to that times the count of global nets, and grows with the count of cells times
-/// that of cards; its memory to what the cards of one cell name.
+/// How many nets, devices and instances a cell has, with the own nets of each cell counted in a set.
+fn sizes_of(
+    alloc: Global,
+    design: &Design,
+    rules: &Rules,
+    cell: usize,
+    stands: &[Stand],
+) -> Result<FlatSizes, NoMemory>
+    requires there { cell < length design.now.cells }
+    requires stands { AreInside design.now cell stands.now }
+    ensures { IfOk result (λ sizes. AreSizes (top_before design.now rules.now cell) sizes) }
+{
+    let own = nets_with(alloc, design, rules, cell)?;
+    let inner = inner_with(alloc, design, rules, cell, stands)?;
+    Ok(sizes_by(design, rules, cell, stands, own, inner))
+}
+
+/// How many nets, devices and instances the flat circuit of a cell has: the same as `sizes`, with the numbers of cells by
+/// their names given. Its time is in proportion to what the cards of the cells that stand in it name, to the rules on
+/// supplies, and to what the cards name times the count of global nets, and to the cards once for each level on which a cell
+/// stands; its memory to the cells that stand in it and to what the cards of one cell name. Of the other cells of the
+/// netlist it takes no time.
 pub fn sizes_with(
     alloc: Global,
     design: &Design,
     rules: &Rules,
+    cells: &FirstValues<usize>,
     cell: u32,
 ) -> Result<FlatSizes, NoMemory>
     requires netlist { IsDesign design.now }
+    requires numbered { AreNumbered design.now cells.now }
     requires there { cell < length design.now.cells }
     ensures { IfOk result (λ sizes. AreSizes (top_before design.now rules.now cell) sizes) }
 {
     let cell = cell as usize;
-    let counts = cells_inside(design, cell);
-    let own = nets_with(alloc, design, rules, cell)?;
-    let inner = inner_with(alloc, design, rules, cell, &counts)?;
-    Ok(sizes_by(design, rules, cell, &counts, own, inner))
+    let stands = stands_inside(alloc, design, cells, cell)?;
+    sizes_of(alloc, design, rules, cell, stands.as_slice())
 }

@@ -1,12 +1,13 @@
-//! How often each cell stands in another, level by level: no instance is unrolled.
+//! How often each cell stands in another, as a table with a count for each cell, without memory: no instance is unrolled.
 
-ghost use Rattle.std.specs.Prelude.{◌≡◌, ◌==◌, ◌<◌, ◌≤◌, ℕ, bytes_eq, length, position, replicate};
+ghost use Rattle.std.specs.Prelude.{◌≡◌, ◌==◌, ◌<◌, ◌≤◌, ℕ, bytes_eq, get_or, length, position, replicate};
 ghost use Rattle.std.specs.List.{list_all};
-ghost use Rattle.flat_sizes.specs.Totals.{Adds, AddsAll, AddsOne, AreInside};
+ghost use Rattle.flat_sizes.specs.Totals.{AreCounted, Counts, CountsAll, CountsOne, IsListed};
 ghost use Rattle.vrt_model.specs.Comparison.{cell_at};
 ghost use Rattle.vrt_model.specs.Unrolled.{cell_named};
 ghost use Rattle.vrt_model.specs.declared.design.Cell.{Cell as CellValue};
 
+use crate::stands::Stand;
 use vrt_model::{Cell, Design, InstanceCard, Text};
 
 /// The number of the first cell of a name.
@@ -26,7 +27,7 @@ fn cell_number(design: &Design, name: &Text) -> usize
 /// One cell stands so often more.
 fn add_cell(table: &mut [u64; 4096], cell: usize, count: u64)
     requires { cell < 4096 }
-    ensures { AddsOne cell count table.old table.new }
+    ensures { CountsOne cell count table.old table.new }
 {
     table[cell] = table[cell].saturating_add(count);
 }
@@ -40,8 +41,8 @@ fn add_cards(
     all: &mut [u64; 4096],
 )
     requires { length design.now.cells ≤ 4096 }
-    ensures level { Adds design.now cards.now count level.old level.new }
-    ensures all { Adds design.now cards.now count all.old all.new }
+    ensures level { Counts design.now cards.now count level.old level.new }
+    ensures all { Counts design.now cards.now count all.old all.new }
 {
     for card in cards {
         let cell = cell_number(design, &card.cell);
@@ -59,8 +60,8 @@ fn add_inner(
     all: &mut [u64; 4096],
 )
     requires { length design.now.cells ≤ 4096 }
-    ensures level { Adds design.now (cell_at design.now cell).instances count level.old level.new }
-    ensures all { Adds design.now (cell_at design.now cell).instances count all.old all.new }
+    ensures level { Counts design.now (cell_at design.now cell).instances count level.old level.new }
+    ensures all { Counts design.now (cell_at design.now cell).instances count all.old all.new }
 {
     if count > 0 && cell < design.cells.len() {
         let found = &design.cells.as_slice()[cell];
@@ -71,8 +72,8 @@ fn add_inner(
 /// The same for the cells of a level.
 fn add_level(design: &Design, level: &[u64; 4096], next: &mut [u64; 4096], all: &mut [u64; 4096])
     requires { length design.now.cells ≤ 4096 }
-    ensures next { AddsAll design.now level.now next.old next.new }
-    ensures all { AddsAll design.now level.now all.old all.new }
+    ensures next { CountsAll design.now level.now next.old next.new }
+    ensures all { CountsAll design.now level.now all.old all.new }
 {
     for cell in 0..design.cells.len() {
         add_inner(design, cell, level[cell], next, all);
@@ -103,7 +104,7 @@ fn no_cells() -> [u64; 4096]
 pub(crate) fn cells_inside(design: &Design, cell: usize) -> [u64; 4096]
     requires few { length design.now.cells ≤ 4096 }
     requires there { cell < length design.now.cells }
-    ensures { AreInside design.now cell result }
+    ensures { AreCounted design.now cell result }
 {
     let mut all = no_cells();
     let mut level = no_cells();
@@ -117,4 +118,27 @@ pub(crate) fn cells_inside(design: &Design, cell: usize) -> [u64; 4096]
         level = next;
     }
     all
+}
+
+/// A cell with its count in a table.
+fn stand_of(table: &[u64; 4096], cell: usize) -> Stand
+    requires { cell < 4096 }
+    ensures cell { result.cell ≡ cell }
+    ensures count { result.count ≡ get_or table.now cell 0 }
+{
+    Stand {
+        cell,
+        count: table[cell],
+    }
+}
+
+/// The counts of a table as a list of stands, one for each cell.
+pub(crate) fn listed(table: &[u64; 4096]) -> [Stand; 4096]
+    ensures { IsListed table.now result }
+{
+    let mut stands = [Stand { cell: 0, count: 0 }; 4096];
+    for cell in 0..4096usize {
+        stands[cell] = stand_of(table, cell);
+    }
+    stands
 }

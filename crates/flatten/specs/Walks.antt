@@ -2,9 +2,10 @@
 use Rattle.std.specs.Prelude.{◌≡◌, ℕ, zero, suc, List, [], ◌∷◌, map, find, is_none, Bool, true, false, cond, Option, Some, None, unwrap_or, slice_get, position, bytes_eq, ◌==◌}
 use Rattle.std.specs.Option.{option_or}
 use Rattle.flat_devices.specs.DeviceTables.{first_some}
+pub use Rattle.flat_sizes.specs.Totals.{AreNumbered}
 use Rattle.flatten.specs.NetTables.{Supplies}
 use Rattle.rule_index.specs.Firsts.{value_in}
-use Rattle.rule_index.specs.Tables.{cell_numbered, kind_in}
+use Rattle.rule_index.specs.Tables.{kind_in}
 use Rattle.rule_index.specs.declared.firsts.FirstValues.{FirstValues}
 use Rattle.rule_index.specs.declared.models.ModelTable.{ModelTable}
 use Rattle.flatten.specs.declared.ties.Spot.{Spot}
@@ -14,10 +15,6 @@ use Rattle.vrt_model.specs.Unrolled.{cell_named, deepest}
 use Rattle.vrt_model.specs.declared.design.Design.{Design}
 use Rattle.vrt_model.specs.declared.design.DeviceCard.{DeviceCard}
 use Rattle.vrt_model.specs.declared.design.InstanceCard.{InstanceCard}
-
--- a table has the number of each cell under its name
-abbrev pub AreNumbered : Design → FirstValues ℕ → Type 0
-AreNumbered design cells = (name : List ℕ) → value_in cells name ≡ cell_numbered design.cells name
 
 -- ---- devices
 

@@ -1,7 +1,8 @@
 //! The flat circuit.
 
-ghost use Rattle.std.specs.Prelude.{◌≡◌, ◌<◌, ◌≤◌, List, None, IfOk, length};
-ghost use Rattle.flatten.specs.Circuits.{FlatGives};
+ghost use Rattle.std.specs.Prelude.{◌≡◌, ◌<◌, ◌≤◌, List, IfOk, length};
+ghost use Rattle.flatten.specs.Circuits.{FlatGives, IsFlatCircuit};
+ghost use Rattle.flatten.specs.Structures.{IsStructured};
 ghost use Rattle.net_places.specs.Links.{IsUnrolled};
 ghost use Rattle.net_places.specs.Whole.{whole_of};
 ghost use Rattle.net_tables.specs.Tables.{AreNetTables};
@@ -9,7 +10,7 @@ ghost use Rattle.rule_index.specs.Tables.{AreIndexed};
 ghost use Rattle.vrt_model.specs.FlatCircuit.{flat_circuit, flat_nets};
 ghost use Rattle.vrt_model.specs.Hierarchy.{AreHoldNets};
 ghost use Rattle.vrt_model.specs.Inputs.{AreRules, IsDesign};
-ghost use Rattle.vrt_model.specs.Unsupported.{circuit_limits, too_large, top_before};
+ghost use Rattle.vrt_model.specs.Unsupported.{top_before};
 ghost use Rattle.vrt_model.specs.declared.pairing.PortRole.{PortRole as RoleValue};
 
 use crate::faults::FlatFault;
@@ -57,8 +58,8 @@ fn circuit_of(
     })
 }
 
-/// The circuit of a cell in whose way nothing stands.
-fn assemble(
+/// The flat circuit of a cell in whose way nothing stands, as `structure_with` finds: want of memory is the only refusal.
+pub fn structured_circuit(
     alloc: Global,
     index: &RuleIndex,
     tables: &NetTables,
@@ -68,12 +69,13 @@ fn assemble(
     pairing: &Pairing,
 ) -> Result<Circuit, NoMemory>
     requires netlist { IsDesign design.now }
+    requires ruled { AreRules rules.now }
     requires names { AreHoldNets design.now rules.now }
     requires indexed { AreIndexed design.now rules.now index.now }
     requires tables { AreNetTables design.now rules.now tables.now }
     requires there { cell < length design.now.cells }
-    requires small { too_large (circuit_limits (top_before design.now rules.now cell)) ≡ None }
-    ensures { IfOk result (λ circuit. circuit ≡ flat_circuit design.now rules.now cell pairing.now) }
+    requires structured { IsStructured (top_before design.now rules.now cell) }
+    ensures { IfOk result (IsFlatCircuit design.now rules.now cell pairing.now) }
 {
     let unrolled = unroll(alloc, design, rules, tables, cell)?;
     circuit_of(
@@ -102,7 +104,7 @@ pub fn flat_with(
     ensures { FlatGives design.now rules.now cell pairing.now result }
 {
     match structure_with(alloc, index, design, rules, cell) {
-        Ok(()) => match assemble(alloc, index, tables, design, rules, cell, pairing) {
+        Ok(()) => match structured_circuit(alloc, index, tables, design, rules, cell, pairing) {
             Ok(circuit) => Ok(circuit),
             Err(_) => Err(FlatFault::NoMemory),
         },

@@ -169,7 +169,7 @@ fn test_whole(
     requires there { cell < length design.now.cells }
     ensures { StructureGives (top_before design.now rules.now cell) result }
 {
-    let counts = sizes_with(alloc, design, rules, cell)?;
+    let counts = sizes_with(alloc, design, rules, &index.cells, cell)?;
     if let Some(count) = first_large(counts) {
         return Err(FlatFault::Limit { count });
     }

@@ -1,6 +1,6 @@
 -- Instances that are tried without a look at cycles.
 use Rattle.std.proofs.Common.{◌≡◌, ℕ, zero, suc, Bool, true, false, List, [], ◌∷◌, length, map, Option, Some, arith, ap, refl, subst, sym, ◌∙◌}
-use Rattle.std.specs.Prelude.{option_map}
+use Rattle.std.specs.Prelude.{option_map, unwrap_or}
 use Rattle.std.specs.List.{list_any}
 use Rattle.std.proofs.lemmas.Bool.{false≢true}
 use Rattle.std.proofs.lemmas.Option.{none-some, slice_get_within}
@@ -28,12 +28,13 @@ use Rattle.vrt_model.specs.declared.circuit.Circuit.{Circuit}
 use Rattle.vrt_model.specs.declared.pairing.PortRole.TheVariants.{Clock}
 use Rattle.vrt_model.specs.declared.rules.ClockRef.{ClockRef}
 use Rattle.vrt_model.specs.declared.whole.CellFacts.{CellFacts}
+use Rattle.whole_circuits.specs.declared.whole_cell.WholeCell.{WholeCell}
 use Rattle.whole_cells.specs.Entries.{IsWholeEntry}
 use Rattle.substitute.proofs.RightLaws.{allowed_of}
 use Rattle.substitute.proofs.UnderwayLaws.{count, is_entry, place_at_number}
 use Rattle.substitute.proofs.WholeLaws.{at_end, flat_with_none, last, unmarked}
 use Rattle.substitute.specs.Chosen.{cut_of}
-use Rattle.substitute.specs.Clocked.{carries_clock, is_clocked}
+use Rattle.substitute.specs.Clocked.{carries_clock, is_clocked, is_clocked_at}
 use Rattle.substitute.specs.Underway.{AreChosen, AreChosenBelow, AreTables}
 use Rattle.substitute.specs.declared.choice.Chosen.{Chosen}
 use Rattle.substitute.specs.declared.tables.Tables.{Tables}
@@ -84,7 +85,7 @@ module _ (t : Top) (blif : Blif) (facts : List CellFacts) (tables : Tables) (are
   )
 
   -- no chosen instance is of a cell with a clock port
-  module _ (unclocked : list_any is_clocked tables.cells.now ≡ false) where
+  module _ (unclocked : list_any (is_clocked_at tables.cells.now) tables.unrolled.now.places ≡ false) where
     by_place : (n : ℕ) (p : NumberedPlace) (m : ℕ) (pin : Pin) (clock : ClockRef) → At (numbered_places t) n p → is_whole cut.choice n ≡ true
         → paired_model t.design blif t.rules p.at.cell ≡ Model m → Among (pins_of (comparison_of t.design blif t.rules p.at.cell m) p.at) pin → pin.port.role ≡ Clock clock → ⊥
     by_place zero p m pin clock there on paired among role = false≢true on
@@ -99,7 +100,8 @@ module _ (t : Top) (blif : Blif) (facts : List CellFacts) (tables : Tables) (are
         (map_among unnamed (ports_of (comparison_of t.design blif t.rules p.at.cell m)) pin.port (among.0, port)) in
         let carries : carries_clock pin.port.role ≡ true = ap carries_clock role in
         let clocked = among_any (λ (x : Port). carries_clock x.role) own.0.ports.items (unnamed pin.port) listed carries in
-        false≢true (sym unclocked ∙ among_any is_clocked tables.cells.now (Some own.0) (place.0.cell, own.1) clocked)
+        let here : is_clocked_at tables.cells.now place.0 ≡ true = ap (λ (e : Option (Option WholeCell)). unwrap_or (option_map is_clocked e) false) own.1 ∙ clocked in
+        false≢true (sym unclocked ∙ among_any (is_clocked_at tables.cells.now) tables.unrolled.now.places place.0 (suc i, place.1) here)
 
     carried : AreClocksCarried cut blif
     carried p m pin clock on paired among role =

@@ -2,6 +2,7 @@
 use Rattle.std.proofs.Common.{◌≡◌, ◌<◌, ℕ, zero, suc, ◌≤◌, Bool, true, false, List, [], ◌∷◌, length, Option, Some, None, arith, ap, refl, subst, sym, ◌∙◌}
 use Rattle.std.specs.List.{list_any}
 use Rattle.std.proofs.lemmas.Bool.{false≢true}
+use Rattle.std.proofs.lemmas.Option.{slice_get_within}
 use mathlib.Core.Path.{fun_ext}
 use Rattle.checked_chain.proofs.EndLaws.{chain_begins_flat}
 use Rattle.checked_cells.proofs.PlacesAlone.{ties_same}
@@ -27,7 +28,7 @@ use Rattle.vrt_model.specs.Comparison.{phase_at}
 use Rattle.vrt_model.specs.Cut.{Cut}
 use Rattle.vrt_model.specs.FlatCircuit.{flat_circuit_of, flat_nets}
 use Rattle.vrt_model.specs.Known.{HasArc}
-use Rattle.vrt_model.specs.Lists.{mark_at}
+use Rattle.vrt_model.specs.Lists.{Among, mark_at}
 use Rattle.vrt_model.specs.Unrolled.{Top}
 use Rattle.vrt_model.specs.Unsupported.{IsAcyclic, top_before}
 use Rattle.vrt_model.specs.declared.blif.Blif.{Blif}
@@ -40,7 +41,9 @@ use Rattle.vrt_model.specs.declared.rules.Rules.{Rules}
 use Rattle.vrt_model.specs.declared.whole.CellFacts.{CellFacts}
 use Rattle.whole_cells.proofs.EnteredLaws.{entered_are_whole_cells}
 use Rattle.whole_cells.specs.Entries.{IsEntry}
+use Rattle.whole_cells.specs.Kept.{AreKept}
 use Rattle.whole_cells.specs.Own.{AreFiles}
+use Rattle.whole_cells.specs.declared.kept.KeptCells.{KeptCells}
 use Rattle.substitute.proofs.UnderwayLaws.{count, cut_at_chosen}
 use Rattle.substitute.specs.Chosen.{cut_of}
 use Rattle.substitute.specs.Cycles.{IsTriedBy}
@@ -198,6 +201,16 @@ tables_of design blif rules cell roles facts tables is unrolled phases owners en
     entry_of : (entry : Option WholeCell) (place : Place) → IsEntry (top_before design rules place.cell) blif facts place.cell entry → IsEntry (whole_of design rules cell roles) blif facts place.cell entry
     entry_of None place is = is
     entry_of (Some own) place is = record { cell = record { number = is.cell.number; paired = is.cell.paired; has = is.cell.has; drives = is.cell.drives }; allowed = is.allowed; ports = is.ports }
+
+-- each of some cells of which an entry is made has it
+pub kept_entries : (design : Design) (blif : Blif) (rules : Rules) (facts : List CellFacts) (places : List Place) (kept : KeptCells) → AreKept design blif rules facts kept
+    → ((p : Place) → Among places p → p.cell < length design.cells → mark_at kept.made.items p.cell ≡ true) → AreEntriesOf design blif rules facts places kept.cells.items
+kept_entries design blif rules facts places kept are made = record {
+  each = are.each;
+  are = λ place entry among at.
+      let within = slice_get_within kept.cells.items place.cell entry at in
+      let each = are.each in are.are place.cell entry at (made place among (omega (arith, within, each)));
+}
 
 -- ---- a slice of facts
 

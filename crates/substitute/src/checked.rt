@@ -13,6 +13,7 @@ use flatten::{FlatFault, flat_with};
 use prepared_tables::{Prepared, prepare};
 use std::alloc::Global;
 use vrt_model::{Blif, CellFacts, Circuit, Design, NoMemory, Pairing, Rules, Seq};
+use whole_cells::KeptCells;
 use whole_circuits::are_acyclic;
 
 /// The checked circuit of a cell with this flat circuit, none where it is the flat one, as where its arcs lead around.
@@ -36,7 +37,10 @@ fn checked_of(
     if !free {
         return Ok(None);
     }
-    let whole = whole_with(alloc, prepared, design, blif, rules, cell, flat, facts)?;
+    let mut kept = KeptCells::none(alloc, design.cells.len())?;
+    let whole = whole_with(
+        alloc, prepared, design, blif, rules, cell, flat, facts, &mut kept,
+    )?;
     Ok(whole)
 }
 

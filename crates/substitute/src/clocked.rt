@@ -3,8 +3,9 @@
 ghost use Rattle.std.specs.Prelude.{◌≡◌};
 ghost use Rattle.std.specs.List.{list_any};
 ghost use Rattle.phase_ports.specs.declared.port_list.Port.{Port as PortValue};
-ghost use Rattle.substitute.specs.Clocked.{carries_clock, is_clocked};
+ghost use Rattle.substitute.specs.Clocked.{carries_clock, is_clocked, is_clocked_at};
 
+use net_places::Place;
 use phase_ports::Port;
 use vrt_model::PortRole;
 use whole_circuits::WholeCell;
@@ -45,13 +46,23 @@ fn is_clocked(cell: &Option<WholeCell>) -> bool
     }
 }
 
-/// Whether some cell whose instances may be left whole has a port that carries a clock.
-pub(crate) fn has_clocked_cell(cells: &[Option<WholeCell>]) -> bool
-    ensures { result ≡ list_any is_clocked cells.now }
+/// Whether the cell at a place is one whose instances may be left whole, with a port that carries a clock.
+fn is_clocked_at(cells: &[Option<WholeCell>], place: &Place) -> bool
+    ensures { result ≡ is_clocked_at cells.now place.now }
 {
-    let mut rest = cells;
-    'cells: while let Some((cell, behind)) = rest.split_first() {
-        if is_clocked(cell) {
+    match cells.get(place.cell) {
+        Some(cell) => is_clocked(cell),
+        None => false,
+    }
+}
+
+/// Whether some place is of a cell whose instances may be left whole and that has a port that carries a clock.
+pub(crate) fn has_clocked_cell(places: &[Place], cells: &[Option<WholeCell>]) -> bool
+    ensures { result ≡ list_any (is_clocked_at cells.now) places.now }
+{
+    let mut rest = places;
+    'places: while let Some((place, behind)) = rest.split_first() {
+        if is_clocked_at(cells, place) {
             return true;
         }
         rest = behind;

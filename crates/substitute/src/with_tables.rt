@@ -1,6 +1,6 @@
 //! The checked circuit of a cell, by what is known of the cells below it.
 
-ghost use Rattle.std.specs.Prelude.{◌≡◌, ◌<◌, Bool, false, List, All, length, IfOk};
+ghost use Rattle.std.specs.Prelude.{◌≡◌, ◌<◌, Bool, false, List, All, length, IfOk, OnOk};
 ghost use Rattle.std.specs.List.{list_any};
 ghost use Rattle.known_nets.specs.Wired.{IsWired};
 ghost use Rattle.net_places.specs.Instances.{AreSmall};
@@ -13,10 +13,10 @@ ghost use Rattle.vrt_model.specs.Unrolled.{Top};
 ghost use Rattle.vrt_model.specs.declared.blif.Blif.{Blif as BlifValue};
 ghost use Rattle.vrt_model.specs.declared.pairing.PortRole.{PortRole as RoleValue};
 ghost use Rattle.vrt_model.specs.declared.whole.CellFacts.{CellFacts as FactsValue};
+ghost use Rattle.whole_cells.specs.Kept.{AreKept};
 ghost use Rattle.whole_cells.specs.Own.{AreFiles};
-ghost use Rattle.whole_cells.specs.Table.{AreEntries, AreUsed};
 ghost use Rattle.substitute.specs.Chosen.{cut_of};
-ghost use Rattle.substitute.specs.Clocked.{is_clocked};
+ghost use Rattle.substitute.specs.Clocked.{is_clocked_at};
 ghost use Rattle.substitute.specs.Underway.{AreChosenBelow, AreTables};
 ghost use Rattle.substitute.specs.Whole.{AreEntriesOf, IsWholeGround, WholeGives};
 
@@ -29,8 +29,8 @@ use net_places::{Unrolled, unroll};
 use prepared_tables::Prepared;
 use std::alloc::Global;
 use vrt_model::{Blif, CellFacts, Circuit, Design, NoMemory, Rules};
-use whole_cells::{used_cells, whole_cells};
-use whole_circuits::{WholeCell, are_acyclic, device_places};
+use whole_cells::{KeptCells, make_used};
+use whole_circuits::{are_acyclic, device_places};
 
 /// Whether some mark is set.
 fn has_mark(marks: &[bool]) -> bool
@@ -80,7 +80,7 @@ fn all_at_once(alloc: Global, tables: Tables<'_>) -> Result<Option<Circuit>, NoM
     requires wired { IsWired tables.flat.now }
     requires small { AreSmall tables.unrolled.now.places }
     requires tables { (t : Top) × (blif : BlifValue) × (facts : List FactsValue) × AreTables t blif facts tables }
-    requires clocks { list_any is_clocked tables.cells.now ≡ false }
+    requires clocks { list_any (is_clocked_at tables.cells.now) tables.unrolled.now.places ≡ false }
     ensures { IfOk result (λ whole. (t : Top) (blif : BlifValue) (facts : List FactsValue) → AreTables t blif facts tables.entry → WholeGives t blif facts tables.entry.flat.now whole) }
 {
     let tried = choose_all(alloc, false, tables)?;
@@ -104,15 +104,15 @@ fn checked_by(alloc: Global, tables: Tables<'_>) -> Result<Option<Circuit>, NoMe
     requires tables { (t : Top) × (blif : BlifValue) × (facts : List FactsValue) × AreTables t blif facts tables }
     ensures { IfOk result (λ whole. (t : Top) (blif : BlifValue) (facts : List FactsValue) → AreTables t blif facts tables.entry → WholeGives t blif facts tables.entry.flat.now whole) }
 {
-    if has_clocked_cell(tables.cells) {
+    if has_clocked_cell(tables.unrolled.places.as_slice(), tables.cells) {
         one_by_one(alloc, tables)
     } else {
         all_at_once(alloc, tables)
     }
 }
 
-/// What the instances of each cell of some places have in common, if they may be left whole.
-fn entries_of(
+/// Makes what the instances of each cell of an unrolled one have in common, where it is not made yet.
+fn make_entries(
     alloc: Global,
     prepared: &Prepared,
     design: &Design,
@@ -120,17 +120,22 @@ fn entries_of(
     rules: &Rules,
     facts: &[CellFacts],
     unrolled: &Unrolled,
-) -> Result<Vec<Option<WholeCell>>, NoMemory>
+    kept: &mut KeptCells,
+) -> Result<(), NoMemory>
     requires prepared { ArePrepared design.now blif.now rules.now prepared.now }
     requires files { AreFiles design.now blif.now rules.now }
-    ensures { IfOk result (λ cells. AreEntriesOf design.now blif.now rules.now facts.now unrolled.now.places cells.items) }
+    requires kept { AreKept design.now blif.now rules.now facts.now kept.old }
+    ensures kept { OnOk result (AreKept design.now blif.now rules.now facts.now kept.new) }
+    ensures entries { OnOk result (AreEntriesOf design.now blif.now rules.now facts.now unrolled.now.places kept.new.cells.items) }
 {
-    let used = used_cells(alloc, design.cells.len(), unrolled.places.as_slice())?;
-    whole_cells(alloc, prepared, design, blif, rules, facts, used.as_slice())
+    let places = unrolled.places.as_slice();
+    make_used(alloc, prepared, design, blif, rules, facts, places, kept)?;
+    Ok(())
 }
 
 /// The checked circuit of a supported cell with this flat circuit, by what is known of the cells below it: its instances are tried
-/// one by one, each before those inside it. None where no instance is left whole, so that the flat circuit is the checked one.
+/// one by one, each before those inside it. None where no instance is left whole, so that the flat circuit is the checked one. What the
+/// instances of a cell have in common is made where it is not kept, and kept.
 pub fn whole_with(
     alloc: Global,
     prepared: &Prepared,
@@ -140,22 +145,25 @@ pub fn whole_with(
     cell: u32,
     flat: &Circuit,
     facts: &[CellFacts],
+    kept: &mut KeptCells,
 ) -> Result<Option<Circuit>, NoMemory>
     requires prepared { ArePrepared design.now blif.now rules.now prepared.now }
     requires files { AreFiles design.now blif.now rules.now }
     requires there { cell < length design.now.cells }
+    requires kept { AreKept design.now blif.now rules.now facts.now kept.old }
     requires ground { (roles : List RoleValue) × IsWholeGround design.now blif.now rules.now cell roles facts.now flat.now }
-    ensures { IfOk result (λ whole. (roles : List RoleValue) → IsWholeGround design.now blif.now rules.now cell roles facts.now flat.now → WholeGives (whole_of design.now rules.now cell roles) blif.now facts.now flat.now whole) }
+    ensures whole { IfOk result (λ whole. (roles : List RoleValue) → IsWholeGround design.now blif.now rules.now cell roles facts.now flat.now → WholeGives (whole_of design.now rules.now cell roles) blif.now facts.now flat.now whole) }
+    ensures kept { IfOk result (λ _. AreKept design.now blif.now rules.now facts.now kept.new) }
 {
     let unrolled = unroll(alloc, design, rules, &prepared.nets, cell)?;
     let owners = device_places(alloc, design, &unrolled)?;
-    let cells = entries_of(alloc, prepared, design, blif, rules, facts, &unrolled)?;
+    make_entries(alloc, prepared, design, blif, rules, facts, &unrolled, kept)?;
     let tables = Tables {
         phases: rules.phases.as_slice(),
         flat,
         unrolled: &unrolled,
         owners: owners.as_slice(),
-        cells: cells.as_slice(),
+        cells: kept.cells.as_slice(),
     };
     checked_by(alloc, tables)
 }

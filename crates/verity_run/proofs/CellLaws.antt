@@ -37,17 +37,10 @@ order_there design n among =
     omega (arith, within)
 
 -- those that are asked for
-asked_there : (design : Design) (word : Option (List ℕ)) (cells : List ℕ) → AreAsked design word cells → AreThere design cells
+pub asked_there : (design : Design) (word : Option (List ℕ)) (cells : List ℕ) → AreAsked design word cells → AreThere design cells
 asked_there design None cells are n among = order_there design n (subst (λ (xs : List ℕ). Among xs n) are among)
 asked_there design (Some word) cells (top, found, below) n among =
     order_there design n (among_filter below.keeps (cell_order design) n (subst (λ (xs : List ℕ). Among xs n) below.are among))
-
-pub given_there : (design : Design) (word : Option (List ℕ)) (cells given : List ℕ) → given ≡ cells → AreAsked design word cells → AreThere design given
-given_there design word cells given same are = subst (AreThere design) (sym same) (asked_there design word cells are)
-
--- the same list in other words
-pub given_asked : (design : Design) (word : Option (List ℕ)) (cells given : List ℕ) → given ≡ cells → AreAsked design word cells → AreAsked design word given
-given_asked design word cells given same are = subst (AreAsked design word) (sym same) are
 
 -- a cell of the list is one of the netlist
 pub number_there : (design : Design) (cells : List ℕ) (i n : ℕ) → i < length cells → n ≡ get_or cells i 0 → AreThere design cells → n < length design.cells

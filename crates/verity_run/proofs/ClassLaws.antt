@@ -3,14 +3,15 @@ use Rattle.std.proofs.Common.{◌≡◌, inl, inr, ◌∷◌, ◌++◌, [], ℕ,
 use Rattle.std.specs.Prelude.{IfOk}
 use Rattle.cell_compare.specs.Cells.{HasEarlyLine, IsEarly, IsFlattenedTo}
 use Rattle.cell_compare.specs.Compared.{IsFlattened}
-use Rattle.cell_compare.specs.declared.flattened.Flattened.{Flattened}
+use Rattle.cell_compare.specs.Flat.{Flattened}
 use Rattle.channel_parts.specs.Classes.{AreClasses}
 use Rattle.channel_parts.specs.declared.class.ClassLine.{ClassLine}
 use Rattle.mode_lines.specs.Lines.{class_lines}
 use Rattle.verity_run.specs.Classes.{IsClassed, IsOfTask}
 use Rattle.verity_run.specs.Reports.{counted}
 use Rattle.verity_run.specs.VerdictLines.{circuit_in, model_in}
-use Rattle.verity_run.specs.declared.report.CellLines.{CellLines}
+use Rattle.verity_run.specs.declared.cell_lines.CellLines.{CellLines}
+use Rattle.verity_run.specs.declared.refusals.Inputs.{Inputs}
 use Rattle.verity_run.specs.declared.report.Task.{Task}
 use Rattle.verity_run.specs.declared.status.Count.TheVariants.{Nothing}
 use Rattle.vrt_model.specs.Circuits.{IsFlat}
@@ -79,6 +80,6 @@ classes_told design blif rules n cell f lines named early made found =
     })
 
 -- the same for a task in other words
-pub task_told : {E : Type 0} (design : Design) (blif : Blif) (rules : Rules) (known then : List CellFacts) (n : ℕ) (task own : Task) (r : Result CellLines E) → task ≡ own
-    → IfOk r (λ t. IsOfTask own design blif rules known n t.count t.lines then) → IfOk r (λ t. IsOfTask task design blif rules known n t.count t.lines then)
-task_told design blif rules known then n task own r is told = subst (λ (x : Task). IfOk r (λ t. IsOfTask x design blif rules known n t.count t.lines then)) (sym is) told
+pub task_told : {E : Type 0} (i : Inputs) (known then : List CellFacts) (n : ℕ) (task own : Task) (r : Result CellLines E) → task ≡ own
+    → IfOk r (λ t. IsOfTask own i known n t.count t.lines then) → IfOk r (λ t. IsOfTask task i known n t.count t.lines then)
+task_told i known then n task own r is told = subst (λ (x : Task). IfOk r (λ t. IsOfTask x i known n t.count t.lines then)) (sym is) told

@@ -5,7 +5,7 @@ use Rattle.std.specs.Prelude.{bytes_eq, position, IfOk, MatchResult}
 use Rattle.std.specs.Str.{str_to_ascii_lowercase}
 use Rattle.std.specs.Io.KnownBytes.{Appends}
 use Rattle.cell_compare.specs.Compared.{IsFlattened, comparison}
-use Rattle.cell_compare.specs.declared.flattened.Flattened.{Flattened}
+use Rattle.cell_compare.specs.Flat.{Flattened}
 use Rattle.mode_lines.specs.Lists.{Tells as TellsFault, fault_at}
 use Rattle.mode_lines.specs.Points.{AreVariables, comparison_with, meets_with, setting_with}
 use Rattle.mode_lines.specs.Lines.{replay_lines}
@@ -170,29 +170,29 @@ shown_supported design blif rules n place items f count lines early made shown =
 
 -- ---- ends
 
-module _ (design : Design) (blif : Blif) (rules : Rules) (cell phase : List ℕ) (at : Option (Bor (List ℕ))) (count : Count) (lines given : List (List ℕ)) (status : Status) (old new : Option (List ℕ)) (before now : ℕ) where
+module _ (design : Design) (blif : Blif) (rules : Rules) (cell phase : List ℕ) (at : Option (Bor (List ℕ))) (count : Count) (lines : List (List ℕ)) (status : Status) (old new : Option (List ℕ)) (before now : ℕ) where
   -- all lines were put
-  pub replay_put : IsReplayed design blif rules cell phase at count lines → given ≡ lines → status ≡ with_count AllEqual count → IsEnded status → Appends old new (joined given)
+  pub replay_put : IsReplayed design blif rules cell phase at count lines → status ≡ with_count AllEqual count → IsEnded status → Appends old new (joined lines)
       → Ends (AnswersReplay design blif rules cell phase at) (BeginsReplay design blif rules cell phase at) status old new before now
-  replay_put is same counts ended put = record {
-    whole = λ p q. (lines, inr (record { count = count; replayed = is; ended = counts }), subst (λ (ls : List (List ℕ)). Appends old new (joined ls)) same put);
+  replay_put is counts ended put = record {
+    whole = λ p q. (lines, inr (record { count = count; replayed = is; ended = counts }), put);
     fault = λ e. absurd (ended.written e);
     memory = λ e. absurd (ended.had e);
   }
 
   -- not all were
-  pub replay_stops : IsReplayed design blif rules cell phase at count lines → given ≡ lines → StopsLines status given old new before now
+  pub replay_stops : IsReplayed design blif rules cell phase at count lines → StopsLines status lines old new before now
       → Ends (AnswersReplay design blif rules cell phase at) (BeginsReplay design blif rules cell phase at) status old new before now
-  replay_stops is same stops = record {
+  replay_stops is stops = record {
     whole = λ p q. absurd (elim stops.stopped [ inl e ↦ p e | inr e ↦ q e ]);
     fault = λ e.
         let w = stops.fault e in
-        (w.0, (lines, inl (with_count AllEqual count, inr (record { count = count; replayed = is; ended = refl })), (w.1.0, subst (λ (ls : List (List ℕ)). Appends old new (take w.1.0 (joined ls))) same w.1.1)));
+        (w.0, (lines, inl (with_count AllEqual count, inr (record { count = count; replayed = is; ended = refl })), (w.1.0, w.1.1)));
     memory = λ e.
         let w = stops.memory e in
         inr (
           take w.0 lines,
           (with_count AllEqual count, drop w.0 lines, record { count = count; replayed = subst (IsReplayed design blif rules cell phase at count) (split_at w.0 lines) is; ended = refl }),
-          subst (λ (ls : List (List ℕ)). Appends old new (joined (take w.0 ls))) same w.1,
+          w.1,
         );
   }

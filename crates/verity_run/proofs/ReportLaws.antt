@@ -122,17 +122,17 @@ verdicts_more design blif rules budget n cells cells' status status' lines lines
     let a : Answer = record { cell = n; verdict = is.verdict } in
     let listed : lines' ≡ answer_lines design blif rules (r.answers ++ a ∷ []) =
     all ∙ ap₂ (λ ls l. ls ++ l) r.lines_are is.line ∙ sym (map-append (λ (a : Answer). answer_line design blif rules a ++ 10 ∷ []) r.answers (a ∷ [])) in
-    let now : AreVerdicts design blif rules budget (r.answers ++ a ∷ []) known' = one_verdict a is.facts are is.is is.is_so refl is.noted in (
+    let now : AreVerdicts design blif rules budget (r.answers ++ a ∷ []) known' = one_verdict a is.judged.facts are is.judged.is is.judged.is_so refl is.judged.noted in (
       record {
         answers = r.answers ++ a ∷ [];
         on = map-append (λ (a : Answer). a.cell) r.answers (a ∷ []) ∙ ap (λ xs. xs ++ n ∷ []) r.on ∙ sym on;
         verdicts = (known', now);
         complete =
             let P : Answer → Type 0 = λ b. IsComplete design blif rules budget b.cell b.verdict in
-            All-append P r.answers (a ∷ []) r.complete (All-cons P a [] is.complete (All-nil P));
+            All-append P r.answers (a ∷ []) r.complete (All-cons P a [] is.judged.complete (All-nil P));
         runs =
             let P : Answer → Type 0 = λ b. HasRuns design blif rules b.cell b.verdict in
-            All-append P r.answers (a ∷ []) r.runs (All-cons P a [] is.runs (All-nil P));
+            All-append P r.answers (a ∷ []) r.runs (All-cons P a [] is.judged.runs (All-nil P));
         ended = counts ∙ ap₂ with_count r.ended is.counts ∙ sym (status_more r.answers a);
         lines_are = listed;
         text = ap joined listed ∙ text_of design blif rules (r.answers ++ a ∷ []);
@@ -172,18 +172,17 @@ module _ (IsOf : List CellFacts → ℕ → Count → List (List ℕ) → List C
   report_none old = record { lines = []; reports = no_cell; put = nothing_put old }
 
   -- the lines of a cell were put
-  pub cell_put : (known then : List CellFacts) (n : ℕ) (count : Count) (lines given : List (List ℕ)) (status next : Status) (old new : Option (List ℕ)) → IsOf known n count lines then → given ≡ lines
-      → next ≡ with_count status count → Appends old new (joined given) → PutsCell IsOf known n status next then old new
-  cell_put known then n count lines given status next old new is same counts put =
-      record { count = count; lines = lines; is = is; counts = counts; put = subst (λ (ls : List (List ℕ)). Appends old new (joined ls)) same put }
+  pub cell_put : (known then : List CellFacts) (n : ℕ) (count : Count) (lines : List (List ℕ)) (status next : Status) (old new : Option (List ℕ)) → IsOf known n count lines then
+      → next ≡ with_count status count → Appends old new (joined lines) → PutsCell IsOf known n status next then old new
+  cell_put known then n count lines status next old new is counts put = record { count = count; lines = lines; is = is; counts = counts; put = put }
 
   -- lines of a cell that were not put as a whole
-  pub cell_stops : (known then : List CellFacts) (n : ℕ) (count : Count) (lines given : List (List ℕ)) (status : Status) (old new : Option (List ℕ)) (before now : ℕ) → IsOf known n count lines then → given ≡ lines
-      → StopsLines status given old new before now → StopsCell IsOf known n status old new before now
-  cell_stops known then n count lines given status old new before now is same stops = record {
+  pub cell_stops : (known then : List CellFacts) (n : ℕ) (count : Count) (lines : List (List ℕ)) (status : Status) (old new : Option (List ℕ)) (before now : ℕ) → IsOf known n count lines then
+      → StopsLines status lines old new before now → StopsCell IsOf known n status old new before now
+  cell_stops known then n count lines status old new before now is stops = record {
     stopped = stops.stopped;
-    fault = λ e. let w = stops.fault e in (count, lines, then, is, (w.0, (w.1.0, subst (λ (ls : List (List ℕ)). Appends old new (take w.1.0 (joined ls))) same w.1.1)));
-    memory = λ e. let w = stops.memory e in inr (count, lines, then, is, (w.0, subst (λ (ls : List (List ℕ)). Appends old new (joined (take w.0 ls))) same w.1));
+    fault = λ e. let w = stops.fault e in (count, lines, then, is, (w.0, (w.1.0, w.1.1)));
+    memory = λ e. let w = stops.memory e in inr (count, lines, then, is, (w.0, w.1));
   }
 
   -- nothing of a cell was put

@@ -1,10 +1,11 @@
 -- What is written for requests and their files.
 use Rattle.std.proofs.Common.{◌≡◌, inl, inr, ◌∷◌, [], ℕ, List, Bool, true, false, ◌&&◌, nat_le, Option, Some, None, refl, ap, sym, subst, arith, unwrap_or, option_map}
-use Rattle.std.specs.Prelude.{if◌then◌else◌}
+use Rattle.std.specs.Prelude.{if◌then◌else◌, Result, IfErr, IfOk}
 use Rattle.std.specs.Borrow.{Bor}
 use Rattle.std.specs.Str.Parse.{digits_value}
 use Rattle.std.proofs.lemmas.Bool.Decides.{nat_tests}
 use Rattle.std.proofs.lemmas.Option.{none-some, same_Some}
+use Rattle.std.proofs.lemmas.Result.{IfErr-weaker, IfOk-weaker}
 use Rattle.command_line.specs.Requests.{Asks, AsksFor, IsUsage, budget_in, file_names, is_numeral, size_in}
 use Rattle.command_line.specs.Manual.{help_text, version_line}
 use Rattle.command_line.specs.declared.request.Asked.TheVariants.{Help, Version}
@@ -19,9 +20,11 @@ use Rattle.verity_run.specs.Given.{AreRead, ByFile, Given, generated, given}
 use Rattle.verity_run.specs.Messages.{usage_line}
 use Rattle.verity_run.specs.Reads.{AreLoaded, Source}
 use Rattle.verity_run.specs.Refusals.{IsRefusal, OfLength, OfOrder, Tells, TellsFiles}
+use Rattle.verity_run.specs.Ready.{IsGiven, IsMade, IsReadyBy, IsReadyFor}
 use Rattle.verity_run.specs.Replays.{BeginsReplay}
 use Rattle.verity_run.specs.Reports.{Begins as BeginsReport, IsEnded, Reports, ReportsCells}
-use Rattle.verity_run.specs.Runs.{AnswersFiles, AnswersGenerated, AnswersInputs, AnswersReplay, AnswersTexts, Begins, BeginsFiles, BeginsGenerated, BeginsInputs, BeginsRequest, BeginsTexts, Ends, PutsLine, RefusalEnds, Refuses, Serves, Wants, names_by}
+use Rattle.verity_run.specs.Runs.{AnswersFiles, AnswersGenerated, AnswersInputs, AnswersReplay, AnswersTexts, Begins, BeginsFiles, BeginsGenerated, BeginsInputs, BeginsRequest, BeginsTexts, Ends, PutsLine, RefusalEnds, Refuses, Serves, TellsAnswer, Wants, names_by}
+use Rattle.verity_run.specs.declared.ready.Ready.{Ready}
 use Rattle.verity_run.specs.declared.refusals.Refusal.{Refusal}
 use Rattle.verity_run.specs.declared.refusals.Refusal.TheVariants.{Unread, Told, NoMemory as OutOfMemory}
 use Rattle.verity_run.specs.declared.status.Status.{Status}
@@ -33,41 +36,41 @@ use Rattle.vrt_model.specs.declared.blif.Blif.{Blif}
 use Rattle.vrt_model.specs.declared.design.Design.{Design}
 use Rattle.vrt_model.specs.declared.rules.Rules.{Rules}
 
--- ---- what was read
+-- ---- what a refusal tells
 
--- a refusal, whose line is one that may be told
-pub refused : (A : Status → List (List ℕ) → Type 0) (C : List (List ℕ) → Type 0) (IsLine : List ℕ → Type 0) (r : Refusal) (status : Status) (old new : Option (List ℕ)) (before now : ℕ)
-    → ((line : List ℕ) → IsLine line → A InputRefused (line ∷ [])) → Tells IsLine r → RefusalEnds r status old new before now → Ends A C status old new before now
-refused A C IsLine (Unread line) status old new before now answers is ends = absurd is
-refused A C IsLine (Told line) status old new before now answers is ends = line_ends A C InputRefused status line old new before now (answers line is) ends
-refused A C IsLine OutOfMemory status old new before now answers is ends = nothing_ends A C status old new before now ends.0 ends.1
+-- an answer, which is put
+pub refusal_ends : (A : Status → List (List ℕ) → Type 0) (C : List (List ℕ) → Type 0) (r : Refusal) (status : Status) (old new : Option (List ℕ)) (before now : ℕ)
+    → TellsAnswer A r → RefusalEnds r status old new before now → Ends A C status old new before now
+refusal_ends A C (Unread line) status old new before now is ends = line_ends A C ReadFault status line old new before now is ends
+refusal_ends A C (Told line) status old new before now is ends = line_ends A C InputRefused status line old new before now is ends
+refusal_ends A C OutOfMemory status old new before now is ends = nothing_ends A C status old new before now ends.0 ends.1
+
+-- a line that may be told is an answer
+pub tells_answer : (A : Status → List (List ℕ) → Type 0) (IsLine : List ℕ → Type 0) (r : Refusal)
+    → ((line : List ℕ) → IsLine line → A InputRefused (line ∷ [])) → Tells IsLine r → TellsAnswer A r
+tells_answer A IsLine (Unread line) answers is = absurd is
+tells_answer A IsLine (Told line) answers is = answers line is
+tells_answer A IsLine OutOfMemory answers is = tt
+
+-- each answer has another meaning
+answer_by : (A B : Status → List (List ℕ) → Type 0) (r : Refusal) → ((s : Status) (lines : List (List ℕ)) → A s lines → B s lines) → TellsAnswer A r → TellsAnswer B r
+answer_by A B (Unread line) f is = f ReadFault (line ∷ []) is
+answer_by A B (Told line) f is = f InputRefused (line ∷ []) is
+answer_by A B OutOfMemory f is = tt
 
 -- the one line of what is refused
 pub refusing : (IsLine : List ℕ → Type 0) (line : List ℕ) → IsLine line → Refuses IsLine InputRefused (line ∷ [])
 refusing IsLine line is = record { line = line; cause = is; answer = refl; told_is = refl }
 
-module _ (request : Request) (words : ByFile) (design : Design) (blif : Blif) (rules : Rules) (status : Status) (old new : Option (List ℕ)) (before now : ℕ) where
-  abbrev pub EndsInputs : Type 0
-  EndsInputs = Ends (AnswersInputs request words design blif rules) (BeginsInputs request design blif rules) status old new before now
+-- ---- what was read
 
-  -- the cells have no order
-  pub order_refused : (r : Refusal) → Tells (OfOrder words design rules) r → RefusalEnds r status old new before now → EndsInputs
-  order_refused r is ends =
-      refused (AnswersInputs request words design blif rules) (BeginsInputs request design blif rules) (OfOrder words design rules) r status old new before now
-      (λ line of. inl (refusing (IsBarred request words design blif rules) line (inl of))) is ends
-
-  -- a cell is asked for that is not there
-  pub cell_refused : (r : Refusal) → IsOrdered design rules → Tells (OfCellWord design (cell_word request)) r → RefusalEnds r status old new before now → EndsInputs
-  cell_refused r ordered is ends =
-      refused (AnswersInputs request words design blif rules) (BeginsInputs request design blif rules) (OfCellWord design (cell_word request)) r status old new before now
-      (λ line of. inl (refusing (IsBarred request words design blif rules) line (inr (ordered, inl of)))) is ends
-
-  -- what is asked for is answered
-  pub answered : (cells : List ℕ) → AreReady request design rules cells
-      → Ends (IsAnswer request design blif rules cells) (IsBegun request design blif rules cells) status old new before now → EndsInputs
-  answered cells ready ends =
-      ends_by (IsAnswer request design blif rules cells) (AnswersInputs request words design blif rules) (IsBegun request design blif rules cells) (BeginsInputs request design blif rules)
-      status old new before now (λ s lines a. inr (cells, ready, a)) (λ lines b. (cells, ready, b)) ends
+-- what is asked for is answered
+answered : (request : Request) (words : ByFile) (design : Design) (blif : Blif) (rules : Rules) (status : Status) (old new : Option (List ℕ)) (before now : ℕ) (cells : List ℕ) → AreReady request design rules cells
+    → Ends (IsAnswer request design blif rules cells) (IsBegun request design blif rules cells) status old new before now
+    → Ends (AnswersInputs request words design blif rules) (BeginsInputs request design blif rules) status old new before now
+answered request words design blif rules status old new before now cells ready ends =
+    ends_by (IsAnswer request design blif rules cells) (AnswersInputs request words design blif rules) (IsBegun request design blif rules cells) (BeginsInputs request design blif rules)
+    status old new before now (λ s lines a. inr (cells, ready, a)) (λ lines b. (cells, ready, b)) ends
 
 -- the cells of a check
 pub check_answered : (request : Request) (cell : Option (Bor (List ℕ))) (budget : Option ℕ) (files : FileWords) (words : ByFile) (design : Design) (blif : Blif) (rules : Rules) (nodes : ℕ) (cells : List ℕ)
@@ -118,81 +121,88 @@ generated_answered request size budget words design blif rules nodes cells statu
 
 -- ---- three texts
 
-module _ (request : Request) (g : Given) (status : Status) (old new : Option (List ℕ)) (before now : ℕ) where
-  abbrev pub EndsTexts : Type 0
-  EndsTexts = Ends (AnswersTexts request g) (BeginsTexts request g) status old new before now
+module _ (request : Request) (g : Given) (r : Refusal) where
+  -- they are refused
+  pub texts_told : Tells (IsRefusal g) r → TellsAnswer (AnswersTexts request g) r
+  texts_told is = tells_answer (AnswersTexts request g) (IsRefusal g) r (λ line of. inl (refusing (IsRefusal g) line of)) is
 
-  pub texts_refused : (r : Refusal) → Tells (IsRefusal g) r → RefusalEnds r status old new before now → EndsTexts
-  texts_refused r is ends =
-      refused (AnswersTexts request g) (BeginsTexts request g) (IsRefusal g) r status old new before now (λ line of. inl (refusing (IsRefusal g) line of)) is ends
+  module _ (design : Design) (blif : Blif) (rules : Rules) (read : AreRead g design blif rules) where
+    -- what they say is barred
+    barred : (IsLine : List ℕ → Type 0) → ((line : List ℕ) → IsLine line → IsBarred request g.words design blif rules line) → Tells IsLine r → TellsAnswer (AnswersTexts request g) r
+    barred IsLine bars is =
+        tells_answer (AnswersTexts request g) IsLine r
+        (λ line of. inr (record { design = design; blif = blif; rules = rules; read = read; holds = inl (refusing (IsBarred request g.words design blif rules) line (bars line of)) })) is
 
-  pub texts_answered : (design : Design) (blif : Blif) (rules : Rules) → AreRead g design blif rules
-      → Ends (AnswersInputs request g.words design blif rules) (BeginsInputs request design blif rules) status old new before now → EndsTexts
-  texts_answered design blif rules read ends =
-      ends_by (AnswersInputs request g.words design blif rules) (AnswersTexts request g) (BeginsInputs request design blif rules) (BeginsTexts request g)
-      status old new before now
-      (λ s lines a. inr (record { design = design; blif = blif; rules = rules; read = read; holds = a }))
-      (λ lines b. record { design = design; blif = blif; rules = rules; read = read; holds = b }) ends
+    -- the cells have no order
+    pub unordered_told : Tells (OfOrder g.words design rules) r → TellsAnswer (AnswersTexts request g) r
+    unordered_told is = barred (OfOrder g.words design rules) (λ line of. inl of) is
 
--- the same texts in other words
-pub same_texts : (request : Request) (g h : Given) (status : Status) (old new : Option (List ℕ)) (before now : ℕ) → g ≡ h
-    → Ends (AnswersTexts request g) (BeginsTexts request g) status old new before now → Ends (AnswersTexts request h) (BeginsTexts request h) status old new before now
-same_texts request g h status old new before now same ends = subst (λ (x : Given). Ends (AnswersTexts request x) (BeginsTexts request x) status old new before now) same ends
+    -- a cell is asked for that is not there
+    pub unnamed_told : IsOrdered design rules → Tells (OfCellWord design (cell_word request)) r → TellsAnswer (AnswersTexts request g) r
+    unnamed_told ordered is = barred (OfCellWord design (cell_word request)) (λ line of. inr (ordered, inl of)) is
 
 -- ---- three files
 
-module _ (request : Request) (source : Source) (words : ByFile) (before now : ℕ) (status : Status) (old new : Option (List ℕ)) (faults_before faults_now : ℕ) where
-  abbrev pub EndsFiles : Type 0
-  EndsFiles = Ends (AnswersFiles request source words before now) (BeginsFiles request source words) status old new faults_before faults_now
+module _ (request : Request) (source : Source) (words : ByFile) (before now : ℕ) (files : file_names request ≡ names_by words) where
+  -- they are not read
+  pub stopped_told : (r : Refusal) → TellsFiles source words before now r → TellsAnswer (Serves request source before now) r
+  stopped_told (Unread line) is = inr (words, files, inl (record { answer = refl; told = (line, is, refl) }))
+  stopped_told (Told line) long = inr (words, files, inr (inl (refusing (OfLength source words) line long)))
+  stopped_told OutOfMemory is = tt
 
-  -- files that are not read
-  pub files_refused : (r : Refusal) → TellsFiles source words before now r → RefusalEnds r status old new faults_before faults_now → EndsFiles
-  files_refused (Unread line) is ends =
-      line_ends (AnswersFiles request source words before now) (BeginsFiles request source words) ReadFault status line old new faults_before faults_now
-      (inl (record { answer = refl; told = (line, is, refl) })) ends
-  files_refused (Told line) long ends =
-      line_ends (AnswersFiles request source words before now) (BeginsFiles request source words) InputRefused status line old new faults_before faults_now
-      (inr (inl (refusing (OfLength source words) line long))) ends
-  files_refused OutOfMemory is ends =
-      nothing_ends (AnswersFiles request source words before now) (BeginsFiles request source words) status old new faults_before faults_now ends.0 ends.1
+-- ---- the texts of a request
 
-  -- what their texts give
-  pub files_answered : (bytes : ByFile) → AreLoaded source words bytes
-      → Ends (AnswersTexts request (given words bytes)) (BeginsTexts request (given words bytes)) status old new faults_before faults_now → EndsFiles
-  files_answered bytes are ends =
-      ends_by (AnswersTexts request (given words bytes)) (AnswersFiles request source words before now) (BeginsTexts request (given words bytes)) (BeginsFiles request source words)
-      status old new faults_before faults_now
-      (λ s lines a. inr (inr (record { bytes = bytes; loaded = are; holds = a })))
-      (λ lines b. record { bytes = bytes; loaded = are; holds = b }) ends
+made_answered : (request : Request) (g : Given) (s : Status) (lines : List (List ℕ)) → IsMade request g → AnswersTexts request g s lines → AnswersGenerated request s lines
+made_answered (Check cell budget files) g s lines made a = absurd made
+made_answered (Replay cell phase at files) g s lines made a = absurd made
+made_answered (Classes cell files) g s lines made a = absurd made
+made_answered (Generate size budget) g s lines made a = subst (λ (x : Given). AnswersTexts (Generate size budget) x s lines) made a
 
--- ---- requests
+made_begun : (request : Request) (g : Given) (lines : List (List ℕ)) → IsMade request g → BeginsTexts request g lines → BeginsGenerated request lines
+made_begun (Check cell budget files) g lines made b = absurd made
+made_begun (Replay cell phase at files) g lines made b = absurd made
+made_begun (Classes cell files) g lines made b = absurd made
+made_begun (Generate size budget) g lines made b = subst (λ (x : Given). BeginsTexts (Generate size budget) x lines) made b
 
-module _ (request : Request) (source : Source) (before now : ℕ) (status : Status) (old new : Option (List ℕ)) (faults_before faults_now : ℕ) where
-  abbrev pub EndsRequest : Type 0
-  EndsRequest = Ends (Serves request source before now) (BeginsRequest request source) status old new faults_before faults_now
+module _ (request : Request) (source : Source) (words bytes : ByFile) where
+  served : (before now : ℕ) (s : Status) (lines : List (List ℕ)) → IsGiven request source words bytes → AnswersTexts request (given words bytes) s lines → Serves request source before now s lines
+  served before now s lines (inl files) a = inr (words, files.0, inr (inr (record { bytes = bytes; loaded = files.1; holds = a })))
+  served before now s lines (inr made) a = inl (made_answered request (given words bytes) s lines made a)
 
-  -- on files
-  pub files_served : (words : ByFile) → file_names request ≡ names_by words
-      → Ends (AnswersFiles request source words before now) (BeginsFiles request source words) status old new faults_before faults_now → EndsRequest
-  files_served words files ends =
-      ends_by (AnswersFiles request source words before now) (Serves request source before now) (BeginsFiles request source words) (BeginsRequest request source)
-      status old new faults_before faults_now (λ s lines a. inr (words, files, a)) (λ lines b. inr (words, files, b)) ends
+  begun : (lines : List (List ℕ)) → IsGiven request source words bytes → BeginsTexts request (given words bytes) lines → BeginsRequest request source lines
+  begun lines (inl files) b = inr (words, files.0, record { bytes = bytes; loaded = files.1; holds = b })
+  begun lines (inr made) b = inl (made_begun request (given words bytes) lines made b)
 
-  -- on texts that are generated
-  pub generated_served : Ends (AnswersGenerated request) (BeginsGenerated request) status old new faults_before faults_now → EndsRequest
-  generated_served ends =
-      ends_by (AnswersGenerated request) (Serves request source before now) (BeginsGenerated request) (BeginsRequest request source)
-      status old new faults_before faults_now (λ s lines a. inl a) (λ lines b. inl b) ends
+  module _ (own : ByFile) (same : own ≡ bytes) (texts : IsGiven request source words bytes) (r : Result Ready Refusal) where
+    -- what they say
+    pub given_says : IfOk r (IsReadyBy request (given words own)) → IfOk r (IsReadyFor request source)
+    given_says says =
+        IfOk-weaker r (IsReadyBy request (given words own)) (IsReadyFor request source)
+        (λ ready is. record { words = words; bytes = bytes; texts = texts; says = subst (λ (b : ByFile). IsReadyBy request (given words b) ready) same is }) says
 
--- of a size
-pub made_served : (request : Request) (size : ℕ) (budget : Option ℕ) (source : Source) (before now : ℕ) (status : Status) (old new : Option (List ℕ)) (faults_before faults_now : ℕ)
-    → request ≡ Generate size budget → Ends (AnswersTexts request (generated size)) (BeginsTexts request (generated size)) status old new faults_before faults_now
+    -- what is refused of them
+    pub given_told : (before now : ℕ) → IfErr r (TellsAnswer (AnswersTexts request (given words own))) → IfErr r (TellsAnswer (Serves request source before now))
+    given_told before now told =
+        IfErr-weaker r (TellsAnswer (AnswersTexts request (given words own))) (TellsAnswer (Serves request source before now))
+        (λ e is. answer_by (AnswersTexts request (given words bytes)) (Serves request source before now) e (λ s lines a. served before now s lines texts a)
+        (subst (λ (b : ByFile). TellsAnswer (AnswersTexts request (given words b)) e) same is)) told
+
+-- those that are generated
+pub size_given : (request : Request) (size : ℕ) (budget : Option ℕ) (source : Source) → request ≡ Generate size budget → IsGiven request source (generated size).words (generated size).bytes
+size_given request size budget source is = subst (λ (r : Request). IsGiven r source (generated size).words (generated size).bytes) (sym is) (inr refl)
+
+-- what is ready is answered
+pub ready_answered : (request : Request) (source : Source) (ready : Ready) (before now : ℕ) (status : Status) (old new : Option (List ℕ)) (faults_before faults_now : ℕ) → IsReadyFor request source ready
+    → ((words : ByFile) → Ends (AnswersInputs request words ready.inputs.design ready.inputs.blif ready.inputs.rules) (BeginsInputs request ready.inputs.design ready.inputs.blif ready.inputs.rules)
+    status old new faults_before faults_now)
     → Ends (Serves request source before now) (BeginsRequest request source) status old new faults_before faults_now
-made_served request size budget source before now status old new faults_before faults_now is ends =
-    let P : Request → Type 0 =
-    λ r. Ends (AnswersTexts r (generated size)) (BeginsTexts r (generated size)) status old new faults_before faults_now
-    → Ends (AnswersGenerated r) (BeginsGenerated r) status old new faults_before faults_now in
-    generated_served request source before now status old new faults_before faults_now (subst P (sym is) (λ e. e) ends)
+ready_answered request source ready before now status old new faults_before faults_now is ends =
+    let i = ready.inputs in
+    ends_by (AnswersInputs request is.words i.design i.blif i.rules) (Serves request source before now) (BeginsInputs request i.design i.blif i.rules) (BeginsRequest request source)
+    status old new faults_before faults_now
+    (λ s lines a. served request source is.words is.bytes before now s lines is.texts (inr (record { design = i.design; blif = i.blif; rules = i.rules; read = is.says.read; holds = a })))
+    (λ lines b. begun request source is.words is.bytes lines is.texts (record { design = i.design; blif = i.blif; rules = i.rules; read = is.says.read; holds = b }))
+    (ends is.words)
 
 -- ---- statuses
 
@@ -331,13 +341,13 @@ size_read word n e =
       by_test true false value range found = absurd (none-some n found)
       by_test false q value range found = absurd (none-some n found)
 
-size_given : (word : Option (List ℕ)) (size : ℕ) → option_map size_in word ≡ Some (Some size) → IsSize size
-size_given None size e = absurd (none-some (Some size) e)
-size_given (Some word) size e = size_read word size (same_Some (size_in word) (Some size) e)
+size_asked : (word : Option (List ℕ)) (size : ℕ) → option_map size_in word ≡ Some (Some size) → IsSize size
+size_asked None size e = absurd (none-some (Some size) e)
+size_asked (Some word) size e = size_read word size (same_Some (size_in word) (Some size) e)
 
 -- the numbers of a request that words ask for are in their ranges
 pub request_fits : (words : List (List ℕ)) (request : Request) → AsksFor words request → IsFitting request
 request_fits words (Check cell budget files) asks = budget_read _ budget asks.1.budget
 request_fits words (Replay cell phase at files) asks = tt
 request_fits words (Classes cell files) asks = tt
-request_fits words (Generate size budget) asks = (budget_read _ budget asks.1.budget, size_given _ size asks.1.size)
+request_fits words (Generate size budget) asks = (budget_read _ budget asks.1.budget, size_asked _ size asks.1.size)

@@ -5,6 +5,7 @@ use Rattle.channel_parts.specs.Classes.{AreClasses}
 use Rattle.channel_parts.specs.declared.class.ClassLine.{ClassLine}
 use Rattle.mode_lines.specs.Lines.{class_lines}
 use Rattle.verity_run.specs.Reports.{IsChecked, cell_line, counted}
+use Rattle.verity_run.specs.declared.refusals.Inputs.{Inputs}
 use Rattle.verity_run.specs.declared.report.Task.{Task}
 use Rattle.verity_run.specs.declared.report.Task.TheVariants.{Check, Classes}
 use Rattle.verity_run.specs.declared.status.Count.{Count}
@@ -37,9 +38,9 @@ abbrev pub IsClassed : Design → Blif → Rules → ℕ → Count → List (Lis
 IsClassed design blif rules cell count lines = IsNotCompared design blif rules cell count lines ⊎ HasClassLines design blif rules cell count lines
 
 -- what is written of a cell for a task, and what is known before and then; classes tell nothing of a cell
-abbrev pub IsOfTask : Task → Design → Blif → Rules → List CellFacts → ℕ → Count → List (List ℕ) → List CellFacts → Type 0
-IsOfTask (Check budget) design blif rules = IsChecked design blif rules budget
-IsOfTask Classes design blif rules = λ known cell count lines then. IsClassed design blif rules cell count lines × (then ≡ known)
+abbrev pub IsOfTask : Task → Inputs → List CellFacts → ℕ → Count → List (List ℕ) → List CellFacts → Type 0
+IsOfTask (Check budget) i = IsChecked i.design i.blif i.rules budget
+IsOfTask Classes i = λ known cell count lines then. IsClassed i.design i.blif i.rules cell count lines × (then ≡ known)
 
 -- a budget of nodes that diagrams can have
 abbrev pub IsBudget : ℕ → Type 0

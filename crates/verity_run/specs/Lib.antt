@@ -5,6 +5,7 @@ pub mod Known
 pub mod Messages
 pub mod Named
 pub mod Reads
+pub mod Ready
 pub mod Refusals
 pub mod Replays
 pub mod Reports

@@ -87,16 +87,20 @@ cell_line design blif rules cell verdict = answer_line design blif rules (record
 abbrev pub nothing_known : Design → List CellFacts
 nothing_known design = replicate (length design.cells) (record { equal = false; stateless = false; drives = [] })
 
--- What a check writes of a cell, where this is known of the cells before: the line of its verdict, which is equal or a fault where the cell is
--- within reach of the budget; where it is equal, each of its runs shows the bits of its model; and what is then known of it is noted.
-pub record IsChecked (design : Design) (blif : Blif) (rules : Rules) (budget : ℕ) (known : List CellFacts) (cell : ℕ) (count : Count) (lines : List (List ℕ)) (then : List CellFacts) : Type 0 where
-  pub verdict : Verdict
+-- A cell was compared, where this is known of the cells before: its verdict, which is equal or a fault where the cell is within reach of
+-- the budget; where it is equal, each of its runs shows the bits of its model; and what is then known of it is noted.
+pub record IsJudged (design : Design) (blif : Blif) (rules : Rules) (budget : ℕ) (known : List CellFacts) (cell : ℕ) (verdict : Verdict) (then : List CellFacts) : Type 0 where
   pub facts : CellFacts
   pub is : IsCheckedVerdict design blif rules known budget cell verdict
   pub complete : IsComplete design blif rules budget cell verdict
   pub runs : HasRuns design blif rules cell verdict
   pub is_so : HasFacts design blif rules known cell verdict facts
   pub noted : then ≡ set known cell facts
+
+-- what a check writes of a cell: the line of its verdict
+pub record IsChecked (design : Design) (blif : Blif) (rules : Rules) (budget : ℕ) (known : List CellFacts) (cell : ℕ) (count : Count) (lines : List (List ℕ)) (then : List CellFacts) : Type 0 where
+  pub verdict : Verdict
+  pub judged : IsJudged design blif rules budget known cell verdict then
   pub counts : count ≡ counted verdict
   pub line : lines ≡ cell_line design blif rules cell verdict ∷ []
 

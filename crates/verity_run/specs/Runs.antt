@@ -13,7 +13,7 @@ use Rattle.verity_run.specs.Asked.{AreReady, IsAnswer, IsBarred, IsBegun}
 use Rattle.verity_run.specs.Given.{AreRead, ByFile, Given, generated, given}
 use Rattle.verity_run.specs.Messages.{joined, usage_line}
 use Rattle.verity_run.specs.Reads.{AreLoaded, Source}
-use Rattle.verity_run.specs.Refusals.{IsRefusal, OfFault, OfLength}
+use Rattle.verity_run.specs.Refusals.{IsRefusal, OfFault, OfLength, TellsEither}
 use Rattle.verity_run.specs.Replays.{IsReplay, OfReplay}
 use Rattle.verity_run.specs.declared.refusals.Refusal.{Refusal}
 use Rattle.verity_run.specs.declared.refusals.Refusal.TheVariants.{Unread, Told, NoMemory as OutOfMemory}
@@ -178,3 +178,7 @@ abbrev pub RefusalEnds : Refusal → Status → Option (List ℕ) → Option (Li
 RefusalEnds (Unread line) status old new before now = PutsLine ReadFault status line old new before now
 RefusalEnds (Told line) status old new before now = PutsLine InputRefused status line old new before now
 RefusalEnds OutOfMemory status old new before now = (status ≡ NoMemory) × Keeps old new
+
+-- what it tells is such an answer: one line, with its status
+abbrev pub TellsAnswer : (Status → List (List ℕ) → Type 0) → Refusal → Type 0
+TellsAnswer IsAnswer refusal = TellsEither (λ line. IsAnswer ReadFault (line ∷ [])) (λ line. IsAnswer InputRefused (line ∷ [])) refusal

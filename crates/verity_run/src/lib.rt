@@ -2,10 +2,13 @@
 #![tactic(auto)]
 
 mod answers;
+mod cell_lines;
 mod checks;
+mod known;
 mod messages;
 mod puts;
 mod reads;
+mod ready;
 mod refusals;
 mod replays;
 mod report;

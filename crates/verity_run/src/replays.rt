@@ -3,21 +3,19 @@
 ghost use Rattle.std.specs.Prelude.{◌≡◌, ◌<◌, None, Some, bytes_eq, IfErr, IfOk, length, position};
 ghost use Rattle.cell_compare.specs.Cells.{HasEarlyLine, IsEarly, IsFlattenedTo};
 ghost use Rattle.cell_compare.specs.Compared.{comparison};
-ghost use Rattle.cells_below.specs.Below.{AreNumbered};
-ghost use Rattle.prepared_tables.specs.Prepared.{ArePrepared};
-ghost use Rattle.verity_run.specs.Given.{AreFit};
 ghost use Rattle.verity_run.specs.Named.{cell_asked, phase_asked};
+ghost use Rattle.verity_run.specs.Ready.{IsReady};
 ghost use Rattle.verity_run.specs.Refusals.{Tells};
 ghost use Rattle.verity_run.specs.Replays.{HasValueLines, IsNoList, IsNoPhase, IsNoValuation, IsPointOf, IsReplayOf, IsReplayed, IsShown, IsSupportedWith, OfReplay, RefusesFault, items_asked, list_in};
 ghost use Rattle.vrt_model.specs.Circuits.{IsFlat};
 ghost use Rattle.vrt_model.specs.Comparison.{phase_at};
 ghost use Rattle.vrt_model.specs.Held.{sources_of, variable_names};
-ghost use Rattle.vrt_model.specs.Hierarchy.{IsOrdered};
 ghost use Rattle.vrt_model.specs.declared.rules.Phase.{Phase as PhaseValue};
 
+use crate::cell_lines::{CellLines, cell_of, verdict_lines};
 use crate::messages;
+use crate::ready::Ready;
 use crate::refusals::{Inputs, Refusal, told};
-use crate::report::{CellLines, cell_of, verdict_lines};
 use crate::status::Count;
 use cell_compare::{EarlyCell, Flattened, early_prepared};
 use hold_groups::variables;
@@ -25,25 +23,17 @@ use mode_lines::{
     AtFault, AtItem, CellPhase, ListFault, meets_at, read_list, replay_at, replay_lines,
     valuation_at,
 };
-use prepared_tables::Prepared;
-use rule_index::{RuleIndex, lowered_name};
+use rule_index::lowered_name;
 use std::alloc::Global;
 use vrt_model::{NoMemory, Phase, Rules, Seq, Text, Vars};
 
-/// The number of the cell of a name on the command line.
-fn cell_number(
-    alloc: Global,
-    index: &RuleIndex,
-    inputs: &Inputs,
-    word: &str,
-) -> Result<u32, NoMemory>
-    requires { AreNumbered inputs.now.design index.now }
-    ensures { IfOk result (λ n. cell_asked inputs.now.design word.now ≡ Some n) }
+/// The number of the cell of a name on the command line, which was found before.
+fn cell_number(alloc: Global, ready: &Ready, word: &str) -> Result<u32, NoMemory>
+    requires { IsReady ready.now }
+    ensures { IfOk result (λ n. cell_asked ready.now.inputs.design word.now ≡ Some n) }
 {
-    // the name was found before
-    let _unread = inputs;
     let name = lowered_name(alloc, word.as_bytes())?;
-    match index.cells.get(name.as_bytes()) {
+    match ready.prepared.index.cells.get(name.as_bytes()) {
         Some(number) => match u32::try_from(*number) {
             Ok(number) => Ok(number),
             Err(_) => Err(NoMemory),
@@ -112,8 +102,8 @@ fn point_of<'a>(
         design: &inputs.design,
         rules: &inputs.rules,
         cell: number,
-        circuit: &made.circuit,
-        groups: &made.groups,
+        circuit: made.circuit(),
+        groups: made.groups(),
         sources: &vars.sources,
         phase: place,
     }
@@ -146,7 +136,7 @@ fn lines_at(
                 &cell.name,
                 &phase.name,
                 meets,
-                &made.circuit,
+                made.circuit(),
                 &values,
             )
         }
@@ -214,7 +204,7 @@ fn shown_with(
     let Some(phase) = inputs.rules.phases.get(place as usize) else {
         return Err(Refusal::NoMemory);
     };
-    match variables(alloc, &made.circuit, &made.model, &made.groups, place) {
+    match variables(alloc, made.circuit(), made.model(), made.groups(), place) {
         Ok(vars) => shown_by(alloc, inputs, number, place, phase, items, made, &vars),
         Err(_) => Err(Refusal::NoMemory),
     }
@@ -252,24 +242,22 @@ fn found_replay(
 /// The lines of a replay, or the refusal of the phase, of the list, or of its names.
 pub fn replayed(
     alloc: Global,
-    prepared: &Prepared,
-    inputs: &Inputs,
+    ready: &Ready,
     cell: &str,
     phase: &str,
     at: Option<&str>,
 ) -> Result<CellLines, Refusal>
-    requires prepared { ArePrepared inputs.now.design inputs.now.blif inputs.now.rules prepared.now }
-    requires fit { AreFit inputs.now.design inputs.now.blif inputs.now.rules }
-    requires ordered { IsOrdered inputs.now.design inputs.now.rules }
-    ensures ok { IfOk result (λ t. IsReplayed inputs.now.design inputs.now.blif inputs.now.rules cell.now phase.now at.entry t.count t.lines) }
-    ensures err { IfErr result (Tells (OfReplay inputs.now.design inputs.now.blif inputs.now.rules cell.now phase.now at.entry)) }
+    requires { IsReady ready.now }
+    ensures ok { IfOk result (λ t. IsReplayed ready.now.inputs.design ready.now.inputs.blif ready.now.inputs.rules cell.now phase.now at.entry t.count t.lines) }
+    ensures err { IfErr result (Tells (OfReplay ready.now.inputs.design ready.now.inputs.blif ready.now.inputs.rules cell.now phase.now at.entry)) }
 {
+    let inputs = &ready.inputs;
     let place = phase_number(alloc, &inputs.rules, phase)?;
     let items = items_of(alloc, at)?;
-    let number = cell_number(alloc, &prepared.index, inputs, cell)?;
+    let number = cell_number(alloc, ready, cell)?;
     let found = early_prepared(
         alloc,
-        prepared,
+        &ready.prepared,
         &inputs.design,
         &inputs.blif,
         &inputs.rules,

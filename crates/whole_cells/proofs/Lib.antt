@@ -2,4 +2,4 @@ pub mod EnteredLaws
 pub mod EntryLaws
 pub mod LinkedLaws
 pub mod SeenLaws
-pub mod TableLaws
+pub mod KeptLaws

@@ -1,6 +1,6 @@
 pub mod Entered
 pub mod Entries
+pub mod Kept
 pub mod Links
 pub mod Own
 pub mod Seen
-pub mod Table

@@ -153,7 +153,7 @@ fn circuit(alloc: Global, inputs: &Inputs) -> Result<Circuit, NoCircuit>
         &inputs.blif,
         &inputs.rules,
         1,
-        &flattened.pairing,
+        flattened.pairing(),
         &facts,
     ) {
         Ok(circuit) => Ok(circuit),

@@ -5,5 +5,5 @@ use Rattle.cell_compare.proofs.checked.check_flat.Goals as goal
 
 pub returns-clause-verdict : goal.returns-clause-verdict
 returns-clause-verdict c =
-    flat_found (comparison_in c.args.compared) c.args.blif.now c.args.facts.now c.args.budget c.in_ok-verdict.verdict c.requires.ready c.requires.checkable c.requires.planned c.requires.checked
+    flat_found (comparison_in c.args.phases.compared) c.args.phases.blif.now c.args.phases.facts.now c.args.budget c.in_ok-verdict.verdict c.requires.phases.ready c.requires.phases.checkable c.requires.phases.planned c.requires.checked
     c.in_ok-verdict.ensures.checked

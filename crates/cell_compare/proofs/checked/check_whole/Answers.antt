@@ -5,10 +5,10 @@ use Rattle.cell_compare.proofs.checked.check_whole.Goals as goal
 
 pub returns-clause-verdict : goal.returns-clause-verdict
 returns-clause-verdict c =
-    let k = comparison_in c.args.compared in
+    let k = comparison_in c.args.phases.compared in
     let is = c.requires.checked in
-    let facts = c.args.facts.now in
+    let facts = c.args.phases.facts.now in
     let circuit = c.args.circuit.now in
-    let h = c.requires.checkable.by_facts circuit c.requires.planned is in
-    whole_found k is.0 c.args.blif.now facts circuit c.args.budget c.in_ok-found.found h c.requires.ready c.requires.budget.1
-    (few_outputs k is.0 c.args.blif.now facts circuit c.most_outputs-most.result h c.most_outputs-most.ensures c.in_ok-found.ensures.few) c.in_ok-found.ensures.checked
+    let h = c.requires.phases.checkable.by_facts circuit c.requires.phases.planned is in
+    whole_found k is.0 c.args.phases.blif.now facts circuit c.args.budget c.in_ok-found.found h c.requires.phases.ready c.requires.budget.1
+    (few_outputs k is.0 c.args.phases.blif.now facts circuit c.most_outputs-most.result h c.most_outputs-most.ensures c.in_ok-found.ensures.few) c.in_ok-found.ensures.checked

@@ -7,7 +7,7 @@ use Rattle.cell_compare.proofs.checked.checked_circuit.Goals as goal
 
 pub whole_with-requires-clause-files : goal.whole_with-requires-clause-files
 whole_with-requires-clause-files c =
-    let ground = c.requires.checkable.ground c.requires.planned in
+    let ground = c.requires.phases.checkable.ground c.requires.phases.planned in
     record {
       netlist = ground.netlist.design;
       names = ground.read.names;
@@ -17,17 +17,17 @@ whole_with-requires-clause-files c =
     }
 
 pub whole_with-requires-clause-there : goal.whole_with-requires-clause-there
-whole_with-requires-clause-there c = (c.requires.checkable.ground c.requires.planned).netlist.there
+whole_with-requires-clause-there c = (c.requires.phases.checkable.ground c.requires.phases.planned).netlist.there
 
 pub whole_with-requires-clause-ground : goal.whole_with-requires-clause-ground
 whole_with-requires-clause-ground c =
-    let k = comparison_in c.args.compared in (k.pairing.ports, whole_ground k c.args.blif.now c.args.facts.now c.requires.checkable c.requires.planned)
+    let k = comparison_in c.args.phases.compared in (k.pairing.ports, whole_ground k c.args.phases.blif.now c.args.phases.facts.now c.requires.phases.checkable c.requires.phases.planned)
 
-pub returns-then-not-has_candidate : goal.returns-then-not-has_candidate
-returns-then-not-has_candidate c =
-    nothing_is_whole (comparison_in c.args.compared) c.args.blif.now c.args.facts.now c.requires.checkable.flat (sym c.has_candidate.ensures ∙ c.if-not-has_candidate.true)
+pub returns-then-not-has_candidate-clause-checked : goal.returns-then-not-has_candidate-clause-checked
+returns-then-not-has_candidate-clause-checked c =
+    nothing_is_whole (comparison_in c.args.phases.compared) c.args.phases.blif.now c.args.phases.facts.now c.requires.phases.checkable.flat (sym c.has_candidate.ensures ∙ c.if-not-has_candidate.true)
 
-pub returns : goal.returns
-returns c =
-    let k = comparison_in c.args.compared in
-    c.in_ok-whole.ensures k.pairing.ports (whole_ground k c.args.blif.now c.args.facts.now c.requires.checkable c.requires.planned)
+pub returns-clause-checked : goal.returns-clause-checked
+returns-clause-checked c =
+    let k = comparison_in c.args.phases.compared in
+    c.in_ok-whole.ensures.whole k.pairing.ports (whole_ground k c.args.phases.blif.now c.args.phases.facts.now c.requires.phases.checkable c.requires.phases.planned)

@@ -8,9 +8,9 @@ use Rattle.cell_compare.proofs.drives.told_drives.Goals as goal
 
 pub returns : goal.returns
 returns c =
-    let facts = c.args.facts.now in
+    let facts = c.args.phases.facts.now in
     let lone = c.args.lone.now in
     let ports = c.args.ports.now in
     let drives = c.in_ok-drives.drives in
-    drives_over (comparison_in c.args.compared) c.args.blif.now facts lone ports drives c.requires.nets c.requires.lone c.requires.checkable c.requires.planned c.args.checked.now c.requires.checked
+    drives_over (comparison_in c.args.phases.compared) c.args.phases.blif.now facts lone ports drives c.requires.nets c.requires.lone c.requires.phases.checkable c.requires.phases.planned c.args.checked.now c.requires.checked
     (subst (λ (x : Circuit). ArePortDrives x facts lone ports drives) c.circuit_of-circuit.ensures c.in_ok-drives.ensures)

@@ -36,6 +36,10 @@ pairing_of-requires-clause-cell c = c.requires.inputs.there
 pub pairing_of-requires-clause-rules : goal.pairing_of-requires-clause-rules
 pairing_of-requires-clause-rules c = c.requires.inputs.valid
 
+pub with_circuit-requires-clause-structured : goal.with_circuit-requires-clause-structured
+with_circuit-requires-clause-structured c =
+    structured_of (top_before c.args.design.now c.args.rules.now c.args.cell) c.in_ok-cause.cause c.in_ok-cause.ensures c.in_default.not-Some
+
 pub returns-in_err-cause : goal.returns-in_err-cause
 returns-in_err-cause c =
     let t = top_before c.args.design.now c.args.rules.now c.args.cell in

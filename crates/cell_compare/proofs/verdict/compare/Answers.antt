@@ -18,3 +18,6 @@ returns-clause-verdict c =
 pub returns-clause-facts : goal.returns-clause-facts
 returns-clause-facts c =
     subst (λ (facts : List CellFacts). IfOk c.compare_prepared.result (λ (x : Compared). HasFacts c.args.design.now c.args.blif.now c.args.rules.now facts c.args.cell x.verdict x.facts)) c.as_slice.ensures c.compare_prepared.ensures.facts
+
+pub compare_prepared-requires-clause-kept : goal.compare_prepared-requires-clause-kept
+compare_prepared-requires-clause-kept c = c.in_ok-kept.ensures c.args.design.now c.args.blif.now c.args.rules.now c.as_slice.result.now c.len.ensures

@@ -1,5 +1,5 @@
 -- The steps give the verdict, the line, what is known, and the runs.
-use Rattle.std.proofs.Common.{◌≡◌, ap, subst, sym}
+use Rattle.std.proofs.Common.{◌≡◌, ◌↔◌, [], true, subst, sym}
 use Rattle.cell_compare.proofs.CheckedLaws.{checkable}
 use Rattle.cell_compare.proofs.CompleteLaws.{complete}
 use Rattle.cell_compare.proofs.ReadyLaws.{ready}
@@ -8,10 +8,11 @@ use Rattle.cell_compare.specs.Checked.{IsCheckable, IsTold}
 use Rattle.cell_compare.specs.Ports.{HasDrives}
 use Rattle.phase_terms.specs.Ready.{IsReady}
 use Rattle.prepared_tables.specs.Prepared.{ArePrepared}
-use Rattle.rule_index.specs.Tables.{AreRuleTables}
 use Rattle.vrt_model.specs.Comparison.{Comparison}
-use Rattle.vrt_model.specs.declared.rules.Rules.{Rules}
+use Rattle.vrt_model.specs.declared.circuit.Circuit.{Circuit}
+use Rattle.vrt_model.specs.declared.flat_model.FlatModel.{FlatModel}
 use Rattle.vrt_model.specs.declared.verdict.Verdict.TheVariants.{Equal}
+use Rattle.whole_cells.specs.Kept.{AreKept}
 use Rattle.cell_compare.proofs.verdict.compare_with.Goals as goal
 
 pub flat_comparison-compared-requires : goal.flat_comparison-compared-requires
@@ -21,11 +22,6 @@ pub check_cell-requires-clause-ready : goal.check_cell-requires-clause-ready
 check_cell-requires-clause-ready c =
     subst IsReady (sym c.flat_comparison-compared.ensures.comparison)
     (ready c.args.design.now c.args.blif.now c.args.rules.now c.args.cell c.args.model c.in-Ok.flattened c.requires.inputs c.in-Ok.ensures)
-
-pub check_cell-requires-clause-tables : goal.check_cell-requires-clause-tables
-check_cell-requires-clause-tables c =
-    let rules = ap (λ (k : Comparison). k.rules) c.flat_comparison-compared.ensures.comparison in
-    subst (λ (r : Rules). AreRuleTables r c.args.prepared.now.index) (sym rules) c.requires.prepared.index_is.rules_are
 
 pub returns-clause-verdict : goal.returns-clause-verdict
 returns-clause-verdict c =
@@ -40,7 +36,9 @@ pub returns-clause-facts : goal.returns-clause-facts
 returns-clause-facts c =
     let told = c.in_ok-told.told in
     facts_with c.args.design.now c.args.blif.now c.args.rules.now c.args.cell c.args.model c.in-Ok.flattened c.requires.inputs c.in-Ok.ensures c.args.facts.now c.args.budget told.verdict
-    c.is_bare-bare.result told.drives c.facts_of-facts.result c.requires.facts c.is_bare-bare.ensures
+    c.is_bare-bare.result told.drives c.facts_of-facts.result c.requires.facts
+    (subst (λ (x : Circuit). (c.is_bare-bare.result ≡ true) ↔ ((x.holds ≡ []) × (c.in-Ok.flattened.model.latches ≡ []))) c.circuit.ensures
+    (subst (λ (y : FlatModel). (c.is_bare-bare.result ≡ true) ↔ ((c.circuit.result.now.holds ≡ []) × (y.latches ≡ []))) c.model.ensures c.is_bare-bare.ensures))
     (subst (λ (k : Comparison). IsTold k c.args.blif.now c.args.facts.now c.args.budget told.verdict) c.flat_comparison-compared.ensures.comparison c.in_ok-told.ensures.told)
     (subst (λ (k : Comparison). told.verdict ≡ Equal → HasDrives k c.args.blif.now c.args.facts.now told.drives) c.flat_comparison-compared.ensures.comparison c.in_ok-told.ensures.drives)
     c.facts_of-facts.ensures
@@ -67,3 +65,11 @@ check_cell-requires-clause-checkable c =
 pub check_cell-requires-clause-prepared : goal.check_cell-requires-clause-prepared
 check_cell-requires-clause-prepared c =
     subst (λ (k : Comparison). ArePrepared k.design c.args.blif.now k.rules c.args.prepared.now) (sym c.flat_comparison-compared.ensures.comparison) c.requires.prepared
+
+pub check_cell-requires-clause-kept : goal.check_cell-requires-clause-kept
+check_cell-requires-clause-kept c =
+    subst (λ (k : Comparison). AreKept k.design c.args.blif.now k.rules c.args.facts.now c.args.kept.now) (sym c.flat_comparison-compared.ensures.comparison) c.requires.kept
+
+pub returns-clause-kept : goal.returns-clause-kept
+returns-clause-kept c =
+    subst (λ (k : Comparison). AreKept k.design c.args.blif.now k.rules c.args.facts.now c.check_cell.new.kept) c.flat_comparison-compared.ensures.comparison c.in_ok-told.ensures.kept

@@ -1,11 +1,11 @@
-use Rattle.std.proofs.Common.{◌≡◌, ◌≤◌, ◌+◌, drop}
-use Rattle.flat_sizes.specs.Totals.{weighed, weight_of}
-use Rattle.vrt_model.specs.Unsupported.{carried}
+use Rattle.std.proofs.Common.{◌≤◌}
+use Rattle.flat_sizes.proofs.StandLaws.{Summing}
+use Rattle.flat_sizes.specs.Totals.{weight_of}
 use Rattle.flat_sizes.proofs.counts.sum_of.Given as goal
 
--- the sum so far, with that of the cells that are left
-abbrev pub invariant-loop-cell : goal.invariant-loop-cell
-invariant-loop-cell l = record {
-  so_far : carried (l.sum + weighed (weight_of l.counted l.design l.rules) l.cell (drop l.cell l.counts)) ≡ carried (weighed (weight_of l.counted l.design l.rules) 0 l.counts);
+-- the sum so far, with that of the stands that are left
+abbrev pub invariant-loop-stand : goal.invariant-loop-stand
+invariant-loop-stand l = record {
+  so_far : Summing (weight_of l.counted l.design l.rules) l.stands l.sum l.stand-index;
   small : l.sum ≤ 18446744073709551615;
 }

@@ -3,6 +3,9 @@ use Rattle.flatten.proofs.StructureLaws.{causes_are, sized_large, structured}
 use Rattle.vrt_model.specs.Unsupported.{top_before}
 use Rattle.flatten.proofs.structures.test_whole.Goals as goal
 
+pub sizes_with-requires-clause-numbered : goal.sizes_with-requires-clause-numbered
+sizes_with-requires-clause-numbered c = c.requires.indexed.cells_are
+
 pub test_unrolled-requires-clause-numbered : goal.test_unrolled-requires-clause-numbered
 test_unrolled-requires-clause-numbered c = c.requires.indexed.cells_are
 

@@ -18,4 +18,4 @@ whole_with-requires-clause-ground c =
 
 pub returns : goal.returns
 returns c roles is =
-    c.in_ok-whole.ensures roles (ground_without _ _ _ _ roles _ _ is (subst (AreAcyclic c.args.flat.now) c.as_slice.ensures (c.in_ok-free.ensures.0 c.if-not-free.false)))
+    c.in_ok-whole.ensures.whole roles (ground_without _ _ _ _ roles _ _ is (subst (AreAcyclic c.args.flat.now) c.as_slice.ensures (c.in_ok-free.ensures.0 c.if-not-free.false)))

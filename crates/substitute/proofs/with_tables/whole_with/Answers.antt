@@ -27,16 +27,16 @@ checked_by-requires-clause-tables c =
       c.args.facts.now,
       tables_of c.args.design.now c.args.blif.now c.args.rules.now c.args.cell g.0 c.args.facts.now _ g.1 (c.in_ok-unrolled.ensures g.0) c.as_slice.ensures
           (c.as_slice-2.ensures.value ∙ c.in_ok-owners.ensures t refl (c.in_ok-unrolled.ensures g.0))
-          (subst (AreEntriesOf c.args.design.now c.args.blif.now c.args.rules.now c.args.facts.now c.in_ok-unrolled.unrolled.places) (sym c.as_slice-3.ensures.value) c.in_ok-cells.ensures),
+          (subst (AreEntriesOf c.args.design.now c.args.blif.now c.args.rules.now c.args.facts.now c.in_ok-unrolled.unrolled.places) (sym c.as_slice-3.ensures.value) c.in_ok-make_entries.ensures.entries),
     )
 
-pub returns : goal.returns
-returns c =
+pub returns-clause-whole : goal.returns-clause-whole
+returns-clause-whole c =
     IfOk-weaker c.checked_by.result _ _
     (λ whole gives roles is.
     (let t = whole_of c.args.design.now c.args.rules.now c.args.cell roles in
     gives t c.args.blif.now c.args.facts.now
     (tables_of c.args.design.now c.args.blif.now c.args.rules.now c.args.cell roles c.args.facts.now _ is (c.in_ok-unrolled.ensures roles) c.as_slice.ensures
     (c.as_slice-2.ensures.value ∙ c.in_ok-owners.ensures t refl (c.in_ok-unrolled.ensures roles))
-    (subst (AreEntriesOf c.args.design.now c.args.blif.now c.args.rules.now c.args.facts.now c.in_ok-unrolled.unrolled.places) (sym c.as_slice-3.ensures.value) c.in_ok-cells.ensures))))
+    (subst (AreEntriesOf c.args.design.now c.args.blif.now c.args.rules.now c.args.facts.now c.in_ok-unrolled.unrolled.places) (sym c.as_slice-3.ensures.value) c.in_ok-make_entries.ensures.entries))))
     c.checked_by.ensures

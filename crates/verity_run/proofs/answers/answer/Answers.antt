@@ -4,23 +4,23 @@ use Rattle.verity_run.proofs.answers.answer.Goals as goal
 pub returns-in-Check : goal.returns-in-Check
 returns-in-Check g c =
     λ words.
-    check_answered c.args.request.now _ _ _ words c.args.inputs.now.design c.args.inputs.now.blif c.args.inputs.now.rules c.nodes_of.result c.args.cells.now _ _ _ _ _ c.in-Check.is
-    c.nodes_of.ensures (record { ordered = c.requires.ordered; asked = c.requires.asked }) c.check_cells.ensures
+    check_answered c.args.request.now _ _ _ words c.args.ready.now.inputs.design c.args.ready.now.inputs.blif c.args.ready.now.inputs.rules c.nodes_of.result c.args.ready.now.cells _ _ _ _ _ c.in-Check.is
+    c.nodes_of.ensures (record { ordered = c.requires.ready.ordered; asked = c.requires.asked }) c.check_cells.ensures
 
 pub returns-in-Generate : goal.returns-in-Generate
 returns-in-Generate g c =
     λ words.
-    generated_answered c.args.request.now c.in-Generate.size _ words c.args.inputs.now.design c.args.inputs.now.blif c.args.inputs.now.rules c.nodes_of-in-Generate.result c.args.cells.now _ _ _ _ _
-    c.in-Generate.is c.nodes_of-in-Generate.ensures (record { ordered = c.requires.ordered; asked = c.requires.asked }) c.check_generated.ensures
+    generated_answered c.args.request.now c.in-Generate.size _ words c.args.ready.now.inputs.design c.args.ready.now.inputs.blif c.args.ready.now.inputs.rules c.nodes_of-in-Generate.result c.args.ready.now.cells _ _ _ _ _
+    c.in-Generate.is c.nodes_of-in-Generate.ensures (record { ordered = c.requires.ready.ordered; asked = c.requires.asked }) c.check_generated.ensures
 
 pub returns-in-Replay : goal.returns-in-Replay
 returns-in-Replay g c =
     λ words.
-    replay_answered c.args.request.now c.in-Replay.cell c.in-Replay.phase c.in-Replay.at _ words c.args.inputs.now.design c.args.inputs.now.blif c.args.inputs.now.rules c.args.cells.now _ _ _ _ _
-    c.in-Replay.is (record { ordered = c.requires.ordered; asked = c.requires.asked }) c.replay_cell.ensures
+    replay_answered c.args.request.now c.in-Replay.cell c.in-Replay.phase c.in-Replay.at _ words c.args.ready.now.inputs.design c.args.ready.now.inputs.blif c.args.ready.now.inputs.rules c.args.ready.now.cells _ _ _ _ _
+    c.in-Replay.is (record { ordered = c.requires.ready.ordered; asked = c.requires.asked }) c.replay_cell.ensures
 
 pub returns-in-Classes : goal.returns-in-Classes
 returns-in-Classes g c =
     λ words.
-    classes_answered c.args.request.now _ _ words c.args.inputs.now.design c.args.inputs.now.blif c.args.inputs.now.rules c.args.cells.now _ _ _ _ _ c.in-Classes.is
-    (record { ordered = c.requires.ordered; asked = c.requires.asked }) c.class_cells.ensures
+    classes_answered c.args.request.now _ _ words c.args.ready.now.inputs.design c.args.ready.now.inputs.blif c.args.ready.now.inputs.rules c.args.ready.now.cells _ _ _ _ _ c.in-Classes.is
+    (record { ordered = c.requires.ready.ordered; asked = c.requires.asked }) c.class_cells.ensures

@@ -1,0 +1,10 @@
+use Rattle.std.proofs.Common.{List, subst, sym}
+use Rattle.flat_sizes.proofs.TotalLaws.{listed_inside}
+use Rattle.flat_sizes.specs.Totals.{AreInside}
+use Rattle.flat_sizes.specs.declared.stands.Stand.{Stand}
+use Rattle.flat_sizes.proofs.counts.sizes.Goals as goal
+
+pub sizes_of-requires-clause-stands : goal.sizes_of-requires-clause-stands
+sizes_of-requires-clause-stands c =
+    subst (λ (stands : List Stand). AreInside c.args.design.now c.args.cell stands) (sym c.as_slice.ensures)
+    (listed_inside c.args.design.now c.args.cell c.cells_inside.result c.listed-stands.result c.listed-stands.ensures c.cells_inside.ensures)
