@@ -1,0 +1,2 @@
+pub mod StepBits
+pub mod ThreeSettings

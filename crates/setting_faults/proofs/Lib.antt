@@ -1,0 +1,4 @@
+pub mod DifferenceLaws
+pub mod PartOrder
+pub mod SettlingCounts
+pub mod SettlingLaws
