@@ -1,27 +1,12 @@
--- The search and the levels are of one plan.
-use Rattle.std.proofs.Common.{◌∙◌, ap, refl}
-use Rattle.bdd_core.specs.Store.{Diagrams}
-use Rattle.cell_compare.proofs.CheckLaws.{used_up}
-use Rattle.phase_terms.specs.Ready.{comparison_in}
+-- A fault by names stops the search.
+use Rattle.std.proofs.Common.{subst}
+use Rattle.cell_compare.specs.Workspace.{View, compared_in}
+use Rattle.vrt_model.specs.Places.{Finding, IsFirstInPhase}
+use Rattle.vrt_model.specs.Verdicts.{Describes}
 use Rattle.cell_compare.proofs.phases.found_in.Goals as goal
 
-pub check_phase-requires-clause-search : goal.check_phase-requires-clause-search
-check_phase-requires-clause-search c = record { ready = c.requires.ready; there = c.requires.phase; planned = c.requires.plan.is }
-
-pub found_levels-requires-clause-budget : goal.found_levels-requires-clause-budget
-found_levels-requires-clause-budget c =
-    (c.requires.budget, c.check_phase.ensures.kept.budget ∙ ap (λ (d : Diagrams). d.budget) c.leave.ensures.left ∙ c.requires.room.budget_is)
-
-pub found_levels-requires-clause-search : goal.found_levels-requires-clause-search
-found_levels-requires-clause-search c = record { ready = c.requires.ready; there = c.requires.phase; planned = c.requires.plan.is }
-
-pub found_levels-requires-clause-wished : goal.found_levels-requires-clause-wished
-found_levels-requires-clause-wished c = c.in-Clear.ensures.clear
-
-pub returns-in-Spent-clause-tells : goal.returns-in-Spent-clause-tells
-returns-in-Spent-clause-tells c = (
-  refl,
-  refl,
-  used_up (comparison_in c.args.compared) c.args.budget c.leave.new.self.budget c.args.phase c.args.plan.now (ap (λ (d : Diagrams). d.budget) c.leave.ensures.left ∙ c.requires.room.budget_is) c.requires.plan.is
-      c.in-Spent.ensures.gives.0,
-)
+pub returns-in_ok-told-in-Fault-clause-tells : goal.returns-in_ok-told-in-Fault-clause-tells
+returns-in_ok-told-in-Fault-clause-tells c =
+    let last = c.check_phase.ensures.last in
+    let named = c.in_ok-told-in-Fault.ensures (record { phase = c.args.phase; answer = c.check_phase.result; bits = last.0 }) last.1 in
+    (named.0, subst (λ (w : View). (f : Finding) × Describes (compared_in w) c.in_ok-told-in-Fault.told f × IsFirstInPhase (compared_in w) f) c.check_phase.ensures.rest named.1)

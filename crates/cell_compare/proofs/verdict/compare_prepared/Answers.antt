@@ -1,7 +1,15 @@
+-- What stops a cell is its verdict, and nothing is known of it then.
+use Rattle.std.proofs.Common.{Err, subst, sym}
+use Rattle.cell_compare.proofs.CompleteLaws.{complete}
+use Rattle.cell_compare.specs.Cells.{IsComplete}
+use Rattle.cell_compare.specs.Stops.{PlannedOrStops}
+use Rattle.cell_compare.specs.declared.verdict.Compared.{Compared}
+use Rattle.cell_compare.specs.declared.not_compared.Stop.{Stop}
+use Rattle.vrt_model.specs.declared.verdict.Verdict.TheVariants.{Unsupported}
 use Rattle.cell_compare.proofs.verdict.compare_prepared.Goals as goal
 
-pub compare_with-requires-clause-inputs : goal.compare_with-requires-clause-inputs
-compare_with-requires-clause-inputs c = record {
+pub planned_cell-requires-clause-inputs : goal.planned_cell-requires-clause-inputs
+planned_cell-requires-clause-inputs c = record {
   netlist = c.requires.design;
   names = c.requires.blif;
   models = c.requires.models;
@@ -10,5 +18,19 @@ compare_with-requires-clause-inputs c = record {
   ordered = c.requires.ordered;
 }
 
-pub is_skipped_with-requires : goal.is_skipped_with-requires
-is_skipped_with-requires c = c.requires.prepared.index_is.rules_are
+pub compare_planned-requires-clause-inputs : goal.compare_planned-requires-clause-inputs
+compare_planned-requires-clause-inputs c = record {
+  netlist = c.requires.design;
+  names = c.requires.blif;
+  models = c.requires.models;
+  valid = c.requires.rules;
+  there = c.requires.cell;
+  ordered = c.requires.ordered;
+}
+
+pub returns-in-Err-Unsupported-clause-complete : goal.returns-in-Err-Unsupported-clause-complete
+returns-in-Err-Unsupported-clause-complete c =
+    let a = c.args in
+    let stops = subst (λ (stop : Stop). PlannedOrStops a.design.now a.blif.now a.rules.now a.cell (Err stop)) c.in-Err-Unsupported.field-0-is c.in-Err-Unsupported.ensures in
+    subst (λ (x : Compared). IsComplete a.design.now a.blif.now a.rules.now a.budget a.cell x.verdict) (sym c.not_compared-in-Err-Unsupported.ensures)
+    (complete a.design.now a.blif.now a.rules.now a.facts.now a.budget a.cell (Unsupported c.in-Err-Unsupported.why) stops.cause)

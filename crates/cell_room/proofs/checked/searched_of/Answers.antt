@@ -1,0 +1,1 @@
+-- The circuit that is looked through is the checked one.

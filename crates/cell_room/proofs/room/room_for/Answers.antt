@@ -1,0 +1,1 @@
+-- The tables are as long as the circuit has nets.
