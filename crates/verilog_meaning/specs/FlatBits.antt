@@ -1,0 +1,29 @@
+-- The bits of nets that a flat model's signals have.
+use Rattle.std.specs.Prelude.{◌≡◌, ℕ, zero, suc, Bool, List, [], ◌∷◌, unwrap_or, slice_get}
+use Rattle.vrt_model.specs.Covers.{cover_bit}
+use Rattle.vrt_model.specs.FlatBlif.{ModelPlace, flat_model_of, signal_at, subs_at, top_model}
+use Rattle.vrt_model.specs.Lists.{Among}
+use Rattle.vrt_model.specs.Unrolled.{deepest}
+use Rattle.vrt_model.specs.declared.blif.Blif.{Blif}
+use Rattle.vrt_model.specs.declared.flat_model.Cover.{Cover}
+
+-- the sub-model of a place by its number
+abbrev pub sub_place : Blif → ℕ → ModelPlace → ℕ → ModelPlace
+sub_place blif depth at k = unwrap_or (slice_get (subs_at blif depth at) k) at
+
+-- the place to which a path leads
+abbrev pub place_on : Blif → ℕ → ModelPlace → List ℕ → ModelPlace
+place_on blif depth at [] = at
+place_on blif zero at (k ∷ path) = at
+place_on blif (suc depth) at (k ∷ path) = place_on blif depth (sub_place blif depth at k) path
+
+unfoldable pub flat_place : Blif → ℕ → List ℕ → ModelPlace
+flat_place blif m path = place_on blif deepest (top_model m) path
+
+-- the bit of a net at a path: that of its flat signal
+abbrev pub flat_bits : Blif → ℕ → (ℕ → Bool) → List ℕ → List ℕ → Bool
+flat_bits blif m bits path name = bits (signal_at blif (flat_place blif m path) name)
+
+-- each cover of a flat model gives its output's bit
+abbrev pub AreCoversObeyed : Blif → ℕ → (ℕ → Bool) → Type 0
+AreCoversObeyed blif m bits = (c : Cover) → Among (flat_model_of blif m).covers c → bits c.output ≡ cover_bit bits c

@@ -1,0 +1,4 @@
+pub mod Meaning
+pub mod Covered
+pub mod Terminals
+pub mod FlatBits
