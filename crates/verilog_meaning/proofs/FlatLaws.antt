@@ -87,7 +87,7 @@ tied_bit modules k bits at q m i t (Some x) good are covered led a e =
     ap bits (tie_same blif at led.sub q tied ((good_driven blif good are).tied at.model led.sub led.there) led.place among)
     ∙ actual_covered (bits_at blif bits at) led.is.line tie.count x (λ c b. covered c (led.is.ties c (tie.covered c b)))
 
-stands_among : (modules : List Module) (m : Module) (path : List ℕ) (last : Module) → StandsAt modules m path last → Among modules m → Among modules last
+pub stands_among : (modules : List Module) (m : Module) (path : List ℕ) (last : Module) → StandsAt modules m path last → Among modules m → Among modules last
 stands_among modules _ _ _ itself a = a
 stands_among modules _ _ _ (inside {m} {inner} {last} {path} k i b found later) a =
     stands_among modules inner path last later (find_among (λ (x : Module). bytes_eq x.name i.module_name) modules inner found).0

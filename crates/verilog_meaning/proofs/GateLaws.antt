@@ -42,7 +42,7 @@ chain_covered bits line n complements left (right ∷ next ∷ more) output h =
 
 -- ---- gates
 
-none_there : 1 ≤ 0 → ⊥
+pub none_there : 1 ≤ 0 → ⊥
 none_there h = omega (arith, h)
 
 -- an output of a gate is the function of its inputs
@@ -69,7 +69,7 @@ output_covered bits line n G.Not (x ∷ y ∷ more) output t h = absurd (too_man
   too_many : (n : ℕ) → suc (suc n) ≡ 1 → ⊥
   too_many n e = omega (arith, e)
 
-as_many : (n : ℕ) (fs : List Formula) → length (all_signals n fs) ≡ length fs
+pub as_many : (n : ℕ) (fs : List Formula) → length (all_signals n fs) ≡ length fs
 as_many n [] = refl
 as_many n (f ∷ fs) = ap suc (as_many (n + own f) fs)
 

@@ -86,6 +86,7 @@ pub record IsNumberOf (modules : List Module) (name : List ℕ) (m : Module) : T
   pub number : ℕ
   pub found : position (λ (b : BlifModel). bytes_eq b.name name) (map model_of modules) ≡ Some number
   pub there : slice_get (map model_of modules) number ≡ Some (model_of m)
+  pub at : At modules number m
 
 named_model : (modules : List Module) (name : List ℕ) (m : Module) → module_named modules name ≡ Some m → IsNumberOf modules name m
 named_model [] name m e = cc
@@ -97,6 +98,7 @@ named_model (x ∷ modules) name m e = by_test (bytes_eq x.name name) refl (name
         place_cons (λ (b : BlifModel). bytes_eq b.name name) (model_of x) (map model_of modules)
         ∙ ap (λ c. cond c (Some 0) (option_map suc (position (λ (b : BlifModel). bytes_eq b.name name) (map model_of modules)))) h;
     there = ap (λ y. Some (model_of y)) (same_Some x m (sym (ap (λ c. cond c (Some x) (module_named modules name)) h) ∙ e));
+    at = sym (ap (λ c. cond c (Some x) (module_named modules name)) h) ∙ e;
   }
   by_test false h later =
       let r = later (sym (ap (λ c. cond c (Some x) (module_named modules name)) h) ∙ e) in record {
@@ -105,7 +107,12 @@ named_model (x ∷ modules) name m e = by_test (bytes_eq x.name name) refl (name
             place_cons (λ (b : BlifModel). bytes_eq b.name name) (model_of x) (map model_of modules)
             ∙ ap (λ c. cond c (Some 0) (option_map suc (position (λ (b : BlifModel). bytes_eq b.name name) (map model_of modules)))) h ∙ ap (option_map suc) r.found;
         there = r.there;
+        at = r.at;
       }
+
+-- its number
+pub number_found : (modules : List Module) (name : List ℕ) (m : Module) → module_named modules name ≡ Some m → At modules (model_numbered (blif_of modules) name) m
+number_found modules name m e = let r = named_model modules name m e in ap (λ o. slice_get modules (unwrap_or o 0)) r.found ∙ r.at
 
 abbrev no_model : BlifModel
 no_model = record { line = 0; name = []; inputs = []; input_lines = []; clocks = []; clock_lines = []; outputs = []; output_lines = []; covers = []; latches = []; subs = [] }

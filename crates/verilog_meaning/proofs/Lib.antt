@@ -6,3 +6,10 @@ pub mod ModuleLaws
 pub mod InstanceLaws
 pub mod PlaceLaws
 pub mod FlatLaws
+pub mod OwnBits
+pub mod BackLaws
+pub mod NameLaws
+pub mod WholeBits
+pub mod ShownLaws
+pub mod PathLaws
+pub mod GotLaws

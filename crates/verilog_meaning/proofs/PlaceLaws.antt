@@ -40,30 +40,30 @@ placed_from blif at depth number base (x ∷ subs) (suc k) s e =
     placed_from blif at depth (suc number) (base + inner_count blif depth (model_at blif (model_numbered blif x.model)) (formals x)) subs k s e
 
 -- it stands among the sub-models of the place around it
-sub_placed : (blif : Blif) (depth : ℕ) (at : ModelPlace) (k : ℕ) (s : SubLine) → At (model_at blif at.model).subs k s → At (subs_at blif depth at) k (sub_place blif depth at k) × IsPlaceOf blif at s (sub_place blif depth at k)
+pub sub_placed : (blif : Blif) (depth : ℕ) (at : ModelPlace) (k : ℕ) (s : SubLine) → At (model_at blif at.model).subs k s → At (subs_at blif depth at) k (sub_place blif depth at k) × IsPlaceOf blif at s (sub_place blif depth at k)
 sub_placed blif depth at k s e =
     let found = placed_from blif at depth 0 (at.base + length (inner_signals (model_at blif at.model) at.tied)) (model_at blif at.model).subs k s e in
     let q : ModelPlace = found.0 in
     let is : sub_place blif depth at k ≡ q = ap (λ o. unwrap_or o at) found.1 in
     (found.1 ∙ ap Some (sym is), subst (IsPlaceOf blif at s) (sym is) found.2)
 
-place_model : (blif : Blif) (at : ModelPlace) (s : SubLine) (q : ModelPlace) → IsPlaceOf blif at s q → q.model ≡ model_numbered blif s.model
+pub place_model : (blif : Blif) (at : ModelPlace) (s : SubLine) (q : ModelPlace) → IsPlaceOf blif at s q → q.model ≡ model_numbered blif s.model
 place_model blif at s q h = ap (λ (p : ModelPlace). p.model) h.is
 
 -- ---- paths
 
 -- the sub-model of an instance of a module at a place
-sub_of_place : (modules : List Module) (at : ModelPlace) (m : Module) (k : ℕ) (i : Instance) → model_at (blif_of modules) at.model ≡ model_of m → At (instances_in m.entries) k i
+pub sub_of_place : (modules : List Module) (at : ModelPlace) (m : Module) (k : ℕ) (i : Instance) → model_at (blif_of modules) at.model ≡ model_of m → At (instances_in m.entries) k i
     → (s : SubLine) × At (model_at (blif_of modules) at.model).subs k s × IsSubOf i s (covers_in 0 m.entries)
 sub_of_place modules at m k i same a =
     let h = sub_there 0 m.entries k i a in (h.0, subst (λ (b : BlifModel). At b.subs k h.0) (sym same) h.1, h.2)
 
-inner_model : (modules : List Module) (at : ModelPlace) (i : Instance) (s : SubLine) (q : ModelPlace) (m inner : Module) → IsSubOf i s (covers_in 0 m.entries) → IsPlaceOf (blif_of modules) at s q
+pub inner_model : (modules : List Module) (at : ModelPlace) (i : Instance) (s : SubLine) (q : ModelPlace) (m inner : Module) → IsSubOf i s (covers_in 0 m.entries) → IsPlaceOf (blif_of modules) at s q
     → module_named modules i.module_name ≡ Some inner → model_at (blif_of modules) q.model ≡ model_of inner
 inner_model modules at i s q m inner is place found =
     ap (model_at (blif_of modules)) (place_model (blif_of modules) at s q place ∙ ap (λ (x : SubLine). model_numbered (blif_of modules) x.model) is.is) ∙ model_found modules i.module_name inner found
 
-within_at : (blif : Blif) (n k : ℕ) (s : SubLine) → At (model_at blif n).subs k s → Among (models_within blif n) (model_numbered blif s.model)
+pub within_at : (blif : Blif) (n k : ℕ) (s : SubLine) → At (model_at blif n).subs k s → Among (models_within blif n) (model_numbered blif s.model)
 within_at blif n k s e = map_among (λ (x : SubLine). model_numbered blif x.model) (model_at blif n).subs s (k, e)
 
 -- a path of instances leads to a place of the unrolled model, whose model is that of the module at the path

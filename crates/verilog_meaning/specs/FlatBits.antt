@@ -1,8 +1,12 @@
 -- The bits of nets that a flat model's signals have.
-use Rattle.std.specs.Prelude.{◌≡◌, ℕ, zero, suc, Bool, List, [], ◌∷◌, unwrap_or, slice_get}
+use Rattle.std.specs.Prelude.{◌≡◌, ℕ, zero, suc, Bool, true, List, [], ◌∷◌, unwrap_or, slice_get}
+use Rattle.verilog_meaning.specs.Meaning.{StandsAt}
+use Rattle.verilog_meaning.specs.Names.{IsPlain}
+use Rattle.verilog_models.specs.Models.{blif_of, model_of}
+use Rattle.verilog_source.specs.Modules.{Module}
 use Rattle.vrt_model.specs.Covers.{cover_bit}
-use Rattle.vrt_model.specs.FlatBlif.{ModelPlace, flat_model_of, signal_at, subs_at, top_model}
-use Rattle.vrt_model.specs.Lists.{Among}
+use Rattle.vrt_model.specs.FlatBlif.{ModelPlace, flat_model_of, signal_at, signals_of, subs_at, top_model}
+use Rattle.vrt_model.specs.Lists.{Among, has_name}
 use Rattle.vrt_model.specs.Unrolled.{deepest}
 use Rattle.vrt_model.specs.declared.blif.Blif.{Blif}
 use Rattle.vrt_model.specs.declared.flat_model.Cover.{Cover}
@@ -27,3 +31,15 @@ flat_bits blif m bits path name = bits (signal_at blif (flat_place blif m path) 
 -- each cover of a flat model gives its output's bit
 abbrev pub AreCoversObeyed : Blif → ℕ → (ℕ → Bool) → Type 0
 AreCoversObeyed blif m bits = (c : Cover) → Among (flat_model_of blif m).covers c → bits c.output ≡ cover_bit bits c
+
+-- The signals of a flat model have the bits of nets, at each path of instances. Those that the text does not name have a blank in
+-- their names.
+abbrev pub HaveNetBits : List Module → ℕ → Module → (ℕ → Bool) → (List ℕ → List ℕ → Bool) → Type 0
+HaveNetBits modules k top signals bits =
+    (path : List ℕ) (m : Module) → StandsAt modules top path m → (x : List ℕ) → has_name (signals_of (model_of m)) x ≡ true → IsPlain x → flat_bits (blif_of modules) k signals path x ≡ bits path x
+
+-- Bits of nets come from bits of the flat signals, at which each cover gives its output's bit.
+pub record IsGot (modules : List Module) (k : ℕ) (top : Module) (bits : List ℕ → List ℕ → Bool) : Type 0 where
+  pub signals : ℕ → Bool
+  pub obeyed : AreCoversObeyed (blif_of modules) k signals
+  pub nets : HaveNetBits modules k top signals bits

@@ -1,4 +1,5 @@
 pub mod Meaning
 pub mod Covered
 pub mod Terminals
+pub mod Names
 pub mod FlatBits

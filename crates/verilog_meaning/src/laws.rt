@@ -2,8 +2,9 @@
 
 ghost use Rattle.std.specs.Prelude.{ℕ, Bool, List};
 ghost use Rattle.verilog_meaning.specs.Covered.{AreCovered};
-ghost use Rattle.verilog_meaning.specs.FlatBits.{AreCoversObeyed, flat_bits};
+ghost use Rattle.verilog_meaning.specs.FlatBits.{AreCoversObeyed, IsGot, flat_bits};
 ghost use Rattle.verilog_meaning.specs.Meaning.{Holds, IsMeaning};
+ghost use Rattle.verilog_meaning.specs.Names.{ArePlain};
 ghost use Rattle.verilog_models.specs.Models.{blif_of, model_of};
 ghost use Rattle.verilog_source.specs.Grammar.{IsSource};
 ghost use Rattle.verilog_source.specs.Modules.{Entry, Module};
@@ -22,4 +23,10 @@ pub fn covers_mean()
 /// module and of all instances in it, as their expressions, gates and ties say.
 pub fn flat_models_mean()
     ensures { (ts : List Token) (ms : List Module) (k : ℕ) (top : Module) (bits : ℕ → Bool) → IsSource ts ms → IsBlif (blif_of ms) → AreModels (blif_of ms) → At ms k top → AreCoversObeyed (blif_of ms) k bits → IsMeaning ms top (flat_bits (blif_of ms) k bits) }
+{}
+
+/// Each meaning of a module comes from bits of the flat signals at which each cover gives its output's bit, where no name of the
+/// text has a blank.
+pub fn meanings_are_got()
+    ensures { (ts : List Token) (ms : List Module) (k : ℕ) (top : Module) (bits : List ℕ → List ℕ → Bool) → IsSource ts ms → IsBlif (blif_of ms) → AreModels (blif_of ms) → ArePlain ms → At ms k top → IsMeaning ms top bits → IsGot ms k top bits }
 {}
