@@ -13,3 +13,5 @@ pub mod WholeBits
 pub mod ShownLaws
 pub mod PathLaws
 pub mod GotLaws
+pub mod YieldLaws
+pub mod PlainLaws

@@ -1,6 +1,6 @@
 -- The bits of nets that a flat model's signals have.
 use Rattle.std.specs.Prelude.{◌≡◌, ℕ, zero, suc, Bool, true, List, [], ◌∷◌, unwrap_or, slice_get}
-use Rattle.verilog_meaning.specs.Meaning.{StandsAt}
+use Rattle.verilog_meaning.specs.Meaning.{IsMeaning, StandsAt}
 use Rattle.verilog_meaning.specs.Names.{IsPlain}
 use Rattle.verilog_models.specs.Models.{blif_of, model_of}
 use Rattle.verilog_source.specs.Modules.{Module}
@@ -43,3 +43,9 @@ pub record IsGot (modules : List Module) (k : ℕ) (top : Module) (bits : List �
   pub signals : ℕ → Bool
   pub obeyed : AreCoversObeyed (blif_of modules) k signals
   pub nets : HaveNetBits modules k top signals bits
+
+-- The bits of the flat signals at which each cover gives its output's bit are, but for the signals that the text does not name,
+-- exactly the bits of nets that a module means.
+pub record IsExact (modules : List Module) (k : ℕ) (top : Module) : Type 0 where
+  pub means : (signals : ℕ → Bool) → AreCoversObeyed (blif_of modules) k signals → IsMeaning modules top (flat_bits (blif_of modules) k signals)
+  pub got : (bits : List ℕ → List ℕ → Bool) → IsMeaning modules top bits → IsGot modules k top bits
