@@ -1,11 +1,11 @@
 -- What an assignment of a flat model says of modules.
-use Rattle.std.proofs.Common.{◌≡◌, ◌<◌, ℕ, Bool, not, cond, ◌&&◌, ◌||◌, List, [], ◌∷◌, ◌++◌, map, Option, Some, None, refl, ap, sym, subst, ◌∙◌}
+use Rattle.std.proofs.Common.{◌≡◌, ◌<◌, ℕ, zero, suc, Bool, not, cond, ◌&&◌, ◌||◌, List, [], ◌∷◌, ◌++◌, map, flat_map, Option, Some, None, refl, ap, ap₂, sym, subst, ◌∙◌}
 use Rattle.std.proofs.lemmas.Option.{slice_get_within}
 use Rattle.std.proofs.lemmas.List.{length-map}
 use Rattle.blif_flat.proofs.OneDriverDepths.{Ends, models_end}
 use Rattle.blif_flat.proofs.OneDriverLaws.{good_driven}
 use Rattle.verilog_meaning.specs.Covered.{AreCovered, bit_given, bits_fit}
-use Rattle.verilog_meaning.specs.FlatBits.{AreCoversObeyed, flat_bits, flat_place, place_on}
+use Rattle.verilog_meaning.specs.FlatBits.{Assigns, flat_bits, flat_place, place_on}
 use Rattle.std.specs.Prelude.{bytes_eq}
 use Rattle.verilog_meaning.specs.Meaning.{Instance, IsMeaning, IsTied, StandsAt}
 use Rattle.verilog_meaning.specs.Meaning.StandsAt.{itself, inside}
@@ -19,7 +19,8 @@ use Rattle.verilog_models.specs.Models.{blif_of, covers_in, model_of}
 use Rattle.verilog_source.specs.Grammar.{IsSource}
 use Rattle.verilog_source.specs.Modules.{Actual, Module, PortTie}
 use Rattle.verilog_tokens.specs.Signs.{Token}
-use Rattle.vrt_model.specs.FlatBlif.{ModelPlace, all_models, flat_cover, flat_model_of, model_at, models_in, signal_at, top_model}
+use Rattle.vrt_model.specs.FlatBlif.{ModelPlace, all_models, flat_cover, flat_latch, flat_model_of, model_at, models_in, signal_at, top_model}
+use Rattle.vrt_model.specs.Elements.{Numbered, numbered_from}
 use Rattle.vrt_model.specs.Covers.{byte_fits, cover_bit, row_fits}
 use Rattle.vrt_model.specs.Inputs.{IsBlif}
 use Rattle.vrt_model.specs.Lists.{Among, At, is_empty}
@@ -30,8 +31,15 @@ use Rattle.vrt_model.specs.declared.blif.BlifModel.{BlifModel}
 use Rattle.vrt_model.specs.declared.blif.CoverLine.{CoverLine}
 use Rattle.vrt_model.specs.declared.blif.SubLine.{SubLine}
 use Rattle.vrt_model.specs.declared.blif.Tie.{Tie}
+use Rattle.vrt_model.specs.declared.blif.LatchLine.{LatchLine}
+use Rattle.vrt_model.specs.declared.flat_model.Cover.{Cover}
+use Rattle.vrt_model.specs.declared.flat_model.FlatLatch.{FlatLatch}
 use Rattle.vrt_model.proofs.Lists.{any_same, map_among}
-use Rattle.vrt_model.proofs.Members.{find_among, flat_map_among}
+use Rattle.vrt_model.proofs.Members.{at_none, find_among, flat_map_among}
+
+-- each cover of a flat model gives its output's bit
+abbrev pub AreCoversObeyed : Blif → ℕ → (ℕ → Bool) → Type 0
+AreCoversObeyed blif m bits = (c : Cover) → Among (flat_model_of blif m).covers c → bits c.output ≡ cover_bit bits c
 
 -- ---- numbered signals
 
@@ -110,3 +118,28 @@ flat_means tokens modules k top bits source good are a obeys =
           tied_bit modules k bits p (place_on blif deepest (top_model k) (path ++ j ∷ [])) m i t t.actual good are
           (same_covers (bits_at blif bits p) (model_at blif p.model) m led.model (place_covered blif k bits p obeys led.there)) on b refl);
     }
+
+-- ---- assignments
+
+no_latches : (modules : List Module) (n : ℕ) → (model_at (blif_of modules) n).latches ≡ []
+no_latches [] n = refl
+no_latches (m ∷ modules) zero = refl
+no_latches (m ∷ modules) (suc n) = no_latches modules n
+
+none_placed : (modules : List Module) (ps : List ModelPlace) → flat_map (λ (p : ModelPlace). map (flat_latch (blif_of modules) p) (model_at (blif_of modules) p.model).latches) ps ≡ []
+none_placed modules [] = refl
+none_placed modules (p ∷ ps) = ap₂ (λ (ls : List LatchLine) (fs : List FlatLatch). map (flat_latch (blif_of modules) p) ls ++ fs) (no_latches modules p.model) (none_placed modules ps)
+
+-- a flat model of a text has no latches
+flat_latches : (modules : List Module) (k : ℕ) → (flat_model_of (blif_of modules) k).latches ≡ []
+unfolding flat_model_of all_models
+flat_latches modules k = none_placed modules (models_in (blif_of modules) deepest (top_model k))
+
+-- so an assignment is what gives each cover's output its bit
+pub assigns : (modules : List Module) (k : ℕ) (bits : ℕ → Bool) → AreCoversObeyed (blif_of modules) k bits → Assigns (blif_of modules) k bits
+assigns modules k bits obeyed clock held next = record {
+  covers = obeyed;
+  latches = λ l a. absurd (none (flat_model_of (blif_of modules) k).latches (flat_latches modules k) l a);
+} where
+  none : (ls : List FlatLatch) → ls ≡ [] → (l : Numbered) → Among (numbered_from 0 ls) l → ⊥
+  none ls e l a = at_none a.0 l (subst (λ (xs : List FlatLatch). At (numbered_from 0 xs) a.0 l) e a.1)

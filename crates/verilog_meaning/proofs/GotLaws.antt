@@ -14,7 +14,7 @@ use Rattle.verilog_meaning.specs.Meaning.StandsAt.{itself, inside}
 use Rattle.verilog_meaning.specs.Names.{ArePlain, actual_nets, entry_names, tie_names}
 use Rattle.verilog_meaning.specs.Terminals.{IsWhole}
 use Rattle.verilog_meaning.proofs.BackLaws.{entries_back, entry_nets}
-use Rattle.verilog_meaning.proofs.FlatLaws.{bits_at, cover_same, runs, stands_among}
+use Rattle.verilog_meaning.proofs.FlatLaws.{assigns, bits_at, cover_same, runs, stands_among}
 use Rattle.verilog_meaning.proofs.InstanceLaws.{model_there, number_found}
 use Rattle.verilog_meaning.proofs.NameLaws.{own_bits_there, plain_bit, plain_bits, with_own}
 use Rattle.verilog_meaning.proofs.PathLaws.{Shows, shown_by, sub_shows}
@@ -216,10 +216,10 @@ meaning_got tokens modules k top bits source good are plain at meaning =
     let all = bits_in modules bits deepest (top_model k) [] in
     let ends = (runs modules k top are at).ends in record {
       signals = bit_in all;
-      obeyed = λ c a. (
+      assigned = assigns modules k (bit_in all) (λ c a. (
           let p = among_flat_map (λ (q : ModelPlace). map (flat_cover blif q) (model_at blif q.model).covers) (models_in blif deepest (top_model k)) c a in
           let x = among_map (flat_cover blif p.0) (model_at blif p.0.model).covers c p.2 in
-          subst (λ (y : Cover). bit_in all y.output ≡ cover_bit (bit_in all) y) x.2 (obeyed_at tokens modules k top bits deepest source good are plain at meaning ends p.0 p.1 x.0 x.1));
+          subst (λ (y : Cover). bit_in all y.output ≡ cover_bit (bit_in all) y) x.2 (obeyed_at tokens modules k top bits deepest source good are plain at meaning ends p.0 p.1 x.0 x.1)));
       nets = λ path m stands x e plain_name. (
           let shown = shown_along tokens modules k top bits deepest source good are plain at meaning ends path m stands in
           let number = model_there modules (place_on blif deepest (top_model k) path).model m shown.number in

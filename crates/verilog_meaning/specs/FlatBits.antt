@@ -4,12 +4,11 @@ use Rattle.verilog_meaning.specs.Meaning.{IsMeaning, StandsAt}
 use Rattle.verilog_meaning.specs.Names.{IsPlain}
 use Rattle.verilog_models.specs.Models.{blif_of, model_of}
 use Rattle.verilog_source.specs.Modules.{Module}
-use Rattle.vrt_model.specs.Covers.{cover_bit}
+use Rattle.vrt_model.specs.Assignment.{Assignment, Obeys}
 use Rattle.vrt_model.specs.FlatBlif.{ModelPlace, flat_model_of, signal_at, signals_of, subs_at, top_model}
-use Rattle.vrt_model.specs.Lists.{Among, has_name}
+use Rattle.vrt_model.specs.Lists.{has_name}
 use Rattle.vrt_model.specs.Unrolled.{deepest}
 use Rattle.vrt_model.specs.declared.blif.Blif.{Blif}
-use Rattle.vrt_model.specs.declared.flat_model.Cover.{Cover}
 
 -- the sub-model of a place by its number
 abbrev pub sub_place : Blif → ℕ → ModelPlace → ℕ → ModelPlace
@@ -28,9 +27,9 @@ flat_place blif m path = place_on blif deepest (top_model m) path
 abbrev pub flat_bits : Blif → ℕ → (ℕ → Bool) → List ℕ → List ℕ → Bool
 flat_bits blif m bits path name = bits (signal_at blif (flat_place blif m path) name)
 
--- each cover of a flat model gives its output's bit
-abbrev pub AreCoversObeyed : Blif → ℕ → (ℕ → Bool) → Type 0
-AreCoversObeyed blif m bits = (c : Cover) → Among (flat_model_of blif m).covers c → bits c.output ≡ cover_bit bits c
+-- an assignment of a flat model, which has no latches, whatever its default clock and the held bits are
+abbrev pub Assigns : Blif → ℕ → (ℕ → Bool) → Type 0
+Assigns blif m bits = (clock : Bool) (held next : ℕ → Bool) → Obeys (flat_model_of blif m) clock held (record { signal = bits; next = next })
 
 -- The signals of a flat model have the bits of nets, at each path of instances. Those that the text does not name have a blank in
 -- their names.
@@ -38,14 +37,14 @@ abbrev pub HaveNetBits : List Module → ℕ → Module → (ℕ → Bool) → (
 HaveNetBits modules k top signals bits =
     (path : List ℕ) (m : Module) → StandsAt modules top path m → (x : List ℕ) → has_name (signals_of (model_of m)) x ≡ true → IsPlain x → flat_bits (blif_of modules) k signals path x ≡ bits path x
 
--- Bits of nets come from bits of the flat signals, at which each cover gives its output's bit.
+-- Bits of nets come from an assignment of the flat model.
 pub record IsGot (modules : List Module) (k : ℕ) (top : Module) (bits : List ℕ → List ℕ → Bool) : Type 0 where
   pub signals : ℕ → Bool
-  pub obeyed : AreCoversObeyed (blif_of modules) k signals
+  pub assigned : Assigns (blif_of modules) k signals
   pub nets : HaveNetBits modules k top signals bits
 
--- The bits of the flat signals at which each cover gives its output's bit are, but for the signals that the text does not name,
--- exactly the bits of nets that a module means.
+-- The assignments of a flat model are, but for the signals that the text does not name, exactly the bits of nets that the module
+-- means.
 pub record IsExact (modules : List Module) (k : ℕ) (top : Module) : Type 0 where
-  pub means : (signals : ℕ → Bool) → AreCoversObeyed (blif_of modules) k signals → IsMeaning modules top (flat_bits (blif_of modules) k signals)
+  pub means : (clock : Bool) (held : ℕ → Bool) (g : Assignment) → Obeys (flat_model_of (blif_of modules) k) clock held g → IsMeaning modules top (flat_bits (blif_of modules) k g.signal)
   pub got : (bits : List ℕ → List ℕ → Bool) → IsMeaning modules top bits → IsGot modules k top bits

@@ -4,4 +4,4 @@
 
 mod laws;
 
-pub use laws::{covers_mean, flat_models_mean, meanings_are_got, texts_mean};
+pub use laws::{covers_mean, texts_mean};
