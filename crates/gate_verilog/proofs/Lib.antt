@@ -5,3 +5,4 @@ pub mod KeptLaws
 pub mod ReadLaws
 pub mod BuildLaws
 pub mod Examples
+pub mod MeansLaws

@@ -2,7 +2,7 @@
 
 ghost use Rattle.std.specs.Prelude.{◌≡◌, ◌≤◌, ◌<◌, ◌+◌, ◌^◌, ◌⊎◌, [], length, IfErr, IfOk, OnOk};
 ghost use Rattle.gate_verilog.specs.Built.{blif_with};
-ghost use Rattle.gate_verilog.specs.Texts.{IsReadAs};
+ghost use Rattle.gate_verilog.specs.Texts.{IsReadAs, SaysModules};
 ghost use Rattle.text_lines.specs.Faults.{IsClean, IsFirst};
 ghost use Rattle.verilog_models.specs.Drafts.{IsDraft, begun};
 ghost use Rattle.verilog_source.specs.Kept.{seen_known};
@@ -54,6 +54,8 @@ pub fn read_verilog(alloc: Global, text: &[u8]) -> Result<Blif, VerilogFault>
     requires { length text.now ≤ 16777216 }
     // Taken only where no fault stands, and then these are the models of the modules.
     ensures ok { IfOk result (λ blif. IsClean fault_of (tokens_of text.now) × IsReadAs (tokens_of text.now) blif) }
+    // Their flat models say what the expressions, gates and ties of the modules do.
+    ensures meaning { IfOk result (SaysModules (tokens_of text.now)) }
     // The models are then such as the calls above take: names that differ, rows that fit, and the limits.
     ensures fit { IfOk result IsBlif }
     // Refused only with the first fault, or for want of memory.

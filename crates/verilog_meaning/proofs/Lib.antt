@@ -15,3 +15,4 @@ pub mod PathLaws
 pub mod GotLaws
 pub mod YieldLaws
 pub mod PlainLaws
+pub mod TextLaws
