@@ -16,3 +16,5 @@ pub mod GotLaws
 pub mod YieldLaws
 pub mod PlainLaws
 pub mod TextLaws
+pub mod Examples
+pub mod CellLaws

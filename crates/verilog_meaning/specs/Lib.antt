@@ -3,3 +3,4 @@ pub mod Covered
 pub mod Terminals
 pub mod Names
 pub mod FlatBits
+pub mod Cells

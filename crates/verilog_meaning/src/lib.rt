@@ -4,4 +4,4 @@
 
 mod laws;
 
-pub use laws::{covers_mean, texts_mean};
+pub use laws::{covers_mean, equal_cells_do, texts_mean};
