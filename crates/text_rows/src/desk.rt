@@ -6,6 +6,7 @@
 //! | `read` | what its reader answers |
 //! | `fronts N` | how many of its fronts its reader answers, where no front has more than N cells, models or supplies |
 //! | `names WHAT NAMES` | of a set of names (`name_sets`) |
+//! | `verilog`, `verilog ASKED` | of the models, read as modules of Verilog: how many, or what is asked of them by one of the next lines (`modules`) |
 //! | `part N` | how many parts the model of this number has |
 //! | `rule WHAT` | of the rules (`rules`) |
 //! | `check WHAT,..` | what these checks of the models answer (`checks`) |
@@ -16,7 +17,7 @@
 //! | `order` | of all cells, under the rules (`orders`) |
 //! | `generate N` | the texts of this size (`made`) |
 
-use crate::{cells, lines, made, models, name_sets, netlists, rules};
+use crate::{cells, lines, made, models, modules, name_sets, netlists, rules};
 use row_script::{Page, Part, Script, number, word_and_rest};
 use std::alloc::Global;
 
@@ -40,6 +41,7 @@ fn answer(page: &mut Page, script: &Script, asked: &str) {
         "fronts" => fronts(page, script, number(rest) as usize),
         "rule" => rules::tell_rule(page, script.rules.written(), rest),
         "generate" => made::tell(page, number(rest)),
+        "verilog" => modules::tell(page, script.models.written(), rest),
         "part" | "check" | "unroll" | "signals" => {
             models::tell_of(page, script.models.written(), word, rest);
         }

@@ -6,6 +6,7 @@
 //! |---|---|
 //! | `lines`, `name_sets` | the lines and words of a text, sets of names |
 //! | `netlists`, `models`, `rules` | what the three readers answer of a text, and of each front of it |
+//! | `modules` | what the reader of Verilog answers of a text |
 //! | `checks` | each fault of models, which stand in one another up to 32 deep |
 //! | `unrollings` | models with their sub-models unrolled, and the limits of these |
 //! | `cells` | what is asked of cells |
@@ -22,6 +23,7 @@ mod desk;
 mod lines;
 mod made;
 mod models;
+mod modules;
 mod name_sets;
 mod netlists;
 mod orders;

@@ -46,7 +46,7 @@ fn tell_part(page: &mut Page, blif: &Blif, at: u32) {
 }
 
 /// Tells what is asked of models.
-fn answer(page: &mut Page, blif: &Blif, word: &str, rest: &str)
+pub(crate) fn answer(page: &mut Page, blif: &Blif, word: &str, rest: &str)
     requires { IsBlif blif.now }
 {
     match word {

@@ -1,0 +1,4 @@
+pub mod EntryLaws
+pub mod FitLaws
+pub mod ListLaws
+pub mod ModelLaws

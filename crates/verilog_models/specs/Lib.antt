@@ -1,0 +1,5 @@
+pub mod Covers
+pub mod Gates
+pub mod Models
+pub mod Drafts
+pub mod Fits
