@@ -1,0 +1,2 @@
+pub mod ArrivalRoots
+pub mod HoldRoots
