@@ -1,2 +1,9 @@
+pub mod CareLaws
+pub mod Looks
+pub mod StepAfter
 pub mod StepBits
+pub mod StepFound
+pub mod StepFrames
+pub mod StepGives
+pub mod StepRoots
 pub mod ThreeSettings

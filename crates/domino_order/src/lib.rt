@@ -3,6 +3,8 @@
 
 mod arrival;
 mod laws;
+mod step;
 
 pub use arrival::Arrival;
 pub use laws::{failing_steps, steps_by_bits, three_settings};
+pub use step::{Rising, StepWords, failing};
