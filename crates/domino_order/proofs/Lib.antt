@@ -1,5 +1,9 @@
 pub mod CareLaws
 pub mod Looks
+pub mod RunFound
+pub mod RunLaws
+pub mod SearchLaws
+pub mod StartLaws
 pub mod StepAfter
 pub mod StepBits
 pub mod StepFound

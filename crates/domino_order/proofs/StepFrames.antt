@@ -251,7 +251,7 @@ written_stays out span old new w apart filled = record {
 }
 
 -- the words are there as long as none comes or goes
-words_there : (nets : ℕ) (w : StepWords) (old new : Diagrams) → Adds old new new.words → length new.words ≡ length old.words → HasStepWords nets w old → HasStepWords nets w new
+pub words_there : (nets : ℕ) (w : StepWords) (old new : Diagrams) → Adds old new new.words → length new.words ≡ length old.words → HasStepWords nets w old → HasStepWords nets w new
 words_there nets w old new adds len h = record {
   first = (let own : new.own ≡ old.own = ap (λ (d : Diagrams). d.own) adds.rest in let first = h.first in omega (arith, own, first));
   rose_behind = h.rose_behind;

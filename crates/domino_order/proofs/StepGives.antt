@@ -1,5 +1,5 @@
 -- The roots of a step give its settings, and what is found at the settings says whether the step holds.
-use Rattle.std.proofs.Common.{◌≡◌, ℕ, ◌<◌, Bool, true, cond, List, ◌++◌, ap, drop, eqb, length, subst, sym, take, ◌∙◌, inl, inr}
+use Rattle.std.proofs.Common.{◌+◌, arith, length-append, ◌≡◌, ℕ, ◌<◌, Bool, true, cond, List, ◌++◌, ap, drop, eqb, length, subst, sym, take, ◌∙◌, inl, inr}
 use Rattle.std.proofs.Math.Seq.{drop-append_seam, take-append_seam}
 use Rattle.std.proofs.lemmas.Bool.{cases_Bool, eqb-true, false≢true}
 use Rattle.std.proofs.lemmas.Option.{same_Some, slice_get_within}
@@ -59,6 +59,12 @@ module _ (k : Comparison) (phase : ℕ) (nets : List ℕ) (n : ℕ) where
 
   pub arrivals_len : (bits : List Bool) → IsStepAt k phase nets n bits → length (drop count bits) ≡ length nets
   arrivals_len bits at = ap (λ (xs : List Bool). length xs) (arrivals_is bits at) ∙ at.all
+
+  pub bits_len : (bits : List Bool) → IsStepAt k phase nets n bits → length bits ≡ count + length nets
+  bits_len bits at =
+      let whole : length bits ≡ length at.end + length at.arrivals = ap (λ (xs : List Bool). length xs) at.is ∙ length-append at.end at.arrivals in
+      let first = at.meets.valuation in
+      let last = at.all in omega (arith, whole, first, last)
 
   module _ (bits : List Bool) (at : IsStepAt k phase nets n bits) where
     pub fails_at : SettlesNot (rise_at k phase nets bits) (risen_at k phase nets bits) n → FailsAt k phase nets n bits

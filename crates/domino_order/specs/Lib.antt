@@ -1,4 +1,6 @@
 pub mod Arrivals
+pub mod Runs
+pub mod Searches
 pub mod StepBits
 pub mod StepSettings
 pub mod StepWords

@@ -3,8 +3,12 @@
 
 mod arrival;
 mod laws;
+mod runs;
+mod search;
 mod step;
 
 pub use arrival::Arrival;
 pub use laws::{failing_steps, steps_by_bits, three_settings};
+pub use runs::{Asked, Prepared, run};
+pub use search::{NetFound, search_net};
 pub use step::{Rising, StepWords, failing};
