@@ -1,5 +1,6 @@
 pub mod CareLaws
 pub mod Looks
+pub mod PortLaws
 pub mod RunFound
 pub mod RunLaws
 pub mod SearchLaws

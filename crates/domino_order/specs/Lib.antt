@@ -1,4 +1,5 @@
 pub mod Arrivals
+pub mod Ports
 pub mod Runs
 pub mod Searches
 pub mod StepBits

@@ -3,12 +3,14 @@
 
 mod arrival;
 mod laws;
+mod ports;
 mod runs;
 mod search;
 mod step;
 
 pub use arrival::Arrival;
 pub use laws::{failing_steps, steps_by_bits, three_settings};
+pub use ports::search_ports;
 pub use runs::{Asked, Prepared, run};
 pub use search::{NetFound, search_net};
 pub use step::{Rising, StepWords, failing};
