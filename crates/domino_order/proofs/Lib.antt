@@ -1,8 +1,12 @@
+pub mod AskedLaws
 pub mod CareLaws
 pub mod Looks
+pub mod MadeLaws
+pub mod MonotoneLaws
 pub mod PortLaws
 pub mod RunFound
 pub mod RunLaws
+pub mod RunWork
 pub mod SearchLaws
 pub mod StartLaws
 pub mod StepAfter

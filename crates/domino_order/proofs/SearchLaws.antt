@@ -70,7 +70,7 @@ rank_falls variables (Some last) bits bound len e = less_number bits last.bits (
 
 module _ (k : Comparison) (phase : ℕ) (nets : List ℕ) (n : ℕ) where
   -- a step that holds does not fail
-  holds_not_fails : (bits : List Bool) → HoldsAt k phase nets n bits → ¬ FailsAt k phase nets n bits
+  pub holds_not_fails : (bits : List Bool) → HoldsAt k phase nets n bits → ¬ FailsAt k phase nets n bits
   holds_not_fails bits holds fails =
       fails.fails
       (subst (λ (xs : List Bool). StepHolds (rise_to k phase nets fails.at.end) (arrived nets xs) n) (sym (arrivals_is k phase nets n bits holds.at) ∙ arrivals_is k phase nets n bits fails.at)

@@ -22,7 +22,7 @@ use Rattle.vrt_model.specs.declared.whole.Whole.{Whole}
 use Rattle.vrt_model.specs.declared.whole.WholePin.{WholePin}
 
 -- a flat circuit has no output of a whole instance
-flat_pins : (c : Circuit) → IsFlat c → length (pins_of c) ≡ 0
+pub flat_pins : (c : Circuit) → IsFlat c → length (pins_of c) ≡ 0
 flat_pins c flat =
     ap (λ (ws : List Whole). length (map (λ (out : OutputPin). out.pin) (flat_map (λ (w : Whole). map (λ (p : WholePin). let pin : OutputPin = record { whole = w; pin = p } in pin) w.outputs) ws))) flat.wholes
 

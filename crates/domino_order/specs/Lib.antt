@@ -1,4 +1,5 @@
 pub mod Arrivals
+pub mod Made
 pub mod Ports
 pub mod Runs
 pub mod Searches

@@ -3,6 +3,8 @@
 
 mod arrival;
 mod laws;
+mod made;
+mod monotone;
 mod ports;
 mod runs;
 mod search;
@@ -10,6 +12,7 @@ mod step;
 
 pub use arrival::Arrival;
 pub use laws::{failing_steps, steps_by_bits, three_settings};
+pub use monotone::monotone_with;
 pub use ports::search_ports;
 pub use runs::{Asked, Prepared, run};
 pub use search::{NetFound, search_net};
