@@ -1,5 +1,5 @@
 -- Every set of rising nets that have risen is told by a bit for each.
-use Rattle.std.proofs.Common.{◌≡◌, ℕ, ◌||◌, Bool, true, false, cond, List, [], ◌∷◌, ◌++◌, ap, eqb, length, refl, subst, sym, ◌∙◌, inl, inr}
+use Rattle.std.proofs.Common.{◌≡◌, ℕ, Bool, true, false, cond, List, [], ◌∷◌, ◌++◌, ap, eqb, length, refl, subst, sym, ◌∙◌, inl, inr}
 use Rattle.std.specs.Prelude.{drop, map, take}
 use Rattle.std.proofs.Math.Path.{fun_ext}
 use Rattle.std.proofs.Math.Seq.{drop-append_seam, take-append_seam}
@@ -10,11 +10,10 @@ use Rattle.arrival_laws.proofs.SettlingLaws.{equal_phases_settle}
 use Rattle.arrival_laws.proofs.StepLaws.{orders_give_steps}
 use Rattle.arrival_laws.specs.Orders.{AllOrdersGoWell, Nets}
 use Rattle.arrival_laws.specs.Steps.{AllStepsHold, IsStep, StepHolds}
-use Rattle.domino_order.specs.StepBits.{AllHoldAt, FailsAt, HoldsAt, IsStepAt, arrived, rise_to}
+use Rattle.domino_order.specs.StepBits.{AllHoldAt, FailsAt, IsStepAt, arrived, rise_to}
 use Rattle.vrt_model.specs.Comparison.{Comparison}
 use Rattle.vrt_model.specs.Constraints.{Meets}
 use Rattle.vrt_model.specs.Equal.{IsPhaseEqual}
-use Rattle.vrt_model.specs.Held.{setting_of}
 use Rattle.vrt_model.specs.Lists.{has_number}
 
 -- ---- the bits of a set

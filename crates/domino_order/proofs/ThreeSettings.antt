@@ -1,5 +1,5 @@
 -- A step by its three settings.
-use Rattle.std.proofs.Common.{◌≡◌, ◌≢◌, ℕ, Bool, true, Some, ap, subst, sym, ◌∙◌}
+use Rattle.std.proofs.Common.{◌≡◌, ℕ, Bool, true, Some, ap, subst, sym, ◌∙◌}
 use Rattle.std.proofs.lemmas.Option.{same_Some}
 use Rattle.arrival_laws.proofs.SettlingLaws.{same_taken}
 use Rattle.arrival_laws.specs.Orders.{Nets, Rise, Settles, and_now, at_once, on_the_way, taken_bits}

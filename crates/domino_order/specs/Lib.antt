@@ -1,3 +1,9 @@
 pub mod Arrivals
+pub mod Made
+pub mod Ports
+pub mod Runs
+pub mod Searches
 pub mod StepBits
+pub mod StepSettings
+pub mod StepWords
 pub mod ThreeSettings

@@ -3,6 +3,17 @@
 
 mod arrival;
 mod laws;
+mod made;
+mod monotone;
+mod ports;
+mod runs;
+mod search;
+mod step;
 
 pub use arrival::Arrival;
 pub use laws::{failing_steps, steps_by_bits, three_settings};
+pub use monotone::monotone_with;
+pub use ports::search_ports;
+pub use runs::{Asked, Prepared, run};
+pub use search::{NetFound, search_net};
+pub use step::{Rising, StepWords, failing};

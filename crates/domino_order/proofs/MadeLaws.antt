@@ -1,0 +1,70 @@
+-- What is made before the ports are searched is that of the definitions.
+use Rattle.std.proofs.Common.{◌≡◌, ℕ, ◌+◌, ◌<◌, ◌++◌, List, [], ◌∷◌, Option, ap, ap₂, arith, get_or, length, map, refl, sym, take, ◌∙◌}
+use Rattle.std.specs.Prelude.{flat_map, option_map, slice_get, unwrap_or}
+use Rattle.std.proofs.lemmas.List.{length-append, map-append, take_more}
+use Rattle.std.proofs.lemmas.Option.{slice_get-get_or}
+use Rattle.domino_order.proofs.MonotoneLaws.{port_net}
+use Rattle.domino_order.proofs.StepFrames.{flat_pins}
+use Rattle.domino_order.specs.Arrivals.{AreRising, net_of_port}
+use Rattle.domino_order.specs.Made.{latch_elements}
+use Rattle.phase_ports.proofs.PortLaws.{ports_shown}
+use Rattle.phase_ports.specs.Ports.{ports_by, unnamed}
+use Rattle.phase_ports.specs.declared.port_list.Port.{Port}
+use Rattle.phase_terms.specs.Ready.{IsReady}
+use Rattle.phase_terms.specs.Stores.{counts_of, most_model_words}
+use Rattle.phase_terms.specs.declared.words.WordCounts.{WordCounts}
+use Rattle.vrt_model.proofs.Lists.{map_at}
+use Rattle.vrt_model.specs.Circuits.{IsFlat}
+use Rattle.vrt_model.specs.Comparison.{Comparison, cell_at, ports_of}
+use Rattle.vrt_model.specs.Elements.{element_count, names_by_kind, signal_name}
+use Rattle.vrt_model.specs.Lists.{At}
+use Rattle.vrt_model.specs.declared.blif.LatchKind.{LatchKind}
+use Rattle.vrt_model.specs.declared.blif.LatchKind.TheVariants.{Re, Fe, Ah, Al}
+use Rattle.vrt_model.specs.declared.flat_model.FlatLatch.{FlatLatch}
+use Rattle.vrt_model.specs.declared.flat_model.FlatModel.{FlatModel}
+use Rattle.vrt_model.specs.declared.whole.Whole.{Whole}
+
+-- ---- words
+
+names_count : (kind : LatchKind) (name : List ℕ) → length (names_by_kind kind name) ≡ element_count kind
+names_count Re name = refl
+names_count Fe name = refl
+names_count Ah name = refl
+names_count Al name = refl
+
+elements_are : (flat : FlatModel) (ls : List FlatLatch) → latch_elements ls ≡ length (flat_map (λ (l : FlatLatch). names_by_kind l.kind (signal_name flat l.output)) ls)
+elements_are flat [] = refl
+elements_are flat (l ∷ ls) =
+    let name = signal_name flat l.output in
+    let rest = elements_are flat ls in
+    let here = names_count l.kind name in
+    let both = length-append (names_by_kind l.kind name) (flat_map (λ (x : FlatLatch). names_by_kind x.kind (signal_name flat x.output)) ls) in omega (arith, rest, here, both)
+
+pub counts_are : (k : Comparison) (variables nets signals elements : ℕ) → IsFlat k.circuit → nets ≡ length k.circuit.nets → signals ≡ length k.model.signals → elements ≡ latch_elements k.model.latches
+    → (let counts : WordCounts = record { nets = nets; pins = 0; models = 0; signals = signals; elements = elements; variables = variables } in counts) ≡ counts_of k variables
+counts_are k variables nets signals elements flat a b c =
+    let make : ℕ → ℕ → ℕ → ℕ → ℕ → WordCounts =
+    λ n p m s e. record { nets = n; pins = p; models = m; signals = s; elements = e; variables = variables } in
+    let here = counts_of k variables in
+    ap (λ (n : ℕ). make n 0 0 signals elements) a ∙ ap (λ (p : ℕ). make here.nets p 0 signals elements) (sym (flat_pins k.circuit flat))
+    ∙ ap (λ (ws : List Whole). make here.nets here.pins (most_model_words ws) signals elements) (sym flat.wholes) ∙ ap (λ (s : ℕ). make here.nets here.pins here.models s elements) b
+    ∙ ap (λ (e : ℕ). make here.nets here.pins here.models here.signals e) (c ∙ elements_are k.model k.model.latches)
+
+-- ---- nets
+
+module _ (k : Comparison) (rising : List ℕ) (ready : IsReady k) (are : AreRising k rising) (ports : List Port) (listed : ports ≡ ports_by 0 2 k.pairing.ports) where
+  net_found : (i place : ℕ) → At rising i place → unwrap_or (option_map (λ (p : Port). p.net) (slice_get ports place)) 0 ≡ net_of_port k place
+  net_found i place at =
+      let input = are.inputs place (i, at) in
+      let shown = listed ∙ ports_shown k.rules (cell_at k.design k.cell) k.pairing ready.roles in
+      ap (λ (xs : List Port). unwrap_or (option_map (λ (p : Port). p.net) (slice_get xs place)) 0) shown
+      ∙ ap (λ (o : Option Port). unwrap_or (option_map (λ (p : Port). p.net) o) 0) (map_at unnamed (ports_of k) place input.0 input.1) ∙ sym (port_net k rising ready are place input.0 input.1)
+
+  -- one port more
+  pub nets_more : (i net : ℕ) (nets : List ℕ) → i < length rising → nets ≡ map (net_of_port k) (take i rising) → net ≡ unwrap_or (option_map (λ (p : Port). p.net) (slice_get ports (get_or rising i 0))) 0
+      → nets ++ net ∷ [] ≡ map (net_of_port k) (take (i + 1) rising)
+  nets_more i net nets lt before is =
+      let place = get_or rising i 0 in
+      let here : net ≡ net_of_port k place = is ∙ net_found i place (slice_get-get_or rising i 0 lt) in
+      ap₂ (λ (xs : List ℕ) (n : ℕ). xs ++ n ∷ []) before here ∙ sym (map-append (net_of_port k) (take i rising) (place ∷ []))
+      ∙ ap (map (net_of_port k)) (sym (take_more rising i 0 lt))

@@ -1,0 +1,121 @@
+-- Answer after answer: each comes before the last, and below the last there is none.
+use Rattle.std.proofs.Common.{◌≡◌, ℕ, suc, ◌+◌, ◌*◌, ◌^◌, ◌<◌, Bool, true, false, List, [], ◌∷◌, Option, Some, None, ap, arith, length, refl, subst, sym, take, ◌∙◌, inl, inr}
+use Rattle.std.proofs.Math.Nat.{pow-succ'}
+use Rattle.std.proofs.lemmas.Bool.{cases_Bool, false≢true}
+use Rattle.std.proofs.lemmas.List.{length-take-le}
+use Rattle.arrival_laws.specs.Steps.{StepHolds}
+use Rattle.bdd_core.specs.Store.{Diagrams}
+use Rattle.domino_order.proofs.StepGives.{arrivals_is, end_is}
+use Rattle.domino_order.specs.Runs.{IsBound, IsRoomFor, RunGives, is_below, of_asked}
+use Rattle.domino_order.specs.Searches.{FoundIs, HasRoom, IsLeastFailing, NetGives}
+use Rattle.domino_order.specs.StepBits.{AllHoldAt, FailsAt, HoldsAt, arrived, rise_to}
+use Rattle.domino_order.specs.declared.runs.Asked.{Asked}
+use Rattle.domino_order.specs.declared.search.NetFound.{NetFound}
+use Rattle.phase_check.specs.States.{KeepsRoom}
+use Rattle.vrt_model.specs.Comparison.{Comparison}
+use Rattle.vrt_model.specs.Variables.{is_less}
+use Rattle.vrt_model.specs.declared.groups.Valuation.{Valuation}
+
+-- ---- the order of lists of bits, by numbers
+
+-- bits as the digits of a number, the first the heaviest
+abbrev pub number_of : List Bool → ℕ
+number_of [] = 0
+number_of (true ∷ bits) = 2 ^ length bits + number_of bits
+number_of (false ∷ bits) = number_of bits
+
+add_below : (power number twice : ℕ) → number < power → twice ≡ 2 * power → power + number < twice
+add_below power number twice lt e = omega (arith, lt, e)
+
+below_twice : (power number twice : ℕ) → number < power → twice ≡ 2 * power → number < twice
+below_twice power number twice lt e = omega (arith, lt, e)
+
+number_below : (bits : List Bool) → number_of bits < 2 ^ length bits
+number_below [] = omega arith
+number_below (true ∷ bits) =
+    let rest = number_below bits in let twice : 2 ^ suc (length bits) ≡ 2 * 2 ^ length bits = pow-succ' 2 (length bits) in add_below (2 ^ length bits) (number_of bits) (2 ^ suc (length bits)) rest twice
+number_below (false ∷ bits) =
+    let rest = number_below bits in let twice : 2 ^ suc (length bits) ≡ 2 * 2 ^ length bits = pow-succ' 2 (length bits) in below_twice (2 ^ length bits) (number_of bits) (2 ^ suc (length bits)) rest twice
+
+both_more : (a b x y : ℕ) → a ≡ b → x < y → a + x < b + y
+both_more a b x y e lt = omega (arith, e, lt)
+
+one_more : (a b x y : ℕ) → a ≡ b → x < a → x < b + y
+one_more a b x y e lt = omega (arith, e, lt)
+
+less_number : (xs ys : List Bool) → length xs ≡ length ys → is_less xs ys ≡ true → number_of xs < number_of ys
+less_number [] ys len e = absurd (false≢true e)
+less_number (x ∷ xs) [] len e = absurd (omega (arith, len))
+less_number (true ∷ xs) (true ∷ ys) len e =
+    let rest = less_number xs ys (omega (arith, len)) e in
+    let size : length xs ≡ length ys = omega (arith, len) in
+    let same : 2 ^ length xs ≡ 2 ^ length ys = ap (λ (n : ℕ). 2 ^ n) size in both_more (2 ^ length xs) (2 ^ length ys) (number_of xs) (number_of ys) same rest
+less_number (false ∷ xs) (false ∷ ys) len e = less_number xs ys (omega (arith, len)) e
+less_number (false ∷ xs) (true ∷ ys) len e =
+    let rest = number_below xs in
+    let size : length xs ≡ length ys = omega (arith, len) in
+    let same : 2 ^ length xs ≡ 2 ^ length ys = ap (λ (n : ℕ). 2 ^ n) size in one_more (2 ^ length xs) (2 ^ length ys) (number_of xs) (number_of ys) same rest
+less_number (true ∷ xs) (false ∷ ys) len e = absurd (false≢true e)
+
+-- how many valuations may come before the last answer
+abbrev pub rank_of : ℕ → Option Valuation → ℕ
+rank_of variables None = 2 ^ variables
+rank_of variables (Some last) = number_of last.bits
+
+pub rank_falls : (variables : ℕ) (last : Option Valuation) (bits : List Bool) → IsBound variables last → length bits ≡ variables → is_below last bits ≡ true → number_of bits < rank_of variables last
+rank_falls variables None bits bound len e = (let rest = number_below bits in let same : 2 ^ length bits ≡ 2 ^ variables = ap (λ (n : ℕ). 2 ^ n) len in omega (arith, rest, same))
+rank_falls variables (Some last) bits bound len e = less_number bits last.bits (len ∙ sym bound) e
+
+-- ---- the last answer
+
+module _ (k : Comparison) (phase : ℕ) (nets : List ℕ) (n : ℕ) where
+  -- a step that holds does not fail
+  pub holds_not_fails : (bits : List Bool) → HoldsAt k phase nets n bits → ¬ FailsAt k phase nets n bits
+  holds_not_fails bits holds fails =
+      fails.fails
+      (subst (λ (xs : List Bool). StepHolds (rise_to k phase nets fails.at.end) (arrived nets xs) n) (sym (arrivals_is k phase nets n bits holds.at) ∙ arrivals_is k phase nets n bits fails.at)
+      (subst (λ (xs : List Bool). StepHolds (rise_to k phase nets xs) (arrived nets holds.at.arrivals) n) (sym (end_is k phase nets n bits holds.at) ∙ end_is k phase nets n bits fails.at) holds.holds))
+
+  -- at the last answer, if there is one, a step fails
+  abbrev pub LastFails : Option Valuation → Type 0
+  LastFails None = Unit {0}
+  LastFails (Some last) = FailsAt k phase nets n last.bits
+
+  pub least_of : (last : Valuation) (d : Diagrams) → LastFails (Some last) → RunGives k phase nets n (Some last) d None → IsLeastFailing k phase nets n last.bits
+  least_of last d fails none = record {
+    fails = fails;
+    least = λ more other. elim (cases_Bool (is_less more last.bits)) [ inl e ↦ absurd (holds_not_fails more (none more other.at e) other) | inr e ↦ e ];
+  }
+
+  pub all_hold : (d : Diagrams) → RunGives k phase nets n None d None → AllHoldAt k phase nets n
+  all_hold d none bits step = none bits step refl
+
+-- what is found at the end
+pub net_gives : (s : Asked) (n budget : ℕ) (last : Option Valuation) (found : NetFound) (d : Diagrams) → FoundIs last found → LastFails (of_asked s) s.rising.phase s.rising.nets.now n last
+    → RunGives (of_asked s) s.rising.phase s.rising.nets.now n last d None → NetGives s n budget found
+net_gives s n budget None found d is fails none = subst (NetGives s n budget) (sym is) (all_hold (of_asked s) s.rising.phase s.rising.nets.now n d none)
+net_gives s n budget (Some last) found d is fails none = subst (NetGives s n budget) (sym is) (least_of (of_asked s) s.rising.phase s.rising.nets.now n last d fails none)
+
+-- ---- the store
+
+-- with all left it is as a run wants it
+pub room_for : (s : Asked) (old new : Diagrams) → HasRoom s old → new ≡ record old { nodes = take 2 old.nodes; words = take old.own old.words } → IsRoomFor s new
+room_for s old new room left =
+    let own : new.own ≡ old.own = ap (λ (d : Diagrams). d.own) left in
+    let words : length new.words ≡ old.own = ap (λ (d : Diagrams). length d.words) left ∙ length-take-le old.own old.words room.own in
+    record {
+      vars = ap (λ (d : Diagrams). d.vars) left ∙ room.vars;
+      count = ap (λ (d : Diagrams). length d.nodes) left ∙ length-take-le 2 old.nodes room.nodes;
+      budget = (let same : new.budget ≡ old.budget = ap (λ (d : Diagrams). d.budget) left in let least = room.budget in omega (arith, same, least));
+      own = omega (arith, own, words);
+      room = (let same : new.word_room ≡ old.word_room = ap (λ (d : Diagrams). d.word_room) left in let fits = room.room in omega (arith, same, words, fits));
+    }
+
+pub room_kept : (s : Asked) (old new : Diagrams) → IsRoomFor s old → KeepsRoom old new → HasRoom s new
+room_kept s old new room keeps = record {
+  vars = keeps.vars ∙ room.vars;
+  nodes = keeps.nodes;
+  budget = (let same = keeps.budget in let least = room.budget in omega (arith, same, least));
+  own = (let same = keeps.own in let longer = keeps.words in let own = room.own in omega (arith, same, longer, own));
+  room = (let a = keeps.own in let b = keeps.room in let own = room.own in let fits = room.room in omega (arith, a, b, own, fits));
+}

@@ -1,0 +1,5 @@
+pub mod ArrivalRoots
+pub mod BelowLaws
+pub mod CareCounts
+pub mod CareLaws
+pub mod HoldRoots

@@ -1,0 +1,27 @@
+use Rattle.std.proofs.Common.{◌≡◌, ℕ, ◌+◌, ◌-◌, ◌<◌, get_or, length, arith, refl, subst}
+use Rattle.std.proofs.lemmas.Option.{slice_get-get_or}
+use Rattle.step_roots.proofs.BelowLaws.{IsBehind, behind_none, behind_one, behind_refused}
+use Rattle.step_roots.proofs.below.before.Goals as goal
+
+pub left-init : goal.left-init
+left-init c = behind_none c.args.bits.now _ c.args.store.now c.sound.ensures.sound c.sound.ensures.within refl
+
+pub left-preserved : goal.left-preserved
+left-preserved c =
+    let bits = c.args.bits.now in
+    let m : ℕ = c.left.left - 1 in
+    let fits = c.left.invariant.fits in
+    let some = c.left-test.true in
+    let lt : m < length bits = omega (arith, fits, some) in
+    let next : c.left.left ≡ m + 1 = omega (arith, some) in
+    let before : IsBehind bits (m + 1) c.left.rest c.args.store.now c.left.store = subst (λ (x : ℕ). IsBehind bits x c.left.rest c.args.store.now c.left.store) next c.left.invariant in
+    behind_one bits m (get_or bits m _) c.left.rest c.in-Ok.next c.args.store.now c.left.store c.before_bit.new.store (slice_get-get_or bits m _ lt) before c.in-Ok.ensures.gives c.in-Ok.ensures.counts
+
+pub returns-in-Err-clause-counts : goal.returns-in-Err-clause-counts
+returns-in-Err-clause-counts c =
+    let bits = c.args.bits.now in
+    let m : ℕ = c.left.left - 1 in
+    let some = c.left-test.true in
+    let next : c.left.left ≡ m + 1 = omega (arith, some) in
+    let before : IsBehind bits (m + 1) c.left.rest c.args.store.now c.left.store = subst (λ (x : ℕ). IsBehind bits x c.left.rest c.args.store.now c.left.store) next c.left.invariant in
+    behind_refused bits m c.left.rest c.args.store.now c.left.store c.before_bit.new.store c.in-Err.spent before c.in-Err.ensures.counts
