@@ -2,7 +2,7 @@
 use Rattle.std.proofs.Common.{◌≡◌, ◌⊎◌, ℕ, ◌+◌, ◌*◌, ◌^◌, ◌≤◌, ◌<◌, Option, Some, None, length, arith, refl, sym, subst, inl, inr}
 use Rattle.std.proofs.Math.Nat.{mul-le-mul_left}
 use Rattle.std.proofs.lemmas.Bool.{cases_lt}
-use Rattle.cell_compare.specs.Works.{IsChecked, IsStop, MayUseUp, PhaseTells}
+use Rattle.cell_compare.specs.Phases.{IsChecked, IsStop, MayUseUp, PhaseTells}
 use Rattle.phase_laws.specs.Sums.{phase_operations, search_operations}
 use Rattle.phase_terms.specs.Found.{MaySpend}
 use Rattle.phase_terms.specs.Plans.{IsPhasePlan}

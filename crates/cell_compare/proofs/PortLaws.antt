@@ -1,10 +1,8 @@
 -- The levels of output ports, phase after phase, and of no ports.
 use Rattle.std.proofs.Common.{◌≡◌, ℕ, ◌+◌, ◌<◌, Bool, true, List, Option, Some, None, length, arith, ap, refl, sym, subst, ◌∙◌}
 use Rattle.std.specs.Prelude.{◌==◌, All}
-use Rattle.cell_compare.specs.Ports.{ArePortsOf, TellsPhaseLevels, TellsPorts}
-use Rattle.cell_compare.specs.Checked.{over}
-use Rattle.cell_compare.specs.Works.{IsStop}
-use Rattle.checked_cells.specs.Circuits.{SharesCircuit}
+use Rattle.cell_compare.specs.Ports.{TellsPhaseLevels, TellsPorts}
+use Rattle.cell_compare.specs.Phases.{IsStop}
 use Rattle.drive_levels.proofs.PortLaws.{levels_joined}
 use Rattle.drive_levels.specs.PhaseLevels.{ArePhaseLevels, HasTables, KeepsTables}
 use Rattle.drive_levels.specs.PortLevels.{AreAsked, AreJoined, ArePortLevels}
@@ -13,8 +11,6 @@ use Rattle.drive_levels.specs.declared.table.PortLevels.{PortLevels}
 use Rattle.port_drives.specs.Drives.{AreOwnLevels}
 use Rattle.vrt_model.specs.Comparison.{Comparison}
 use Rattle.vrt_model.specs.Lists.{mark_at}
-use Rattle.vrt_model.specs.declared.circuit.Circuit.{Circuit}
-use Rattle.vrt_model.specs.declared.circuit.FlatNet.{FlatNet}
 use Rattle.vrt_model.specs.declared.ids.Net.{Net}
 use Rattle.vrt_model.specs.declared.verdict.Verdict.{Verdict}
 use Rattle.vrt_model.specs.declared.whole.CellFacts.{CellFacts}
@@ -47,13 +43,6 @@ ports_next k phase t nets old new levels asked within same before joined =
     subst (λ (upto : ℕ). ArePortLevels k upto nets new.levels.items) (omega arith)
     (levels_joined k phase t nets old.levels.items new.levels.items levels asked within before
     (subst (λ (ns : List Net). AreJoined k.circuit t ns (phase == 0) old.levels.items new.levels.items) same joined))
-
--- a circuit that shares the nets has the same ports
-pub ports_over : (k : Comparison) (c : Circuit) (ports : PortLevels) → SharesCircuit k c → ArePortsOf k ports → ArePortsOf (over k c) ports
-ports_over k c ports shares are = record {
-  within = subst (λ (nets : List FlatNet). All (λ (n : Net). n.0 < length nets) ports.nets) (sym shares.nets) are.within;
-  len = are.len;
-}
 
 -- ---- where the drives are told
 

@@ -1,18 +1,18 @@
 -- The verdict on a cell, its line, what is known of the cell then and its runs, by what the steps of the comparison give.
-use Rattle.std.proofs.Common.{◌≡◌, ◌⊎◌, ℕ, Bool, true, false, List, [], length, Option, Some, None, ap, subst, sym, refl, ◌∙◌, inl, inr}
-use Rattle.std.specs.Prelude.{◌↔◌, option_map}
-use Rattle.std.proofs.lemmas.Bool.{cases_Bool, true≢false}
+use Rattle.std.proofs.Common.{◌≡◌, ◌⊎◌, ℕ, Bool, true, false, List, [], Some, ap, subst, sym, refl, ◌∙◌, inl, inr}
+use Rattle.std.specs.Prelude.{◌↔◌, option_map, ◌≢◌}
+use Rattle.std.proofs.lemmas.Bool.{cases_Bool}
 use Rattle.std.proofs.lemmas.Option.{none-some}
-use Rattle.cell_compare.proofs.Causes.{by_variables, comparison_is}
-use Rattle.cell_compare.proofs.ReadyLaws.{well_formed}
-use Rattle.cell_compare.specs.Cells.{HasEarlyLine, HasFacts, HasLine, HasRuns, IsEarly}
-use Rattle.cell_compare.specs.Compared.{AreInputs, IsFlattened, comparison}
-use Rattle.cell_compare.specs.Checked.{IsTold}
+use Rattle.cell_room.proofs.Causes.{by_variables, comparison_is}
+use Rattle.cell_room.proofs.ReadyLaws.{well_formed}
+use Rattle.cell_compare.specs.Cells.{HasFacts, HasLine, HasRuns}
+use Rattle.cell_room.specs.Compared.{AreInputs, IsFlattened, comparison}
+use Rattle.cell_compare.specs.Phases.{AreTold}
 use Rattle.cell_compare.specs.Ports.{HasDrives}
-use Rattle.cell_compare.specs.Works.{AreTold, IsPlanned, IsToldEarly, IsToldWhy}
-use Rattle.cell_compare.specs.Flat.{Flattened}
+use Rattle.cell_room.specs.Works.{IsPlanned, IsToldWhy}
+use Rattle.cell_room.specs.Flat.{Flattened}
 use Rattle.checked_cells.proofs.ToldFactLaws.{told_facts_are_true}
-use Rattle.checked_cells.specs.Given.{AreTrueFacts, IsReadCell}
+use Rattle.checked_cells.specs.Given.{AreTrueFacts}
 use Rattle.run_laws.proofs.WellFormed.{equal_runs}
 use Rattle.vrt_model.specs.Comparison.{Comparison, cell_at}
 use Rattle.vrt_model.specs.Equal.{IsEqual}
@@ -20,7 +20,7 @@ use Rattle.vrt_model.specs.Facts.{AreFacts, IsTrueOf}
 use Rattle.vrt_model.specs.Lists.{At}
 use Rattle.vrt_model.specs.PairedPorts.{Paired, Model, model_of_paired, paired_model}
 use Rattle.vrt_model.specs.Runs.{RunsMatch}
-use Rattle.vrt_model.specs.Unsupported.{AcyclicBefore, IsCycleWhy, IsSupported, IsUnsupportedBy, comparison_of, why_early, why_of}
+use Rattle.vrt_model.specs.Unsupported.{IsCycleWhy, IsUnsupportedBy, comparison_of, why_early, why_of}
 use Rattle.vrt_model.specs.VerdictText.{verdict_line}
 use Rattle.vrt_model.specs.CheckedVerdicts.{HasCheckedVerdict, IsCheckedVerdict}
 use Rattle.vrt_model.specs.declared.blif.Blif.{Blif}
@@ -32,14 +32,18 @@ use Rattle.vrt_model.specs.declared.verdict.Why.{Why}
 use Rattle.vrt_model.specs.declared.verdict.Why.TheVariants.{TooManyVars}
 use Rattle.vrt_model.specs.declared.whole.CellFacts.{CellFacts}
 use Rattle.vrt_model.specs.declared.whole.Drive.{Drive}
+use Rattle.cell_room.proofs.SupportedLaws.{read_cell}
+use Rattle.vrt_model.specs.declared.design.Kind.TheVariants.{P}
 
--- what is given of a cell, as a reader gives it
-pub read_cell : (design : Design) (blif : Blif) (rules : Rules) (cell : ℕ) → AreInputs design blif rules cell → IsReadCell design blif rules cell
-read_cell design blif rules cell inputs = record {
-  netlist = inputs.netlist;
-  read = record { names = inputs.names; models = inputs.models; valid = inputs.valid };
-  ordered = inputs.ordered;
-  there = inputs.there;
+-- where nothing is known of a cell, all that is known is true
+pub true_of_none : (design : Design) (blif : Blif) (rules : Rules) (cell : ℕ) (f : CellFacts) → f.equal ≡ false → f.stateless ≡ false → f.drives ≡ [] → IsTrueOf design blif rules cell f
+true_of_none design blif rules cell f equal stateless drives = record {
+  supported = λ e. absurd (true≢false (sym e ∙ equal));
+  compared = λ n paired. record {
+    equal = λ e. absurd (true≢false (sym e ∙ equal));
+    stateless = λ e. absurd (true≢false (sym e ∙ stateless));
+    drives = λ j port drive on at. absurd (none-some drive (subst (λ (ds : List Drive). At ds j drive) drives at));
+  };
 }
 
 module _ (design : Design) (blif : Blif) (rules : Rules) (cell m : ℕ) (f : Flattened) (inputs : AreInputs design blif rules cell) (is : IsFlattened design blif rules cell m f) where
@@ -50,26 +54,18 @@ module _ (design : Design) (blif : Blif) (rules : Rules) (cell m : ℕ) (f : Fla
   same : comparison design rules cell f ≡ comparison_of design blif rules cell m
   same = comparison_is design blif rules cell m f is
 
-  -- what is planned is supported
-  pub supported : IsPlanned (comparison design rules cell f) → IsSupported design blif rules cell m
-  supported planned = record {
-    paired = is.paired;
-    early = by_variables design blif rules cell m f is ∙ ap (why_of (λ count. TooManyVars count)) planned.few;
-    acyclic = subst (λ (x : Comparison). AcyclicBefore x (length rules.phases)) same planned.acyclic;
-  }
-
   -- what is found phase by phase is the verdict
-  checked : (facts : List CellFacts) (budget : ℕ) (verdict : Verdict) → IsPlanned (comparison design rules cell f) → HasCheckedVerdict (comparison design rules cell f) blif facts budget verdict
+  pub checked : (facts : List CellFacts) (budget : ℕ) (verdict : Verdict) → IsPlanned (comparison design rules cell f) → HasCheckedVerdict (comparison design rules cell f) blif facts budget verdict
       → IsCheckedVerdict design blif rules facts budget cell verdict
-  checked facts budget Equal planned found = (m, supported planned, subst (λ (x : Comparison). HasCheckedVerdict x blif facts budget Equal) same found)
-  checked facts budget (Fault fault) planned found = (m, supported planned, subst (λ (x : Comparison). HasCheckedVerdict x blif facts budget (Fault fault)) same found)
-  checked facts budget (Vacuous phase) planned found = (m, supported planned, subst (λ (x : Comparison). HasCheckedVerdict x blif facts budget (Vacuous phase)) same found)
-  checked facts budget (Budget nodes phase) planned found = (m, supported planned, subst (λ (x : Comparison). HasCheckedVerdict x blif facts budget (Budget nodes phase)) same found)
+  checked facts budget Equal planned found = (m, supported design blif rules cell m f is planned, subst (λ (x : Comparison). HasCheckedVerdict x blif facts budget Equal) same found)
+  checked facts budget (Fault fault) planned found = (m, supported design blif rules cell m f is planned, subst (λ (x : Comparison). HasCheckedVerdict x blif facts budget (Fault fault)) same found)
+  checked facts budget (Vacuous phase) planned found = (m, supported design blif rules cell m f is planned, subst (λ (x : Comparison). HasCheckedVerdict x blif facts budget (Vacuous phase)) same found)
+  checked facts budget (Budget nodes phase) planned found = (m, supported design blif rules cell m f is planned, subst (λ (x : Comparison). HasCheckedVerdict x blif facts budget (Budget nodes phase)) same found)
   checked facts budget IsSkipped planned found = absurd found
   checked facts budget (Unsupported why) planned found = absurd found
 
   -- too many variables, and the first cycle where they are few, are causes
-  told_why : (why : Why) → IsToldWhy (comparison design rules cell f) why → IsUnsupportedBy design blif rules cell why
+  pub told_why : (why : Why) → IsToldWhy (comparison design rules cell f) why → IsUnsupportedBy design blif rules cell why
   told_why why (inl many) =
       inl (
       ap (why_early design blif rules cell) is.paired
@@ -83,16 +79,6 @@ module _ (design : Design) (blif : Blif) (rules : Rules) (cell m : ℕ) (f : Fla
         subst (λ (x : Comparison). IsCycleWhy x why) same cycle.1,
       )
 
-  -- what is told of the cell is its verdict
-  pub told : (facts : List CellFacts) (budget : ℕ) (verdict : Verdict) → IsTold (comparison design rules cell f) blif facts budget verdict
-      → IsCheckedVerdict design blif rules facts budget cell verdict
-  told facts budget verdict (inl u) = subst (IsCheckedVerdict design blif rules facts budget cell) (sym u.1) (told_why u.0 u.2)
-  told facts budget verdict (inr c) = checked facts budget verdict c.0 c.1
-
-  pub told_early : (o : Option Verdict) → IsToldEarly (comparison design rules cell f) o → IsEarly design blif rules cell o
-  told_early None planned = (m, supported planned)
-  told_early (Some verdict) u = subst (λ (v : Verdict). IsEarly design blif rules cell (Some v)) (sym u.1) (told_why u.0 u.2)
-
   -- its line is that of the definitions
   pub line_with : (verdict : Verdict) → HasLine design blif rules cell verdict (Some f)
   line_with verdict =
@@ -102,10 +88,6 @@ module _ (design : Design) (blif : Blif) (rules : Rules) (cell m : ℕ) (f : Fla
       (option_map (λ (x : Comparison). x.circuit) (option_map (comparison_of design blif rules cell) (model_of_paired p)))
       (option_map (λ (x : Comparison). x.model) (option_map (comparison_of design blif rules cell) (model_of_paired p)))) is.paired)
 
-  pub early_line : (o : Option Verdict) → HasEarlyLine design blif rules cell o (Some f)
-  early_line None = tt
-  early_line (Some verdict) = line_with verdict
-
   -- the model of the cell is this one
   one_model : (n : ℕ) → paired_model design blif rules cell ≡ Model n → m ≡ n
   one_model n paired = let both : Model m ≡ Model n = sym is.paired ∙ paired in cc
@@ -114,22 +96,17 @@ module _ (design : Design) (blif : Blif) (rules : Rules) (cell m : ℕ) (f : Fla
   of_cell : (P : Comparison → Type 0) → P (comparison design rules cell f) → (n : ℕ) → paired_model design blif rules cell ≡ Model n → P (comparison_of design blif rules cell n)
   of_cell P here n paired = subst (λ (x : ℕ). P (comparison_of design blif rules cell x)) (one_model n paired) (subst P same here)
 
-  -- an equal verdict is one by the phases
-  found_equal : (below : List CellFacts) (budget : ℕ) → IsTold (comparison design rules cell f) blif below budget Equal → IsEqual (comparison design rules cell f)
-  found_equal below budget (inl u) = let never : Equal ≡ Unsupported u.0 = u.1 in cc
-  found_equal below budget (inr c) = c.1
-
   -- each run of an equal cell shows the bits of its model
-  pub runs_with : (below : List CellFacts) (budget : ℕ) (verdict : Verdict) → IsTold (comparison design rules cell f) blif below budget verdict → HasRuns design blif rules cell verdict
+  pub runs_with : (below : List CellFacts) (budget : ℕ) (verdict : Verdict) → HasCheckedVerdict (comparison design rules cell f) blif below budget verdict → HasRuns design blif rules cell verdict
   runs_with below budget verdict t equal =
       of_cell RunsMatch
-      (equal_runs (comparison design rules cell f) (well_formed design blif rules cell m f inputs is) (found_equal below budget (subst (IsTold (comparison design rules cell f) blif below budget) equal t)))
+      (equal_runs (comparison design rules cell f) (well_formed design blif rules cell m f inputs is) (subst (HasCheckedVerdict (comparison design rules cell f) blif below budget) equal t))
 
   -- what is noted of the cell is what its facts say, and it is true
   pub facts_with : (below : List CellFacts) (budget : ℕ) (verdict : Verdict) (bare : Bool) (drives : List Drive) (facts : CellFacts) → AreTrueFacts design blif rules below
-      → (bare ≡ true) ↔ ((f.circuit.holds ≡ []) × (f.model.latches ≡ [])) → IsTold (comparison design rules cell f) blif below budget verdict
+      → (bare ≡ true) ↔ ((f.circuit.holds ≡ []) × (f.model.latches ≡ [])) → IsPlanned (comparison design rules cell f) → HasCheckedVerdict (comparison design rules cell f) blif below budget verdict
       → (verdict ≡ Equal → HasDrives (comparison design rules cell f) blif below drives) → AreTold drives bare verdict facts → HasFacts design blif rules below cell verdict facts
-  facts_with below budget verdict bare drives facts true_below is_bare t has_drives tells = record {
+  facts_with below budget verdict bare drives facts true_below is_bare planned t has_drives tells = record {
     is_true = by_fact (cases_Bool facts.equal);
     are = are_facts;
     equal = tells.equal;
@@ -137,8 +114,8 @@ module _ (design : Design) (blif : Blif) (rules : Rules) (cell m : ℕ) (f : Fla
     no_drives = tells.no_drives;
   }
     where
-      equal_told : facts.equal ≡ true → IsTold (comparison design rules cell f) blif below budget Equal
-      equal_told e = subst (IsTold (comparison design rules cell f) blif below budget) (tells.equal.0 e) t
+      equal_told : facts.equal ≡ true → IsEqual (comparison design rules cell f)
+      equal_told e = subst (HasCheckedVerdict (comparison design rules cell f) blif below budget) (tells.equal.0 e) t
 
       state_here : (facts.stateless ≡ true) ↔ ((verdict ≡ Equal) × (f.circuit.holds ≡ []) × (f.model.latches ≡ []))
       state_here = (
@@ -166,14 +143,7 @@ module _ (design : Design) (blif : Blif) (rules : Rules) (cell m : ℕ) (f : Fla
 
       by_fact : (facts.equal ≡ true) ⊎ (facts.equal ≡ false) → IsTrueOf design blif rules cell facts
       by_fact (inl e) =
-          let v = told below budget Equal (equal_told e) in
-          told_facts_are_true design blif rules cell v.0 below verdict facts (read_cell design blif rules cell inputs) v.1 true_below
-          (λ verdict_is. of_cell IsEqual (found_equal below budget (equal_told e)) v.0 v.1.paired) (are_facts v.0 v.1.paired)
-      by_fact (inr none) = record {
-        supported = λ e. absurd (true≢false (sym e ∙ none));
-        compared = λ n paired. record {
-          equal = λ e. absurd (true≢false (sym e ∙ none));
-          stateless = λ e. absurd (true≢false (sym e ∙ no_state none));
-          drives = λ j port drive on at. absurd (none-some drive (subst (λ (ds : List Drive). At ds j drive) (tells.no_drives none) at));
-        };
-      }
+          let here = supported design blif rules cell m f is planned in
+          told_facts_are_true design blif rules cell m below verdict facts (read_cell design blif rules cell inputs) here true_below
+          (λ verdict_is. of_cell IsEqual (equal_told e) m here.paired) (are_facts m here.paired)
+      by_fact (inr none) = true_of_none design blif rules cell facts none (no_state none) (tells.no_drives none)

@@ -1,8 +1,8 @@
 -- What is said of a cell beside its verdict.
 use Rattle.std.specs.Prelude.{◌≡◌, ℕ, ◌<◌, ◌≤◌, ◌⊎◌, ◌↔◌, true, false, List, [], length, Option, Some, None, option_map}
-use Rattle.cell_compare.specs.Compared.{IsFlattened}
-use Rattle.cell_compare.specs.Steps.{IsInTheWay}
-use Rattle.cell_compare.specs.Flat.{Flattened}
+use Rattle.cell_room.specs.Compared.{IsFlattened}
+use Rattle.cell_room.specs.Steps.{IsInTheWay}
+use Rattle.cell_room.specs.Flat.{Flattened}
 use Rattle.vrt_model.specs.Budget.{enough_nodes}
 use Rattle.vrt_model.specs.Comparison.{Comparison, cell_at}
 use Rattle.vrt_model.specs.Equal.{IsVacuous}

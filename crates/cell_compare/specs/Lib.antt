@@ -1,9 +1,6 @@
 pub mod Cells
-pub mod Checked
-pub mod Compared
-pub mod Flat
-pub mod Planned
+pub mod Looked
+pub mod Phases
 pub mod Ports
-pub mod Sizes
-pub mod Steps
-pub mod Works
+pub mod Stops
+pub mod Workspace

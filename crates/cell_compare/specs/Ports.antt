@@ -1,6 +1,6 @@
 -- The levels of output ports in the phases of an equal comparison.
 use Rattle.std.specs.List.{AllZip}
-use Rattle.std.specs.Prelude.{◌≡◌, ◌<◌, ℕ, All, List, Option, None, Some, length}
+use Rattle.std.specs.Prelude.{◌≡◌, ℕ, List, Option, None, Some, length}
 use Rattle.drive_levels.specs.PhaseLevels.{ArePhaseLevels}
 use Rattle.drive_levels.specs.PortLevels.{ArePortLevels}
 use Rattle.drive_levels.specs.declared.table.NetLevels.{NetLevels}
@@ -17,11 +17,6 @@ use Rattle.vrt_model.specs.declared.verdict.Verdict.{Verdict}
 use Rattle.vrt_model.specs.declared.verdict.Verdict.TheVariants.{Equal}
 use Rattle.vrt_model.specs.declared.whole.CellFacts.{CellFacts}
 use Rattle.vrt_model.specs.declared.whole.Drive.{Drive}
-
--- ports at nets of the circuit, with a place for the level of each
-pub record ArePortsOf (k : Comparison) (ports : PortLevels) : Type 0 where
-  pub within : All (λ (n : Net). n.0 < length k.circuit.nets) ports.nets
-  pub len : length ports.levels.items ≡ length ports.nets
 
 -- a phase that is equal has these levels
 abbrev pub TellsPhaseLevels : Comparison → ℕ → NetLevels → Option Verdict → Type 0

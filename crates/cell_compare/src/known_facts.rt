@@ -1,7 +1,7 @@
 //! What is known of a cell with its verdict.
 
 ghost use Rattle.std.specs.Prelude.{◌≡◌, ◌↔◌, ◌&&◌, [], IsTrue, false, true};
-ghost use Rattle.cell_compare.specs.Works.{AreTold};
+ghost use Rattle.cell_compare.specs.Phases.{AreTold};
 ghost use Rattle.vrt_model.specs.declared.verdict.Verdict.TheVariants.{Equal};
 
 use std::alloc::Global;
@@ -42,7 +42,7 @@ pub(crate) fn is_bare(circuit: &Circuit, model: &FlatModel) -> bool
 }
 
 /// Whether both hold.
-pub(crate) fn both(a: bool, b: bool) -> bool
+fn both(a: bool, b: bool) -> bool
     ensures { result ≡ (a && b) }
 {
     a && b

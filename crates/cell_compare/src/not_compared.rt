@@ -1,23 +1,30 @@
 //! What hinders a cell, before anything is compared.
 
-ghost use Rattle.std.specs.Prelude.{◌≡◌, ◌<◌, None, Some, length, IfOk};
+ghost use Rattle.std.specs.Prelude.{◌≡◌, ◌<◌, length, IfOk};
 ghost use Rattle.cell_compare.specs.Cells.{HasEarlyLine, IsEarly, IsFlattenedTo};
-ghost use Rattle.cell_compare.specs.Compared.{AreInputs};
+ghost use Rattle.cell_compare.specs.Stops.{PlannedOrStops};
+ghost use Rattle.cell_room.specs.Compared.{AreInputs};
 ghost use Rattle.prepared_tables.specs.Prepared.{ArePrepared};
 ghost use Rattle.vrt_model.specs.Hierarchy.{IsOrdered};
 ghost use Rattle.vrt_model.specs.Inputs.{AreRules, IsBlif, IsDesign};
 ghost use Rattle.vrt_model.specs.Models.{AreModels};
-ghost use Rattle.vrt_model.specs.PairedPorts.{Model, paired_model};
+ghost use Rattle.vrt_model.specs.PairedPorts.{Model, model_of_paired, paired_model};
 
-use crate::comparison::flat_comparison;
-use crate::flattened::Flattened;
-use crate::flattening::flatten_cell;
-use crate::hindrance::Hindrance;
-use crate::phases::hindered;
-use crate::verdict::paired_number;
-use prepared_tables::{Prepared, is_skipped_with, prepare};
+use cell_room::{Flattened, NotPlanned, Planned, plan_cell};
+use prepared_tables::{Prepared, is_skipped_with, model_of_with, prepare};
 use std::alloc::Global;
 use vrt_model::{Blif, Design, NoMemory, Rules, Verdict, Why};
+
+/// Why a cell is not compared.
+#[derive(Drop)]
+pub(crate) enum Stop {
+    /// The rules say so.
+    Skipped,
+    /// It cannot be checked; with what was flattened where neither circuit nor model has anything in its way.
+    Unsupported(Why, Option<Flattened>),
+    /// Memory could not be had.
+    NoMemory,
+}
 
 /// The verdict on a cell that is not compared, and what was made of the cell.
 #[derive(Drop)]
@@ -29,18 +36,24 @@ pub struct EarlyCell {
     pub flattened: Option<Flattened>,
 }
 
-/// A cell of which no circuit was made.
-fn stopped(verdict: Verdict) -> EarlyCell
-    ensures { result ≡ record { verdict = Some verdict; flattened = None } }
+/// The number of the model with which a cell pairs.
+fn paired_number(
+    prepared: &Prepared,
+    design: &Design,
+    blif: &Blif,
+    rules: &Rules,
+    cell: u32,
+) -> Option<u32>
+    requires { ArePrepared design.now blif.now rules.now prepared.now }
+    ensures { result ≡ model_of_paired (paired_model design.now blif.now rules.now cell) }
 {
-    EarlyCell {
-        verdict: Some(verdict),
-        flattened: None,
-    }
+    // the names of the models are in the tables
+    let _unread = blif;
+    model_of_with(prepared, design, rules, cell)
 }
 
-/// What hinders a cell that pairs with this model.
-fn early_with(
+/// A cell that pairs with this model, flattened, with the variables and the plans of its phases; or why it is not compared.
+fn planned_with(
     alloc: Global,
     prepared: &Prepared,
     design: &Design,
@@ -48,25 +61,39 @@ fn early_with(
     rules: &Rules,
     cell: u32,
     model: u32,
-) -> Result<EarlyCell, NoMemory>
+) -> Result<Planned, Stop>
     requires prepared { ArePrepared design.now blif.now rules.now prepared.now }
     requires inputs { AreInputs design.now blif.now rules.now cell }
     requires paired { paired_model design.now blif.now rules.now cell ≡ Model model }
-    ensures early { IfOk result (λ e. IsEarly design.now blif.now rules.now cell e.verdict) }
-    ensures line { IfOk result (λ e. HasEarlyLine design.now blif.now rules.now cell e.verdict e.flattened) }
-    ensures flattened { IfOk result (λ e. IsFlattenedTo design.now blif.now rules.now cell e.verdict e.flattened) }
+    ensures { PlannedOrStops design.now blif.now rules.now cell result }
 {
-    let flattened = match flatten_cell(alloc, prepared, design, blif, rules, cell, model) {
-        Ok(flattened) => flattened,
-        Err(Hindrance::Because(why)) => return Ok(stopped(Verdict::Unsupported(why))),
-        Err(Hindrance::NoMemory) => return Err(NoMemory),
-    };
-    let compared = flat_comparison(design, rules, cell, &flattened);
-    let verdict = hindered(alloc, &prepared.index, compared)?;
-    Ok(EarlyCell {
-        verdict,
-        flattened: Some(flattened),
-    })
+    match plan_cell(alloc, prepared, design, blif, rules, cell, model) {
+        Ok(planned) => Ok(planned),
+        Err(NotPlanned::Because(why, flattened)) => Err(Stop::Unsupported(why, flattened)),
+        Err(NotPlanned::NoMemory) => Err(Stop::NoMemory),
+    }
+}
+
+/// A cell that is compared, flattened, with the variables and the plans of its phases; or why it is not compared.
+pub(crate) fn planned_cell(
+    alloc: Global,
+    prepared: &Prepared,
+    design: &Design,
+    blif: &Blif,
+    rules: &Rules,
+    cell: u32,
+) -> Result<Planned, Stop>
+    requires prepared { ArePrepared design.now blif.now rules.now prepared.now }
+    requires inputs { AreInputs design.now blif.now rules.now cell }
+    ensures { PlannedOrStops design.now blif.now rules.now cell result }
+{
+    if is_skipped_with(prepared, design, rules, cell) {
+        return Err(Stop::Skipped);
+    }
+    match paired_number(prepared, design, blif, rules, cell) {
+        Some(model) => planned_with(alloc, prepared, design, blif, rules, cell, model),
+        None => Err(Stop::Unsupported(Why::NoModel, None)),
+    }
 }
 
 /// What hinders a cell by the tables that `prepare` makes: the same as `early`, in a time that does not grow with the numbers
@@ -90,12 +117,20 @@ pub fn early_prepared(
     ensures line { IfOk result (λ e. HasEarlyLine design.now blif.now rules.now cell e.verdict e.flattened) }
     ensures flattened { IfOk result (λ e. IsFlattenedTo design.now blif.now rules.now cell e.verdict e.flattened) }
 {
-    if is_skipped_with(prepared, design, rules, cell) {
-        return Ok(stopped(Verdict::Skipped));
-    }
-    match paired_number(prepared, design, blif, rules, cell) {
-        Some(model) => early_with(alloc, prepared, design, blif, rules, cell, model),
-        None => Ok(stopped(Verdict::Unsupported(Why::NoModel))),
+    match planned_cell(alloc, prepared, design, blif, rules, cell) {
+        Ok(planned) => Ok(EarlyCell {
+            verdict: None,
+            flattened: Some(planned.into_flattened()),
+        }),
+        Err(Stop::Skipped) => Ok(EarlyCell {
+            verdict: Some(Verdict::Skipped),
+            flattened: None,
+        }),
+        Err(Stop::Unsupported(why, flattened)) => Ok(EarlyCell {
+            verdict: Some(Verdict::Unsupported(why)),
+            flattened,
+        }),
+        Err(Stop::NoMemory) => Err(NoMemory),
     }
 }
 

@@ -1,27 +1,25 @@
 //! One cell compared with its model.
 
-ghost use Rattle.std.specs.Prelude.{◌≡◌, ◌≤◌, ◌<◌, [], None, Some, false, length, IfOk};
+ghost use Rattle.std.specs.Prelude.{◌≡◌, ◌≤◌, ◌<◌, ℕ, [], Some, false, length, IfOk};
 ghost use Rattle.cell_compare.specs.Cells.{HasFacts, HasLine, HasRuns, IsComplete, IsFlattenedTo};
-ghost use Rattle.cell_compare.specs.Compared.{AreInputs};
+ghost use Rattle.cell_room.specs.Compared.{AreInputs};
+ghost use Rattle.cell_room.specs.Planned.{IsPlannedCell};
 ghost use Rattle.checked_cells.specs.Given.{AreTrueFacts};
 ghost use Rattle.prepared_tables.specs.Prepared.{ArePrepared};
 ghost use Rattle.vrt_model.specs.Hierarchy.{IsOrdered};
 ghost use Rattle.vrt_model.specs.Inputs.{AreRules, IsBlif, IsDesign};
 ghost use Rattle.vrt_model.specs.Models.{AreModels};
-ghost use Rattle.vrt_model.specs.PairedPorts.{Model, model_of_paired, paired_model};
 ghost use Rattle.vrt_model.specs.CheckedVerdicts.{IsCheckedVerdict};
 ghost use Rattle.whole_cells.specs.Kept.{AreKept};
 
-use crate::checked::check_cell;
-use crate::comparison::flat_comparison;
-use crate::drives::Told;
-use crate::flattened::Flattened;
-use crate::flattening::flatten_cell;
-use crate::hindrance::Hindrance;
+use crate::drives::{Told, told_of};
 use crate::known_facts::{facts_of, is_bare, no_facts};
-use prepared_tables::{Prepared, is_skipped_with, model_of_with, prepare};
+use crate::not_compared::{Stop, planned_cell};
+use crate::opened::opened;
+use cell_room::{Flattened, Planned};
+use prepared_tables::{Prepared, prepare};
 use std::alloc::Global;
-use vrt_model::{Blif, CellFacts, Design, NoMemory, Rules, Seq, Verdict, Why};
+use vrt_model::{Blif, CellFacts, Design, NoMemory, Rules, Seq, Verdict};
 use whole_cells::KeptCells;
 
 /// The verdict on a cell, and what is known of the cell then, with its flat circuit and flat model, by which what the
@@ -36,19 +34,19 @@ pub struct Compared {
     pub flattened: Option<Flattened>,
 }
 
-/// A verdict on a cell that is not equal, without circuit and model.
-fn without(alloc: Global, verdict: Verdict) -> Compared
-    ensures { result ≡ record { verdict = verdict; facts = record { equal = false; stateless = false; drives = [] }; flattened = None } }
+/// A cell that is not compared, with what was made of it.
+fn not_compared(alloc: Global, verdict: Verdict, flattened: Option<Flattened>) -> Compared
+    ensures { result ≡ record { verdict = verdict; facts = record { equal = false; stateless = false; drives = [] }; flattened = flattened } }
 {
     Compared {
         verdict,
         facts: no_facts(alloc),
-        flattened: None,
+        flattened,
     }
 }
 
-/// The verdict on a cell that pairs with this model.
-fn compare_with(
+/// The verdict on a planned cell.
+fn compare_planned(
     alloc: Global,
     budget: u32,
     prepared: &Prepared,
@@ -56,7 +54,7 @@ fn compare_with(
     blif: &Blif,
     rules: &Rules,
     cell: u32,
-    model: u32,
+    planned: Planned,
     facts: &[CellFacts],
     kept: &mut KeptCells,
 ) -> Result<Compared, NoMemory>
@@ -64,7 +62,7 @@ fn compare_with(
     requires prepared { ArePrepared design.now blif.now rules.now prepared.now }
     requires inputs { AreInputs design.now blif.now rules.now cell }
     requires facts { AreTrueFacts design.now blif.now rules.now facts.now }
-    requires paired { paired_model design.now blif.now rules.now cell ≡ Model model }
+    requires planned { (m : ℕ) × IsPlannedCell design.now blif.now rules.now cell m planned }
     requires kept { AreKept design.now blif.now rules.now facts.now kept.old }
     ensures verdict { IfOk result (λ c. IsCheckedVerdict design.now blif.now rules.now facts.now budget cell c.verdict) }
     ensures line { IfOk result (λ c. HasLine design.now blif.now rules.now cell c.verdict c.flattened) }
@@ -74,13 +72,11 @@ fn compare_with(
     ensures runs { IfOk result (λ c. HasRuns design.now blif.now rules.now cell c.verdict) }
     ensures kept { IfOk result (λ _. AreKept design.now blif.now rules.now facts.now kept.new) }
 {
-    let flattened = match flatten_cell(alloc, prepared, design, blif, rules, cell, model) {
-        Ok(flattened) => flattened,
-        Err(Hindrance::Because(why)) => return Ok(without(alloc, Verdict::Unsupported(why))),
-        Err(Hindrance::NoMemory) => return Err(NoMemory),
-    };
-    let compared = flat_comparison(design, rules, cell, &flattened);
-    let told = check_cell(alloc, budget, prepared, blif, compared, facts, kept)?;
+    let mut workspace = opened(
+        alloc, budget, prepared, design, blif, rules, cell, planned, facts, kept,
+    )?;
+    let told = told_of(&mut workspace, alloc, facts)?;
+    let flattened = workspace.into_flattened();
     let bare = is_bare(flattened.circuit(), flattened.model());
     let Told { verdict, drives } = told;
     let facts = facts_of(alloc, &verdict, drives, bare);
@@ -89,22 +85,6 @@ fn compare_with(
         facts,
         flattened: Some(flattened),
     })
-}
-
-/// The number of the model with which a cell pairs.
-pub(crate) fn paired_number(
-    prepared: &Prepared,
-    design: &Design,
-    blif: &Blif,
-    rules: &Rules,
-    cell: u32,
-) -> Option<u32>
-    requires { ArePrepared design.now blif.now rules.now prepared.now }
-    ensures { result ≡ model_of_paired (paired_model design.now blif.now rules.now cell) }
-{
-    // the names of the models are in the tables
-    let _unread = blif;
-    model_of_with(prepared, design, rules, cell)
 }
 
 /// The verdict on a cell by the tables of the netlist, the models and the rules, which `prepare` makes: the same as `compare`,
@@ -139,14 +119,17 @@ pub fn compare_prepared(
     ensures runs { IfOk result (λ c. HasRuns design.now blif.now rules.now cell c.verdict) }
     ensures kept { IfOk result (λ _. AreKept design.now blif.now rules.now facts.now kept.new) }
 {
-    if is_skipped_with(prepared, design, rules, cell) {
-        return Ok(without(alloc, Verdict::Skipped));
-    }
-    match paired_number(prepared, design, blif, rules, cell) {
-        Some(model) => compare_with(
-            alloc, budget, prepared, design, blif, rules, cell, model, facts, kept,
+    match planned_cell(alloc, prepared, design, blif, rules, cell) {
+        Ok(planned) => compare_planned(
+            alloc, budget, prepared, design, blif, rules, cell, planned, facts, kept,
         ),
-        None => Ok(without(alloc, Verdict::Unsupported(Why::NoModel))),
+        Err(Stop::Skipped) => Ok(not_compared(alloc, Verdict::Skipped, None)),
+        Err(Stop::Unsupported(why, flattened)) => Ok(not_compared(
+            alloc,
+            Verdict::Unsupported(why),
+            flattened,
+        )),
+        Err(Stop::NoMemory) => Err(NoMemory),
     }
 }
 

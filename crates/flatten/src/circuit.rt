@@ -58,8 +58,49 @@ fn circuit_of(
     })
 }
 
-/// The flat circuit of a cell in whose way nothing stands, as `structure_with` finds: want of memory is the only refusal.
-pub fn structured_circuit(
+/// The flat circuit of an unrolled cell in whose way nothing stands, as `structure_with` finds: want of memory is the only refusal.
+pub fn unrolled_circuit(
+    alloc: Global,
+    index: &RuleIndex,
+    tables: &NetTables,
+    design: &Design,
+    rules: &Rules,
+    unrolled: &Unrolled,
+    cell: u32,
+    pairing: &Pairing,
+) -> Result<Circuit, NoMemory>
+    requires netlist { IsDesign design.now }
+    requires ruled { AreRules rules.now }
+    requires names { AreHoldNets design.now rules.now }
+    requires indexed { AreIndexed design.now rules.now index.now }
+    requires tables { AreNetTables design.now rules.now tables.now }
+    requires there { cell < length design.now.cells }
+    requires structured { IsStructured (top_before design.now rules.now cell) }
+    requires unrolled { (roles : List RoleValue) → IsUnrolled (whole_of design.now rules.now cell roles) unrolled.now }
+    ensures { IfOk result (IsFlatCircuit design.now rules.now cell pairing.now) }
+{
+    circuit_of(alloc, index, tables, design, rules, unrolled, cell, pairing)
+}
+
+/// A cell in whose way nothing stands, unrolled.
+pub fn unroll_cell(
+    alloc: Global,
+    tables: &NetTables,
+    design: &Design,
+    rules: &Rules,
+    cell: u32,
+) -> Result<Unrolled, NoMemory>
+    requires netlist { IsDesign design.now }
+    requires tables { AreNetTables design.now rules.now tables.now }
+    requires there { cell < length design.now.cells }
+    requires structured { IsStructured (top_before design.now rules.now cell) }
+    ensures { IfOk result (λ unrolled. (roles : List RoleValue) → IsUnrolled (whole_of design.now rules.now cell roles) unrolled) }
+{
+    unroll(alloc, design, rules, tables, cell)
+}
+
+/// The flat circuit of a cell in whose way nothing stands.
+fn structured_circuit(
     alloc: Global,
     index: &RuleIndex,
     tables: &NetTables,
@@ -77,8 +118,8 @@ pub fn structured_circuit(
     requires structured { IsStructured (top_before design.now rules.now cell) }
     ensures { IfOk result (IsFlatCircuit design.now rules.now cell pairing.now) }
 {
-    let unrolled = unroll(alloc, design, rules, tables, cell)?;
-    circuit_of(
+    let unrolled = unroll_cell(alloc, tables, design, rules, cell)?;
+    unrolled_circuit(
         alloc, index, tables, design, rules, &unrolled, cell, pairing,
     )
 }

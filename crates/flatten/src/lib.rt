@@ -12,7 +12,7 @@ mod nets;
 mod structures;
 mod ties;
 
-pub use circuit::{flat, flat_with, structured_circuit};
+pub use circuit::{flat, flat_with, unroll_cell, unrolled_circuit};
 pub use faults::FlatFault;
 pub use flat_sizes::{FlatSizes, sizes};
 pub use structures::{structure, structure_with};

@@ -2,8 +2,7 @@
 
 ghost use Rattle.std.specs.Prelude.{◌≡◌, ◌<◌, ◌≤◌, length, IfOk};
 ghost use Rattle.bdd_core.specs.Store.{IsSpan};
-ghost use Rattle.phase_terms.specs.Found.{IsPhaseFault};
-ghost use Rattle.phase_terms.specs.Ready.{IsReady, comparison_in};
+ghost use Rattle.phase_terms.specs.Ready.{comparison_in};
 ghost use Rattle.phase_told.specs.Sites.{IsSite};
 ghost use Rattle.vrt_model.specs.Held.{sources_of, variable_names};
 ghost use Rattle.vrt_model.specs.Places.{Finding, IsFirstInPhase};
@@ -11,9 +10,8 @@ ghost use Rattle.vrt_model.specs.Verdicts.{Describes};
 
 use crate::bits::read_bits;
 use crate::places::{copies_of, name_of_place};
-use crate::site::{FoundFault, Site, find_site};
+use crate::site::{FoundFault, Site};
 use bdd_core::Store;
-use phase_terms::{Comparison, PhaseFault};
 use std::alloc::Global;
 use vrt_model::{FaultAt, NoMemory, Vars};
 
@@ -46,33 +44,4 @@ pub fn name_fault(
         names,
         valuation,
     })
-}
-
-/// The first fault of a phase, at the least valuation at which its function is 1, with the bits that the circuit has there and ought to
-/// have. Of the words of the store those of the fault alone change, and no node is added, also where memory is wanting.
-pub fn told_fault(
-    store: &mut Store,
-    alloc: Global,
-    compared: Comparison<'_>,
-    phase: u32,
-    vars: &Vars,
-    fault: PhaseFault,
-) -> Result<FaultAt, NoMemory>
-    requires ready { IsReady (comparison_in compared) }
-    requires phase { phase < length compared.rules.now.phases }
-    requires sources { vars.now.sources ≡ sources_of (comparison_in compared) phase }
-    requires names { vars.now.names ≡ variable_names (comparison_in compared) phase }
-    requires few { length (sources_of (comparison_in compared) phase) ≤ store.old.vars }
-    requires fault { IsPhaseFault (comparison_in compared) phase fault store.old }
-    ensures told { IfOk result (λ told. (told.phase ≡ phase) × ((f : Finding) × Describes (comparison_in compared.entry) told f × IsFirstInPhase (comparison_in compared.entry) f)) }
-    ensures rest { store.new ≡ record store.old { words = store.new.words } }
-    ensures len { length store.new.words ≡ length store.old.words }
-{
-    let found = FoundFault {
-        compared,
-        phase,
-        fault,
-    };
-    let site = find_site(store, found);
-    name_fault(store, alloc, found, vars, site)
 }

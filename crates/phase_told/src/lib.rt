@@ -9,5 +9,5 @@ mod ports;
 mod site;
 mod values;
 
-pub use fault::{name_fault, told_fault};
+pub use fault::name_fault;
 pub use site::{FoundFault, Site, find_site};

@@ -7,7 +7,6 @@ use mathlib.Core.Path.{fun_ext}
 use Rattle.checked_chain.proofs.EndLaws.{chain_begins_flat}
 use Rattle.checked_cells.proofs.PlacesAlone.{ties_same}
 use Rattle.checked_cells.specs.Given.{AreTrueFacts}
-use Rattle.flat_sizes.proofs.PlaceLaws.{nets_counted}
 use Rattle.flatten.specs.Circuits.{IsFlatCircuit}
 use Rattle.known_nets.proofs.WiredLaws.{flat_wired}
 use Rattle.known_nets.specs.Wired.{IsWired}
@@ -15,7 +14,6 @@ use Rattle.net_places.specs.Links.{IsUnrolled}
 use Rattle.net_places.specs.declared.places.Place.{Place}
 use Rattle.net_places.specs.Whole.{whole_of}
 use Rattle.whole_circuits.proofs.ChosenLaws.{all_are_decided}
-use Rattle.whole_circuits.proofs.FlatLaws.{flat_parts}
 use Rattle.whole_circuits.proofs.StepLaws.{by_place}
 use Rattle.whole_circuits.specs.Acyclic.{AreAcyclic}
 use Rattle.whole_circuits.specs.Insides.{IsCutAt}
@@ -26,14 +24,13 @@ use Rattle.substitution_laws.proofs.ChainLaws.{some_place}
 use Rattle.vrt_model.specs.Checked.{IsChecked, IsChoice, IsCircuitWith}
 use Rattle.vrt_model.specs.Comparison.{phase_at}
 use Rattle.vrt_model.specs.Cut.{Cut}
-use Rattle.vrt_model.specs.FlatCircuit.{flat_circuit_of, flat_nets}
+use Rattle.vrt_model.specs.FlatCircuit.{flat_circuit_of}
 use Rattle.vrt_model.specs.Known.{HasArc}
 use Rattle.vrt_model.specs.Lists.{Among, mark_at}
 use Rattle.vrt_model.specs.Unrolled.{Top}
 use Rattle.vrt_model.specs.Unsupported.{IsAcyclic, top_before}
 use Rattle.vrt_model.specs.declared.blif.Blif.{Blif}
 use Rattle.vrt_model.specs.declared.circuit.Circuit.{Circuit}
-use Rattle.vrt_model.specs.declared.circuit.FlatNet.{FlatNet}
 use Rattle.vrt_model.specs.declared.design.Design.{Design}
 use Rattle.vrt_model.specs.declared.pairing.Pairing.{Pairing}
 use Rattle.vrt_model.specs.declared.pairing.PortRole.{PortRole}
@@ -116,16 +113,6 @@ flat_with_none t blif facts tables are marks none =
 -- ---- the flat circuit
 
 module _ (design : Design) (blif : Blif) (rules : Rules) (cell : ℕ) (roles : List PortRole) (facts : List CellFacts) (flat : Circuit) (is : IsWholeGround design blif rules cell roles facts flat) where
-  -- how many nets there are does not depend on roles
-  pub nets_are_few : length (flat_nets (top_before design rules cell)) ≤ 20000
-  nets_are_few =
-      let few : length flat.nets ≤ 20000 = is.ground.formed.net_limit in
-      let nets = ap (λ (ns : List FlatNet). length ns) (flat_parts (whole_of design rules cell roles) flat is.flat_is).nets in
-      let one = nets_counted (top_before design rules cell) in
-      let other = nets_counted (whole_of design rules cell roles) in
-      let same : length (flat_nets (top_before design rules cell)) ≡ length (flat_nets (whole_of design rules cell roles)) = one ∙ sym other in
-      omega (arith, few, nets, same)
-
   none_whole : flat.wholes ≡ []
   unfolding flat_circuit_of
   none_whole = ap (λ (x : Circuit). x.wholes) is.flat_is

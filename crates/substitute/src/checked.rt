@@ -5,18 +5,19 @@ ghost use Rattle.checked_cells.specs.Given.{AreTrueFacts};
 ghost use Rattle.net_places.specs.Whole.{whole_of};
 ghost use Rattle.prepared_tables.specs.Prepared.{ArePrepared};
 ghost use Rattle.vrt_model.specs.declared.pairing.PortRole.{PortRole as RoleValue};
-ghost use Rattle.whole_cells.specs.Own.{AreFiles};
+ghost use Rattle.whole_cells.specs.Own.{AreFiles, AreItsPlaces};
 ghost use Rattle.substitute.specs.Whole.{IsCellGround, WholeAnswers, WholeGives};
 
 use crate::with_tables::whole_with;
-use flatten::{FlatFault, flat_with};
+use flatten::{FlatFault, structure_with, unroll_cell, unrolled_circuit};
+use net_places::Unrolled;
 use prepared_tables::{Prepared, prepare};
 use std::alloc::Global;
 use vrt_model::{Blif, CellFacts, Circuit, Design, NoMemory, Pairing, Rules, Seq};
 use whole_cells::KeptCells;
 use whole_circuits::are_acyclic;
 
-/// The checked circuit of a cell with this flat circuit, none where it is the flat one, as where its arcs lead around.
+/// The checked circuit of a cell with these places and this flat circuit, none where it is the flat one, as where its arcs lead around.
 fn checked_of(
     alloc: Global,
     prepared: &Prepared,
@@ -24,12 +25,14 @@ fn checked_of(
     blif: &Blif,
     rules: &Rules,
     cell: u32,
+    unrolled: &Unrolled,
     flat: &Circuit,
     facts: &[CellFacts],
 ) -> Result<Option<Circuit>, NoMemory>
     requires prepared { ArePrepared design.now blif.now rules.now prepared.now }
     requires files { AreFiles design.now blif.now rules.now }
     requires there { cell < length design.now.cells }
+    requires places { AreItsPlaces design.now rules.now cell unrolled.now }
     requires ground { (roles : List RoleValue) × IsCellGround (whole_of design.now rules.now cell roles) blif.now facts.now flat.now }
     ensures { IfOk result (λ whole. (roles : List RoleValue) → IsCellGround (whole_of design.now rules.now cell roles) blif.now facts.now flat.now → WholeGives (whole_of design.now rules.now cell roles) blif.now facts.now flat.now whole) }
 {
@@ -39,7 +42,7 @@ fn checked_of(
     }
     let mut kept = KeptCells::none(alloc, design.cells.len())?;
     let whole = whole_with(
-        alloc, prepared, design, blif, rules, cell, flat, facts, &mut kept,
+        alloc, prepared, design, blif, rules, cell, unrolled, flat, facts, &mut kept,
     )?;
     Ok(whole)
 }
@@ -62,15 +65,11 @@ pub fn whole(
     ensures { WholeAnswers design.now blif.now rules.now cell pairing.now facts.now result }
 {
     let prepared = prepare(alloc, design, blif, rules)?;
-    let flat = flat_with(
-        alloc,
-        &prepared.index,
-        &prepared.nets,
-        design,
-        rules,
-        cell,
-        pairing,
-    )?;
+    let index = &prepared.index;
+    let nets = &prepared.nets;
+    structure_with(alloc, index, design, rules, cell)?;
+    let unrolled = unroll_cell(alloc, nets, design, rules, cell)?;
+    let flat = unrolled_circuit(alloc, index, nets, design, rules, &unrolled, cell, pairing)?;
     let found = checked_of(
         alloc,
         &prepared,
@@ -78,6 +77,7 @@ pub fn whole(
         blif,
         rules,
         cell,
+        &unrolled,
         &flat,
         facts.as_slice(),
     )?;

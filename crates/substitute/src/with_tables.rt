@@ -14,7 +14,7 @@ ghost use Rattle.vrt_model.specs.declared.blif.Blif.{Blif as BlifValue};
 ghost use Rattle.vrt_model.specs.declared.pairing.PortRole.{PortRole as RoleValue};
 ghost use Rattle.vrt_model.specs.declared.whole.CellFacts.{CellFacts as FactsValue};
 ghost use Rattle.whole_cells.specs.Kept.{AreKept};
-ghost use Rattle.whole_cells.specs.Own.{AreFiles};
+ghost use Rattle.whole_cells.specs.Own.{AreFiles, AreItsPlaces};
 ghost use Rattle.substitute.specs.Chosen.{cut_of};
 ghost use Rattle.substitute.specs.Clocked.{is_clocked_at};
 ghost use Rattle.substitute.specs.Underway.{AreChosenBelow, AreTables};
@@ -25,7 +25,7 @@ use crate::clocked::has_clocked_cell;
 use crate::cycles::circuit_by;
 use crate::tables::Tables;
 use crate::trial::marks_with;
-use net_places::{Unrolled, unroll};
+use net_places::Unrolled;
 use prepared_tables::Prepared;
 use std::alloc::Global;
 use vrt_model::{Blif, CellFacts, Circuit, Design, NoMemory, Rules};
@@ -133,8 +133,8 @@ fn make_entries(
     Ok(())
 }
 
-/// The checked circuit of a supported cell with this flat circuit, by what is known of the cells below it: its instances are tried
-/// one by one, each before those inside it. None where no instance is left whole, so that the flat circuit is the checked one. What the
+/// The checked circuit of a supported cell with these places and this flat circuit, by what is known of the cells below it: its instances are
+/// tried one by one, each before those inside it. None where no instance is left whole, so that the flat circuit is the checked one. What the
 /// instances of a cell have in common is made where it is not kept, and kept.
 pub fn whole_with(
     alloc: Global,
@@ -143,6 +143,7 @@ pub fn whole_with(
     blif: &Blif,
     rules: &Rules,
     cell: u32,
+    unrolled: &Unrolled,
     flat: &Circuit,
     facts: &[CellFacts],
     kept: &mut KeptCells,
@@ -150,18 +151,20 @@ pub fn whole_with(
     requires prepared { ArePrepared design.now blif.now rules.now prepared.now }
     requires files { AreFiles design.now blif.now rules.now }
     requires there { cell < length design.now.cells }
+    requires places { AreItsPlaces design.now rules.now cell unrolled.now }
     requires kept { AreKept design.now blif.now rules.now facts.now kept.old }
     requires ground { (roles : List RoleValue) × IsWholeGround design.now blif.now rules.now cell roles facts.now flat.now }
     ensures whole { IfOk result (λ whole. (roles : List RoleValue) → IsWholeGround design.now blif.now rules.now cell roles facts.now flat.now → WholeGives (whole_of design.now rules.now cell roles) blif.now facts.now flat.now whole) }
     ensures kept { IfOk result (λ _. AreKept design.now blif.now rules.now facts.now kept.new) }
 {
-    let unrolled = unroll(alloc, design, rules, &prepared.nets, cell)?;
-    let owners = device_places(alloc, design, &unrolled)?;
-    make_entries(alloc, prepared, design, blif, rules, facts, &unrolled, kept)?;
+    // the cell stands in its places
+    let _unread = cell;
+    let owners = device_places(alloc, design, unrolled)?;
+    make_entries(alloc, prepared, design, blif, rules, facts, unrolled, kept)?;
     let tables = Tables {
         phases: rules.phases.as_slice(),
         flat,
-        unrolled: &unrolled,
+        unrolled,
         owners: owners.as_slice(),
         cells: kept.cells.as_slice(),
     };

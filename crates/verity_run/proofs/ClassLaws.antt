@@ -2,8 +2,8 @@
 use Rattle.std.proofs.Common.{◌≡◌, inl, inr, ◌∷◌, ◌++◌, [], ℕ, List, Option, Some, None, Result, Ok, Err, ap, refl, sym, ◌∙◌, subst}
 use Rattle.std.specs.Prelude.{IfOk}
 use Rattle.cell_compare.specs.Cells.{HasEarlyLine, IsEarly, IsFlattenedTo}
-use Rattle.cell_compare.specs.Compared.{IsFlattened}
-use Rattle.cell_compare.specs.Flat.{Flattened}
+use Rattle.cell_room.specs.Compared.{IsFlattened}
+use Rattle.cell_room.specs.Flat.{Flattened}
 use Rattle.channel_parts.specs.Classes.{AreClasses}
 use Rattle.channel_parts.specs.declared.class.ClassLine.{ClassLine}
 use Rattle.mode_lines.specs.Lines.{class_lines}

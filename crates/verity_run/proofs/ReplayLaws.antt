@@ -4,8 +4,8 @@ use Rattle.std.specs.Borrow.{Bor}
 use Rattle.std.specs.Prelude.{bytes_eq, position, IfOk, MatchResult}
 use Rattle.std.specs.Str.{str_to_ascii_lowercase}
 use Rattle.std.specs.Io.KnownBytes.{Appends}
-use Rattle.cell_compare.specs.Compared.{IsFlattened, comparison}
-use Rattle.cell_compare.specs.Flat.{Flattened}
+use Rattle.cell_room.specs.Compared.{IsFlattened, comparison}
+use Rattle.cell_room.specs.Flat.{Flattened}
 use Rattle.mode_lines.specs.Lists.{Tells as TellsFault, fault_at}
 use Rattle.mode_lines.specs.Points.{AreVariables, comparison_with, meets_with, setting_with}
 use Rattle.mode_lines.specs.Lines.{replay_lines}

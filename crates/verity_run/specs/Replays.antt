@@ -2,7 +2,7 @@
 use Rattle.std.specs.Prelude.{◌≡◌, ◌⊎◌, ◌++◌, [], ℕ, List, Bool, Option, Some, None, codes, unwrap_or}
 use Rattle.std.specs.Borrow.{Bor}
 use Rattle.std.specs.Str.{str_to_ascii_lowercase}
-use Rattle.cell_compare.specs.Flat.{Flattened}
+use Rattle.cell_room.specs.Flat.{Flattened}
 use Rattle.command_line.specs.Requests.{value_of}
 use Rattle.mode_lines.specs.Lines.{replay_lines}
 use Rattle.mode_lines.specs.Lists.{bits_at, fault_at, items_in}

@@ -1,6 +1,6 @@
 -- What a verdict's line takes from the flat circuit and the flat model of its cell.
 use Rattle.std.specs.Prelude.{Option, option_map}
-use Rattle.cell_compare.specs.Flat.{Flattened}
+use Rattle.cell_room.specs.Flat.{Flattened}
 use Rattle.vrt_model.specs.declared.circuit.Circuit.{Circuit}
 use Rattle.vrt_model.specs.declared.flat_model.FlatModel.{FlatModel}
 

@@ -2,7 +2,7 @@
 
 ghost use Rattle.std.specs.Prelude.{◌≡◌, ◌<◌, None, Some, bytes_eq, IfErr, IfOk, length, position};
 ghost use Rattle.cell_compare.specs.Cells.{HasEarlyLine, IsEarly, IsFlattenedTo};
-ghost use Rattle.cell_compare.specs.Compared.{comparison};
+ghost use Rattle.cell_room.specs.Compared.{comparison};
 ghost use Rattle.verity_run.specs.Named.{cell_asked, phase_asked};
 ghost use Rattle.verity_run.specs.Ready.{IsReady};
 ghost use Rattle.verity_run.specs.Refusals.{Tells};

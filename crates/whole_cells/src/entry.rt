@@ -1,8 +1,6 @@
 //! What the instances of a cell have in common, if they may be left whole.
 
 ghost use Rattle.std.specs.Prelude.{◌≡◌, ◌&&◌, ◌<◌, length, map, true, IfOk};
-ghost use Rattle.flatten.specs.Structures.{IsStructured};
-ghost use Rattle.net_tables.specs.Tables.{AreNetTables};
 ghost use Rattle.phase_ports.specs.Comparisons.{ArePortsWithin, IsOfCell};
 ghost use Rattle.phase_ports.specs.Ports.{unnamed};
 ghost use Rattle.prepared_tables.specs.Prepared.{ArePrepared};
@@ -12,43 +10,23 @@ ghost use Rattle.vrt_model.specs.Checked.{has_fact, keeps_inputs_free as keeps, 
 ghost use Rattle.vrt_model.specs.Circuits.{IsCircuit, IsFlat};
 ghost use Rattle.vrt_model.specs.Comparison.{Comparison, cell_at, ports_of};
 ghost use Rattle.vrt_model.specs.FlatModels.{IsFlatModel};
-ghost use Rattle.vrt_model.specs.Inputs.{AreRules, IsDesign};
+ghost use Rattle.vrt_model.specs.Inputs.{AreRules};
 ghost use Rattle.vrt_model.specs.PairedPorts.{HasRoles, Model, paired_model};
 ghost use Rattle.vrt_model.specs.Unsupported.{top_before};
 ghost use Rattle.vrt_model.specs.declared.whole.CellFacts.{CellFacts as FactsValue};
 ghost use Rattle.whole_cells.specs.Entries.{IsEntry, IsOfOwn};
-ghost use Rattle.whole_cells.specs.Own.{AreFiles};
+ghost use Rattle.whole_cells.specs.Own.{AreFiles, AreItsPlaces};
 
 use crate::known::{is_known, told_drives};
 use crate::links::all_links;
 use crate::own::{Own, cell_of, own_of};
 use crate::seen::observes_outputs;
-use net_places::unroll;
-use net_tables::NetTables;
 use phase_ports::{Port, observed_nets, ports_by};
 use prepared_tables::{Prepared, model_of_with};
 use rule_index::RuleIndex;
 use std::alloc::Global;
-use vrt_model::{Blif, CellFacts, Circuit, Design, Drive, NoMemory, Rules, Seq};
+use vrt_model::{Blif, CellFacts, Design, Drive, NoMemory, Rules, Seq};
 use whole_circuits::{WholeCell, copy_items, keeps_inputs_free, names_no_global};
-
-/// Whether a cell and the cells in it name no global net.
-fn names_none(
-    alloc: Global,
-    tables: &NetTables,
-    design: &Design,
-    rules: &Rules,
-    cell: u32,
-) -> Result<bool, NoMemory>
-    requires netlist { IsDesign design.now }
-    requires there { cell < length design.now.cells }
-    requires tables { AreNetTables design.now rules.now tables.now }
-    requires small { IsStructured (top_before design.now rules.now cell) }
-    ensures { IfOk result (λ none. none ≡ names_none (top_before design.now rules.now cell) cell) }
-{
-    let unrolled = unroll(alloc, design, rules, tables, cell)?;
-    Ok(names_no_global(design, &unrolled))
-}
 
 /// Both of two tests.
 fn both(one: bool, other: bool) -> bool
@@ -60,30 +38,24 @@ fn both(one: bool, other: bool) -> bool
 /// Whether a cell passes the tests of its netlist: it names no global net, its outputs are observed in all phases, and no channel
 /// meets its inputs.
 fn passes(
-    alloc: Global,
     index: &RuleIndex,
-    tables: &NetTables,
     design: &Design,
     rules: &Rules,
     cell: u32,
-    circuit: &Circuit,
+    own: &Own,
     ports: &[Port],
-) -> Result<bool, NoMemory>
-    requires netlist { IsDesign design.now }
+) -> bool
     requires valid { AreRules rules.now }
     requires there { cell < length design.now.cells }
     requires index { AreRuleTables rules.now index.now }
-    requires tables { AreNetTables design.now rules.now tables.now }
-    requires small { IsStructured (top_before design.now rules.now cell) }
-    ensures { IfOk result (λ free. (k : Comparison) → IsOfOwn design.now rules.now cell circuit.now k → ports.now ≡ map unnamed (ports_of k) → free ≡ (names_none (top_before design.now rules.now cell) cell && (observes k && keeps k))) }
+    requires places { AreItsPlaces design.now rules.now cell own.now.unrolled }
+    ensures { (k : Comparison) → IsOfOwn design.now rules.now cell own.now.circuit k → ports.now ≡ map unnamed (ports_of k) → result ≡ (names_none (top_before design.now rules.now cell) cell && (observes k && keeps k)) }
 {
-    let none = names_none(alloc, tables, design, rules, cell)?;
-    let own = cell_of(design, cell);
-    let seen = observes_outputs(index, rules, own, ports);
-    let free = keeps_inputs_free(circuit, ports);
+    let none = names_no_global(design, &own.unrolled);
+    let seen = observes_outputs(index, rules, cell_of(design, cell), ports);
+    let free = keeps_inputs_free(&own.circuit, ports);
     let inside = both(seen, free);
-    let all = both(none, inside);
-    Ok(all)
+    both(none, inside)
 }
 
 /// What the instances of a flattened cell have in common.
@@ -142,11 +114,10 @@ fn cell_with(
     ensures { IfOk result (λ entry. has_fact (λ (f : FactsValue). f.equal && f.stateless) facts.now cell ≡ true → IsEntry (top_before design.now rules.now cell) blif.now facts.now cell entry) }
 {
     let index = &prepared.index;
-    let nets = &prepared.nets;
     let own = own_of(alloc, prepared, design, blif, rules, cell, model)?;
     let ports = ports_by(alloc, own.pairing.ports.as_slice())?;
     let list = ports.as_slice();
-    let free = passes(alloc, index, nets, design, rules, cell, &own.circuit, list)?;
+    let free = passes(index, design, rules, cell, &own, list);
     if !free {
         return Ok(None);
     }

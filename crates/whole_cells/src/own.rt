@@ -2,7 +2,7 @@
 
 ghost use Rattle.std.specs.Prelude.{◌≡◌, ◌<◌, length, IfOk};
 ghost use Rattle.blif_flat.specs.Counts.{AreModelTables};
-ghost use Rattle.flatten.specs.Circuits.{IsFlatCircuit};
+ghost use Rattle.flatten.specs.Structures.{IsStructured};
 ghost use Rattle.latch_match.specs.Paired.{IsPairing};
 ghost use Rattle.net_tables.specs.Tables.{AreNetTables};
 ghost use Rattle.prepared_tables.specs.Prepared.{ArePrepared};
@@ -10,24 +10,27 @@ ghost use Rattle.rule_index.specs.Tables.{AreIndexed, AreRuleTables};
 ghost use Rattle.vrt_model.specs.Comparison.{cell_at};
 ghost use Rattle.vrt_model.specs.FlatBlif.{flat_model_of};
 ghost use Rattle.vrt_model.specs.FlatModels.{IsFlatModel};
-ghost use Rattle.vrt_model.specs.Hierarchy.{AreHoldNets};
 ghost use Rattle.vrt_model.specs.Inputs.{AreRules, IsBlif, IsDesign};
 ghost use Rattle.vrt_model.specs.Models.{AreModels};
-ghost use Rattle.whole_cells.specs.Own.{AreFiles, IsOwn};
+ghost use Rattle.vrt_model.specs.Unsupported.{top_before};
+ghost use Rattle.whole_cells.specs.Own.{AreFiles, AreItsPlaces, IsOwn};
 
 use blif_flat::{ModelTables, flat_model_with};
-use flatten::flat_with;
+use flatten::{structure_with, unroll_cell, unrolled_circuit};
 use latch_match::pair_ports_with;
+use net_places::Unrolled;
 use net_tables::NetTables;
 use prepared_tables::Prepared;
 use rule_index::RuleIndex;
 use std::alloc::Global;
 use vrt_model::{Blif, Cell, Circuit, Design, FlatModel, NoMemory, Pairing, Rules};
 
-/// The flat circuit and the flat model of a cell, and how its ports pair.
+/// The places, the flat circuit and the flat model of a cell, and how its ports pair.
 pub struct Own {
     /// How the ports of the cell pair with the signals of the model.
     pub pairing: Pairing,
+    /// The places of the cell and its instances.
+    pub unrolled: Unrolled,
     /// The flat circuit of the cell.
     pub circuit: Circuit,
     /// The flat model of the cell.
@@ -39,6 +42,7 @@ impl Drop for Own {
     fn drop(self) {
         let Own {
             pairing: _pairing,
+            unrolled: _unrolled,
             circuit: _circuit,
             model: _model,
         } = self;
@@ -52,6 +56,7 @@ impl Own {
     {
         let Own {
             pairing: _pairing,
+            unrolled: _unrolled,
             circuit: _circuit,
             model,
         } = self;
@@ -108,26 +113,24 @@ fn pairing_of(
     }
 }
 
-/// The flat circuit of a cell.
-fn circuit_of(
+/// The places of a cell in whose way nothing stands.
+fn unrolled_of(
     alloc: Global,
     index: &RuleIndex,
     tables: &NetTables,
     design: &Design,
     rules: &Rules,
     cell: u32,
-    pairing: &Pairing,
-) -> Result<Circuit, NoMemory>
+) -> Result<Unrolled, NoMemory>
     requires netlist { IsDesign design.now }
-    requires valid { AreRules rules.now }
-    requires names { AreHoldNets design.now rules.now }
     requires index { AreIndexed design.now rules.now index.now }
     requires tables { AreNetTables design.now rules.now tables.now }
     requires there { cell < length design.now.cells }
-    ensures { IfOk result (IsFlatCircuit design.now rules.now cell pairing.now) }
+    ensures structured { IfOk result (λ _. IsStructured (top_before design.now rules.now cell)) }
+    ensures unrolled { IfOk result (AreItsPlaces design.now rules.now cell) }
 {
-    match flat_with(alloc, index, tables, design, rules, cell, pairing) {
-        Ok(circuit) => Ok(circuit),
+    match structure_with(alloc, index, design, rules, cell) {
+        Ok(()) => unroll_cell(alloc, tables, design, rules, cell),
         Err(_) => Err(NoMemory),
     }
 }
@@ -152,9 +155,11 @@ pub fn own_of(
     let nets = &prepared.nets;
     let flat = model_of(alloc, &prepared.models, blif, model)?;
     let pairing = pairing_of(alloc, index, design, rules, cell, model, &flat)?;
-    let circuit = circuit_of(alloc, index, nets, design, rules, cell, &pairing)?;
+    let unrolled = unrolled_of(alloc, index, nets, design, rules, cell)?;
+    let circuit = unrolled_circuit(alloc, index, nets, design, rules, &unrolled, cell, &pairing)?;
     Ok(Own {
         pairing,
+        unrolled,
         circuit,
         model: flat,
     })

@@ -5,6 +5,7 @@
 
 mod host;
 mod memory;
+mod rooms;
 mod row;
 mod script;
 mod told;

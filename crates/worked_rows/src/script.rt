@@ -9,10 +9,11 @@
 //! | `try NAME` | a run in which calls fail as was said; then nothing fails again |
 //! | `tell WORDS` | what the words ask for |
 //! | `whole NAME` | the checked circuit of the second cell, by what is known of the first |
+//! | `ask NAME CELL BUDGET BITS TIMES PHASES` | what the workspace of the first cell (0), or of the second (1) by what is known of the first, answers for these phases in this order, each asked for so often, with the bits of so many variables for a fault |
 
 use crate::row::{Failures, Row, SOUND, run_row, run_sure};
 use crate::told::tell;
-use crate::wholes;
+use crate::{rooms, wholes};
 use row_script::{Page, Script, number, shown, word_and_rest};
 use std::alloc::Global;
 
@@ -88,6 +89,7 @@ impl Runs {
             "try" => self.run_failing(page, rest),
             "tell" => tell(page, rest),
             "whole" => wholes::tell(page, rest, self.row()),
+            "ask" => rooms::tell(page, rest, self.row()),
             _ => page.word(line),
         }
     }

@@ -23,13 +23,16 @@ const BUDGET: u32 = 65536;
 
 /// A text is refused, the cell is not there or is not compared, or memory was wanting.
 #[derive(Drop)]
-struct NoCircuit;
+pub(crate) struct NoCircuit;
 
 /// What the three texts say.
-struct Inputs {
-    design: Design,
-    blif: Blif,
-    rules: Rules,
+pub(crate) struct Inputs {
+    /// The netlist.
+    pub(crate) design: Design,
+    /// The models.
+    pub(crate) blif: Blif,
+    /// The rules.
+    pub(crate) rules: Rules,
 }
 
 /// By hand, so that letting go of one is a call.
@@ -73,13 +76,12 @@ fn read(alloc: Global, row: Row<'_>) -> Result<Inputs, NoCircuit>
     })
 }
 
-/// Refuses models that cannot be unrolled, cells without an order, and a netlist of less than two cells.
-fn check(alloc: Global, inputs: &Inputs) -> Result<(), NoCircuit>
+/// Refuses models that cannot be unrolled, and cells without an order.
+pub(crate) fn check(alloc: Global, inputs: &Inputs) -> Result<(), NoCircuit>
     requires design { IsDesign inputs.now.design }
     requires blif { IsBlif inputs.now.blif }
     requires rules { AreRules inputs.now.rules }
-    ensures files { OnOk result (AreFiles inputs.now.design inputs.now.blif inputs.now.rules) }
-    ensures two { OnOk result (1 < length inputs.now.design.cells) }
+    ensures { OnOk result (AreFiles inputs.now.design inputs.now.blif inputs.now.rules) }
 {
     let Ok(()) = check_models(alloc, &inputs.blif) else {
         return Err(NoCircuit);
@@ -87,9 +89,6 @@ fn check(alloc: Global, inputs: &Inputs) -> Result<(), NoCircuit>
     let Ok(_order) = order(alloc, &inputs.design, &inputs.rules) else {
         return Err(NoCircuit);
     };
-    if inputs.design.cells.len() < 2 {
-        return Err(NoCircuit);
-    }
     Ok(())
 }
 
@@ -120,7 +119,7 @@ fn compared(
 }
 
 /// What is known of the first cell.
-fn known(alloc: Global, inputs: &Inputs) -> Result<Seq<CellFacts>, NoCircuit>
+pub(crate) fn known(alloc: Global, inputs: &Inputs) -> Result<Seq<CellFacts>, NoCircuit>
     requires files { AreFiles inputs.now.design inputs.now.blif inputs.now.rules }
     requires there { 0 < length inputs.now.design.cells }
     ensures { IfOk result (AreTrueFacts inputs.now.design inputs.now.blif inputs.now.rules) }
@@ -161,8 +160,10 @@ fn circuit(alloc: Global, inputs: &Inputs) -> Result<Circuit, NoCircuit>
     }
 }
 
-/// The checked circuit of the second cell of a row.
-fn checked(alloc: Global, row: Row<'_>) -> Result<Circuit, NoCircuit> {
+/// The netlist, the models and the rules of a row whose texts are no longer than files may be.
+pub(crate) fn inputs_of(alloc: Global, row: Row<'_>) -> Result<Inputs, NoCircuit>
+    ensures { IfOk result (λ i. IsDesign i.design × IsBlif i.blif × AreRules i.rules) }
+{
     if !fits(row.netlist) {
         return Err(NoCircuit);
     }
@@ -172,8 +173,16 @@ fn checked(alloc: Global, row: Row<'_>) -> Result<Circuit, NoCircuit> {
     if !fits(row.rules) {
         return Err(NoCircuit);
     }
-    let inputs = read(alloc, row)?;
+    read(alloc, row)
+}
+
+/// The checked circuit of the second cell of a row.
+fn checked(alloc: Global, row: Row<'_>) -> Result<Circuit, NoCircuit> {
+    let inputs = inputs_of(alloc, row)?;
     check(alloc, &inputs)?;
+    if inputs.design.cells.len() < 2 {
+        return Err(NoCircuit);
+    }
     circuit(alloc, &inputs)
 }
 

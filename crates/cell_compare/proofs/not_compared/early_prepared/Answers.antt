@@ -1,7 +1,9 @@
+-- What stops a cell is told early, and a planned one is supported.
+use Rattle.cell_room.proofs.SupportedLaws.{supported}
 use Rattle.cell_compare.proofs.not_compared.early_prepared.Goals as goal
 
-pub early_with-requires-clause-inputs : goal.early_with-requires-clause-inputs
-early_with-requires-clause-inputs c = record {
+pub planned_cell-requires-clause-inputs : goal.planned_cell-requires-clause-inputs
+planned_cell-requires-clause-inputs c = record {
   netlist = c.requires.design;
   names = c.requires.blif;
   models = c.requires.models;
@@ -10,5 +12,7 @@ early_with-requires-clause-inputs c = record {
   ordered = c.requires.ordered;
 }
 
-pub is_skipped_with-requires : goal.is_skipped_with-requires
-is_skipped_with-requires c = c.requires.prepared.index_is.rules_are
+pub returns-in-Ok-clause-early : goal.returns-in-Ok-clause-early
+returns-in-Ok-clause-early c =
+    let is = c.in-Ok.ensures.1 in
+    (c.in-Ok.ensures.0, supported c.args.design.now c.args.blif.now c.args.rules.now c.args.cell c.in-Ok.ensures.0 c.in-Ok.planned.flattened is.flattened is.planned)

@@ -1,19 +1,17 @@
-use Rattle.std.proofs.Common.{◌≡◌, ◌<◌, length}
-use Rattle.cell_compare.specs.Works.{HasRoom}
-use Rattle.drive_levels.specs.PhaseLevels.{HasTables}
+-- the phases so far are equal, the cell is the same, and the ports have the levels of those so far
+use Rattle.std.proofs.Common.{◌≡◌, ℕ, ◌<◌, length}
+use Rattle.cell_compare.specs.Workspace.{KeepsCell, compared_in}
+use Rattle.drive_levels.specs.PhaseLevels.{KeepsTables}
 use Rattle.drive_levels.specs.PortLevels.{AreAsked, ArePortLevels}
-use Rattle.phase_terms.specs.Ready.{comparison_in}
 use Rattle.vrt_model.specs.Verdicts.{EqualBefore}
 use Rattle.cell_compare.proofs.phases.search.Given as goal
 
--- the phases so far are equal, the store has room for the next, and the ports have the levels of those so far
 abbrev pub invariant-loop-phase : goal.invariant-loop-phase
 invariant-loop-phase l = record {
-  equal : EqualBefore (comparison_in l.fn.compared) l.phase;
-  room : HasRoom (comparison_in l.fn.compared) l.fn.budget l.fn.counts.variables l.start.words l.store;
-  tables : HasTables (length (comparison_in l.fn.compared).circuit.nets) l.levels;
-  asked : AreAsked l.fn.ports.nets l.levels;
+  equal : EqualBefore (compared_in l.fn.workspace) l.phase;
+  rest : KeepsCell l.fn.workspace l.workspace;
+  asked : AreAsked l.fn.workspace.made.outputs l.workspace.levels;
   nets : l.ports.nets ≡ l.fn.ports.nets;
   len : length l.ports.levels.items ≡ length l.ports.nets;
-  joined : 0 < l.phase → ArePortLevels (comparison_in l.fn.compared) l.phase l.fn.ports.nets l.ports.levels.items;
+  joined : 0 < l.phase → ArePortLevels (compared_in l.fn.workspace) l.phase l.fn.ports.nets l.ports.levels.items;
 }

@@ -6,8 +6,8 @@ use Rattle.substitute.proofs.WholeLaws.{cell_ground, found_of_cell}
 use Rattle.substitute.specs.Whole.{IsCellGround, WholeGives}
 use Rattle.substitute.proofs.checked.whole.Goals as goal
 
-pub flat_with-requires-clause-names : goal.flat_with-requires-clause-names
-flat_with-requires-clause-names c = hold_nets_are_there c.args.design.now c.args.rules.now c.requires.files.ordered
+pub unrolled_circuit-requires-clause-names : goal.unrolled_circuit-requires-clause-names
+unrolled_circuit-requires-clause-names c = hold_nets_are_there c.args.design.now c.args.rules.now c.requires.files.ordered
 
 pub checked_of-requires-clause-ground : goal.checked_of-requires-clause-ground
 checked_of-requires-clause-ground c =

@@ -1,7 +1,0 @@
-use Rattle.std.proofs.Common.{◌≤◌}
-use Rattle.cell_compare.specs.Sizes.{AreWithinTo}
-use Rattle.cell_compare.proofs.sizes.most_variables.Given as goal
-
--- the greatest so far
-abbrev pub invariant-loop-phase : goal.invariant-loop-phase
-invariant-loop-phase l = record { few : l.most ≤ 1000; within : AreWithinTo l.fn.vars l.phase l.most }

@@ -1,7 +1,0 @@
-use Rattle.cell_compare.specs.Works.{ArePlans}
-use Rattle.phase_terms.specs.Ready.{comparison_in}
-use Rattle.cell_compare.proofs.works.add_plans.Given as goal
-
--- the phases so far have plans
-abbrev pub invariant-loop-phase : goal.invariant-loop-phase
-invariant-loop-phase l = ArePlans (comparison_in l.fn.compared) l.phase l.plans

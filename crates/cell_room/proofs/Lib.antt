@@ -1,0 +1,13 @@
+pub mod Causes
+pub mod CheckedLaws
+pub mod CheckedReady
+pub mod GroundLaws
+pub mod InstanceLaws
+pub mod MadeLaws
+pub mod OutputLaws
+pub mod PairedInputs
+pub mod ReadyLaws
+pub mod SizeLaws
+pub mod StepLaws
+pub mod SupportedLaws
+pub mod WorkLaws
