@@ -40,7 +40,6 @@ use Rattle.whole_steps.proofs.OrderLaws.{whole_table}
 use Rattle.whole_steps.specs.Tables.{AreDrivers, AreOrders, IsWholeTable}
 use Rattle.whole_steps.specs.declared.table.OutputPlace.{OutputPlace}
 use Rattle.cell_room.specs.Made.{most_outputs}
-use Rattle.blif_flat.proofs.PlaceLaws.{flat_is}
 use Rattle.circuit_faults.proofs.FlatWholes.{flat_table}
 use Rattle.vrt_model.specs.Circuits.{IsCircuit}
 

@@ -1,5 +1,5 @@
 -- No instance is of a cell that is known as equal and stateless; or the circuit is made on the ground of a supported cell.
-use Rattle.std.proofs.Common.{◌∙◌, sym, true}
+use Rattle.std.proofs.Common.{◌∙◌, sym}
 use Rattle.cell_room.proofs.CheckedLaws.{whole_ground}
 use Rattle.checked_cells.proofs.NoneWhole.{nothing_is_whole}
 use Rattle.phase_terms.specs.Ready.{comparison_in}

@@ -20,7 +20,7 @@ returns-clause-searched c =
     let pins = c.in_ok-counts.ensures.few in
     record {
       ready = c.requires.phases.ready;
-      wholes = flat_wholes k blif facts c.requires.phases.checkable c.requires.phases.ready.circuit;
+      wholes = rw (c.new.ensures.items, c.new-2.ensures) (flat_wholes k blif facts c.requires.phases.checkable c.requires.phases.ready.circuit);
       vars = c.requires.phases.vars;
       plans = tt;
       words = words_of k vars c.requires.phases.vars c.requires.phases.ready c.most_variables.result c.in_ok-counts.counts c.most_variables.ensures.few c.most_variables.ensures.within counts_are (few_pins k.circuit c.most_outputs-most.result c.in_ok-counts.counts.pins most pins);

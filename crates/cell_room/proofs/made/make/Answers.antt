@@ -12,7 +12,6 @@ use Rattle.checked_cells.proofs.CircuitLaws.{checked_circuits_share}
 use Rattle.checked_cells.specs.Given.{IsCheckedOf}
 use Rattle.lone_outputs.specs.Lone.{AreLoneBefore, AreOutputNets}
 use Rattle.phase_terms.specs.Ready.{IsReady, comparison_in}
-use Rattle.phase_terms.specs.declared.plan.PhasePlan.{PhasePlan}
 use Rattle.prepared_tables.specs.Prepared.{ArePrepared}
 use Rattle.vrt_model.specs.Comparison.{Comparison}
 use Rattle.vrt_model.specs.declared.groups.Vars.{Vars}

@@ -1,9 +1,9 @@
 -- What is flattened may be planned, and what stands in the way of its phases is told.
 use Rattle.std.proofs.Common.{Ok, sym, subst, ap}
 use Rattle.cell_room.proofs.ReadyLaws.{ready}
-use Rattle.cell_room.specs.Compared.{comparison}
+use Rattle.cell_room.specs.Steps.{Stops}
 use Rattle.cell_room.specs.Works.{IsToldWhy, WorksTell}
-use Rattle.phase_terms.specs.Ready.{IsReady}
+use Rattle.phase_terms.specs.Ready.{IsReady, comparison_in}
 use Rattle.rule_index.specs.Tables.{AreRuleTables}
 use Rattle.vrt_model.specs.Comparison.{Comparison}
 use Rattle.vrt_model.specs.declared.rules.Rules.{Rules}
@@ -29,6 +29,6 @@ returns-in-Ok c m is =
 
 pub returns-in-Err-Because : goal.returns-in-Err-Because
 returns-in-Err-Because c m is =
-    let k = comparison c.args.design.now c.args.rules.now c.args.cell c.args.placed.flattened in
-    let told = subst (λ (x : Comparison). IsToldWhy x c.in-Err-Because.why) c.flat_comparison-compared.ensures.comparison c.in-Err-Because.ensures in
+    let here = subst (Stops (IsToldWhy (comparison_in c.flat_comparison-compared.result))) c.in-Err-Because.field-0-is c.in-Err-Because.ensures in
+    let told = subst (λ (x : Comparison). IsToldWhy x c.in-Err-Because.why) c.flat_comparison-compared.ensures.comparison here in
     rw (c.flattened_of.ensures) (is.1, told)
