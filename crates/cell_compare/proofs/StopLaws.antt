@@ -7,7 +7,7 @@ use Rattle.cell_room.specs.Flat.{Flattened}
 use Rattle.cell_room.specs.Planned.{PlannedTells}
 use Rattle.cell_room.specs.Steps.{IsInTheWay}
 use Rattle.cell_room.specs.declared.planned.NotPlanned.TheVariants.{Because}
-use Rattle.std.proofs.Common.{Err, List, None, Option, Some, [], ap, false, inl, refl, true, ℕ, ◌≡◌}
+use Rattle.std.proofs.Common.{Err, List, None, Option, Some, [], ap, false, inl, refl, ℕ, ◌≡◌}
 use Rattle.std.proofs.lemmas.Bool.{false≢true}
 use Rattle.vrt_model.specs.declared.blif.Blif.{Blif}
 use Rattle.vrt_model.specs.declared.design.Design.{Design}

@@ -1,6 +1,6 @@
 -- The verdict on a cell, its line, what is known of the cell then and its runs, by what the steps of the comparison give.
-use Rattle.std.proofs.Common.{◌≡◌, ◌⊎◌, ℕ, Bool, true, false, List, [], Some, ap, subst, sym, refl, ◌∙◌, inl, inr}
-use Rattle.std.specs.Prelude.{◌↔◌, option_map, ◌≢◌}
+use Rattle.std.proofs.Common.{true≢false, ◌≡◌, ◌⊎◌, ℕ, Bool, true, false, List, [], Some, ap, subst, sym, refl, ◌∙◌, inl, inr}
+use Rattle.std.specs.Prelude.{◌↔◌, option_map}
 use Rattle.std.proofs.lemmas.Bool.{cases_Bool}
 use Rattle.std.proofs.lemmas.Option.{none-some}
 use Rattle.cell_room.proofs.Causes.{by_variables, comparison_is}
@@ -32,8 +32,7 @@ use Rattle.vrt_model.specs.declared.verdict.Why.{Why}
 use Rattle.vrt_model.specs.declared.verdict.Why.TheVariants.{TooManyVars}
 use Rattle.vrt_model.specs.declared.whole.CellFacts.{CellFacts}
 use Rattle.vrt_model.specs.declared.whole.Drive.{Drive}
-use Rattle.cell_room.proofs.SupportedLaws.{read_cell}
-use Rattle.vrt_model.specs.declared.design.Kind.TheVariants.{P}
+use Rattle.cell_room.proofs.SupportedLaws.{read_cell, supported}
 
 -- where nothing is known of a cell, all that is known is true
 pub true_of_none : (design : Design) (blif : Blif) (rules : Rules) (cell : ℕ) (f : CellFacts) → f.equal ≡ false → f.stateless ≡ false → f.drives ≡ [] → IsTrueOf design blif rules cell f
@@ -93,8 +92,8 @@ module _ (design : Design) (blif : Blif) (rules : Rules) (cell m : ℕ) (f : Fla
   one_model n paired = let both : Model m ≡ Model n = sym is.paired ∙ paired in cc
 
   -- what holds of what is compared holds of each comparison of the cell
-  of_cell : (P : Comparison → Type 0) → P (comparison design rules cell f) → (n : ℕ) → paired_model design blif rules cell ≡ Model n → P (comparison_of design blif rules cell n)
-  of_cell P here n paired = subst (λ (x : ℕ). P (comparison_of design blif rules cell x)) (one_model n paired) (subst P same here)
+  of_cell : (holds : Comparison → Type 0) → holds (comparison design rules cell f) → (n : ℕ) → paired_model design blif rules cell ≡ Model n → holds (comparison_of design blif rules cell n)
+  of_cell holds here n paired = subst (λ (x : ℕ). holds (comparison_of design blif rules cell x)) (one_model n paired) (subst holds same here)
 
   -- each run of an equal cell shows the bits of its model
   pub runs_with : (below : List CellFacts) (budget : ℕ) (verdict : Verdict) → HasCheckedVerdict (comparison design rules cell f) blif below budget verdict → HasRuns design blif rules cell verdict

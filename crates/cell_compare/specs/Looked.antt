@@ -1,5 +1,5 @@
 -- A phase that is to be looked through, and what is found in it.
-use Rattle.std.specs.Prelude.{◌≡◌, ℕ, ◌<◌, ◌≤◌, List, length, Option, Some, None}
+use Rattle.std.specs.Prelude.{◌≡◌, ℕ, ◌<◌, ◌≤◌, length, Option, Some, None}
 use Rattle.bdd_core.specs.Store.{Diagrams, IsSpan}
 use Rattle.cell_compare.specs.Phases.{MayUseUp}
 use Rattle.cell_compare.specs.declared.answers.PhaseVerdict.{PhaseVerdict}
@@ -38,12 +38,18 @@ abbrev pub IsFound : Comparison → ℕ → ℕ → NetLevels → Diagrams → O
 IsFound k budget phase levels d fault Clear = IsPhaseEqual k phase × ArePhaseLevels k phase levels
 IsFound k budget phase levels d fault Vacuous = IsVacuous k phase
 IsFound k budget phase levels d None (Fault site) = ⊥
-IsFound k budget phase levels d (Some fault) (Fault site) = IsSite k phase fault d site × IsSpan d fault.least × (length (sources_of k phase) ≤ fault.least.len)
+IsFound k budget phase levels d (Some fault) (Fault site) = IsSite k phase fault d site
 IsFound k budget phase levels d fault (Budget nodes) = (nodes ≡ budget) × (length d.nodes ≡ budget) × MayUseUp k budget phase
+
+-- a fault has a word for each variable
+abbrev pub HasWords : Diagrams → ℕ → Option PhaseFault → Type 0
+HasWords d variables None = Unit {0}
+HasWords d variables (Some fault) = IsSpan d fault.least × (variables ≤ fault.least.len)
 
 -- this phase was looked through last, and this was found
 pub record IsLast (k : Comparison) (budget phase : ℕ) (levels : NetLevels) (d : Diagrams) (l : Last) : Type 0 where
   pub is : l.phase ≡ phase
   pub there : phase < length k.rules.phases
   pub variables : l.variables ≡ length (sources_of k phase)
+  pub words : HasWords d l.variables l.fault
   pub found : IsFound k budget phase levels d l.fault l.answer

@@ -1,5 +1,5 @@
 -- What is seen of a workspace, and what its phases are answered.
-use Rattle.std.specs.Prelude.{◌≡◌, ℕ, ◌<◌, ◌≤◌, Bool, List, [], length, Option, Some, None, option_map, Result, Ok, Err}
+use Rattle.std.specs.Prelude.{◌≡◌, ℕ, ◌≤◌, Bool, List, [], length, Option, Some, None, option_map, Result, Ok, Err}
 use Rattle.bdd_core.specs.Store.{Diagrams}
 use Rattle.cell_compare.specs.Looked.{IsLast}
 use Rattle.cell_compare.specs.Phases.{MayUseUp}

@@ -1,6 +1,8 @@
 //! A cell whose phases are looked through as often as wanted, in any order, without memory.
 
 ghost use Rattle.std.specs.Prelude.{◌≡◌, ◌<◌, ◌≤◌, ℕ, List, Bool, None, Some, length, IfOk};
+ghost use Rattle.bdd_ops.specs.Ops.{bits_of};
+ghost use Rattle.cell_compare.specs.Looked.{IsLook};
 ghost use Rattle.cell_compare.specs.Workspace.{IsAnswer, IsPhaseAnswer, IsSoundView, KeepsCell, Told, bits_of_last, compared_in};
 ghost use Rattle.cell_compare.specs.declared.answers.PhaseVerdict.TheVariants.{Fault};
 ghost use Rattle.cell_room.specs.Compared.{AreInputs};
@@ -9,12 +11,13 @@ ghost use Rattle.checked_cells.specs.Given.{AreTrueFacts, IsCheckedOf};
 ghost use Rattle.drive_levels.specs.PhaseLevels.{KeepsTables};
 ghost use Rattle.drive_levels.specs.PortLevels.{AreJoined};
 ghost use Rattle.phase_told.specs.declared.site.Site.{Site as SiteValue};
+ghost use Rattle.phase_terms.specs.Ready.{comparison_in};
 ghost use Rattle.port_drives.specs.Drives.{ArePortDrives};
-ghost use Rattle.vrt_model.specs.Lists.{bit_at};
 ghost use Rattle.vrt_model.specs.PairedPorts.{Model, paired_model};
 ghost use Rattle.vrt_model.specs.Places.{Finding, IsFirstInPhase};
 ghost use Rattle.vrt_model.specs.Unsupported.{comparison_of};
 ghost use Rattle.vrt_model.specs.Verdicts.{Describes};
+ghost use Rattle.vrt_model.specs.declared.blif.Blif.{Blif as BlifValue};
 ghost use Rattle.vrt_model.specs.declared.whole.CellFacts.{CellFacts as FactsValue};
 
 use crate::answers::PhaseVerdict;
@@ -47,14 +50,50 @@ pub struct Workspace<'a> {
 
 impl<'a> Model for Workspace<'a> {
     ghost use Rattle.cell_compare.specs.Workspace.{View};
+    ghost use Rattle.std.specs.Coded.{codes};
+    ghost use Rattle.vrt_model.specs.contracts.rules.Expr as e;
 
     ghost Value = { View };
+
+    ghost coded = { Prim.hlevel (codes, e.the_row.coded) };
 
     ghost use Rattle.cell_compare.specs.Workspace.{view_of, IsSound};
 
     ghost view = { view_of };
 
     ghost invariant = { IsSound };
+}
+
+/// A phase of a cell for which all is made.
+fn look_at<'a>(
+    made: &'a Made,
+    design: &'a Design,
+    rules: &'a Rules,
+    cell: u32,
+    budget: u32,
+    start: Mark,
+    phase: u32,
+) -> Look<'a>
+    requires made { (blif : BlifValue) × IsMade design.now blif rules.now cell made.now }
+    requires budget { 65536 ≤ budget }
+    requires start { start.nodes ≡ 2 }
+    requires phase { phase < length rules.now.phases }
+    ensures look { IsLook result }
+    ensures compared { comparison_in result.compared ≡ searched design.entry.now rules.entry.now cell made.entry.now }
+    ensures phase { result.phase ≡ phase }
+    ensures budget { result.budget ≡ budget }
+    ensures counts { result.counts ≡ made.entry.now.counts }
+    ensures start { result.start ≡ start }
+{
+    Look {
+        compared: made.compared(design, rules, cell),
+        phase,
+        budget,
+        vars: &made.vars.as_slice()[phase as usize],
+        plan: &made.plans.as_slice()[phase as usize],
+        counts: made.counts,
+        start,
+    }
 }
 
 impl<'a> Workspace<'a> {
@@ -114,15 +153,15 @@ impl<'a> Workspace<'a> {
         ensures tables { KeepsTables self.old.levels self.new.levels }
         ensures rest { KeepsCell self.old self.new }
     {
-        let look = Look {
-            compared: self.made.compared(self.design, self.rules, self.cell),
+        let look = look_at(
+            &self.made,
+            self.design,
+            self.rules,
+            self.cell,
+            self.budget,
+            self.start,
             phase,
-            budget: self.budget,
-            vars: &self.made.vars.as_slice()[phase as usize],
-            plan: &self.made.plans.as_slice()[phase as usize],
-            counts: self.made.counts,
-            start: self.start,
-        };
+        );
         let last = look_through(&mut self.store, look, &mut self.levels);
         self.last = Some(last);
         last.answer
@@ -137,7 +176,7 @@ impl<'a> Workspace<'a> {
 
     /// The bit of a variable, by its place among those of the phase, in the valuation of the last fault; 0 where there is none.
     pub fn valuation_bit(&self, var: u32) -> bool
-        ensures { result ≡ bit_at (bits_of_last self.now.last) var }
+        ensures { result ≡ bits_of (bits_of_last self.now.last) var }
     {
         let Some(last) = self.last else {
             return false;

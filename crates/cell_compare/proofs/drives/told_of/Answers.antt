@@ -1,5 +1,5 @@
 -- What is found is the verdict, and the drives are told where all phases are equal.
-use Rattle.std.proofs.Common.{ℕ, List, length, map, subst, sym, ◌∙◌}
+use Rattle.std.proofs.Common.{List, length, map, subst, sym, ◌∙◌}
 use Rattle.cell_compare.proofs.DriveLaws.{drives_with}
 use Rattle.cell_compare.proofs.PortLaws.{own_levels}
 use Rattle.cell_compare.proofs.WorkspaceLaws.{verdict_of, whole_is}

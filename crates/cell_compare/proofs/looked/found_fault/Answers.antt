@@ -1,6 +1,4 @@
 -- The site is that of the fault, and no other word changes.
-use Rattle.std.proofs.Common.{ℕ, List, ap, length, refl}
-use Rattle.vrt_model.specs.declared.groups.Source.{Source}
 use Rattle.cell_compare.proofs.looked.found_fault.Goals as goal
 
 pub find_site-site-requires-clause-ready : goal.find_site-site-requires-clause-ready

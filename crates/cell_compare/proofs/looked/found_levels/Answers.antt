@@ -26,6 +26,7 @@ returns-in-Ok-clause-last c =
       is = refl;
       there = l.there;
       variables = ap (λ (ss : List Source). length ss) l.vars.sources;
+      words = tt;
       found = (c.requires.wished.equal, c.in-Ok.ensures.gives (search_operations k look.phase look.plan.now) c.requires.wished);
     })
 
@@ -35,10 +36,11 @@ returns-in-Err-clause-last c =
     let l = c.requires.look in
     let k = comparison_in look.compared in
     let spent = c.in-Err.ensures.gives (search_operations k look.phase look.plan.now) c.requires.wished in
-    subst (λ (x : Last). IsLast k look.budget look.phase c.write_levels.new.levels c.write_levels.new.store x) (sym c.without_fault-2.ensures)
+    subst (λ (x : Last). IsLast k look.budget look.phase c.write_levels.new.levels c.write_levels.new.store x) (sym c.without_fault-in-Err.ensures)
     (record {
       is = refl;
       there = l.there;
       variables = ap (λ (ss : List Source). length ss) l.vars.sources;
+      words = tt;
       found = (refl, spent.1 ∙ c.requires.budget, (look.plan.now, l.plan.is, subst (λ (b : ℕ). MaySpend k b look.phase (phase_operations k look.phase look.plan.now)) c.requires.budget spent.0));
     })

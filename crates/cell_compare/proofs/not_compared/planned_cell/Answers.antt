@@ -1,5 +1,3 @@
-use Rattle.std.proofs.Common.{sym, ◌∙◌}
-use Rattle.cell_compare.proofs.StopLaws.{unpaired}
 use Rattle.cell_compare.proofs.not_compared.planned_cell.Goals as goal
 
 pub is_skipped_with-requires : goal.is_skipped_with-requires

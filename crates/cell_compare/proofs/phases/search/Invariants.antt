@@ -1,7 +1,6 @@
 -- the phases so far are equal, the cell is the same, and the ports have the levels of those so far
-use Rattle.std.proofs.Common.{◌≡◌, ℕ, ◌<◌, length}
+use Rattle.std.proofs.Common.{◌≡◌, ◌<◌, length}
 use Rattle.cell_compare.specs.Workspace.{KeepsCell, compared_in}
-use Rattle.drive_levels.specs.PhaseLevels.{KeepsTables}
 use Rattle.drive_levels.specs.PortLevels.{AreAsked, ArePortLevels}
 use Rattle.vrt_model.specs.Verdicts.{EqualBefore}
 use Rattle.cell_compare.proofs.phases.search.Given as goal
