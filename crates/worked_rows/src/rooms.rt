@@ -41,10 +41,15 @@ fn word_of(kind: FaultKind) -> &'static str {
     }
 }
 
+/// The digit of a bit.
+fn digit(bit: bool) -> &'static str {
+    if bit { "1" } else { "0" }
+}
+
 /// Tells a bit, or that there is none.
 fn tell_bit(page: &mut Page, bit: Option<bool>) {
     match bit {
-        Some(bit) => page.bit(bit),
+        Some(bit) => page.word(digit(bit)),
         None => page.word("-"),
     }
 }
@@ -52,7 +57,7 @@ fn tell_bit(page: &mut Page, bit: Option<bool>) {
 /// Tells the bits of the first so many variables in the valuation of the last fault.
 fn tell_bits(page: &mut Page, workspace: &Workspace<'_>, count: u32) {
     for var in 0..count {
-        page.bit(workspace.valuation_bit(var));
+        page.word(digit(workspace.valuation_bit(var)));
     }
 }
 
