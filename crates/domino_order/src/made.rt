@@ -1,7 +1,6 @@
-//! What is made before the ports are searched: the nets that rise, the parts as steps, and how many words a run has.
+//! What is made before the ports are searched: the nets that rise, and how many words a run has.
 
 ghost use Rattle.std.specs.Prelude.{◌≡◌, ℕ, ◌+◌, length, option_map, slice_get, sum_by, unwrap_or, IfOk};
-ghost use Rattle.circuit_faults.specs.Steps.{part_list};
 ghost use Rattle.domino_order.specs.Arrivals.{AreRising, nets_of_ports};
 ghost use Rattle.domino_order.specs.Made.{latch_elements};
 ghost use Rattle.phase_ports.specs.declared.port_list.Port.{Port as PortValue};
@@ -10,7 +9,6 @@ ghost use Rattle.phase_terms.specs.Stores.{counts_of};
 ghost use Rattle.vrt_model.specs.Circuits.{IsFlat};
 ghost use Rattle.vrt_model.specs.Elements.{element_count};
 
-use circuit_faults::CircuitStep;
 use phase_ports::{Port, ports_by};
 use phase_terms::{Comparison, WordCounts};
 use std::alloc::Global;
@@ -42,17 +40,6 @@ pub(crate) fn rising_nets(
         nets.append(net_of(ports.as_slice(), *place))?;
     }
     Ok(nets)
-}
-
-/// Parts alone as steps, in their order.
-pub(crate) fn part_steps(alloc: Global, count: u32) -> Result<Seq<CircuitStep>, NoMemory>
-    ensures { IfOk result (λ steps. steps ≡ part_list count) }
-{
-    let mut steps = Seq::new(alloc);
-    for number in 0..count {
-        steps.append(CircuitStep::Part(number))?;
-    }
-    Ok(steps)
 }
 
 /// How many elements a latch has: a triggered one has two.

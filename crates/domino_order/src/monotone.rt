@@ -12,12 +12,12 @@ ghost use Rattle.vrt_model.specs.Held.{sources_of};
 ghost use Rattle.vrt_model.specs.declared.blif.Blif.{Blif};
 
 use crate::arrival::Arrival;
-use crate::made::{part_steps, rising_nets, run_counts, small, sum};
+use crate::made::{rising_nets, run_counts, small, sum};
 use crate::ports::search_ports;
 use crate::runs::Asked;
 use crate::step::Rising;
 use bdd_core::Store;
-use circuit_faults::CircuitStep;
+use circuit_faults::{CircuitStep, part_steps};
 use hold_groups::{VarsFault, variables};
 use phase_open::word_count;
 use phase_plan::plan_phase;
