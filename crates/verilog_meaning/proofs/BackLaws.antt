@@ -6,7 +6,7 @@ use Rattle.verilog_expression.specs.Grammar.{Formula}
 use Rattle.verilog_expression.specs.Grammar.Formula.{a_net, a_constant, negation, conjunction, parity, disjunction, choice}
 use Rattle.verilog_meaning.specs.Covered.{AreCovered, IsCovered}
 use Rattle.verilog_meaning.specs.Meaning.{Holds, differ, gate_bit, is_odd, value_of}
-use Rattle.verilog_meaning.specs.Names.{actual_nets, nets_of}
+use Rattle.verilog_meaning.specs.Nets.{actual_nets, entry_nets, nets_of, ties_nets}
 use Rattle.verilog_meaning.specs.Terminals.{HasTerminals, IsWhole}
 use Rattle.verilog_meaning.proofs.FunctionLaws.{and_is, differ_assoc, differ_false, nand_is, nor_is, not_is, or_is, same_is, xnor_is, xor_is}
 use Rattle.verilog_meaning.proofs.GateLaws.{as_many, none_there}
@@ -265,10 +265,6 @@ gate_back values bits line n kind os fs t names h e =
 
 -- ---- entries
 
--- the nets that ties name
-abbrev pub ties_nets : List PortTie → List (List ℕ)
-ties_nets ts = flat_map (λ (t : PortTie). actual_nets t.actual) ts
-
 actual_back : (values bits : List ℕ → Bool) (line n : ℕ) (a : Option Actual) → HaveBits values bits (actual_nets a) → HaveOwn values n (actual_bits bits a) → AreCovered values (actual_covers line n a)
 actual_back values bits line n None names h = none_covered values
 actual_back values bits line n (Some a) names h = covers_back values bits line n (actual_value a) names h
@@ -281,19 +277,11 @@ ties_back values bits line n (t ∷ ts) names h =
     (ties_back values bits line (n + actual_own t.actual) ts (right_bits values bits (actual_nets t.actual) (ties_nets ts) names)
     (own_right values n (actual_own t.actual) (actual_bits bits t.actual) (ties_bits bits ts) (actual_long bits t.actual) h))
 
--- the nets that an entry names
-abbrev pub entry_nets : Entry → List (List ℕ)
-entry_nets (listed n) = []
-entry_nets (directed l d n) = []
-entry_nets (assigned l n f) = n ∷ nets_of f
-entry_nets (gate l kind os fs) = os ++ flat_map nets_of fs
-entry_nets (instance l m ts) = ties_nets ts
-
 entry_back : (values bits : List ℕ → Bool) (n : ℕ) (e : Entry) → IsWhole e → HaveBits values bits (entry_nets e) → HaveOwn values n (entry_bits bits e) → Holds bits e → AreCovered values (entry_covers n e)
 entry_back values bits n (listed x) w names h e = none_covered values
 entry_back values bits n (directed l d x) w names h e = none_covered values
 entry_back values bits n (assigned l x f) w names h e = assigned_back values bits l n x f names h e
-entry_back values bits n (gate l kind os fs) w names h e = gate_back values bits l n kind os fs w names h e
+entry_back values bits n (gate l kind os fs) w names h e = gate_back values bits l n kind os fs w.0 names h e
 entry_back values bits n (instance l m ts) w names h e = ties_back values bits l n ts names h
 
 -- the covers of a module hold where its entries do

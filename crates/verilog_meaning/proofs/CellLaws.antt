@@ -41,7 +41,7 @@ assigned_at : (c : Comparison) (modules : List Module) (k : ℕ) (top : Module) 
     → Fits c modules k top phase setting bits → (g : Assignment) × Assigns c phase setting g × ((name : List ℕ) (signal : ℕ) → IsNet modules k top name signal → g.signal signal ≡ bits [] name)
 assigned_at c modules k top phase setting bits of got fits = (record { signal = got.signals; next = λ e. false }, is, shown) where
   shown : (name : List ℕ) (signal : ℕ) → IsNet modules k top name signal → got.signals signal ≡ bits [] name
-  shown name signal net = sym (net_bit modules k top got.signals name signal net) ∙ got.nets [] top itself name net.there net.plain
+  shown name signal net = sym (net_bit modules k top got.signals name signal net) ∙ got.nets [] top itself name net.there
 
   is : IsAssignment c.model (surroundings_of c phase setting) (record { signal = got.signals; next = λ e. false })
   is = record {

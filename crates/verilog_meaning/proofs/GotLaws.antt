@@ -11,12 +11,14 @@ use Rattle.verilog_meaning.specs.Covered.{AreCovered, bits_fit}
 use Rattle.verilog_meaning.specs.FlatBits.{IsGot, flat_place, place_on, sub_place}
 use Rattle.verilog_meaning.specs.Meaning.{Instance, IsMeaning, StandsAt, instances_in, module_named}
 use Rattle.verilog_meaning.specs.Meaning.StandsAt.{itself, inside}
-use Rattle.verilog_meaning.specs.Names.{ArePlain, actual_nets, entry_names, tie_names}
+use Rattle.verilog_meaning.specs.Nets.{entry_nets}
+use Rattle.verilog_meaning.proofs.Names.{ArePlain}
 use Rattle.verilog_meaning.specs.Terminals.{IsWhole}
-use Rattle.verilog_meaning.proofs.BackLaws.{entries_back, entry_nets}
+use Rattle.verilog_meaning.proofs.BackLaws.{entries_back}
 use Rattle.verilog_meaning.proofs.FlatLaws.{assigns, bits_at, cover_same, runs, stands_among}
 use Rattle.verilog_meaning.proofs.InstanceLaws.{model_there, number_found}
 use Rattle.verilog_meaning.proofs.NameLaws.{own_bits_there, plain_bit, plain_bits, with_own}
+use Rattle.verilog_meaning.proofs.NetLaws.{net_named, net_signal, nets_named}
 use Rattle.verilog_meaning.proofs.PathLaws.{Shows, shown_by, sub_shows}
 use Rattle.verilog_meaning.proofs.PlaceLaws.{IsPlaceOf, place_model, sub_of_place, sub_placed, within_at}
 use Rattle.verilog_meaning.proofs.ShownLaws.{instance_there}
@@ -24,8 +26,7 @@ use Rattle.verilog_meaning.proofs.SourceLaws.{source_whole}
 use Rattle.verilog_meaning.proofs.WholeBits.{IsSlice, bits_in, sub_slice, whole_slice}
 use Rattle.verilog_models.specs.Models.{blif_of, covers_in, model_of}
 use Rattle.verilog_source.specs.Grammar.{IsSource}
-use Rattle.verilog_source.specs.Modules.{Entry, Module, PortTie}
-use Rattle.verilog_source.specs.Modules.Entry.{listed, directed, assigned, gate, instance}
+use Rattle.verilog_source.specs.Modules.{Module}
 use Rattle.verilog_tokens.specs.Signs.{Token}
 use Rattle.vrt_model.specs.Covers.{cover_bit}
 use Rattle.vrt_model.specs.FlatBlif.{ModelPlace, all_models, cover_signals, flat_cover, flat_model_of, formals, inner_count, inner_signals, model_at, model_numbered, models_in, signal_at, signals_of, subs_at, subs_from, top_model}
@@ -142,17 +143,6 @@ led_from modules are (suc depth) at m is (suc i) q e =
 
 -- ---- covers
 
-tie_nets_named : (ts : List PortTie) (x : List ℕ) → Among (flat_map (λ (t : PortTie). actual_nets t.actual) ts) x → Among (flat_map tie_names ts) x
-tie_nets_named ts x a =
-    let t = among_flat_map (λ (t : PortTie). actual_nets t.actual) ts x a in flat_map_among tie_names ts t.0 x t.1 (suc t.2.0, t.2.1)
-
-nets_named : (e : Entry) (x : List ℕ) → Among (entry_nets e) x → Among (entry_names e) x
-nets_named (listed n) x a = absurd (at_none a.0 x a.1)
-nets_named (directed l d n) x a = absurd (at_none a.0 x a.1)
-nets_named (assigned l n f) x a = a
-nets_named (gate l kind os fs) x a = a
-nets_named (instance l m ts) x a = tie_nets_named ts x a
-
 -- the covers of a module hold at the bits of its nets and of its own signals
 module_back : (tokens : List Token) (modules : List Module) (top : Module) (bits : List ℕ → List ℕ → Bool) (path : List ℕ) (m : Module) → IsSource tokens modules → ArePlain modules → Among modules m
     → IsMeaning modules top bits → StandsAt modules top path m → AreCovered (with_own (bits path) m.entries) (covers_in 0 m.entries)
@@ -220,8 +210,12 @@ meaning_got tokens modules k top bits source good are plain at meaning =
           let p = among_flat_map (λ (q : ModelPlace). map (flat_cover blif q) (model_at blif q.model).covers) (models_in blif deepest (top_model k)) c a in
           let x = among_map (flat_cover blif p.0) (model_at blif p.0.model).covers c p.2 in
           subst (λ (y : Cover). bit_in all y.output ≡ cover_bit (bit_in all) y) x.2 (obeyed_at tokens modules k top bits deepest source good are plain at meaning ends p.0 p.1 x.0 x.1)));
-      nets = λ path m stands x e plain_name. (
+      nets = λ path m stands x a. (
           let shown = shown_along tokens modules k top bits deepest source good are plain at meaning ends path m stands in
           let number = model_there modules (place_on blif deepest (top_model k) path).model m shown.number in
-          ap (λ o. unwrap_or o false) (shown.shows x (ap (λ (b : BlifModel). has_name (signals_of b) x) number ∙ e)) ∙ plain_bit (bits path) m.entries x plain_name);
+          let among = stands_among modules top path m stands (k, at) in
+          let signal = net_signal m (all_among (λ (y : Module). All IsWhole y.entries) modules m (source_whole source) among) x a in
+          let named = net_named m x a in
+          ap (λ o. unwrap_or o false) (shown.shows x (ap (λ (b : BlifModel). has_name (signals_of b) x) number ∙ signal))
+          ∙ plain_bit (bits path) m.entries x (plain.names m among named.0 named.1 x named.2));
     }

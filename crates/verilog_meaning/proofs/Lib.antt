@@ -1,3 +1,4 @@
+pub mod Names
 pub mod FunctionLaws
 pub mod ValueLaws
 pub mod GateLaws
@@ -18,3 +19,4 @@ pub mod PlainLaws
 pub mod TextLaws
 pub mod Examples
 pub mod CellLaws
+pub mod NetLaws

@@ -19,7 +19,7 @@ entry_covered : (bits : List ℕ → Bool) (n : ℕ) (e : Entry) → IsWhole e �
 entry_covered bits n (listed x) w h = tt
 entry_covered bits n (directed l d x) w h = tt
 entry_covered bits n (assigned l x f) w h = assigned_covered bits l n x f h
-entry_covered bits n (gate l kind os fs) w h = gate_covered bits l n kind os fs w h
+entry_covered bits n (gate l kind os fs) w h = gate_covered bits l n kind os fs w.0 h
 entry_covered bits n (instance l m ts) w h = tt
 
 entries_covered : (bits : List ℕ → Bool) (n : ℕ) (es : List Entry) → All IsWhole es → AreCovered bits (covers_in n es) → All (Holds bits) es

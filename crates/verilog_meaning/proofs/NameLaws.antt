@@ -5,7 +5,7 @@ use Rattle.std.proofs.lemmas.Fmt.{decimal_injective}
 use Rattle.std.proofs.lemmas.Option.{same_Some, slice_get_within}
 use Rattle.std.proofs.lemmas.Slice.Eq.{bytes_eq-Decides}
 use Rattle.names.proofs.PlaceLaws.{place_is, place_none}
-use Rattle.verilog_meaning.specs.Names.{IsPlain}
+use Rattle.verilog_meaning.proofs.Names.{IsPlain}
 use Rattle.verilog_meaning.proofs.BackLaws.{HaveBits}
 use Rattle.verilog_meaning.proofs.OwnBits.{HaveOwn, entries_bits, entries_long}
 use Rattle.verilog_models.specs.Covers.{own_name}

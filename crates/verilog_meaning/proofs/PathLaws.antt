@@ -7,7 +7,8 @@ use Rattle.blif_flat.proofs.OneDriverLaws.{good_driven}
 use Rattle.blif_flat.proofs.RangeLaws.{tie_named}
 use Rattle.names.proofs.FilterLaws.{has_name_filter}
 use Rattle.verilog_meaning.specs.Meaning.{Instance, IsMeaning, IsTied, StandsAt, actual_bit, instance_in, instances_in, module_named, value_of}
-use Rattle.verilog_meaning.specs.Names.{ArePlain, IsPlain, actual_nets, entry_names, nets_of, tie_names}
+use Rattle.verilog_meaning.specs.Nets.{actual_nets, nets_of}
+use Rattle.verilog_meaning.proofs.Names.{ArePlain, IsPlain, entry_names, tie_names}
 use Rattle.verilog_meaning.proofs.BackLaws.{HaveBits, value_back}
 use Rattle.verilog_meaning.proofs.InstanceLaws.{number_found}
 use Rattle.verilog_meaning.proofs.NameLaws.{own_bits_there, plain_bit, plain_bits, with_own}

@@ -7,7 +7,7 @@ use Rattle.std.proofs.lemmas.List.{length-append, length-map}
 use Rattle.std.proofs.lemmas.Option.{same_Some}
 use Rattle.text_lines.specs.Bytes.{is_text, is_text_byte}
 use Rattle.text_lines.specs.Groups.{up_to}
-use Rattle.verilog_meaning.specs.Names.{ArePlain, IsPlain, entry_names}
+use Rattle.verilog_meaning.proofs.Names.{ArePlain, IsPlain, entry_names}
 use Rattle.verilog_meaning.proofs.YieldLaws.{source_yields}
 use Rattle.verilog_models.specs.Models.{own_in}
 use Rattle.verilog_source.specs.Grammar.{IsSource, name, signs}

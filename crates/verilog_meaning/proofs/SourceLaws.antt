@@ -39,8 +39,8 @@ terminals_are {kind} (inputs e l) = record { some = some_item l; one = λ h. abs
 terminals_are (input e f) = record { some = omega arith; one = λ h. refl }
 terminals_are (output e t) = terminals_are t
 
-gate_is : (kind : GateKind) (ss : List Sign) (x : List (List ℕ) × List Formula) → IsGate kind ss x → HasTerminals kind (length x.1)
-gate_is kind _ _ (a_gate l t) = terminals_are t
+gate_is : (kind : GateKind) (ss : List Sign) (x : List (List ℕ) × List Formula) → IsGate kind ss x → HasTerminals kind (length x.1) × (1 ≤ length x.0)
+gate_is kind _ _ (a_gate {ls} {ss} {o} {os} {fs} l t) = (terminals_are t, omega arith)
 
 -- ---- statements
 
@@ -66,7 +66,7 @@ statement_whole {line} (wires {ss} {ns} l) = names_whole line None ns
 statement_whole {line} (assigns {ss} {xs} l) = assigns_whole line xs
 statement_whole {line} (gates {kind} {ss} {xs} l) =
     All-map IsWhole (λ (x : List (List ℕ) × List Formula). gate line kind x.0 x.1) xs
-    (each_of (λ (x : List (List ℕ) × List Formula). HasTerminals kind (length x.1)) (gate_is kind) l)
+    (each_of (λ (x : List (List ℕ) × List Formula). HasTerminals kind (length x.1) × (1 ≤ length x.0)) (gate_is kind) l)
 statement_whole {line} (instances {m} {ss} {xs} l) = instances_whole line m xs
 
 -- ---- modules

@@ -6,7 +6,8 @@ use Rattle.std.proofs.lemmas.Option.{same_Some}
 use Rattle.verilog_expression.specs.Grammar.{Formula, Spells}
 use Rattle.verilog_expression.specs.Grammar.Formula.{a_net, a_constant, negation, conjunction, parity, disjunction, choice}
 use Rattle.verilog_expression.specs.Grammar.Spells.{a_name, a_bit, in_parentheses, a_not, an_and, a_xor, an_or, a_choice, tighter}
-use Rattle.verilog_meaning.specs.Names.{entry_names, nets_of, tie_names}
+use Rattle.verilog_meaning.specs.Nets.{nets_of}
+use Rattle.verilog_meaning.proofs.Names.{entry_names, tie_names}
 use Rattle.verilog_models.specs.Covers.{all_own, own, own_inside}
 use Rattle.verilog_models.specs.Gates.{actual_own, actual_value, gate_own, links, ties_own}
 use Rattle.verilog_models.specs.Models.{entry_own, own_in}

@@ -1,25 +1,24 @@
 -- A cell that is compared with a module.
 use Rattle.std.specs.Prelude.{◌≡◌, ℕ, ◌<◌, Bool, true, List, [], length, Some}
 use Rattle.verilog_meaning.specs.Meaning.{IsMeaning}
-use Rattle.verilog_meaning.specs.Names.{IsPlain}
-use Rattle.verilog_models.specs.Models.{blif_of, model_of}
+use Rattle.verilog_meaning.specs.Nets.{nets_in}
+use Rattle.verilog_models.specs.Models.{blif_of}
 use Rattle.verilog_source.specs.Modules.{Module}
 use Rattle.vrt_model.specs.Assignment.{Tied}
 use Rattle.vrt_model.specs.CellRules.{is_observed_port}
 use Rattle.vrt_model.specs.Comparison.{CellPort, Comparison, cell_at, output_signal, phase_at, ports_of, tied_inputs}
 use Rattle.vrt_model.specs.Constraints.{Meets}
 use Rattle.vrt_model.specs.Faults.{Solves}
-use Rattle.vrt_model.specs.FlatBlif.{flat_model_of, signal_at, signals_of, top_model}
+use Rattle.vrt_model.specs.FlatBlif.{flat_model_of, signal_at, top_model}
 use Rattle.vrt_model.specs.Held.{setting_of}
-use Rattle.vrt_model.specs.Lists.{Among, has_name}
+use Rattle.vrt_model.specs.Lists.{Among}
 use Rattle.vrt_model.specs.Reading.{Partial, clock_bit}
 use Rattle.vrt_model.specs.State.{Setting}
 use Rattle.vrt_model.specs.declared.pairing.ClockedSignal.{ClockedSignal}
 
 -- a net of the module itself is this flat signal
 pub record IsNet (modules : List Module) (k : ℕ) (top : Module) (name : List ℕ) (signal : ℕ) : Type 0 where
-  pub there : has_name (signals_of (model_of top)) name ≡ true
-  pub plain : IsPlain name
+  pub there : Among (nets_in top) name
   pub is : signal_at (blif_of modules) (top_model k) name ≡ signal
 
 -- the model of a comparison is the flat model of a module, and its inputs and clocks are nets of the module

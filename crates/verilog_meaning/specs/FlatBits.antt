@@ -1,12 +1,12 @@
 -- The bits of nets that a flat model's signals have.
-use Rattle.std.specs.Prelude.{◌≡◌, ℕ, zero, suc, Bool, true, List, [], ◌∷◌, unwrap_or, slice_get}
+use Rattle.std.specs.Prelude.{◌≡◌, ℕ, zero, suc, Bool, List, [], ◌∷◌, unwrap_or, slice_get}
 use Rattle.verilog_meaning.specs.Meaning.{IsMeaning, StandsAt}
-use Rattle.verilog_meaning.specs.Names.{IsPlain}
-use Rattle.verilog_models.specs.Models.{blif_of, model_of}
+use Rattle.verilog_meaning.specs.Nets.{nets_in}
+use Rattle.verilog_models.specs.Models.{blif_of}
 use Rattle.verilog_source.specs.Modules.{Module}
 use Rattle.vrt_model.specs.Assignment.{Assignment, Obeys}
-use Rattle.vrt_model.specs.FlatBlif.{ModelPlace, flat_model_of, signal_at, signals_of, subs_at, top_model}
-use Rattle.vrt_model.specs.Lists.{has_name}
+use Rattle.vrt_model.specs.FlatBlif.{ModelPlace, flat_model_of, signal_at, subs_at, top_model}
+use Rattle.vrt_model.specs.Lists.{Among}
 use Rattle.vrt_model.specs.Unrolled.{deepest}
 use Rattle.vrt_model.specs.declared.blif.Blif.{Blif}
 
@@ -31,11 +31,10 @@ flat_bits blif m bits path name = bits (signal_at blif (flat_place blif m path) 
 abbrev pub Assigns : Blif → ℕ → (ℕ → Bool) → Type 0
 Assigns blif m bits = (clock : Bool) (held next : ℕ → Bool) → Obeys (flat_model_of blif m) clock held (record { signal = bits; next = next })
 
--- The signals of a flat model have the bits of nets, at each path of instances. Those that the text does not name have a blank in
--- their names.
+-- The signals of a flat model have the bits of the nets, at each path of instances.
 abbrev pub HaveNetBits : List Module → ℕ → Module → (ℕ → Bool) → (List ℕ → List ℕ → Bool) → Type 0
 HaveNetBits modules k top signals bits =
-    (path : List ℕ) (m : Module) → StandsAt modules top path m → (x : List ℕ) → has_name (signals_of (model_of m)) x ≡ true → IsPlain x → flat_bits (blif_of modules) k signals path x ≡ bits path x
+    (path : List ℕ) (m : Module) → StandsAt modules top path m → (x : List ℕ) → Among (nets_in m) x → flat_bits (blif_of modules) k signals path x ≡ bits path x
 
 -- Bits of nets come from an assignment of the flat model.
 pub record IsGot (modules : List Module) (k : ℕ) (top : Module) (bits : List ℕ → List ℕ → Bool) : Type 0 where

@@ -1,6 +1,6 @@
 pub mod Meaning
 pub mod Covered
 pub mod Terminals
-pub mod Names
+pub mod Nets
 pub mod FlatBits
 pub mod Cells

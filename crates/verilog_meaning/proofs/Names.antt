@@ -1,27 +1,10 @@
 -- The names of a text of modules, and how many signals it does not name.
-use Rattle.std.specs.Prelude.{◌≡◌, ◌≤◌, ◌^◌, ℕ, false, List, [], ◌∷◌, ◌++◌, flat_map, Option, Some, None}
-use Rattle.verilog_expression.specs.Grammar.{Formula}
-use Rattle.verilog_expression.specs.Grammar.Formula.{a_net, a_constant, negation, conjunction, parity, disjunction, choice}
-use Rattle.verilog_models.specs.Gates.{actual_value}
+use Rattle.std.proofs.Common.{◌≡◌, ◌≤◌, ◌^◌, ℕ, false, List, [], ◌∷◌, ◌++◌, flat_map}
+use Rattle.verilog_meaning.specs.Nets.{actual_nets, nets_of}
 use Rattle.verilog_models.specs.Models.{own_in}
-use Rattle.verilog_source.specs.Modules.{Actual, Entry, Module, PortTie}
+use Rattle.verilog_source.specs.Modules.{Entry, Module, PortTie}
 use Rattle.verilog_source.specs.Modules.Entry.{listed, directed, assigned, gate, instance}
 use Rattle.vrt_model.specs.Lists.{Among, has_number}
-
--- the nets of an expression
-abbrev pub nets_of : Formula → List (List ℕ)
-nets_of (a_net x) = x ∷ []
-nets_of (a_constant b) = []
-nets_of (negation f) = nets_of f
-nets_of (conjunction f g) = nets_of f ++ nets_of g
-nets_of (parity f g) = nets_of f ++ nets_of g
-nets_of (disjunction f g) = nets_of f ++ nets_of g
-nets_of (choice c f g) = nets_of c ++ nets_of f ++ nets_of g
-
--- the nets that a tie names
-abbrev pub actual_nets : Option Actual → List (List ℕ)
-actual_nets None = []
-actual_nets (Some a) = nets_of (actual_value a)
 
 -- the names of a tie
 abbrev pub tie_names : PortTie → List (List ℕ)
