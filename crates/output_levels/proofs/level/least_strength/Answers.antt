@@ -7,7 +7,7 @@ use Rattle.bdd_ops.specs.Counting.{Counts}
 use Rattle.output_levels.proofs.AlwaysLaws.{kept_care, word_range}
 use Rattle.output_levels.proofs.MarkLaws.{always_back, always_on, mark_within}
 use Rattle.output_levels.specs.Always.{IsAlways, strong_at}
-use Rattle.output_levels.proofs.level.least_level.Goals as goal
+use Rattle.output_levels.proofs.level.least_strength.Goals as goal
 
 pub loop-done-init : goal.loop-done-init
 loop-done-init c = record {
@@ -18,8 +18,8 @@ loop-done-init c = record {
 
 pub strong-mark-requires-clause-out : goal.strong-mark-requires-clause-out
 strong-mark-requires-clause-out c = (
-  span_added c.args.out c.args.store.now c.loop-done.store c.loop-done.invariant.adds c.requires.out.0,
-  filled_added c.args.out c.args.store.now c.loop-done.store c.loop-done.invariant.adds c.requires.out.1,
+  span_added c.args.out.span c.args.store.now c.loop-done.store c.loop-done.invariant.adds c.requires.out.0,
+  filled_added c.args.out.span c.args.store.now c.loop-done.store c.loop-done.invariant.adds c.requires.out.1,
 )
 
 pub is_always-requires : goal.is_always-requires
@@ -35,8 +35,8 @@ loop-done-preserved c =
     let out = c.args.out in
     let place = c.args.place in
     let i = c.loop-done.invariant in
-    let level : ℕ = 8 - done in
-    let range = word_range level place out.len (omega arith) c.requires.place.0 in
+    let level : ℕ = c.args.out.source - done in
+    let range = word_range out level place (omega arith) c.requires.place.0 in
     record {
       adds = nodes_then first now new i.adds c.is_always.ensures.adds;
       above = λ some.
@@ -59,13 +59,13 @@ returns-in-Err-clause-few c u care_in out_in =
     let new = c.is_always.new.store in
     let done = c.loop-done.done in
     let i = c.loop-done.invariant in
-    let level : ℕ = 8 - done in
-    let range = word_range level c.args.place c.args.out.len (omega arith) c.requires.place.0 in
+    let level : ℕ = c.args.out.source - done in
+    let range = word_range c.args.out level c.args.place (omega arith) c.requires.place.0 in
     let one = c.in-Err.ensures.few u (kept_care u first now c.args.care i.adds c.requires.care care_in)
     (mark_within first now i.adds c.args.care c.requires.care c.args.out c.requires.out.1 c.args.place level range c.strong-mark.result c.strong-mark.ensures.is u out_in) in
-    let all : Counts {A = Bool} u 8 first new (Err c.in-Err.spent) =
-    counts_more u (done + 1) 8 first new (Err c.in-Err.spent) (omega (arith, c.loop-done-test.true)) (counts_then u done 1 first now new (Err c.in-Err.spent) (i.few u care_in out_in) one) in
-    counts_err u 8 first new c.in-Err.spent all
+    let all : Counts {A = Bool} u c.args.out.source first new (Err c.in-Err.spent) =
+    counts_more u (done + 1) c.args.out.source first new (Err c.in-Err.spent) (omega (arith, c.loop-done-test.true)) (counts_then u done 1 first now new (Err c.in-Err.spent) (i.few u care_in out_in) one) in
+    counts_err u c.args.out.source first new c.in-Err.spent all
 
 pub returns-then-always-clause-adds : goal.returns-then-always-clause-adds
 returns-then-always-clause-adds c = nodes_then c.args.store.now c.loop-done.store c.is_always.new.store c.loop-done.invariant.adds c.is_always.ensures.adds
@@ -79,8 +79,8 @@ returns-then-always-clause-is c =
     let out = c.args.out in
     let place = c.args.place in
     let i = c.loop-done.invariant in
-    let level : ℕ = 8 - done in
-    let range = word_range level place out.len (omega arith) c.requires.place.0 in
+    let level : ℕ = c.args.out.source - done in
+    let range = word_range out level place (omega arith) c.requires.place.0 in
     record {
       most = omega arith;
       always = λ some. always_back first now i.adds care c.requires.care out c.requires.out.1 place level range c.strong-mark.result c.strong-mark.ensures.is (c.in-Ok.ensures.is.0 c.if-always.true);
@@ -96,25 +96,25 @@ returns-then-always-clause-few c u care_in out_in =
     let new = c.is_always.new.store in
     let done = c.loop-done.done in
     let i = c.loop-done.invariant in
-    let level : ℕ = 8 - done in
-    let range = word_range level c.args.place c.args.out.len (omega arith) c.requires.place.0 in
+    let level : ℕ = c.args.out.source - done in
+    let range = word_range c.args.out level c.args.place (omega arith) c.requires.place.0 in
     let one = c.in-Ok.ensures.few u (kept_care u first now c.args.care i.adds c.requires.care care_in)
     (mark_within first now i.adds c.args.care c.requires.care c.args.out c.requires.out.1 c.args.place level range c.strong-mark.result c.strong-mark.ensures.is u out_in) in
-    counts_ok u 8 first new _ (counted_more u (done + 1) 8 first new (omega (arith, c.loop-done-test.true)) (counted_then u done 1 first now new (i.few u care_in out_in) one.added))
+    counts_ok u c.args.out.source first new _ (counted_more u (done + 1) c.args.out.source first new (omega (arith, c.loop-done-test.true)) (counted_then u done 1 first now new (i.few u care_in out_in) one.added))
 
 pub returns-clause-is : goal.returns-clause-is
 returns-clause-is c =
     let i = c.loop-done.invariant in
-    let end : c.loop-done.done ≡ 8 = omega (arith, c.loop-done-test.false, c.loop-done.auto.done-end) in
+    let end : c.loop-done.done ≡ c.args.out.source = omega (arith, c.loop-done-test.false, c.loop-done.auto.done-end) in
     record {
       most = omega arith;
       always = λ some. absurd (omega (arith, some));
       above = λ below.
-          let last : 9 - c.loop-done.done ≡ 1 = omega (arith, end) in
+          let last : c.args.out.source + 1 - c.loop-done.done ≡ 1 = omega (arith, end) in
           subst (λ (l : ℕ). ¬ IsAlways (function_of c.args.store.now c.args.care) (strong_at c.args.store.now c.args.out c.args.place l)) last (i.above (omega (arith, end)));
     }
 
 pub returns-clause-few : goal.returns-clause-few
 returns-clause-few c u care_in out_in =
     let i = c.loop-done.invariant in
-    counts_ok u 8 c.args.store.now c.loop-done.store _ (counted_more u c.loop-done.done 8 c.args.store.now c.loop-done.store (omega (arith, c.loop-done.auto.done-end)) (i.few u care_in out_in))
+    counts_ok u c.args.out.source c.args.store.now c.loop-done.store _ (counted_more u c.loop-done.done c.args.out.source c.args.store.now c.loop-done.store (omega (arith, c.loop-done.auto.done-end)) (i.few u care_in out_in))
