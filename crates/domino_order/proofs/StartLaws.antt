@@ -95,7 +95,7 @@ given_open k phase roots given d start len opened = record {
     same n v = ap (λ (x : ℕ). meaning d.nodes (slice_index d.words (x + n)) v) start
 
 module _ (s : Asked) (is : IsAsked s) (old d1 d2 d3 d4 : Diagrams) (room : IsRoomFor s old) (rest : d1 ≡ record old { words = d1.words }) (more : List ℕ) (taken : d2 ≡ record d1 { words = d1.words ++ more })
-    (w : PhaseWords) (steps : StepWords) (first_words : HasPhaseWords s.counts w d1) (start : steps.given.start ≡ w.roots.start) (there : HasStepWords (length (of_asked s).circuit.nets) steps d2) where
+    (w : PhaseWords) (steps : StepWords) (first_words : HasPhaseWords s.counts w d1) (start : steps.given.start ≡ w.roots.start) (there : HasStepWords (of_asked s).circuit steps d2) where
   words : HasPhaseWords s.counts w d2
   words = words_longer d1 d2 more taken s.counts w first_words
 
@@ -154,7 +154,7 @@ module _ (s : Asked) (is : IsAsked s) (old d1 d2 d3 d4 : Diagrams) (room : IsRoo
         subst (λ (x : ℕ). MayPass x old.budget (prepared_operations s)) vars_three
         (used_passes {A = A} old.budget d3.vars (opened_operations k phase) (length s.rising.nets.now) (prepared_operations s) d3 d4 e used_three room.budget (omega arith) counts)
 
-    module _ (care : H) (opened : IsOpen k phase care w d3) (handles : HasStepHandles nets steps d4) (keeps : KeepsWords d3 d4) (stays : StaysFilled steps.given d3 d4)
+    module _ (care : H) (opened : IsOpen k phase care w d3) (handles : HasStepHandles k.circuit steps d4) (keeps : KeepsWords d3 d4) (stays : StaysFilled steps.given d3 d4)
         (arrive : (m : ℕ) (v : Valuation) → m < nets → shows d4 steps.setting m v ≡ bit_by_arrivals s.rising.nets.now s.rising.first v m (shows d3 steps.given m v))
         (arrived : IsCounted d3.vars (length s.rising.nets.now) d3 d4) where
       roots : AreRootsOpen k phase steps.given d3
