@@ -2,6 +2,7 @@
 
 ghost use Rattle.std.specs.Prelude.{◌≡◌, ◌&&◌, ◌<◌, ◌≤◌, None, Some, true, length, unwrap_or, IfOk};
 ghost use Rattle.std.specs.List.{list_any};
+ghost use Rattle.blif_eval.specs.Plans.{ArcOf};
 ghost use Rattle.cell_room.specs.Checked.{CheckedGives, over};
 ghost use Rattle.cell_room.specs.Made.{IsSearched, most_outputs};
 ghost use Rattle.cell_room.specs.Planned.{ArePhases};
@@ -16,19 +17,24 @@ ghost use Rattle.rule_index.specs.Tables.{AreRuleTables};
 ghost use Rattle.substitute.specs.BareParts.{AreBareParts, HasParts, HasPartsIn};
 ghost use Rattle.vrt_model.specs.Checked.{has_fact};
 ghost use Rattle.vrt_model.specs.Comparison.{phase_at};
+ghost use Rattle.vrt_model.specs.Lists.{Among};
 ghost use Rattle.vrt_model.specs.Networks.{HasRanges};
+ghost use Rattle.vrt_model.specs.Unsupported.{AcyclicBefore, IsAcyclic, ModelArc};
 ghost use Rattle.vrt_model.specs.declared.whole.CellFacts.{CellFacts as FactsValue};
+ghost use Rattle.vrt_model.specs.declared.whole.Whole.{Whole as WholeValue};
 ghost use Rattle.whole_cells.specs.Kept.{AreKept};
 ghost use Rattle.whole_cells.specs.Own.{AreItsPlaces};
+ghost use Rattle.whole_steps.specs.Logic.{nothing_known};
 ghost use Rattle.whole_steps.specs.Tables.{AreOrders, IsWholeTable};
 
+use crate::hindrance::Hindrance;
 use crate::planned::Phases;
 use crate::sizes::{counts_with, most_outputs, most_variables};
 use crate::works::add_plans;
 use blif_eval::{ModelPlan, PlanFault};
 use channel_parts::Parts;
 use net_places::Unrolled;
-use phase_plan::plan_by_parts;
+use phase_plan::{PlanFault as PhaseFault, plan_by_parts};
 use phase_terms::{Comparison, PhasePlan, WordCounts};
 use prepared_tables::Prepared;
 use rule_index::RuleIndex;
@@ -104,15 +110,15 @@ fn checked_circuit(
     Ok(whole)
 }
 
-/// The orders of the models of whole instances. No model leads around, where each is that of a supported cell.
+/// The orders of the models of whole instances, none of which has a cycle.
 fn orders_of(alloc: Global, circuit: &Circuit) -> Result<Seq<ModelPlan>, NoMemory>
-    requires { HasRanges circuit.now }
+    requires ranges { HasRanges circuit.now }
+    requires acyclic { (w : WholeValue) → Among circuit.now.wholes w → IsAcyclic (ArcOf w.model (nothing_known w.model)) }
     ensures { IfOk result (λ orders. AreOrders circuit.now.wholes (length circuit.now.wholes) orders) }
 {
     match model_orders(alloc, circuit) {
         Ok(orders) => Ok(orders),
-        // the cell of a whole instance is known as equal, so it is supported, and its model has no cycle
-        Err(PlanFault::ModelCycle { .. }) => Err(NoMemory),
+        Err(PlanFault::ModelCycle { signals: _ }) => unreachable!(),
         Err(PlanFault::NoMemory) => Err(NoMemory),
     }
 }
@@ -162,13 +168,15 @@ fn plans_of(
 ) -> Result<Seq<PhasePlan>, NoMemory>
     requires ready { IsReady (comparison_in compared) }
     requires tables { AreRuleTables compared.rules.now index.now }
+    requires acyclic { AcyclicBefore (comparison_in compared) (length compared.rules.now.phases) }
     ensures { IfOk result (ArePlans (comparison_in compared.entry) (length compared.entry.rules.now.phases)) }
 {
     let mut plans = Seq::new(alloc);
     match add_plans(alloc, index, compared, &mut plans) {
         Ok(()) => Ok(plans),
-        // the arcs of the checked circuit and of its model have no cycle, as those of the flat one have none
-        Err(_) => Err(NoMemory),
+        // a cause would be a cycle, and there is none
+        Err(Hindrance::Because(_)) => unreachable!(),
+        Err(Hindrance::NoMemory) => Err(NoMemory),
     }
 }
 
@@ -184,12 +192,15 @@ fn plan_by(
     requires tables { AreRuleTables compared.rules.now index.now }
     requires phase { phase < length compared.rules.now.phases }
     requires parts { IsPartList compared.circuit.now (phase_at compared.rules.now phase) true parts }
+    requires acyclic { IsAcyclic (ModelArc (comparison_in compared) phase) }
     ensures { IfOk result (IsAcyclicPlan (comparison_in compared.entry) phase) }
 {
     match plan_by_parts(alloc, index, compared, phase, parts) {
         Ok(plan) => Ok(plan),
-        // the model has no cycle, as with the flat circuit
-        Err(_) => Err(NoMemory),
+        // a circuit that has parts has no cycle, and neither has the model
+        Err(PhaseFault::Cycle { nets: _ }) => unreachable!(),
+        Err(PhaseFault::ModelCycle { signals: _ }) => unreachable!(),
+        Err(PhaseFault::NoMemory) => Err(NoMemory),
     }
 }
 
@@ -205,6 +216,7 @@ fn plans_by(
     requires tables { AreRuleTables compared.rules.now index.now }
     requires phases { length compared.rules.now.phases ≤ 16 }
     requires parts { AreBareParts compared.circuit.now compared.rules.now.phases parts.items }
+    requires acyclic { AcyclicBefore (comparison_in compared) (length compared.rules.now.phases) }
     ensures { IfOk result (ArePlans (comparison_in compared.entry) (length compared.entry.rules.now.phases)) }
 {
     let mut left = parts;
@@ -230,6 +242,7 @@ fn plans_with(
     requires ready { IsReady (comparison_in compared) }
     requires tables { AreRuleTables compared.rules.now index.now }
     requires parts { HasPartsIn compared.circuit.now compared.rules.now.phases parts }
+    requires acyclic { AcyclicBefore (comparison_in compared) (length compared.rules.now.phases) }
     ensures { IfOk result (ArePlans (comparison_in compared.entry) (length compared.entry.rules.now.phases)) }
 {
     match parts {

@@ -27,6 +27,11 @@ plan_by-requires-clause-parts c =
     subst (λ (x : Phase). IsPartList circuit x true c.in-Some.own) (sym is)
     (bare_first circuit rules.phases phase there.0 c.pop.new.self.items c.in-Some.own left there.1)
 
+pub plan_by-requires-clause-acyclic : goal.plan_by-requires-clause-acyclic
+plan_by-requires-clause-acyclic c =
+    let test = c.loop-phase-test.true in
+    let count = c.len-phase-end.ensures in (c.requires.acyclic c.loop-phase.phase (omega (arith, test, count))).1
+
 pub loop-phase-preserved : goal.loop-phase-preserved
 loop-phase-preserved c =
     let k = comparison_in c.args.compared in
