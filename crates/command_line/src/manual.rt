@@ -15,7 +15,7 @@ pub fn help() -> &'static [u8]
     ensures { result.now ≡ help_text }
 {
     b"verity [--do MODE] [--cell C] [--phase P] [--at LIST] [--budget N] [--size N] [SPICE BLIF RULES]\n\
-      Checks the cells of a SPICE netlist against the models of a BLIF file, by a rules file.\n\
+      Checks the cells of a SPICE netlist against the models of a BLIF file, or of gate-level Verilog where its name ends in .v, by a rules file.\n\
 \n\
       --do MODE      what to do: check (if not given), replay, classes or gen\n\
       --cell C       check, classes: C and the cells below it alone; replay: the cell, needed\n\

@@ -3,6 +3,7 @@ pub mod CellLaws
 pub mod ClassLaws
 pub mod EnterShown
 pub mod KeptFightShown
+pub mod ModelLaws
 pub mod NextShown
 pub mod PutLaws
 pub mod RefusalLaws

@@ -3,6 +3,7 @@ pub mod Classes
 pub mod Given
 pub mod Known
 pub mod Messages
+pub mod Models
 pub mod Named
 pub mod Reads
 pub mod Ready

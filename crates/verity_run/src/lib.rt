@@ -6,6 +6,7 @@ mod cell_lines;
 mod checks;
 mod known;
 mod messages;
+mod models;
 mod puts;
 mod reads;
 mod ready;
