@@ -37,7 +37,7 @@ CAUSES = {
     "unmatched": f"unmatched {NAME}",
     "variables": "variables [0-9]+",
     "cycle": f"cycle {NAME} {PHASE}",
-    "modelcycle": f"modelcycle {NAME} {PHASE}",
+    "modelcycle": f"modelcycle (?:expr [0-9]+|{NAME}|) {PHASE}",
 }
 UNDECIDED = {"vacuous": f"vacuous {PHASE}", "budget": f"budget (?P<nodes>[0-9]+) {PHASE}"} | {
     f"unsupported {cause}": f"unsupported {form}" for cause, form in CAUSES.items()
@@ -59,6 +59,14 @@ BLIF = [
     "byte that is not text", f"card not supported: {NAME}", "outside a model", "row does not fit", "rows of both values",
     "latch does not fit", "tie does not fit", f"model twice: {NAME}", "too few words", "limit passed", f"no model {NAME}",
     f"tie does not fit: {NAME}", f"model contains itself: {NAME}", "deeper than 32", f"two drivers: {NAME}", f"no driver: {NAME}",
+]  # fmt: skip
+# Of models in Verilog a name may be empty, and that of a signal without one is two words.
+NET = f"(?:expr [0-9]+|{NAME}|)"
+VERILOG = [
+    "byte that is not text", f"not supported: {NAME}", "statement does not fit", f"module twice: {NAME}|module twice: ",
+    f"port does not fit: {NAME}|port does not fit: ", "module not ended", "limit passed", f"no model {NAME}|no model ",
+    f"tie does not fit: {NAME}|tie does not fit: ", f"model contains itself: {NAME}|model contains itself: ", "deeper than 32", f"two drivers: {NET}",
+    f"no driver: {NET}",
 ]  # fmt: skip
 RULES = [
     "byte that is not text", "line does not fit", "number does not fit", "expression does not fit", f"given twice: {NAME}|given twice: ",
@@ -137,9 +145,9 @@ def refused(line, ask, files):
         if number == 0 and text == LONG:
             return LONG
         lines = files.get(name, b"").count(b"\n") + 1
-        for form in (SPICE, BLIF, RULES)[place]:
+        for form in (SPICE, VERILOG if name.endswith(".v") else BLIF, RULES)[place]:
             if re.fullmatch(form, text) and 1 <= number <= lines:
-                return f"{('netlist', 'models', 'rules')[place]}: {form.partition('|')[0].replace(NAME, 'NAME').replace('[0-9]+', 'N')}"
+                return f"{('netlist', 'models', 'rules')[place]}: {form.replace(NET, 'NAME').partition('|')[0].replace(NAME, 'NAME').replace('[0-9]+', 'N')}"
     if line.startswith("verity: words line 0: "):
         for form in WORDS:
             if re.fullmatch(form, line[len("verity: words line 0: ") :]):
