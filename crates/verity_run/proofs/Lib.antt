@@ -1,3 +1,4 @@
+pub mod ArrivalLaws
 pub mod KnownLaws
 pub mod CellLaws
 pub mod ClassLaws

@@ -1,3 +1,4 @@
+pub mod Arrivals
 pub mod Asked
 pub mod Classes
 pub mod Given

@@ -21,7 +21,7 @@ joined [] = []
 joined (piece ∷ pieces) = piece ++ joined pieces
 
 abbrev pub usage_line : List ℕ
-usage_line = codes "verity: usage: verity [--do MODE] [--cell C] [--phase P] [--at LIST] [--budget N] [--size N] [SPICE BLIF RULES]\n"
+usage_line = codes "verity: usage: verity [--do MODE] [--cell C] [--phase P] [--at LIST] [--budget N] [--size N] [--rise LIST] [SPICE BLIF RULES]\n"
 
 abbrev pub read_failed_line : List ℕ → List ℕ
 read_failed_line file = joined (codes "verity: " ∷ file ∷ codes ": read failed\n" ∷ [])

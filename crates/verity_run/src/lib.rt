@@ -2,6 +2,7 @@
 #![tactic(auto)]
 
 mod answers;
+mod arrivals;
 mod cell_lines;
 mod checks;
 mod known;

@@ -24,7 +24,7 @@ use witness::decimal_text;
 pub fn usage() -> &'static [u8]
     ensures { result.now ≡ usage_line }
 {
-    b"verity: usage: verity [--do MODE] [--cell C] [--phase P] [--at LIST] [--budget N] [--size N] [SPICE BLIF RULES]\n"
+    b"verity: usage: verity [--do MODE] [--cell C] [--phase P] [--at LIST] [--budget N] [--size N] [--rise LIST] [SPICE BLIF RULES]\n"
 }
 
 /// Pieces, one behind the other.
