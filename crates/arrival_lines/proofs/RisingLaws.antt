@@ -1,7 +1,6 @@
 -- Ports that are named are input ports, each once.
-use Rattle.std.proofs.Common.{◌≡◌, ℕ, zero, suc, ◌+◌, ◌<◌, ◌≤◌, ◌++◌, ◌∷◌, [], ◌||◌, ◌&&◌, Bool, true, false, cond, List, Option, Some, None, ap, arith, length, map, refl, subst, sym, ◌∙◌}
-use Rattle.std.specs.Prelude.{bytes_eq, is_some, option_map}
-use Rattle.std.specs.List.{list_any}
+use Rattle.std.proofs.Common.{◌≡◌, ℕ, zero, suc, ◌+◌, ◌<◌, ◌++◌, ◌∷◌, [], ◌||◌, ◌&&◌, Bool, true, false, cond, List, Option, Some, None, ap, arith, length, refl, subst, sym, ◌∙◌}
+use Rattle.std.specs.Prelude.{bytes_eq, is_some}
 use Rattle.std.proofs.lemmas.Bool.{false≢true}
 use Rattle.std.proofs.lemmas.List.{length-map}
 use Rattle.std.proofs.lemmas.List.Folds.{list_any-append}
@@ -16,8 +15,7 @@ use Rattle.phase_ports.proofs.PortLaws.{name_is}
 use Rattle.vrt_model.proofs.Lists.{at_map, map_at, one_at}
 use Rattle.vrt_model.specs.CellRules.{supply_of}
 use Rattle.vrt_model.specs.Comparison.{CellPort, Comparison, cell_at, input_signal, port_nets, port_nets_from, ports_from, ports_of}
-use Rattle.vrt_model.specs.Lists.{Among, At, has_name}
-use Rattle.vrt_model.specs.PairedPorts.{HasRoles}
+use Rattle.vrt_model.specs.Lists.{At, has_name}
 use Rattle.vrt_model.specs.declared.pairing.PortRole.{PortRole}
 use Rattle.vrt_model.specs.declared.rules.Rules.{Rules}
 

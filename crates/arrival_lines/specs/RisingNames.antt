@@ -2,7 +2,7 @@
 use Rattle.std.specs.Prelude.{◌≡◌, ◌+◌, ◌&&◌, ◌∷◌, [], ◌++◌, ℕ, List, Option, Some, None, Result, Ok, Err, bytes_eq, cond, false, is_some, map}
 use Rattle.mode_lines.specs.Lists.{Tells, first_fault}
 use Rattle.mode_lines.specs.declared.valuations.AtFault.{AtFault}
-use Rattle.mode_lines.specs.declared.valuations.AtFault.TheVariants.{NoSuchName, Twice, NoMemory}
+use Rattle.mode_lines.specs.declared.valuations.AtFault.TheVariants.{NoSuchName, Twice}
 use Rattle.vrt_model.specs.Comparison.{Comparison, cell_at, input_signal}
 use Rattle.vrt_model.specs.Lists.{has_name}
 use Rattle.vrt_model.specs.declared.pairing.PortRole.{PortRole}

@@ -1,5 +1,5 @@
 -- Arrival orders of a cell: its verdict, and what is told of an equal one.
-use Rattle.std.proofs.Common.{◌≡◌, ◌≢◌, ◌<◌, ◌≤◌, ◌+◌, ◌++◌, ◌∷◌, [], ℕ, Bool, true, false, cond, List, Option, Some, None, ap, arith, eqb, get_or, inl, inr, length, map, refl, subst, sym, take, ◌∙◌}
+use Rattle.std.proofs.Common.{◌≡◌, ◌≢◌, ◌<◌, ◌≤◌, ◌+◌, ◌++◌, ◌∷◌, [], ℕ, Bool, true, false, cond, List, Option, Some, None, ap, eqb, get_or, inl, inr, length, refl, subst, sym, take, ◌∙◌}
 use Rattle.std.specs.Prelude.{IfSome, bytes_eq}
 use Rattle.std.specs.Str.{str_to_ascii_lowercase}
 use Rattle.std.proofs.lemmas.Bool.{eqb-true, false≢true}
@@ -7,8 +7,8 @@ use Rattle.std.proofs.lemmas.List.{map-append, take_all, take_more}
 use Rattle.std.proofs.lemmas.Option.{none-some, same_Some}
 use Rattle.arrival_lines.specs.ArrivalLines.{IsArrivalTold}
 use Rattle.arrival_lines.specs.RisingNames.{rising_fault}
-use Rattle.cell_compare.specs.Cells.{HasLine, HasRuns, IsComplete, IsFlattenedTo}
-use Rattle.cell_room.specs.Compared.{AreInputs, IsFlattened, comparison}
+use Rattle.cell_compare.specs.Cells.{HasLine, IsFlattenedTo}
+use Rattle.cell_room.specs.Compared.{IsFlattened, comparison}
 use Rattle.cell_room.specs.Flat.{Flattened}
 use Rattle.cells_below.specs.Below.{AreBelow}
 use Rattle.domino_cells.proofs.CellLaws.{made_equal, made_of}

@@ -1,8 +1,5 @@
-use Rattle.std.proofs.Common.{ℕ, List}
 use Rattle.std.proofs.lemmas.Result.{IfErr-weaker, IfOk-weaker}
-use Rattle.cell_room.specs.Compared.{comparison}
-use Rattle.verity_run.specs.Arrivals.{HasArrivalLine, IsEqualWith, IsNoRising}
-use Rattle.verity_run.specs.Refusals.{Tells}
+use Rattle.verity_run.specs.Arrivals.{HasArrivalLine}
 use Rattle.verity_run.proofs.ArrivalLaws.{equal_made, equal_refused, equal_with, made}
 use Rattle.verity_run.proofs.arrivals.equal_told.Goals as goal
 

@@ -1,5 +1,3 @@
-use Rattle.std.proofs.Common.{◌≡◌, List, ℕ, subst, sym, ap}
-use Rattle.arrival_lines.specs.ArrivalLines.{IsArrivalTold}
 use Rattle.cell_room.specs.Compared.{comparison}
 use Rattle.verity_run.proofs.ArrivalLaws.{no_rising, told_line}
 use Rattle.verity_run.proofs.arrivals.told_order.Goals as goal
