@@ -9,8 +9,9 @@ ghost use Rattle.domino_order.specs.Runs.{IsAsked, IsBound, IsPrepared, IsRoomFo
 ghost use Rattle.domino_order.specs.StepSettings.{GivesSettings, start_at};
 ghost use Rattle.domino_order.specs.StepWords.{HasStepHandles, HasStepWords, IsRising, KeepsWords, StaysFilled, of_rising};
 ghost use Rattle.phase_check.specs.States.{KeepsRoom};
+ghost use Rattle.phase_open.specs.Given.{AreFew};
 ghost use Rattle.phase_terms.specs.Opened.{AreRootsOpen};
-ghost use Rattle.phase_terms.specs.Stores.{HasPhaseWords};
+ghost use Rattle.phase_terms.specs.Stores.{HasPhaseWords, word_count};
 ghost use Rattle.phase_terms.specs.declared.words.WordCounts.{WordCounts as CountsValue};
 ghost use Rattle.step_roots.specs.Care.{rise_care};
 ghost use Rattle.step_roots.specs.Roots.{bit_by_arrivals};
@@ -34,6 +35,15 @@ pub struct Asked<'a> {
     pub vars: &'a Vars,
     /// How many words the phase has in a store with a variable for each of these and for each arrival.
     pub counts: WordCounts,
+}
+
+/// The words of a run.
+#[derive(Clone, Copy)]
+pub struct RunWords {
+    /// Those of the phase.
+    pub phase: PhaseWords,
+    /// Those of a step, of which some are words of the phase.
+    pub steps: StepWords,
 }
 
 /// What stands in the store where a run begins.
@@ -91,6 +101,26 @@ fn step_words(store: &mut Store, words: PhaseWords, nets: u32) -> StepWords
     }
 }
 
+/// Takes the words of a run, those of the steps behind those of the phase. No node is made.
+fn run_words(store: &mut Store, counts: WordCounts) -> RunWords
+    requires few { AreFew counts }
+    requires pins { counts.pins ≡ 0 }
+    requires room { length store.old.words + word_count counts + 2 * counts.nets ≤ store.old.word_room }
+    requires own { store.old.own ≤ length store.old.words }
+    ensures phase { HasPhaseWords counts result.phase store.new }
+    ensures roots { IsFilled store.new result.phase.roots }
+    ensures inputs { IsFilled store.new result.phase.inputs }
+    ensures held { IsFilled store.new result.phase.held }
+    ensures steps { HasStepWords counts.nets result.steps store.new }
+    ensures given { result.steps.given.start ≡ result.phase.roots.start }
+    ensures rest { store.new ≡ record store.old { words = store.new.words } }
+    ensures len { length store.old.words ≤ length store.new.words }
+{
+    let phase = take_words(store, counts);
+    let steps = step_words(store, phase, counts.nets);
+    RunWords { phase, steps }
+}
+
 /// Fills the spans of a step with the given bits, so that they have live handles.
 fn fill_words(store: &mut Store, words: StepWords, nets: u32)
     requires words { HasStepWords nets words store.old }
@@ -134,24 +164,22 @@ fn prepare(store: &mut Store, asked: Asked<'_>) -> Result<Prepared, Spent>
     ensures keeps { KeepsRoom store.old store.new }
 {
     store.sound();
-    let words = take_words(store, asked.counts);
-    let nets = asked.rising.compared.circuit.nets.len() as u32;
-    let steps = step_words(store, words, nets);
+    let words = run_words(store, asked.counts);
     let care = match open_phase(
         store,
         asked.rising.compared,
         asked.rising.phase,
         asked.vars,
-        words,
+        words.phase,
     ) {
         Ok(care) => care,
         Err(spent) => return Err(spent),
     };
-    match start_roots(store, asked.rising, steps) {
+    match start_roots(store, asked.rising, words.steps) {
         Ok(()) => Ok(Prepared {
             care,
-            words: steps,
-            least: words.least,
+            words: words.steps,
+            least: words.phase.least,
         }),
         Err(spent) => Err(spent),
     }
