@@ -1,5 +1,5 @@
 -- A cell without holds and clock ports: no net of its circuit carries a clock, it has no state, and its variables are its input ports.
-use Rattle.std.proofs.Common.{◌≡◌, ◌↔◌, ℕ, zero, suc, ◌+◌, ◌≤◌, Bool, true, false, cond, List, [], ◌∷◌, ◌++◌, Option, Some, None, length, map, append-nil, arith, ap, ap₂, refl, sym, subst, ◌∙◌, inl, inr}
+use Rattle.std.proofs.Common.{◌≡◌, ℕ, zero, suc, Bool, true, false, cond, List, [], ◌∷◌, ◌++◌, Option, Some, None, length, map, append-nil, ap, ap₂, refl, sym, subst, ◌∙◌, inl, inr}
 use Rattle.std.specs.Prelude.{filter_map, find, flat_map, not, option_map}
 use Rattle.std.specs.List.{enumerate_from}
 use Rattle.std.proofs.lemmas.Option.{none-some, same_Some}
@@ -10,12 +10,12 @@ use Rattle.same_phases.specs.Phases.{IsUnclocked}
 use Rattle.vrt_model.proofs.Members.{among_either, among_flat_map, among_map}
 use Rattle.vrt_model.proofs.Tests.{neither}
 use Rattle.vrt_model.specs.Assignment.{Tied}
-use Rattle.vrt_model.specs.Comparison.{CellPort, Comparison, cell_at, ports_of, tied_inputs}
+use Rattle.vrt_model.specs.Comparison.{Comparison, cell_at, ports_of, tied_inputs}
 use Rattle.vrt_model.specs.Elements.{element_names}
 use Rattle.vrt_model.specs.FlatCircuit.{flat_circuit_of, flat_nets, kind_by_role, own_flat_nets, plain_net, port_nets_of, supply_flat}
 use Rattle.vrt_model.specs.Held.{IsValuation, bit_of, is_input_of, setting_of, sources_of}
 use Rattle.vrt_model.specs.Lists.{Among, At, path_name}
-use Rattle.vrt_model.specs.Unrolled.{Place, Top, all_places, globals_of, own_nets, path_text, top_cell}
+use Rattle.vrt_model.specs.Unrolled.{Top, all_places, globals_of, own_nets, path_text}
 use Rattle.vrt_model.specs.Unsupported.{comparison_of, element_without_group, is_reached, line_without_element, unmatched}
 use Rattle.vrt_model.specs.Variables.{is_free, places, variables_of}
 use Rattle.vrt_model.specs.declared.blif.Blif.{Blif}

@@ -1,5 +1,5 @@
 -- The text that is written of a cell stands for its model.
-use Rattle.std.proofs.Common.{◌≡◌, ℕ, zero, suc, ◌+◌, ◌≤◌, List, [], ◌∷◌, ◌++◌, Option, Some, None, length, length-append, arith, ap, refl, sym, subst, ◌∙◌, inl, inr}
+use Rattle.std.proofs.Common.{◌≡◌, ℕ, zero, suc, ◌+◌, ◌≤◌, List, [], ◌∷◌, ◌++◌, Option, None, length, length-append, arith, ap, refl, sym, subst, ◌∙◌, inl, inr}
 use Rattle.std.specs.Option.{option_or}
 use Rattle.std.proofs.lemmas.Option.{none-some}
 use Rattle.blif_eval.proofs.Drivers.{apart, covered_below, driven, input_below, one_cover}
@@ -7,7 +7,7 @@ use Rattle.blif_reader.proofs.Fits.{fits_all}
 use Rattle.blif_reader.specs.Cards.{cards_of}
 use Rattle.checked_chain.proofs.AcyclicLaws.{acyclic_kept}
 use Rattle.formed_cells.proofs.FormedLaws.{supported_cells_are_formed}
-use Rattle.formed_cells.specs.Formed.{AreRead, IsFormed}
+use Rattle.formed_cells.specs.Formed.{IsFormed}
 use Rattle.model_writer.specs.Counts.{signal_count}
 use Rattle.names.proofs.NameLaws.{length-with_names, names_once}
 use Rattle.plain_models.specs.Flat.{flat_form, signal_names}
@@ -18,7 +18,6 @@ use Rattle.vrt_model.specs.Elements.{element_names}
 use Rattle.vrt_model.specs.Equal.{IsEqual}
 use Rattle.vrt_model.specs.FlatBlif.{flat_model_of, model_at}
 use Rattle.vrt_model.specs.Inputs.{IsBlif}
-use Rattle.vrt_model.specs.Limits.{most_signals}
 use Rattle.vrt_model.specs.Lists.{Among, At, distinct}
 use Rattle.vrt_model.specs.ModelArcs.{HasModelArc}
 use Rattle.vrt_model.specs.Models.{AreModels}

@@ -1,11 +1,10 @@
 -- What is written of a supported cell may be written.
-use Rattle.std.proofs.Common.{◌≡◌, ℕ, suc, ◌+◌, ◌≤◌, ◌⊎◌, Bool, true, false, not, cond, List, [], ◌∷◌, ◌++◌, Option, Some, None, length, map, arith, ap, ap₂, refl, sym, subst, ◌∙◌, inl, inr}
+use Rattle.std.proofs.Common.{◌≡◌, ℕ, ◌+◌, ◌≤◌, ◌⊎◌, Bool, true, false, not, cond, List, [], ◌∷◌, ◌++◌, Option, length, map, arith, ap, ap₂, refl, sym, subst, ◌∙◌, inl, inr}
 use Rattle.std.specs.Prelude.{bytes_eq, filter, find, slice_get, unwrap_or}
 use Rattle.std.specs.List.{list_all}
 use Rattle.std.proofs.lemmas.Bool.{and_from, and_parts, false≢true, false_from_ne_true, or_cases}
 use Rattle.std.proofs.lemmas.List.Folds.{list_any-append}
 use Rattle.std.proofs.lemmas.List.{length-map}
-use Rattle.std.proofs.lemmas.Option.{none-some}
 use Rattle.std.proofs.lemmas.Slice.Eq.{bytes_eq-Decides}
 use Rattle.formed_cells.proofs.FormedLaws.{supported_cells_are_formed}
 use Rattle.formed_cells.proofs.SupportedLaws.{supported_is_free}
@@ -22,7 +21,7 @@ use Rattle.vrt_model.specs.Comparison.{Comparison, tied_inputs}
 use Rattle.vrt_model.specs.Elements.{signal_name}
 use Rattle.vrt_model.specs.FlatBlif.{flat_model_of, model_at, signal_at, top_model}
 use Rattle.vrt_model.specs.Inputs.{AllApart, IsBlif, IsModel}
-use Rattle.vrt_model.specs.Lists.{Among, At, has_name, has_number}
+use Rattle.vrt_model.specs.Lists.{Among, has_name, has_number}
 use Rattle.vrt_model.specs.Unsupported.{IsSupported, comparison_of}
 use Rattle.vrt_model.specs.declared.blif.Blif.{Blif}
 use Rattle.vrt_model.specs.declared.blif.BlifModel.{BlifModel}
@@ -33,9 +32,9 @@ use Rattle.vrt_model.specs.Limits.{most_signals}
 use Rattle.written_logic.proofs.InterfaceNames.{input_named}
 use Rattle.written_logic.specs.Logics.{HasFreeNames, IsLogicOf, input_names}
 use Rattle.written_models.proofs.Covers.{named_passes}
-use Rattle.written_models.proofs.WrittenNames.{given_back, named_left, named_right}
-use Rattle.written_models.specs.Functions.{Function, Node, nodes_of, with_all_nodes}
-use Rattle.written_models.specs.Written.{IsWritable, Logic, is_free_name, nodes_in, other_clocks, written_model}
+use Rattle.written_models.proofs.WrittenNames.{given_back}
+use Rattle.written_models.specs.Functions.{Function, Node, with_all_nodes}
+use Rattle.written_models.specs.Written.{IsWritable, Logic, is_free_name, written_model}
 
 -- ---- lists of names
 

@@ -1,5 +1,5 @@
 -- A text that stands for the models of a cell.
-use Rattle.std.specs.Prelude.{◌≡◌, ℕ, ◌≤◌, List}
+use Rattle.std.specs.Prelude.{ℕ, ◌≤◌, List}
 use Rattle.blif_reader.specs.Cards.{cards_of}
 use Rattle.blif_reader.specs.Models.{blif_of}
 use Rattle.blif_reader.specs.Refused.{fault_of}
