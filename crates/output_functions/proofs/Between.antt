@@ -59,7 +59,7 @@ outputs_within k phase nets signals wishes ready are count many = all_by (IsOutp
 -- ---- what a step gives
 
 -- more operations may spend as much, and a budget that is the same
-may_more : (k : Comparison) (phase budget other few many : ℕ) → other ≡ budget → few ≤ many → MaySpend k other phase few → MaySpend k budget phase many
+pub may_more : (k : Comparison) (phase budget other few many : ℕ) → other ≡ budget → few ≤ many → MaySpend k other phase few → MaySpend k budget phase many
 may_more k phase budget other few many same le spend =
     let v : ℕ = length (sources_of k phase) in
     let passed = spend.passed in

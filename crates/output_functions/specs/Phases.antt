@@ -4,21 +4,26 @@ use Rattle.bdd_core.specs.Store.{Diagrams}
 use Rattle.bdd_core.specs.Words.{IsFilled}
 use Rattle.bdd_core.specs.declared.handle.H.{H}
 use Rattle.bdd_ops.specs.Ops.{bits_of}
+use Rattle.output_functions.specs.declared.functions.Functions.{Functions}
 use Rattle.output_functions.specs.declared.phase.Stop.{Stop}
 use Rattle.output_functions.specs.declared.phase.Stop.TheVariants.{Spent as IsSpent, NoMemory}
 use Rattle.bdd_core.specs.declared.handle.Spent.{Spent}
+use Rattle.output_functions.specs.declared.phases.Phases.{Phases}
 use Rattle.output_joins.specs.Joins.{AreLive, shown}
 use Rattle.phase_check.specs.States.{IsOpened, IsSolvedBare, bare_operations}
 use Rattle.phase_laws.specs.Sums.{search_operations}
 use Rattle.phase_terms.specs.Found.{MaySpend}
 use Rattle.phase_terms.specs.Opened.{opened_operations}
 use Rattle.phase_terms.specs.Plans.{IsPhasePlan}
+use Rattle.phase_terms.specs.Ready.{IsReady, comparison_in}
 use Rattle.phase_terms.specs.Stores.{IsPhaseStore}
 use Rattle.phase_terms.specs.declared.plan.PhasePlan.{PhasePlan}
 use Rattle.phase_terms.specs.declared.words.PhaseWords.{PhaseWords}
 use Rattle.vrt_model.specs.Comparison.{CellPort, Comparison, output_signal, ports_of}
+use Rattle.vrt_model.specs.Equal.{IsEqual}
 use Rattle.vrt_model.specs.Held.{IsValuation, sources_of}
 use Rattle.vrt_model.specs.Lists.{Among, At}
+use Rattle.whole_steps.specs.Tables.{IsWholeTable}
 use Rattle.written_cells.specs.Outputs.{GivesOne}
 
 -- ---- the functions
@@ -76,3 +81,48 @@ abbrev pub JoinedGives : Comparison → ℕ → ℕ → ℕ → PhaseWords → D
 JoinedGives k phase budget operations w d handles (Ok done) = IsBetween k phase d.budget operations w d × AreJoined k (phase + 1) handles d
 JoinedGives k phase budget operations w d handles (Err IsSpent) = MaySpend k budget phase operations
 JoinedGives k phase budget operations w d handles (Err NoMemory) = Unit {0}
+
+-- ---- phase after phase
+
+-- a plan of each phase
+pub record ArePhasePlans (k : Comparison) (plans : List PhasePlan) : Type 0 where
+  pub count : length plans ≡ length k.rules.phases
+  pub each : (phase : ℕ) (plan : PhasePlan) → At plans phase plan → IsPhasePlan k phase plan
+
+-- what is asked of a cell: it is equal, no two output ports have one signal, and each phase has these variables and a plan
+pub record IsJoinable (p : Phases) : Type 0 where
+  pub ready : IsReady (comparison_in p.compared)
+  pub wholes : IsWholeTable p.compared.circuit.now p.compared.wholes.drivers.now p.compared.wholes.plans.now
+  pub equal : IsEqual (comparison_in p.compared)
+  pub own : HasOwnOutputs (comparison_in p.compared)
+  pub vars : (phase : ℕ) → p.vars.now.sources ≡ sources_of (comparison_in p.compared) phase
+  pub plans_are : ArePhasePlans (comparison_in p.compared) p.plans.now
+
+-- no phase takes more operations when it is looked through
+abbrev pub HasWork : Comparison → List PhasePlan → ℕ → Type 0
+HasWork k plans work = (phase : ℕ) (plan : PhasePlan) → At plans phase plan → search_operations k phase plan ≤ work
+
+-- the operations of a phase, where two are made for each output
+abbrev pub joined_work : Comparison → ℕ → ℕ
+joined_work k work = work + 2 * length k.circuit.nets
+
+-- the phases before one are joined, in a store with their operations
+pub record AreJoinedIn (k : Comparison) (plans : List PhasePlan) (upto budget : ℕ) (w : PhaseWords) (d : Diagrams) (handles : List H) : Type 0 where
+  pub made : ℕ
+  pub between : IsBetween k 0 budget made w d
+  pub within : (work : ℕ) → HasWork k plans work → made ≤ upto * joined_work k work
+  pub joined : AreJoined k upto handles d
+
+-- so; or the budget used up, where the operations of so many phases may do so
+abbrev pub PhasesGive : Comparison → List PhasePlan → ℕ → ℕ → PhaseWords → Diagrams → List H → Result Unit Stop → Type 0
+PhasesGive k plans upto budget w d handles (Ok done) = AreJoinedIn k plans upto d.budget w d handles
+PhasesGive k plans upto budget w d handles (Err IsSpent) = (work : ℕ) → HasWork k plans work → MaySpend k budget 0 (upto * joined_work k work)
+PhasesGive k plans upto budget w d handles (Err NoMemory) = Unit {0}
+
+-- ---- all phases
+
+-- the functions over all phases, in a store of so many variables; or the budget used up
+abbrev pub FunctionsGive : Comparison → List PhasePlan → ℕ → ℕ → Result Functions Stop → Type 0
+FunctionsGive k plans budget variables (Ok f) = AreJoined k (length k.rules.phases) f.handles.items f.store × (f.store.vars ≡ variables)
+FunctionsGive k plans budget variables (Err IsSpent) = (work : ℕ) → HasWork k plans work → MaySpend k budget 0 (length k.rules.phases * joined_work k work)
+FunctionsGive k plans budget variables (Err NoMemory) = Unit {0}

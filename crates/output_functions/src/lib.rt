@@ -2,6 +2,10 @@
 //! constraints met and gives it 1.
 #![tactic(auto)]
 
+mod functions;
 mod phase;
+mod phases;
 
+pub use functions::{Functions, output_functions};
 pub use phase::{Opening, Stop, join_phase};
+pub use phases::Phases;
