@@ -140,7 +140,7 @@ module _ (design : Design) (blif : Blif) (rules : Rules) (cell m : ℕ) (formed 
       let globals = map plain_net (globals_of t) in
       sources_front 2 (ports ++ globals) (flat_map (own_flat_nets t) (all_places t)) (inner_plain t) ∙ sources_front 2 ports globals (globals_plain t) ∙ tied.sources
 
-  sources_are : element_names (comparison_of design blif rules cell m).model ≡ [] → (phase : ℕ)
+  pub sources_are : element_names (comparison_of design blif rules cell m).model ≡ [] → (phase : ℕ)
       → sources_of (comparison_of design blif rules cell m) phase ≡ map source_of (tied_inputs (comparison_of design blif rules cell m))
   unfolding variables_of
   sources_are none phase =

@@ -141,10 +141,10 @@ module _ (design : Design) (blif : Blif) (rules : Rules) (cell m : ℕ) (l : Log
   formed = supported_cells_are_formed design blif rules cell m w.read w.supported
 
   good : IsWritable l
-  good = writable design blif rules cell m l w.read w.supported w.logic w.free w.few
+  good = writable design blif rules cell m l w.read w.supported w.logic.interface w.free w.few
 
   interface : IsInterfaceOf (model_at blif m) (written_model l)
-  interface = interface_is design blif rules cell m l w.read w.supported w.logic w.free w.few
+  interface = interface_is design blif rules cell m l w.read w.supported w.logic.interface w.free
 
   back : IsReadBack l
   back = written_texts_are_read l good
@@ -170,7 +170,7 @@ module _ (design : Design) (blif : Blif) (rules : Rules) (cell m : ℕ) (l : Log
         stateless = stateless;
         writable = good;
         interface = interface;
-        paired = written_models_pair design blif rules cell m l (sym w.logic.name) w.supported.paired;
+        paired = written_models_pair design blif rules cell m l (sym w.logic.interface.name) w.supported.paired;
         small = written_models_are_small l good (omega (arith, few, signals)) (omega (arith, few));
       })
 

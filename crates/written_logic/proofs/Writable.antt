@@ -30,7 +30,7 @@ use Rattle.vrt_model.specs.declared.flat_model.FlatModel.{FlatModel}
 use Rattle.vrt_model.specs.declared.rules.Rules.{Rules}
 use Rattle.vrt_model.specs.Limits.{most_signals}
 use Rattle.written_logic.proofs.InterfaceNames.{input_named}
-use Rattle.written_logic.specs.Logics.{HasFreeNames, IsLogicOf, input_names}
+use Rattle.written_logic.specs.Logics.{HasFreeNames, HasInterface, input_names}
 use Rattle.written_models.proofs.Covers.{named_passes}
 use Rattle.written_models.proofs.WrittenNames.{given_back}
 use Rattle.written_models.specs.Functions.{Function, Node, with_all_nodes}
@@ -87,11 +87,11 @@ no_nodes [] nodes = refl
 no_nodes (f ∷ fs) nodes = no_nodes fs nodes
 
 -- the interface alone
-abbrev bare : Logic → Logic
+abbrev pub bare : Logic → Logic
 bare l = record { name = l.name; inputs = l.inputs; clocks = l.clocks; outputs = l.outputs; variables = []; functions = map (λ (name : List ℕ). (λ (bits : List Bool). false)) l.outputs }
 
 module _ (design : Design) (blif : Blif) (rules : Rules) (cell m : ℕ) (l : Logic) (read : AreRead blif rules) (supported : IsSupported design blif rules cell m)
-    (logic : IsLogicOf (comparison_of design blif rules cell m) (model_at blif m) l) (free : HasFreeNames l) (few : signal_count l ≤ most_signals) where
+    (logic : HasInterface (comparison_of design blif rules cell m) (model_at blif m) l) (free : HasFreeNames l) where
   abbrev k : Comparison
   k = comparison_of design blif rules cell m
 
@@ -165,7 +165,7 @@ module _ (design : Design) (blif : Blif) (rules : Rules) (cell m : ℕ) (l : Log
 
   -- ---- the interface alone may be written
 
-  bare_writable : IsWritable (bare l)
+  pub bare_writable : IsWritable (bare l)
   bare_writable = record {
     name = free.name;
     inputs = free.inputs;
@@ -180,7 +180,7 @@ module _ (design : Design) (blif : Blif) (rules : Rules) (cell m : ℕ) (l : Log
     few = subst (λ (ns : List Node). length ns + 2 ≤ most_signals) (sym (no_nodes (bare l).functions [])) (omega arith);
   }
 
-  bare_interface : IsInterfaceOf (model_at blif m) (written_model (bare l))
+  pub bare_interface : IsInterfaceOf (model_at blif m) (written_model (bare l))
   bare_interface = record { inputs = interface_is.inputs; clocks = interface_is.clocks; outputs = interface_is.outputs }
 
   -- ---- variables
@@ -192,8 +192,9 @@ module _ (design : Design) (blif : Blif) (rules : Rules) (cell m : ℕ) (l : Log
       let named = input_named blif m (bare l) bare_writable bare_interface tie.0.signal (formed.signals.tied tie.0.signal (tie.0, tie.1, refl)) in
       subst (λ (n : List ℕ). has_name (l.inputs ++ l.clocks) n ≡ true) (sym named.2 ∙ tie.2) (given_back (bare l) bare_writable named.0 named.1)
 
-  pub writable : IsWritable l
-  writable = record {
+  -- with few signals all of it may be
+  pub writable : signal_count l ≤ most_signals → IsWritable l
+  writable few = record {
     name = free.name;
     inputs = free.inputs;
     clocks = clocks_free;

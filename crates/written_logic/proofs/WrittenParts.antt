@@ -39,7 +39,7 @@ module _ (design : Design) (blif : Blif) (rules : Rules) (cell m : ℕ) (l : Log
   -- the variables have the numbers of the signals of the input ports
   pub variables_are : map (number_in (written_model l)) l.variables ≡ map (λ (t : Tied). t.signal) (tied_inputs (comparison_of design blif rules cell m))
   variables_are =
-      ap (map (number_in (written_model l))) logic.variables
+      ap (map (number_in (written_model l))) logic.interface.variables
       ∙ map-map (number_in (written_model l)) (λ (t : Tied). signal_name k.model t.signal) (tied_inputs k)
       ∙ map_same (λ (t : Tied). number_in (written_model l) (signal_name k.model t.signal)) (λ (t : Tied). t.signal) (tied_inputs k)
       (λ i t at.
@@ -56,7 +56,7 @@ module _ (design : Design) (blif : Blif) (rules : Rules) (cell m : ℕ) (l : Log
       let out : Among k.model.outputs signal = (output_there k paired place port signal (port_of k paired place port there.1) e).there in
       let named = output_named blif m l good is signal out other in
       let within = slice_get_within l.outputs named.0 named.1 named.2 in
-      let count = logic.count in
+      let count = logic.interface.count in
       let f = at_there l.functions named.0 (omega (arith, within, count)) in (
         named.0,
         named.1,

@@ -31,14 +31,18 @@ pub record PairsWith (k : Comparison) (name : List ℕ) (port : CellPort) (signa
   pub output : output_signal port.role ≡ Some signal
   pub named : signal_name k.model signal ≡ name
 
--- the name and the interface of its model; the variables are its input ports, in port order; and each output has the function of its port
-pub record IsLogicOf (k : Comparison) (b : BlifModel) (l : Logic) : Type 0 where
+-- the name and the interface of its model; the variables are its input ports, in port order; and there is a function for each output
+pub record HasInterface (k : Comparison) (b : BlifModel) (l : Logic) : Type 0 where
   pub name : l.name ≡ b.name
   pub inputs : l.inputs ≡ b.inputs
   pub clocks : l.clocks ≡ b.clocks
   pub outputs : l.outputs ≡ b.outputs
   pub variables : l.variables ≡ input_names k
   pub count : length l.functions ≡ length l.outputs
+
+-- and each output has the function of its port
+pub record IsLogicOf (k : Comparison) (b : BlifModel) (l : Logic) : Type 0 where
+  pub interface : HasInterface k b l
   pub functions :
       (i : ℕ) (name : List ℕ) (f : Function) (port : CellPort) (signal : ℕ) → At l.outputs i name → At l.functions i f → PairsWith k name port signal
       → IsFunctionOf k port signal f
