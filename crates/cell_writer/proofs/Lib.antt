@@ -1,2 +1,5 @@
+pub mod FunctionLaws
 pub mod RefusedLaws
 pub mod StandingLaws
+pub mod TextLaws
+pub mod WritingLaws

@@ -1,5 +1,5 @@
 -- A cell of which nothing is refused has neither a hold nor a clock port, and its names are free.
-use Rattle.std.proofs.Common.{◌≡◌, ℕ, zero, suc, Bool, true, false, not, cond, List, [], ◌∷◌, ◌++◌, Option, Some, None, ap, ap₂, refl, sym, subst, ◌∙◌}
+use Rattle.std.proofs.Common.{◌≡◌, ℕ, zero, suc, Bool, true, false, not, cond, List, [], ◌∷◌, ◌++◌, Some, None, ap, ap₂, refl, sym, ◌∙◌}
 use Rattle.std.specs.Prelude.{filter, find, slice_get}
 use Rattle.std.specs.List.{list_all}
 use Rattle.std.proofs.lemmas.Bool.{and_from, and_parts, false≢true}
@@ -9,13 +9,11 @@ use Rattle.cell_writer.specs.Refused.{MayBeWritten, clock_among, is_clock}
 use Rattle.model_writer.specs.Refused.{is_refused}
 use Rattle.paired_ports.proofs.PortLists.{port_parts}
 use Rattle.vrt_model.proofs.Tests.{map_none}
-use Rattle.vrt_model.specs.Comparison.{CellPort, Comparison, cell_at, net_name, port_nets, ports_of}
-use Rattle.vrt_model.specs.Lists.{Among, At, has_name}
+use Rattle.vrt_model.specs.Comparison.{Comparison, cell_at, net_name, port_nets}
+use Rattle.vrt_model.specs.Lists.{At, has_name}
 use Rattle.vrt_model.specs.declared.blif.BlifModel.{BlifModel}
 use Rattle.vrt_model.specs.declared.circuit.Hold.{Hold}
 use Rattle.vrt_model.specs.declared.pairing.PortRole.{PortRole}
-use Rattle.vrt_model.specs.declared.pairing.PortRole.TheVariants.{Clock}
-use Rattle.vrt_model.specs.declared.rules.ClockRef.{ClockRef}
 use Rattle.written_logic.specs.Logics.{HasFreeNames, HasInterface, IsCombinational}
 use Rattle.written_models.specs.Written.{Logic, is_free_name, other_clocks}
 

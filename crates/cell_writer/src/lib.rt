@@ -1,11 +1,14 @@
-//! A cell without state written as a BLIF model: why it is not written, in the order of the tests, and the names that are.
+//! A cell without state written as a BLIF model: why it is not written, in the order of the tests, the names that are, and the text of its functions.
 #![tactic(auto)]
 
 mod causes;
 mod laws;
 mod names;
 mod refusal;
+mod texts;
+mod writing;
 
 pub use causes::{clock_port, held_net};
 pub use laws::written_cells_stand;
 pub use refusal::WriteRefusal;
+pub use writing::Writing;
