@@ -2,9 +2,11 @@
 #![tactic(auto)]
 
 mod causes;
+mod counts;
 mod laws;
-mod names;
+mod name_lists;
 mod refusal;
+mod refuse;
 mod texts;
 mod writing;
 

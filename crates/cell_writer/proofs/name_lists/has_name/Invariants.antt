@@ -1,6 +1,6 @@
 use Rattle.std.proofs.Common.{◌≡◌, drop}
 use Rattle.vrt_model.specs.Lists.{has_name}
-use Rattle.cell_writer.proofs.names.has_name.Given as goal
+use Rattle.cell_writer.proofs.name_lists.has_name.Given as goal
 
 -- none so far
 abbrev pub invariant-loop-other : goal.invariant-loop-other

@@ -1,7 +1,7 @@
 use Rattle.std.proofs.Common.{◌≡◌, ◌++◌, length}
 use Rattle.std.specs.Prelude.{filter_map}
 use Rattle.cell_writer.specs.Names.{input_name}
-use Rattle.cell_writer.proofs.names.add_inputs.Given as goal
+use Rattle.cell_writer.proofs.name_lists.add_inputs.Given as goal
 
 -- the names so far, and what is left
 abbrev pub invariant-roles : goal.invariant-roles

@@ -1,6 +1,6 @@
 use Rattle.std.proofs.Common.{◌≡◌, ◌++◌, drop, filter, not}
 use Rattle.vrt_model.specs.Lists.{has_name}
-use Rattle.cell_writer.proofs.names.add_others.Given as goal
+use Rattle.cell_writer.proofs.name_lists.add_others.Given as goal
 
 -- the names so far, and what is left
 abbrev pub invariant-loop-name : goal.invariant-loop-name

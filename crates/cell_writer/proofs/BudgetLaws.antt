@@ -1,0 +1,61 @@
+-- The operations of all phases are within the work of a phase, taken once more than there are phases.
+use Rattle.std.proofs.Common.{◌≡◌, ℕ, ◌+◌, ◌*◌, ◌^◌, ◌<◌, ◌≤◌, List, [], ap, arith, length, map, refl, sym, ◌∙◌, inr}
+use Rattle.std.specs.Prelude.{flat_map}
+use Rattle.std.proofs.Math.Nat.{add-mul, mul-le-mul_left, mul_comm}
+use Rattle.output_functions.specs.Phases.{ArePhasePlans, HasWork, joined_work}
+use Rattle.path_fixpoint.specs.Parts.{pins_of}
+use Rattle.phase_laws.proofs.PhaseWork.{phase_work}
+use Rattle.phase_laws.specs.Sums.{HasFewOutputs, phase_operations, search_operations, work_within}
+use Rattle.phase_terms.specs.Ready.{IsReady}
+use Rattle.phase_terms.specs.Stores.{counts_of, most_model_words}
+use Rattle.phase_terms.specs.declared.plan.PhasePlan.{PhasePlan}
+use Rattle.phase_terms.specs.declared.words.WordCounts.{WordCounts}
+use Rattle.vrt_model.specs.Comparison.{Comparison}
+use Rattle.vrt_model.specs.Elements.{element_names}
+use Rattle.vrt_model.specs.State.{OutputPin}
+use Rattle.vrt_model.specs.declared.whole.Whole.{Whole}
+use Rattle.vrt_model.specs.declared.whole.WholePin.{WholePin}
+
+-- each phase of a circuit without whole instances is within its work
+pub has_work : (k : Comparison) (plans : List PhasePlan) → IsReady k → ArePhasePlans k plans → k.circuit.wholes ≡ [] → HasFewOutputs k.circuit (length k.circuit.devices)
+    → HasWork k plans (work_within k (length k.circuit.devices))
+has_work k plans ready are none few phase plan at =
+    let all = phase_work k phase plan (length k.circuit.devices) ready (are.each phase plan at) (omega arith) few (inr none) in
+    omega (arith, all)
+
+-- so many phases, with two operations for each net in each
+pub phases_within : (phases nets work : ℕ) → phases ≤ 16 → 32 * nets ≤ work → phases * (work + 2 * nets) ≤ (phases + 1) * work
+phases_within phases nets work few enough =
+    let turned = mul_comm phases (work + 2 * nets) in
+    let split = add-mul work (2 * nets) phases in
+    let last = add-mul phases 1 work in
+    let back = mul_comm work phases in
+    let product : 2 * nets * phases ≤ 2 * nets * 16 = mul-le-mul_left {m = phases} {n = 16} (2 * nets) few in
+    omega (arith, turned, split, last, back, product, enough)
+
+-- ---- words
+
+-- without whole instances and elements there are no words of outputs, models and elements
+pub bare_counts_are : (k : Comparison) (variables : ℕ) → k.circuit.wholes ≡ [] → element_names k.model ≡ []
+    → ◌≡◌ {A = WordCounts} (record { nets = length k.circuit.nets; pins = 0; models = 0; signals = length k.model.signals; elements = 0; variables = variables }) (counts_of k variables)
+bare_counts_are k variables whole none =
+    ap (λ (ws : List Whole).
+    let counts : WordCounts = record {
+      nets = length k.circuit.nets;
+      pins = length (map (λ (out : OutputPin). out.pin) (flat_map (λ (w : Whole). map (λ (p : WholePin). let pin : OutputPin = record { whole = w; pin = p } in pin) w.outputs) ws));
+      models = most_model_words ws;
+      signals = length k.model.signals;
+      elements = 0;
+      variables = variables;
+    } in
+    counts) (sym whole)
+    ∙ ap (λ (names : List (List ℕ)). let counts : WordCounts = record (counts_of k variables) { elements = length names } in counts) (sym none)
+
+-- and no outputs
+no_pins : (k : Comparison) → k.circuit.wholes ≡ [] → length (pins_of k.circuit) ≡ 0
+no_pins k whole =
+    ap (λ (ws : List Whole).
+    length (map (λ (out : OutputPin). out.pin) (flat_map (λ (w : Whole). map (λ (p : WholePin). let pin : OutputPin = record { whole = w; pin = p } in pin) w.outputs) ws))) whole
+
+pub few_outputs : (k : Comparison) → k.circuit.wholes ≡ [] → HasFewOutputs k.circuit (length k.circuit.devices)
+few_outputs k whole = (let none = no_pins k whole in omega (arith, none))
