@@ -1,16 +1,21 @@
 -- The operations of all phases are within the work of a phase, taken once more than there are phases.
 use Rattle.std.proofs.Common.{◌≡◌, ℕ, ◌+◌, ◌*◌, ◌^◌, ◌<◌, ◌≤◌, List, [], ap, arith, length, map, refl, sym, ◌∙◌, inr}
-use Rattle.std.specs.Prelude.{flat_map}
+use Rattle.std.specs.Prelude.{flat_map, sum_by}
 use Rattle.std.proofs.Math.Nat.{add-mul, mul-le-mul_left, mul_comm}
 use Rattle.output_functions.specs.Phases.{ArePhasePlans, HasWork, joined_work}
 use Rattle.path_fixpoint.specs.Parts.{pins_of}
 use Rattle.phase_laws.proofs.PhaseWork.{phase_work}
-use Rattle.phase_laws.specs.Sums.{HasFewOutputs, phase_operations, search_operations, work_within}
+use Rattle.phase_laws.specs.Sums.{HasFewOutputs, phase_operations, search_operations, wholes_size, work_within}
+use Rattle.cell_writer.specs.Written.{MayPass}
+use Rattle.phase_terms.specs.Found.{MaySpend}
 use Rattle.phase_terms.specs.Ready.{IsReady}
 use Rattle.phase_terms.specs.Stores.{counts_of, most_model_words}
 use Rattle.phase_terms.specs.declared.plan.PhasePlan.{PhasePlan}
 use Rattle.phase_terms.specs.declared.words.WordCounts.{WordCounts}
+use Rattle.vrt_model.specs.Budget.{constraints_size, model_size, work, work_of}
 use Rattle.vrt_model.specs.Comparison.{Comparison}
+use Rattle.vrt_model.specs.Held.{sources_of}
+use Rattle.vrt_model.specs.declared.blif.Blif.{Blif}
 use Rattle.vrt_model.specs.Elements.{element_names}
 use Rattle.vrt_model.specs.State.{OutputPin}
 use Rattle.vrt_model.specs.declared.whole.Whole.{Whole}
@@ -59,3 +64,33 @@ no_pins k whole =
 
 pub few_outputs : (k : Comparison) → k.circuit.wholes ≡ [] → HasFewOutputs k.circuit (length k.circuit.devices)
 few_outputs k whole = (let none = no_pins k whole in omega (arith, none))
+
+-- ---- the budget
+
+-- the work of a phase holds 32 operations for each net
+nets_within : (n d s e : ℕ) → 32 * n ≤ work n d s e
+nets_within n d s e =
+    let product : 1000 * (n + 1) * 1 ≤ 1000 * (n + 1) * (n + d + 1) = mul-le-mul_left {m = 1} {n = n + d + 1} (1000 * (n + 1)) (omega arith) in
+    omega (arith, product)
+
+-- it is within the work of the cell
+work_less : (k : Comparison) (blif : Blif) → k.circuit.wholes ≡ [] → work_within k (length k.circuit.devices) ≤ work_of k blif
+work_less k blif whole =
+    let none : wholes_size k.circuit ≡ 0 = ap (λ (ws : List Whole). sum_by (λ (w : Whole). model_size w.model) ws) whole in
+    omega (arith, none)
+
+-- where all phases may spend the budget, it may be passed
+pub may_pass : (k : Comparison) (blif : Blif) (plans : List PhasePlan) (budget : ℕ) → IsReady k → ArePhasePlans k plans → k.circuit.wholes ≡ []
+    → ((work : ℕ) → HasWork k plans work → MaySpend k budget 0 (length k.rules.phases * joined_work k work)) → MayPass k blif budget
+may_pass k blif plans budget ready are whole spends =
+    let v : ℕ = length (sources_of k 0) in
+    let p : ℕ = length k.rules.phases in
+    let w : ℕ = work_within k (length k.circuit.devices) in
+    let spent = spends w (has_work k plans ready are whole (few_outputs k whole)) in
+    let passed = spent.passed in
+    let enough : 32 * length k.circuit.nets ≤ w = nets_within (length k.circuit.nets) (length k.circuit.devices) (model_size k.model + wholes_size k.circuit) (constraints_size k) in
+    let less : (p + 1) * w ≤ (p + 1) * work_of k blif = mul-le-mul_left {m = w} {n = work_of k blif} (p + 1) (work_less k blif whole) in
+    let within = phases_within p (length k.circuit.nets) w ready.rules.phase_limit enough in
+    let all : p * joined_work k w ≤ (p + 1) * work_of k blif = omega (arith, within, less) in
+    let product : 2 ^ v * (p * joined_work k w) ≤ 2 ^ v * ((p + 1) * work_of k blif) = mul-le-mul_left {m = p * joined_work k w} {n = (p + 1) * work_of k blif} (2 ^ v) all in
+    record { many = spent.many; passed = omega (arith, passed, product) }

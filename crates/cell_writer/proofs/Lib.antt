@@ -4,4 +4,5 @@ pub mod RefusedLaws
 pub mod StandingLaws
 pub mod TextLaws
 pub mod VariableLaws
+pub mod WriteLaws
 pub mod WritingLaws

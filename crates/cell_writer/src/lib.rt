@@ -8,6 +8,7 @@ mod name_lists;
 mod refusal;
 mod refuse;
 mod texts;
+mod write;
 mod writing;
 
 pub use causes::{clock_port, held_net};
