@@ -1,11 +1,11 @@
 -- The operations of all phases are within the work of a phase, taken once more than there are phases.
-use Rattle.std.proofs.Common.{◌≡◌, ℕ, ◌+◌, ◌*◌, ◌^◌, ◌<◌, ◌≤◌, List, [], ap, arith, length, map, refl, sym, ◌∙◌, inr}
+use Rattle.std.proofs.Common.{◌≡◌, ℕ, ◌+◌, ◌*◌, ◌^◌, ◌≤◌, List, [], ap, arith, length, map, sym, ◌∙◌, inr}
 use Rattle.std.specs.Prelude.{flat_map, sum_by}
 use Rattle.std.proofs.Math.Nat.{add-mul, mul-le-mul_left, mul_comm}
 use Rattle.output_functions.specs.Phases.{ArePhasePlans, HasWork, joined_work}
 use Rattle.path_fixpoint.specs.Parts.{pins_of}
 use Rattle.phase_laws.proofs.PhaseWork.{phase_work}
-use Rattle.phase_laws.specs.Sums.{HasFewOutputs, phase_operations, search_operations, wholes_size, work_within}
+use Rattle.phase_laws.specs.Sums.{HasFewOutputs, wholes_size, work_within}
 use Rattle.cell_writer.specs.Written.{MayPass}
 use Rattle.phase_terms.specs.Found.{MaySpend}
 use Rattle.phase_terms.specs.Ready.{IsReady}

@@ -2,6 +2,7 @@ pub mod BudgetLaws
 pub mod FunctionLaws
 pub mod RefusedLaws
 pub mod StandingLaws
+pub mod TestLaws
 pub mod TextLaws
 pub mod VariableLaws
 pub mod WriteLaws

@@ -1,9 +1,7 @@
 -- What the functions of a cell give of what is written of it.
-use Rattle.std.proofs.Common.{◌≡◌, ℕ, ◌+◌, ◌*◌, ◌^◌, ◌<◌, ◌≤◌, List, [], Result, Ok, Err, arith, ap, ap₂, length, map, refl, subst, sym, ◌∙◌}
+use Rattle.std.proofs.Common.{◌≡◌, ℕ, List, [], Result, Ok, Err, ap, ap₂, length, map, subst, sym, ◌∙◌}
 use Rattle.std.specs.Prelude.{filter, filter_map, not}
-use Rattle.std.proofs.Math.Nat.{mul-le-mul_left}
 use Rattle.std.proofs.lemmas.List.{length-map}
-use Rattle.bdd_core.specs.declared.handle.H.{H}
 use Rattle.cell_writer.proofs.FunctionLaws.{logic_by, logic_of_cell}
 use Rattle.cell_writer.proofs.BudgetLaws.{bare_counts_are, may_pass}
 use Rattle.cell_writer.proofs.VariableLaws.{names_by_roles, nets_count}

@@ -7,6 +7,7 @@ mod laws;
 mod name_lists;
 mod refusal;
 mod refuse;
+mod tested;
 mod texts;
 mod write;
 mod writing;

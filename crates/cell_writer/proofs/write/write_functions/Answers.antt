@@ -1,10 +1,8 @@
-use Rattle.std.proofs.Common.{◌≡◌, ℕ, ◌≤◌, List, Err, ap, arith, length, refl, subst, sym, ◌∙◌}
-use Rattle.cell_writer.proofs.BudgetLaws.{bare_counts_are}
+use Rattle.std.proofs.Common.{◌≡◌, ◌≤◌, List, Err, ap, length, refl, subst, sym, ◌∙◌}
 use Rattle.cell_writer.proofs.WriteLaws.{counts_written, variables_count, write_gives, write_spent}
-use Rattle.cell_writer.proofs.WritingLaws.{is_equal, is_ready, no_elements, own_outputs, same_sources, are_plans, comparison_same, steps}
+use Rattle.cell_writer.proofs.WritingLaws.{is_equal, is_ready, own_outputs, same_sources, are_plans, steps}
 use Rattle.output_functions.specs.Phases.{ArePhasePlans, FunctionsGive, HasOwnOutputs}
 use Rattle.output_functions.specs.declared.phase.Stop.{Stop}
-use Rattle.phase_open.specs.Given.{AreFew}
 use Rattle.phase_terms.specs.Ready.{IsReady, comparison_in}
 use Rattle.phase_terms.specs.declared.words.WordCounts.{WordCounts}
 use Rattle.phase_terms.specs.declared.plan.PhasePlan.{PhasePlan}
