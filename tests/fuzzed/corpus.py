@@ -6,6 +6,7 @@ from typing import List, NamedTuple
 
 TOP = Path(__file__).resolve().parent.parent.parent
 FILES = ["c.sp", "m.blif", "r.txt"]
+MODULES = "m.v"
 LARGEST = 100_000
 
 
@@ -21,14 +22,25 @@ def read(path):
     return path.read_bytes() if path.is_file() else b""
 
 
+def files_of(texts):
+    """The names of three texts: models that are modules of Verilog have one that says so."""
+    return [FILES[0], MODULES if re.search(rb"\b(end)?module\b", texts[1]) else FILES[1], FILES[2]]
+
+
+def by_name(texts):
+    """The texts by all names that words give them."""
+    return dict(zip(FILES, texts)) | {MODULES: texts[1]}
+
+
 def cases():
     """The acceptance cases and the examples that name three files, in the order of their names; what a script makes is left out."""
     found = []
     for folder in sorted(TOP.glob("tests/acceptance/cases/*")) + sorted(TOP.glob("examples/*")):
         texts = [read(folder / name) for name in FILES]
+        texts[1] = texts[1] or read(folder / MODULES)
         if any(texts) and all(len(text) < LARGEST for text in texts):
             words = read(folder / "words").decode().split("\n")[:-1]
-            found.append(Case(words or FILES, texts))
+            found.append(Case(words or files_of(texts), texts))
     return found
 
 

@@ -13,7 +13,7 @@ from multiprocessing import Pool
 from pathlib import Path
 from typing import List, NamedTuple
 
-from corpus import FILES, LARGEST, TOP, Case, cases
+from corpus import FILES, LARGEST, TOP, Case, by_name, cases
 from lines import asked, judged
 from mutate import Mutator
 from shapes import shape
@@ -59,7 +59,7 @@ def made(seed, number, corpus):
 
 def write(folder, case):
     """Writes the files of a case into a folder, and its command line beside them."""
-    for name, text in zip(FILES, case.texts):
+    for name, text in by_name(case.texts).items():
         (folder / name).write_bytes(text)
 
 
@@ -98,7 +98,7 @@ def wrong_of(case, run, full):
         return ["not written"], wrong + ([] if run.status in (0, 6) else [f"status {run.status} where the output is full"])
     if run.status == 7:
         return [], wrong
-    seen, more = judged(case.words, dict(zip(FILES, case.texts)), run.status, run.out)
+    seen, more = judged(case.words, by_name(case.texts), run.status, run.out)
     return seen, wrong + more
 
 

@@ -37,7 +37,7 @@ CAUSES = {
     "unmatched": f"unmatched {NAME}",
     "variables": "variables [0-9]+",
     "cycle": f"cycle {NAME} {PHASE}",
-    "modelcycle": f"modelcycle {NAME} {PHASE}",
+    "modelcycle": f"modelcycle (?:expr [0-9]+|{NAME}|) {PHASE}",
 }
 UNDECIDED = {"vacuous": f"vacuous {PHASE}", "budget": f"budget (?P<nodes>[0-9]+) {PHASE}"} | {
     f"unsupported {cause}": f"unsupported {form}" for cause, form in CAUSES.items()
@@ -60,13 +60,21 @@ BLIF = [
     "latch does not fit", "tie does not fit", f"model twice: {NAME}", "too few words", "limit passed", f"no model {NAME}",
     f"tie does not fit: {NAME}", f"model contains itself: {NAME}", "deeper than 32", f"two drivers: {NAME}", f"no driver: {NAME}",
 ]  # fmt: skip
+# Of models in Verilog a name may be empty, and that of a signal without one is two words.
+NET = f"(?:expr [0-9]+|{NAME}|)"
+VERILOG = [
+    "byte that is not text", f"not supported: {NAME}", "statement does not fit", f"module twice: {NAME}|module twice: ",
+    f"port does not fit: {NAME}|port does not fit: ", "module not ended", "limit passed", f"no model {NAME}|no model ",
+    f"tie does not fit: {NAME}|tie does not fit: ", f"model contains itself: {NAME}|model contains itself: ", "deeper than 32", f"two drivers: {NET}",
+    f"no driver: {NET}",
+]  # fmt: skip
 RULES = [
     "byte that is not text", "line does not fit", "number does not fit", "expression does not fit", f"given twice: {NAME}|given twice: ",
     f"no phase {NAME}|no phase ", f"no clock {NAME}|no clock ", "limit passed", f"no such name: {NAME}|no such name: ",
 ]  # fmt: skip
 WORDS = ["no such name: .*", "list does not fit", "given twice: .*"]
 LONG = "longer than 16777216 bytes"
-USAGE = "verity: usage: verity [--do MODE] [--cell C] [--phase P] [--at LIST] [--budget N] [--size N] [SPICE BLIF RULES]"
+USAGE = "verity: usage: verity [--do MODE] [--cell C] [--phase P] [--at LIST] [--budget N] [--size N] [--rise LIST] [SPICE BLIF RULES]"
 
 
 class Asked(NamedTuple):
@@ -78,8 +86,14 @@ class Asked(NamedTuple):
     files: list
 
 
-MODES = {"check": {"--cell", "--budget"}, "classes": {"--cell"}, "replay": {"--cell", "--phase", "--at"}, "gen": {"--budget", "--size"}}
-VALUED = {"--do", "--cell", "--phase", "--at", "--budget", "--size"}
+MODES = {
+    "check": {"--cell", "--budget"},
+    "classes": {"--cell"},
+    "replay": {"--cell", "--phase", "--at"},
+    "gen": {"--budget", "--size"},
+    "arrive": {"--cell", "--phase", "--rise", "--budget"},
+}
+VALUED = {"--do", "--cell", "--phase", "--at", "--budget", "--size", "--rise"}
 TEXTS = {"--help", "-h", "--version", "-V"}
 
 
@@ -120,6 +134,7 @@ def asked(words):
         and set(values) <= MODES[mode]
         and len(files) == (0 if mode == "gen" else 3)
         and (mode != "replay" or {"--cell", "--phase"} <= set(values))
+        and (mode != "arrive" or {"--cell", "--phase", "--rise"} <= set(values))
         and (mode != "gen" or number_of(values.get("--size", ""), 1, 32, 2) is not None)
         and ("--budget" not in values or number_of(values["--budget"], 65536, 64000000, 8) is not None)
     )
@@ -137,9 +152,9 @@ def refused(line, ask, files):
         if number == 0 and text == LONG:
             return LONG
         lines = files.get(name, b"").count(b"\n") + 1
-        for form in (SPICE, BLIF, RULES)[place]:
+        for form in (SPICE, VERILOG if name.endswith(".v") else BLIF, RULES)[place]:
             if re.fullmatch(form, text) and 1 <= number <= lines:
-                return f"{('netlist', 'models', 'rules')[place]}: {form.partition('|')[0].replace(NAME, 'NAME').replace('[0-9]+', 'N')}"
+                return f"{('netlist', 'models', 'rules')[place]}: {form.replace(NET, 'NAME').partition('|')[0].replace(NAME, 'NAME').replace('[0-9]+', 'N')}"
     if line.startswith("verity: words line 0: "):
         for form in WORDS:
             if re.fullmatch(form, line[len("verity: words line 0: ") :]):
@@ -186,6 +201,25 @@ def judged_verdicts(lines, status, ask, wrong):
     return seen
 
 
+def judged_arrival(line, status, ask, wrong):
+    """The kind of the one line of arrival orders on an equal cell, and what is wrong with it."""
+    cell, phase, names = (re.escape(lowered(ask.values[option])) for option in ("--cell", "--phase", "--rise"))
+    arrived = "".join(f" {name}\\+=[01]" for name in names.split(","))
+    port = f"(?:{names.replace(',', '|')})"
+    forms = {
+        "yes": (f"arrive {cell} phase {phase} yes", 0),
+        "no": (f"arrive {cell} phase {phase} no {port} at {NAME}=[01](?: {NAME}=[01])*?{arrived}", 1),
+        "variables": (f"arrive {cell} variables [0-9]+", 4),
+        "budget": (f"arrive {cell} budget [0-9]+ phase {phase}", 4),
+    }
+    for kind, (form, wanted) in forms.items():
+        if re.fullmatch(form, line):
+            wrong += [f"status {status} of arrive {kind}"] if status != wanted else []
+            return [f"arrive {kind}"]
+    wrong.append(f"no form of arrival orders: {line[:200]}")
+    return []
+
+
 def judged_lines(lines, status, ask, wrong):
     """The kinds of the lines of a mode that ended with a status of verdicts, and what is wrong with them."""
     told = verdict(lines[0]) if len(lines) == 1 else None
@@ -196,6 +230,10 @@ def judged_lines(lines, status, ask, wrong):
         if not lines or not re.fullmatch(last, lines[-1]):
             wrong.append("no line of what was generated at the end")
         return judged_verdicts(lines[:-1], status, ask, wrong) + ["generated"]
+    if ask.mode == "arrive":
+        if told and told[0] != "equal":
+            return judged_verdicts(lines, status, ask, wrong)
+        return judged_arrival(lines[0] if len(lines) == 1 else "", status, ask, wrong)
     if ask.mode == "replay":
         cell, phase = lowered(ask.values["--cell"]), lowered(ask.values["--phase"])
         if told and (told[0] == "skipped" or told[0].startswith("unsupported ")):

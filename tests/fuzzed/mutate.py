@@ -2,7 +2,7 @@
 
 import re
 
-from corpus import FILES, LARGEST, Case, named, names
+from corpus import FILES, LARGEST, Case, files_of, named, names
 from gentle import gentle
 
 # Words that each format knows, and some that stand at an edge of it.
@@ -13,6 +13,9 @@ WORDS = [
     b"\\ # q#m 0/q $false NIL=".split(),
     b"supply device strength clock phase clockport defaultclock pair port hold keeper match enter observe assume 0 1 2 3 4 5 6 7 8 n p - * ! !q "
     b"q#m 0/q x1:q x1: :q x1/x2:q phi=0 phi=1 =1 all & | ^ ( ) !! a&b (a|b)^!c ((a)) !(a) a& ()".split(),
+    b"module endmodule input output wire assign and nand or nor xor xnor buf not reg inout tri supply0 parameter always specify bufif1 primitive "
+    b"1'b0 1'b1 1'h0 'b0 1'bx 1 ( ) , ; . = ? : ~ & ^ | ~& ~| ~^ ^~ && || ! == # [ ] { } @ \" \\a \\ \\and \\1'b0 // /* */ (* *) (*) /*/ a$b _ "
+    b"`timescale `celldefine `endcelldefine `default_nettype `define `ifdef .a .a() .a(1'b0) begin signed".split(),
 ]
 CARDS = [
     b"m# @ @ @ gnd n|m# @ @ @ vdd p|m# @ @ @ @ @|x# @ @ @ @|x# @ @ / @|.subckt @ @ @ @|.ends|.ends @|.global @|.model @ nmos|.model @ pmos|"
@@ -22,6 +25,10 @@ CARDS = [
     b"supply 0 @|supply 1 @|device @ n|device @ p 4|strength @ @ 4|strength @ @ 7|clock @|phase @ @=0|phase @ @=1 @=0|clockport @ @ @|"
     b"clockport @ @ !@|defaultclock @|pair @ -|pair @ @|port @ @ @|hold @ @|hold @ @ 3|keeper @ @ @|match @ @ @|match @ @ !@|match @ @:@ @|"
     b"enter @ @ @ 0|enter @ @ @ 1|observe @ @ @|assume @ @ @|assume @ * @ ^ @|assume @ * !(@ & @) \\| @|assume @ all @&@|# @".split(b"|"),
+    b"module @ (@, @);!module @ (input @, @, output @);!module @;!endmodule!input @;!input @, @;!output @;!output wire @;!wire @, @;!assign @ = @;!"
+    b"assign @ = ~@ & @;!assign @ = @ ^ (@ | @);!assign @ = @ ? @ : @, @ = 1'b0;!and (@, @, @);!nand g# (@, @, @);!or (@, @ & @, 1'b1);!nor (@, @);!"
+    b"xor (@, @, @, @);!xnor (@, @);!buf (@, @, @);!not (@, @), (@, ~@);!@ u# (.@(@), .@(@));!@ u# (.@(), .@(1'b1));!// @!/* @!*/!(* @ *)!`celldefine!"
+    b"`timescale 1ns/1ps!`define @!assign @ = @ && @;!reg @;".split(b"!"),
 ]
 NUMBERS = "0 1 2 3 4 7 8 15 16 17 32 33 63 64 65 99 255 256 999 1000 1001 4095 4096 4097 20000 20001 40000 40001 65535 65536 65537 100000 200001 \
 2147483647 2147483648 4294967295 4294967296 9223372036854775807 18446744073709551615 18446744073709551616 -1 00 01 1e9 0x10 99999999999999999999".split()
@@ -36,6 +43,7 @@ class Mutator:
         self.draw = draw
         self.cases = cases
         self.names = [b"a"]
+        self.has_modules = False  # whether the models are modules of Verilog
 
     def some(self, most):
         """A number from 1 on, small ones far more often."""
@@ -51,13 +59,17 @@ class Mutator:
         at = self.draw.randrange(len(text) + 1)
         return at, min(len(text), at + (self.some(30) if self.draw.random() < 0.8 else self.draw.randrange(len(text) + 1)))
 
+    def format_of(self, place):
+        """The format of the file of a place, among those of which words and cards are known."""
+        return 3 if place == 1 and self.has_modules else place
+
     def token(self, place):
         """A word: a name of the case, a word of the format, a number, a long one, or any bytes."""
         kind = self.draw.random()
         if kind < 0.6:
             return self.draw.choice(self.names)
         if kind < 0.85:
-            return self.draw.choice(WORDS[place])
+            return self.draw.choice(WORDS[self.format_of(place)])
         if kind < 0.93:
             return self.draw.choice(NUMBERS).encode()
         if kind < 0.96:
@@ -68,7 +80,7 @@ class Mutator:
 
     def card(self, place):
         """A card of the format, with names of the case."""
-        form = self.draw.choice(CARDS[place]).replace(b"#", b"%d" % self.draw.randrange(90))
+        form = self.draw.choice(CARDS[self.format_of(place)]).replace(b"#", b"%d" % self.draw.randrange(90))
         return re.sub(b"@", lambda _: self.token(place) if self.draw.random() < 0.2 else self.draw.choice(self.names), form)
 
     def bytes_changed(self, text, place):
@@ -179,7 +191,7 @@ class Mutator:
             words = ["--do=replay", "--cell", text(self.draw.choice(cells)), "--phase", text(self.draw.choice(phases)), "--at", bits]
         else:
             return ["--do", "gen", "--budget=65536", "--size", self.draw.choice(NUMBERS)]
-        return words + FILES
+        return words + files_of(texts)
 
     def words_spoilt(self, words):
         """The words with some that do not fit."""
@@ -201,6 +213,7 @@ class Mutator:
         """A case with some changes, most of them in one of its files."""
         texts = list(case.texts)
         self.names = names(texts) or [b"a"]
+        self.has_modules = files_of(texts) != FILES
         if self.draw.random() < 0.05:
             other = self.draw.choice(self.cases)
             place = self.draw.randrange(3)

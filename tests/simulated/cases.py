@@ -1,10 +1,11 @@
 """The acceptance cases, simulated: what is wanted of the program there is to be what the definitions say.
 
-Those with other words than a check, a replay or the classes of all cells, with a refusal or with more variables than are tried are left out.
+Those with other words than a check, a replay, arrival orders or the classes of all cells, with a refusal or with more variables than are tried are left out.
 """
 
 from pathlib import Path
 
+from arrivals import Arrivals
 from budgets import MOST_TRIED
 from modes import class_lines, replay_lines
 from read import NotRead, read_design
@@ -16,7 +17,7 @@ CASES = Path(__file__).parent.parent / "acceptance" / "cases"
 FILES = ["c.sp", "m.blif", "r.txt"]
 
 # The options before the files of a case that is simulated, in order.
-OPTIONS = [[], ["--do"], ["--do", "--cell", "--phase"], ["--do", "--cell", "--phase", "--at"]]
+OPTIONS = [[], ["--do"], ["--do", "--cell", "--phase"], ["--do", "--cell", "--phase", "--at"], ["--do", "--cell", "--phase", "--rise"]]
 
 
 def options_of(folder):
@@ -46,8 +47,17 @@ def other_lines(design, options):
     return replay_lines(Comparison(design, options["--cell"]), phase, {name: int(bit) for name, bit in items})
 
 
+def arrival_lines(design, options):
+    """The line of arrival orders of an equal cell, where all orders can be tried, else None."""
+    phase = next(phase for phase in design.rules.phases if phase.name == options["--phase"])
+    arrivals = Arrivals(Comparison(design, options["--cell"]), phase, options["--rise"].lower().split(","))
+    return [arrivals.line()] if arrivals.is_small() else None
+
+
 def simulated(design, options, wanted):
     """The lines of a case, with what is wrong behind them; None where it is not simulated."""
+    if wanted[0].startswith("arrive "):
+        return arrival_lines(design, options)
     if all(line.startswith(("replay ", "net ", "class ")) for line in wanted):
         return other_lines(design, options)
     if options or not all(line.startswith("cell ") and is_small(design, line) for line in wanted):

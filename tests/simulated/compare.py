@@ -10,6 +10,7 @@ import tempfile
 from collections import Counter
 from itertools import zip_longest
 from pathlib import Path
+from random import Random
 
 from budgets import USUAL_BUDGET
 from cases import compare_cases
@@ -17,10 +18,15 @@ from counts import Counts
 from designs import models_text, netlist_text, rules_text
 from drawn import Words, random_design
 from modes import class_lines, replay_lines
+from modules import has_modules, modules_text
 from report import Report
 from verdicts import Comparison, PhaseCheck
 
 FILES = ("c.sp", "m.blif", "r.txt")
+MODULES = ("c.sp", "m.v", "r.txt")
+
+# Words of lines that go by the form of the models: how many rows they have, and which of their signals comes first in a cycle.
+FORMED = {"budget", "modelcycle"}
 
 # For trials of the simulator alone: with this set to `flat` no instance is left whole, with `gates` those alone whose outputs meet gates
 # alone; the program leaves also such whole whose outputs meet channels.
@@ -34,9 +40,9 @@ def write_files(design, folder):
         (folder / name).write_text(text, encoding="ascii")
 
 
-def printed(program, words, folder):
+def printed(program, words, folder, files=FILES):
     """The lines that the program prints for the files of a folder, and its exit status behind them."""
-    run = subprocess.run([program, *words, *FILES], cwd=folder, capture_output=True, text=True, check=False)
+    run = subprocess.run([program, *words, *files], cwd=folder, capture_output=True, text=True, check=False)
     return run.stdout.splitlines() + [f"status {run.returncode}"]
 
 
@@ -72,6 +78,7 @@ class Comparing:
         self.wholes = Counter()
         self.replays = 0
         self.classed = 0  # designs of which the classes were compared
+        self.written = 0  # designs whose models were written as modules too
         self.wrong = 0  # designs for which the program prints other lines
         self.disagreeing = 0  # designs of which flat circuits and circuits with whole instances say different things
 
@@ -86,6 +93,8 @@ class Comparing:
                 differences += self.replay(design, words, report, folder)
             if words.has_classes:
                 differences += self.classes(design, report, folder)
+            if has_modules(design):
+                differences += self.modules(design, words, name, folder)
         self.verdicts.update(kind_of(line) for line in report.lines)
         self.counts.add(design, report.lines)
         self.wholes.update(designs=report.with_wholes > 0, cells=report.with_wholes, exposed=report.exposed, moved=report.moved)
@@ -122,6 +131,30 @@ class Comparing:
             wanted += [line] if verdict in ("skipped", "unsupported") else class_lines(Comparison(design, cell))
         return self.differences(["--do", "classes"], wanted + with_status(undecided)[-1:], folder)
 
+    def modules(self, design, words, name, folder):
+        """The differences of a check by modules in Verilog from one by BLIF, where no line goes by the form of the models."""
+        text = modules_text(design, Random(f"{name} modules"))
+        (folder / MODULES[1]).write_text(text, encoding="ascii")
+        lines, wanted = (printed(self.program, words.check(), folder, files) for files in (MODULES, FILES))
+        if any(FORMED & set(line.split()) for line in lines + wanted):
+            return []
+        self.written += 1
+        if lines == wanted:
+            return []
+        kept = Path(tempfile.gettempdir()) / f"simulated-{name}.v"
+        kept.write_text(text, encoding="ascii")
+        pairs = zip_longest(lines, wanted, fillvalue="")
+        return [f"    by {kept}: {line}\n    by BLIF: {other}" for line, other in pairs if line != other]
+
+    def by_modules(self, design, words, name, folder):
+        """Compares what is printed by modules with what is printed by BLIF alone, of a design that is not simulated."""
+        write_files(design, folder)
+        differences = self.modules(design, words, name, folder)
+        if differences:
+            print(f"design {name}, files in {keep_files(design, f'simulated-{name}')}")
+            print("\n".join(differences))
+        self.wrong += bool(differences)
+
     def print_counts(self, count):
         """Prints the counts; the last line says how many designs were compared."""
         self.counts.print()
@@ -130,6 +163,7 @@ class Comparing:
             print(f"{times:6} {verdict}")
         counts = [self.wholes[name] for name in ("designs", "cells", "exposed", "moved")]
         print("whole instances: {} designs, {} cells, {} of them with outputs at channels, {} with another first fault than the flat circuit".format(*counts))
+        print(f"modules: {self.written} designs with the models in Verilog too")
         if self.disagreeing:
             print(f"simulated: THE DEFINITIONS DISAGREE on flat circuits and whole instances in {self.disagreeing} designs")
         told = f"{self.wrong} of them not as simulated" if self.wrong else "all as simulated"
@@ -144,6 +178,12 @@ def compare(count, seed, program):
         for number in range(count):
             design = random_design(seed, number)
             comparing.design(design, Words(seed, number, design), f"{seed}-{number}", Path(place))
+        number = count
+        while program and 3 * comparing.written < count and number < 4 * count:
+            design = random_design(seed, number)
+            if has_modules(design):
+                comparing.by_modules(design, Words(seed, number, design), f"{seed}-{number}", Path(place))
+            number += 1
     comparing.print_counts(count)
     if comparing.disagreeing:
         return 2

@@ -8,7 +8,8 @@ resistors resistors as wires, and which nets are supplies by their usual names
 includes  a netlist with the files that its .include cards name
 sources   the lines of netlists as other tools write them
 rules     the lines of a rules file, and what they say of supplies, kinds, levels, holds and keepers
-models    the models of a BLIF file
+models    the models of a BLIF file, or of one in Verilog
+modules   modules of gate-level Verilog as models
 verdicts  the lines that the program prints
 values    the bits of a circuit and its model at one valuation
 paths     the conducting paths of a circuit at one valuation

@@ -1,4 +1,4 @@
-"""The models of a BLIF file, as docs/FORMATS.md says.
+"""The models of a BLIF file, or of one in gate-level Verilog, as docs/FORMATS.md says.
 
     models = read_models("m.blif")
     model_of(models, rules, "nand2").outputs
@@ -115,12 +115,16 @@ def models_of(text, file="-"):
 
 def read_models(path):
     """The models of a file; one that cannot be read is refused with status 3."""
+    if path.endswith(".v"):
+        from lib.modules import models_of_modules  # pylint: disable=import-outside-toplevel,cyclic-import
+
+        return models_of_modules(tool.read(path), path)
     return models_of(tool.read(path), path)
 
 
 def is_models(path):
     """Whether a file has models, and so is no file of rules."""
-    return bool(re.search(r"(?m)^[ \t]*\.model[ \t]", tool.read(path)))
+    return path.endswith(".v") or bool(re.search(r"(?m)^[ \t]*\.model[ \t]", tool.read(path)))
 
 
 def inputs_of(models, rules, cell, devices):

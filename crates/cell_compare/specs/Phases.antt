@@ -10,10 +10,8 @@ use Rattle.vrt_model.specs.Places.{Finding, IsFirst, IsFirstInPhase}
 use Rattle.vrt_model.specs.Verdicts.{Describes, EqualBefore}
 use Rattle.vrt_model.specs.declared.verdict.Verdict.{Verdict}
 use Rattle.vrt_model.specs.declared.verdict.Verdict.TheVariants.{Equal, Skipped, Fault, Vacuous, Budget, Unsupported}
-use Rattle.vrt_model.specs.declared.verdict.Why.{Why}
 use Rattle.vrt_model.specs.declared.whole.CellFacts.{CellFacts}
 use Rattle.vrt_model.specs.declared.whole.Drive.{Drive}
-use Rattle.cell_room.specs.Works.{IsPlanned, IsToldWhy}
 
 -- a phase may use up the budget: by all operations of its plan
 abbrev pub MayUseUp : Comparison → ℕ → ℕ → Type 0
@@ -43,11 +41,6 @@ IsChecked k budget (Vacuous phase) = (phase < length k.rules.phases) × IsVacuou
 IsChecked k budget (Budget nodes phase) = (phase < length k.rules.phases) × (nodes ≡ budget) × MayUseUp k budget phase × EqualBefore k phase
 IsChecked k budget Skipped = ⊥
 IsChecked k budget (Unsupported why) = ⊥
-
--- what is told of it where nothing but a cause is asked
-abbrev pub IsToldEarly : Comparison → Option Verdict → Type 0
-IsToldEarly k None = IsPlanned k
-IsToldEarly k (Some verdict) = (why : Why) × (verdict ≡ Unsupported why) × IsToldWhy k why
 
 -- ---- what is known of the cell then
 

@@ -107,12 +107,7 @@ pub fn early_prepared(
     cell: u32,
 ) -> Result<EarlyCell, NoMemory>
     requires prepared { ArePrepared design.now blif.now rules.now prepared.now }
-    requires design { IsDesign design.now }
-    requires blif { IsBlif blif.now }
-    requires models { AreModels blif.now }
-    requires rules { AreRules rules.now }
-    requires cell { cell < length design.now.cells }
-    requires ordered { IsOrdered design.now rules.now }
+    requires inputs { AreInputs design.now blif.now rules.now cell }
     ensures early { IfOk result (λ e. IsEarly design.now blif.now rules.now cell e.verdict) }
     ensures line { IfOk result (λ e. HasEarlyLine design.now blif.now rules.now cell e.verdict e.flattened) }
     ensures flattened { IfOk result (λ e. IsFlattenedTo design.now blif.now rules.now cell e.verdict e.flattened) }

@@ -74,12 +74,7 @@ pub fn with_room_prepared<'a>(
 ) -> Result<Workspace<'a>, RoomFault>
     requires budget { (65536 ≤ budget) × (budget ≤ 64000000) }
     requires prepared { ArePrepared design.now blif.now rules.now prepared.now }
-    requires design { IsDesign design.now }
-    requires blif { IsBlif blif.now }
-    requires models { AreModels blif.now }
-    requires rules { AreRules rules.now }
-    requires cell { cell < length design.now.cells }
-    requires ordered { IsOrdered design.now rules.now }
+    requires inputs { AreInputs design.now blif.now rules.now cell }
     requires facts { AreTrueFacts design.now blif.now rules.now facts.now }
     requires kept { AreKept design.now blif.now rules.now facts.now kept.old }
     ensures gives { RoomGives design.entry.now blif.entry.now rules.entry.now facts.now budget cell result }

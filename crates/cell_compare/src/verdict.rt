@@ -103,12 +103,7 @@ pub fn compare_prepared(
 ) -> Result<Compared, NoMemory>
     requires budget { (65536 ≤ budget) × (budget ≤ 64000000) }
     requires prepared { ArePrepared design.now blif.now rules.now prepared.now }
-    requires design { IsDesign design.now }
-    requires blif { IsBlif blif.now }
-    requires models { AreModels blif.now }
-    requires rules { AreRules rules.now }
-    requires cell { cell < length design.now.cells }
-    requires ordered { IsOrdered design.now rules.now }
+    requires inputs { AreInputs design.now blif.now rules.now cell }
     requires facts { AreTrueFacts design.now blif.now rules.now facts.now }
     requires kept { AreKept design.now blif.now rules.now facts.now kept.old }
     ensures verdict { IfOk result (λ c. IsCheckedVerdict design.now blif.now rules.now facts.now budget cell c.verdict) }

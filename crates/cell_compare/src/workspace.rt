@@ -36,15 +36,25 @@ use whole_circuits::copy_items;
 /// A cell whose phases are looked through as often as wanted and in any order. All memory is taken when it is made.
 #[derive(Drop)]
 pub struct Workspace<'a> {
+    /// The netlist.
     design: &'a Design,
+    /// The models, by which the answers are said.
     blif: &'a Blif,
+    /// The rules.
     rules: &'a Rules,
+    /// The cell, by its place in the netlist.
     cell: u32,
+    /// How many nodes the diagrams of a phase may have.
     budget: u32,
+    /// All that was made of the cell before its phases are looked through.
     made: Made,
+    /// The diagrams and words of the last phase.
     store: Store,
+    /// How the store was opened, to which it is cut back before each phase.
     start: Mark,
+    /// The levels of the nets of output ports in the last phase that was clear.
     levels: NetLevels,
+    /// The phase that was looked through last, with its answer; none before the first.
     last: Option<Last>,
 }
 

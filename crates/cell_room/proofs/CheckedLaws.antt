@@ -14,7 +14,7 @@ use Rattle.cell_room.specs.Flat.{Flattened}
 use Rattle.checked_cells.proofs.CircuitLaws.{checked_circuits_are_formed, checked_circuits_share}
 use Rattle.checked_cells.proofs.GivenLaws.{checked_cells_are_by_facts}
 use Rattle.checked_cells.proofs.VerdictLaws.{checked_variables_are_same}
-use Rattle.checked_cells.proofs.WholeLaws.{checked_circuits_are_wired, checked_wholes_are_determined, checked_wholes_are_logic}
+use Rattle.checked_cells.proofs.WholeLaws.{checked_circuits_are_acyclic, checked_circuits_are_wired, checked_wholes_are_determined, checked_wholes_are_logic}
 use Rattle.checked_cells.specs.Given.{AreTrueFacts, IsCheckedOf}
 use Rattle.circuit_faults.specs.Wholes.{HasSoundWholes}
 use Rattle.path_fixpoint.specs.Parts.{pins_of}
@@ -26,6 +26,7 @@ use Rattle.vrt_model.specs.Comparison.{Comparison, is_observed, phase_at}
 use Rattle.vrt_model.specs.Cut.{Cut}
 use Rattle.vrt_model.specs.FlatCircuit.{flat_circuit_of}
 use Rattle.vrt_model.specs.Unrolled.{Top}
+use Rattle.vrt_model.specs.Unsupported.{AcyclicBefore}
 use Rattle.vrt_model.specs.declared.blif.Blif.{Blif}
 use Rattle.vrt_model.specs.declared.circuit.Circuit.{Circuit}
 use Rattle.vrt_model.specs.declared.circuit.FlatNet.{FlatNet}
@@ -103,6 +104,11 @@ pub ready_with : (k : Comparison) (cut : Cut) (blif : Blif) (facts : List CellFa
 ready_with k cut blif facts c ready h =
     ready_over k c ready (checked_circuits_share k cut blif facts c h) (checked_circuits_are_formed k cut blif facts c h)
     (λ phase lt. subst (λ (x : Comparison). HasSoundWholes c (phase_at k.rules phase) (is_observed x phase)) (over_is k cut blif facts c h) (sound_wholes k cut blif facts c phase h lt))
+
+-- neither its arcs nor those of its model lead around
+pub acyclic_over : (k : Comparison) (cut : Cut) (blif : Blif) (facts : List CellFacts) (c : Circuit) → IsCheckedByFacts false k cut blif facts c → IsPlanned k
+    → AcyclicBefore (over k c) (length k.rules.phases)
+acyclic_over k cut blif facts c h planned p lt = (checked_circuits_are_acyclic k cut blif facts c p h lt, (planned.acyclic p lt).1)
 
 -- by the outputs of its whole instances and the orders of their models
 pub table_with : (k : Comparison) (cut : Cut) (blif : Blif) (facts : List CellFacts) (c : Circuit) (drivers : List (Option OutputPlace)) (orders : List ModelPlan) → IsCheckedByFacts false k cut blif facts c

@@ -1,5 +1,5 @@
 -- The variables and the plans of the phases, one after the other.
-use Rattle.std.proofs.Common.{◌≡◌, ◌⊎◌, ℕ, ◌+◌, ◌<◌, ◌≤◌, List, [], ◌∷◌, ◌++◌, length, Some, None, arith, ap, subst, sym, ◌∙◌, inl, inr}
+use Rattle.std.proofs.Common.{◌≡◌, ◌⊎◌, ℕ, ◌+◌, ◌<◌, ◌≤◌, List, [], ◌∷◌, ◌++◌, length, map, Some, None, arith, ap, subst, sym, ◌∙◌, inl, inr}
 use Rattle.std.proofs.lemmas.List.{length-append}
 use Rattle.cell_room.proofs.Causes.{first_many, none_many}
 use Rattle.cell_room.specs.Steps.{Stops}
@@ -13,6 +13,9 @@ use Rattle.vrt_model.specs.Held.{sources_of}
 use Rattle.vrt_model.specs.Lists.{At}
 use Rattle.vrt_model.specs.Unsupported.{AcyclicBefore, IsCycleWhy, too_many_variables}
 use Rattle.vrt_model.specs.declared.groups.Vars.{Vars}
+use Rattle.vrt_model.specs.declared.ids.Net.{Net}
+use Rattle.vrt_model.specs.declared.verdict.Why.{Why}
+use Rattle.vrt_model.specs.declared.verdict.Why.TheVariants.{Ports, Cycle, ModelCycle, Unmatched, DeviceModel, SupplyTie, OutputIsInput, TooManyVars, TooLarge, NoModel, NoClock}
 
 module _ (k : Comparison) where
   -- ---- variables
@@ -96,3 +99,17 @@ module _ (k : Comparison) where
   pub plans_stop : (vars : List Vars) (stop : Hindrance) → AreVars k (length k.rules.phases) vars → Stops (IsCycleWhy k) stop → Stops (IsToldWhy k) stop
   plans_stop vars NoMemory are cycle = tt
   plans_stop vars (Because why) are cycle = inr (few_all vars are, cycle)
+
+  -- where there is no cycle, none is told
+  pub no_cycle_told : (why : Why) → AcyclicBefore k (length k.rules.phases) → IsCycleWhy k why → ⊥
+  no_cycle_told (Cycle phase nets) none is = (none phase is.0).0 (map (λ (n : Net). n.0) nets) is.2.0
+  no_cycle_told (ModelCycle phase signals) none is = (none phase is.0).1 signals is.3.0
+  no_cycle_told (Ports name) none is = is
+  no_cycle_told (Unmatched name) none is = is
+  no_cycle_told (DeviceModel model) none is = is
+  no_cycle_told (SupplyTie path) none is = is
+  no_cycle_told (OutputIsInput signal) none is = is
+  no_cycle_told (TooManyVars count) none is = is
+  no_cycle_told (TooLarge count) none is = is
+  no_cycle_told NoModel none is = is
+  no_cycle_told (NoClock latch) none is = is

@@ -11,6 +11,7 @@ use Rattle.vrt_model.specs.declared.circuit.Circuit.{Circuit}
 use Rattle.vrt_model.specs.declared.whole.CellFacts.{CellFacts}
 use Rattle.substitute.specs.Candidates.{IsGround}
 use Rattle.substitute.specs.Whole.{WholeGives}
+use Rattle.substitute.specs.declared.checked_circuit.CheckedCircuit.{CheckedCircuit}
 
 -- the circuit of the comparison is the flat one of its cell; once nothing stands in the way of its phases, instances may be tried in
 -- it, and a checked circuit of it is made of instances that are chosen by true facts
@@ -19,8 +20,8 @@ pub record IsCheckable (k : Comparison) (blif : Blif) (facts : List CellFacts) :
   pub ground : IsPlanned k → IsGround (top_of k) blif facts k.circuit
   pub by_facts : (c : Circuit) → IsPlanned k → (is : IsCheckedOf k blif facts c) → IsCheckedByFacts false k is.0 blif facts c
 
--- the checked circuit, none where it is the flat one
-abbrev pub CheckedGives : Comparison → Blif → List CellFacts → Option Circuit → Type 0
+-- the checked circuit, none where it is the flat one; with its parts, where they are kept
+abbrev pub CheckedGives : Comparison → Blif → List CellFacts → Option CheckedCircuit → Type 0
 CheckedGives k blif facts whole = WholeGives (top_of k) blif facts k.circuit whole
 
 -- the comparison with another circuit that has the same groups of holds

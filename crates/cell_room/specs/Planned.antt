@@ -4,7 +4,6 @@ use Rattle.cell_room.specs.Checked.{IsCheckable}
 use Rattle.cell_room.specs.Compared.{IsFlattened, comparison}
 use Rattle.cell_room.specs.Steps.{IsEarlyWhy}
 use Rattle.cell_room.specs.Works.{ArePlans, AreVars, IsPlanned, IsToldWhy}
-use Rattle.cell_room.specs.declared.flattening.Placed.{Placed}
 use Rattle.cell_room.specs.declared.planned.NotPlanned.{NotPlanned}
 use Rattle.cell_room.specs.declared.planned.NotPlanned.TheVariants.{Because, NoMemory}
 use Rattle.cell_room.specs.declared.planned.Phases.{Phases}
@@ -16,11 +15,7 @@ use Rattle.vrt_model.specs.declared.rules.Rules.{Rules}
 use Rattle.whole_cells.specs.Own.{AreItsPlaces}
 use Rattle.whole_steps.specs.Tables.{IsWholeTable}
 
--- a cell that pairs with a model, flattened, with its places
-abbrev pub IsPlacedCell : Design → Blif → Rules → ℕ → ℕ → Placed → Type 0
-IsPlacedCell design blif rules cell m p = AreItsPlaces design rules cell p.unrolled × IsFlattened design blif rules cell m p.flattened
-
--- with few variables in each phase and no cycle, and the variables and the plan of each
+-- a cell that pairs with a model, flattened, with its places, few variables in each phase and no cycle, and the variables and the plan of each
 pub record IsPlannedCell (design : Design) (blif : Blif) (rules : Rules) (cell m : ℕ) (p : Planned) : Type 0 where
   pub places : AreItsPlaces design rules cell p.unrolled
   pub flattened : IsFlattened design blif rules cell m p.flattened

@@ -114,7 +114,10 @@ abbrev pub FlattenedTells : Design → Blif → Rules → ℕ → ℕ → Result
 FlattenedTells design blif rules cell m (Ok f) = IsFlattened design blif rules cell m f
 FlattenedTells design blif rules cell m (Err stop) = Stops (IsEarlyWhy design blif rules cell) stop
 
--- with the places of the cell and its instances
+-- a cell that pairs with a model, flattened, with the places of the cell and its instances
+abbrev pub IsPlacedCell : Design → Blif → Rules → ℕ → ℕ → Placed → Type 0
+IsPlacedCell design blif rules cell m p = AreItsPlaces design rules cell p.unrolled × IsFlattened design blif rules cell m p.flattened
+
 abbrev pub PlacedTells : Design → Blif → Rules → ℕ → ℕ → Result Placed Hindrance → Type 0
-PlacedTells design blif rules cell m (Ok p) = AreItsPlaces design rules cell p.unrolled × IsFlattened design blif rules cell m p.flattened
+PlacedTells design blif rules cell m (Ok p) = IsPlacedCell design blif rules cell m p
 PlacedTells design blif rules cell m (Err stop) = Stops (IsEarlyWhy design blif rules cell) stop

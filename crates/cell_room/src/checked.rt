@@ -1,34 +1,45 @@
 //! The checked circuit of a cell: chosen, and what is made of it before its phases are looked through.
 
-ghost use Rattle.std.specs.Prelude.{◌≡◌, ◌&&◌, ◌≤◌, None, Some, true, length, unwrap_or, IfOk};
+ghost use Rattle.std.specs.Prelude.{◌≡◌, ◌&&◌, ◌<◌, ◌≤◌, None, Some, true, length, unwrap_or, IfOk};
 ghost use Rattle.std.specs.List.{list_any};
+ghost use Rattle.blif_eval.specs.Plans.{ArcOf};
 ghost use Rattle.cell_room.specs.Checked.{CheckedGives, over};
 ghost use Rattle.cell_room.specs.Made.{IsSearched, most_outputs};
 ghost use Rattle.cell_room.specs.Planned.{ArePhases};
-ghost use Rattle.cell_room.specs.Works.{ArePlans, AreVars};
+ghost use Rattle.cell_room.specs.Works.{ArePlans, AreVars, IsAcyclicPlan};
+ghost use Rattle.channel_parts.specs.PartLists.{IsPartList};
 ghost use Rattle.checked_cells.specs.Given.{IsCheckedOf, is_candidate};
 ghost use Rattle.path_fixpoint.specs.Parts.{pins_of};
 ghost use Rattle.phase_terms.specs.Ready.{IsReady, comparison_in};
 ghost use Rattle.phase_terms.specs.Stores.{counts_of};
 ghost use Rattle.prepared_tables.specs.Prepared.{ArePrepared};
 ghost use Rattle.rule_index.specs.Tables.{AreRuleTables};
+ghost use Rattle.substitute.specs.BareParts.{AreBareParts, HasParts, HasPartsIn};
 ghost use Rattle.vrt_model.specs.Checked.{has_fact};
+ghost use Rattle.vrt_model.specs.Comparison.{phase_at};
+ghost use Rattle.vrt_model.specs.Lists.{Among};
 ghost use Rattle.vrt_model.specs.Networks.{HasRanges};
+ghost use Rattle.vrt_model.specs.Unsupported.{AcyclicBefore, IsAcyclic, ModelArc};
 ghost use Rattle.vrt_model.specs.declared.whole.CellFacts.{CellFacts as FactsValue};
+ghost use Rattle.vrt_model.specs.declared.whole.Whole.{Whole as WholeValue};
 ghost use Rattle.whole_cells.specs.Kept.{AreKept};
 ghost use Rattle.whole_cells.specs.Own.{AreItsPlaces};
+ghost use Rattle.whole_steps.specs.Logic.{nothing_known};
 ghost use Rattle.whole_steps.specs.Tables.{AreOrders, IsWholeTable};
 
+use crate::hindrance::Hindrance;
 use crate::planned::Phases;
 use crate::sizes::{counts_with, most_outputs, most_variables};
 use crate::works::add_plans;
 use blif_eval::{ModelPlan, PlanFault};
+use channel_parts::Parts;
 use net_places::Unrolled;
+use phase_plan::{PlanFault as PhaseFault, plan_by_parts};
 use phase_terms::{Comparison, PhasePlan, WordCounts};
 use prepared_tables::Prepared;
 use rule_index::RuleIndex;
 use std::alloc::Global;
-use substitute::whole_with;
+use substitute::{CheckedCircuit, whole_with};
 use vrt_model::{CellFacts, Circuit, NoMemory, Seq};
 use whole_cells::KeptCells;
 use whole_steps::{OutputPlace, WholeTable, model_orders, output_drivers};
@@ -72,7 +83,7 @@ fn checked_circuit(
     phases: Phases<'_>,
     unrolled: &Unrolled,
     kept: &mut KeptCells,
-) -> Result<Option<Circuit>, NoMemory>
+) -> Result<Option<CheckedCircuit>, NoMemory>
     requires prepared { ArePrepared phases.compared.design.now phases.blif.now phases.compared.rules.now prepared.now }
     requires phases { ArePhases phases }
     requires places { AreItsPlaces phases.compared.design.now phases.compared.rules.now phases.compared.cell unrolled.now }
@@ -99,15 +110,15 @@ fn checked_circuit(
     Ok(whole)
 }
 
-/// The orders of the models of whole instances. No model leads around, where each is that of a supported cell.
+/// The orders of the models of whole instances, none of which has a cycle.
 fn orders_of(alloc: Global, circuit: &Circuit) -> Result<Seq<ModelPlan>, NoMemory>
-    requires { HasRanges circuit.now }
+    requires ranges { HasRanges circuit.now }
+    requires acyclic { (w : WholeValue) → Among circuit.now.wholes w → IsAcyclic (ArcOf w.model (nothing_known w.model)) }
     ensures { IfOk result (λ orders. AreOrders circuit.now.wholes (length circuit.now.wholes) orders) }
 {
     match model_orders(alloc, circuit) {
         Ok(orders) => Ok(orders),
-        // the cell of a whole instance is known as equal, so it is supported, and its model has no cycle
-        Err(PlanFault::ModelCycle { .. }) => Err(NoMemory),
+        Err(PlanFault::ModelCycle { signals: _ }) => unreachable!(),
         Err(PlanFault::NoMemory) => Err(NoMemory),
     }
 }
@@ -157,13 +168,86 @@ fn plans_of(
 ) -> Result<Seq<PhasePlan>, NoMemory>
     requires ready { IsReady (comparison_in compared) }
     requires tables { AreRuleTables compared.rules.now index.now }
+    requires acyclic { AcyclicBefore (comparison_in compared) (length compared.rules.now.phases) }
     ensures { IfOk result (ArePlans (comparison_in compared.entry) (length compared.entry.rules.now.phases)) }
 {
     let mut plans = Seq::new(alloc);
     match add_plans(alloc, index, compared, &mut plans) {
         Ok(()) => Ok(plans),
-        // the arcs of the checked circuit and of its model have no cycle, as those of the flat one have none
-        Err(_) => Err(NoMemory),
+        // a cause would be a cycle, and there is none
+        Err(Hindrance::Because(_)) => unreachable!(),
+        Err(Hindrance::NoMemory) => Err(NoMemory),
+    }
+}
+
+/// The plan of a phase of a comparison whose model has no cycle, by the parts of its circuit without keepers.
+fn plan_by(
+    alloc: Global,
+    index: &RuleIndex,
+    compared: Comparison<'_>,
+    phase: u32,
+    parts: Parts,
+) -> Result<PhasePlan, NoMemory>
+    requires ready { IsReady (comparison_in compared) }
+    requires tables { AreRuleTables compared.rules.now index.now }
+    requires phase { phase < length compared.rules.now.phases }
+    requires parts { IsPartList compared.circuit.now (phase_at compared.rules.now phase) true parts }
+    requires acyclic { IsAcyclic (ModelArc (comparison_in compared) phase) }
+    ensures { IfOk result (IsAcyclicPlan (comparison_in compared.entry) phase) }
+{
+    match plan_by_parts(alloc, index, compared, phase, parts) {
+        Ok(plan) => Ok(plan),
+        // a circuit that has parts has no cycle, and neither has the model
+        Err(PhaseFault::Cycle { nets: _ }) => unreachable!(),
+        Err(PhaseFault::ModelCycle { signals: _ }) => unreachable!(),
+        Err(PhaseFault::NoMemory) => Err(NoMemory),
+    }
+}
+
+/// The plan of each phase of a comparison whose model has no cycle, by the parts of its circuit without keepers, those of the last phase
+/// first.
+fn plans_by(
+    alloc: Global,
+    index: &RuleIndex,
+    compared: Comparison<'_>,
+    parts: Vec<Parts>,
+) -> Result<Seq<PhasePlan>, NoMemory>
+    requires ready { IsReady (comparison_in compared) }
+    requires tables { AreRuleTables compared.rules.now index.now }
+    requires phases { length compared.rules.now.phases ≤ 16 }
+    requires parts { AreBareParts compared.circuit.now compared.rules.now.phases parts.items }
+    requires acyclic { AcyclicBefore (comparison_in compared) (length compared.rules.now.phases) }
+    ensures { IfOk result (ArePlans (comparison_in compared.entry) (length compared.entry.rules.now.phases)) }
+{
+    let mut left = parts;
+    let mut plans = Seq::new(alloc);
+    for phase in 0..compared.rules.phases.len() as u32 {
+        // there are parts for each phase
+        let Some(own) = left.pop() else {
+            unreachable!()
+        };
+        let plan = plan_by(alloc, index, compared, phase, own)?;
+        plans.append(plan)?;
+    }
+    Ok(plans)
+}
+
+/// The plan of each phase of a checked circuit: by its parts, where they were made as it was chosen.
+fn plans_with(
+    alloc: Global,
+    index: &RuleIndex,
+    compared: Comparison<'_>,
+    parts: Option<Vec<Parts>>,
+) -> Result<Seq<PhasePlan>, NoMemory>
+    requires ready { IsReady (comparison_in compared) }
+    requires tables { AreRuleTables compared.rules.now index.now }
+    requires parts { HasPartsIn compared.circuit.now compared.rules.now.phases parts }
+    requires acyclic { AcyclicBefore (comparison_in compared) (length compared.rules.now.phases) }
+    ensures { IfOk result (ArePlans (comparison_in compared.entry) (length compared.entry.rules.now.phases)) }
+{
+    match parts {
+        Some(parts) => plans_by(alloc, index, compared, parts),
+        None => plans_of(alloc, index, compared),
     }
 }
 
@@ -173,14 +257,16 @@ fn searched_whole(
     alloc: Global,
     index: &RuleIndex,
     phases: Phases<'_>,
-    circuit: Circuit,
+    checked: CheckedCircuit,
 ) -> Result<Searched, NoMemory>
     requires tables { AreRuleTables phases.compared.rules.now index.now }
     requires phases { ArePhases phases }
-    requires checked { IsCheckedOf (comparison_in phases.compared) phases.blif.now phases.facts.now circuit }
+    requires checked { IsCheckedOf (comparison_in phases.compared) phases.blif.now phases.facts.now checked.circuit }
+    requires parts { HasParts phases.compared.rules.now.phases checked }
     ensures searched { IfOk result (IsSearched (comparison_in phases.entry.compared) phases.entry.vars.now) }
-    ensures circuit { IfOk result (λ s. s.checked ≡ Some circuit) }
+    ensures circuit { IfOk result (λ s. s.checked ≡ Some checked.circuit) }
 {
+    let CheckedCircuit { circuit, parts } = checked;
     let drivers = output_drivers(alloc, &circuit)?;
     let orders = orders_of(alloc, &circuit)?;
     let wholes = WholeTable {
@@ -190,7 +276,7 @@ fn searched_whole(
     let compared = over(phases.compared, &circuit, wholes);
     let most = most_outputs(phases.compared.circuit);
     let counts = counts_with(compared, most_variables(phases.vars), most)?;
-    let plans = plans_of(alloc, index, compared)?;
+    let plans = plans_with(alloc, index, compared, parts)?;
     Ok(Searched {
         checked: Some(circuit),
         drivers,
@@ -236,7 +322,7 @@ pub(crate) fn searched_of(
     ensures kept { IfOk result (λ _. AreKept phases.entry.compared.design.now phases.entry.blif.now phases.entry.compared.rules.now phases.entry.facts.now kept.new) }
 {
     match checked_circuit(alloc, prepared, phases, unrolled, kept)? {
-        Some(circuit) => searched_whole(alloc, &prepared.index, phases, circuit),
+        Some(checked) => searched_whole(alloc, &prepared.index, phases, checked),
         None => searched_flat(alloc, phases),
     }
 }

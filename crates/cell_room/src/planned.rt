@@ -4,12 +4,14 @@
 ghost use Rattle.std.specs.Prelude.{◌≡◌, ℕ, length};
 ghost use Rattle.cell_room.specs.Checked.{IsCheckable};
 ghost use Rattle.cell_room.specs.Compared.{AreInputs};
-ghost use Rattle.cell_room.specs.Planned.{ArePhases, IsPlacedCell, PlannedTells};
+ghost use Rattle.cell_room.specs.Planned.{ArePhases, PlannedTells};
+ghost use Rattle.cell_room.specs.Steps.{IsPlacedCell};
 ghost use Rattle.cell_room.specs.Works.{ArePlans, AreVars, IsPlanned};
 ghost use Rattle.phase_terms.specs.Ready.{IsReady, comparison_in};
 ghost use Rattle.prepared_tables.specs.Prepared.{ArePrepared};
 ghost use Rattle.rule_index.specs.Tables.{AreRuleTables};
 ghost use Rattle.vrt_model.specs.PairedPorts.{Model, paired_model};
+ghost use Rattle.vrt_model.specs.declared.blif.Blif.{Blif as BlifValue};
 ghost use Rattle.whole_steps.specs.Tables.{IsWholeTable};
 
 use crate::comparison::flat_comparison;
@@ -137,18 +139,14 @@ fn plan_placed(
     alloc: Global,
     index: &RuleIndex,
     design: &Design,
-    blif: &Blif,
     rules: &Rules,
     cell: u32,
     placed: Placed,
 ) -> Result<Planned, NotPlanned>
     requires tables { AreRuleTables rules.now index.now }
-    requires inputs { AreInputs design.now blif.now rules.now cell }
-    requires placed { (m : ℕ) × IsPlacedCell design.now blif.now rules.now cell m placed }
-    ensures { (m : ℕ) → IsPlacedCell design.now blif.now rules.now cell m placed → PlannedTells design.now blif.now rules.now cell m result }
+    requires placed { (blif : BlifValue) × (m : ℕ) × AreInputs design.now blif rules.now cell × IsPlacedCell design.now blif rules.now cell m placed }
+    ensures { (blif : BlifValue) (m : ℕ) → AreInputs design.now blif rules.now cell → IsPlacedCell design.now blif rules.now cell m placed → PlannedTells design.now blif rules.now cell m result }
 {
-    // the model is flattened
-    let _unread = blif;
     let mut vars = Seq::new(alloc);
     let mut plans = Seq::new(alloc);
     let compared = flat_comparison(design, rules, cell, &placed.flattened);
@@ -178,7 +176,7 @@ pub fn plan_cell(
     ensures { PlannedTells design.now blif.now rules.now cell model result }
 {
     match flatten_cell(alloc, prepared, design, blif, rules, cell, model) {
-        Ok(placed) => plan_placed(alloc, &prepared.index, design, blif, rules, cell, placed),
+        Ok(placed) => plan_placed(alloc, &prepared.index, design, rules, cell, placed),
         Err(Hindrance::Because(why)) => Err(NotPlanned::Because(why, None)),
         Err(Hindrance::NoMemory) => Err(NotPlanned::NoMemory),
     }

@@ -1,9 +1,12 @@
 -- The whole instances of a checked circuit stand for their cells.
-use Rattle.std.proofs.Common.{◌≡◌, ℕ, ◌<◌, ◌++◌, Bool, List, [], length, refl, ap, sym, subst, ◌∙◌}
+use Rattle.std.proofs.Common.{◌≡◌, ℕ, ◌<◌, ◌++◌, Bool, List, [], Option, length, refl, ap, sym, subst, ◌∙◌, inl, inr}
+use Rattle.std.specs.Prelude.{flat_map}
+use Rattle.std.proofs.lemmas.Option.{none-some}
 use Rattle.checked_chain.proofs.LinkLaws.{circuits_are_acyclic}
-use Rattle.checked_cells.specs.Outputs.{CheckedCircuitsAreAcyclic, CheckedCircuitsAreWired, CheckedWholesAreDetermined, CheckedWholesAreLogic}
+use Rattle.checked_cells.specs.Outputs.{CheckedCircuitsAreAcyclic, CheckedCircuitsAreWired, CheckedModelsAreAcyclic, CheckedWholesAreDetermined, CheckedWholesAreLogic}
 use Rattle.channel_parts.specs.OneSolution.{AreDetermined}
 use Rattle.formed_cells.specs.Formed.{IsFormed}
+use Rattle.graphs.proofs.Walks.{cycle_over}
 use Rattle.placed_cells.proofs.ListLaws.{zip_right}
 use Rattle.placed_cells.specs.Above.{net_above}
 use Rattle.replaced_instances.proofs.StepPorts.{told}
@@ -22,16 +25,19 @@ use Rattle.vrt_model.specs.Assignment.{Tied}
 use Rattle.vrt_model.specs.Checked.{IsCircuitWith, before, with_circuit}
 use Rattle.vrt_model.specs.Comparison.{Comparison, is_observed, phase_at, tied_inputs}
 use Rattle.vrt_model.specs.Cut.{Cut, NumberedPlace, whole_places}
+use Rattle.vrt_model.specs.Elements.{Numbered, numbered_from}
 use Rattle.vrt_model.specs.FlatCircuit.{net_id}
 use Rattle.vrt_model.specs.FlatModels.{IsFlatModel}
-use Rattle.vrt_model.specs.Known.{HasArc}
+use Rattle.vrt_model.specs.Known.{HasArc, IsCycle}
 use Rattle.vrt_model.specs.Lists.{Among}
+use Rattle.vrt_model.specs.ModelArcs.{HasModelArc, Part, parts_by, parts_of}
 use Rattle.vrt_model.specs.Networks.{HasRanges}
 use Rattle.vrt_model.specs.Unrolled.{Top, all_places}
-use Rattle.vrt_model.specs.Unsupported.{IsAcyclic, IsSupported}
+use Rattle.vrt_model.specs.Unsupported.{IsAcyclic, IsSupported, ModelArc}
 use Rattle.vrt_model.specs.WholeInstances.{IsWholeAt}
 use Rattle.vrt_model.specs.declared.blif.Blif.{Blif}
 use Rattle.vrt_model.specs.declared.circuit.Circuit.{Circuit}
+use Rattle.vrt_model.specs.declared.flat_model.FlatLatch.{FlatLatch}
 use Rattle.vrt_model.specs.declared.flat_model.FlatModel.{FlatModel}
 use Rattle.vrt_model.specs.declared.pairing.ClockedSignal.{ClockedSignal}
 use Rattle.vrt_model.specs.declared.whole.CellFacts.{CellFacts}
@@ -39,6 +45,21 @@ use Rattle.vrt_model.specs.declared.whole.Whole.{Whole}
 use Rattle.vrt_model.specs.declared.whole.WholePin.{WholePin}
 use Rattle.whole_ranks.specs.WholeCells.{StandsFor, moved_tie}
 use Rattle.whole_steps.specs.Logic.{IsLogicWhole}
+
+-- ---- a model without latches has arcs by its covers alone, whatever is known of its signals
+
+no_parts : (flat : FlatModel) → flat.latches ≡ [] → parts_of flat ≡ []
+no_parts flat none = ap (λ (ls : List FlatLatch). flat_map (λ (l : Numbered). parts_by (length flat.signals) l l.latch.kind) (numbered_from 0 ls)) none
+
+no_part : (flat : FlatModel) (part : Part) → flat.latches ≡ [] → Among (parts_of flat) part → ⊥
+no_part flat part none among = let there = subst (λ (ps : List Part). Among ps part) (no_parts flat none) among in none-some part there.1
+
+arc_by_cover : (flat : FlatModel) → flat.latches ≡ [] → (given other : ℕ → Option Bool) (clock hand : Option Bool) (from to : ℕ) → HasModelArc flat given clock from to → HasModelArc flat other hand from to
+arc_by_cover flat none given other clock hand from to (inl a) = inl a
+arc_by_cover flat none given other clock hand from to (inr (inl a)) = absurd (no_part flat a.0 none a.1)
+arc_by_cover flat none given other clock hand from to (inr (inr (inl a))) = absurd (no_part flat a.0 none a.1)
+arc_by_cover flat none given other clock hand from to (inr (inr (inr a))) =
+    let there = subst (λ (ls : List FlatLatch). Among (numbered_from 0 ls) a.0) none a.1 in absurd (none-some a.0 there.1)
 
 -- a whole instance of a checked circuit, the chosen instance that it is, and the model with which its cell pairs
 pub record IsChosenWhole (all_soft : Bool) (cut : Cut) (blif : Blif) (facts : List CellFacts) (n : ℕ) (w : Whole) : Type 0 where
@@ -107,6 +128,13 @@ module _ {all_soft : Bool} (k : Comparison) (cut : Cut) (blif : Blif) (facts : L
     no_latches : q.model.latches ≡ []
     no_latches = (let f = told cut blif facts one.number one.place one.model one.step in (f.2.stateless f.3).1)
 
+    -- its model has no cycle, whatever is known of its signals
+    pub acyclic_whole : (given : ℕ → Option Bool) (clock : Option Bool) → IsAcyclic (HasModelArc w.model given clock)
+    acyclic_whole given clock nodes cycle =
+        let own = subst (λ (f : FlatModel). IsCycle (HasModelArc f given clock) nodes) stands.model cycle in
+        (one.supported.acyclic 0 some_phase).1 nodes
+        (cycle_over (HasModelArc q.model given clock) (ModelArc q 0) (λ from to arc. arc_by_cover q.model no_latches given _ clock _ from to arc) nodes own)
+
     pub logic_whole : IsLogicWhole w
     logic_whole = record {
       model = subst IsFlatModel (sym stands.model) formed.model;
@@ -135,6 +163,9 @@ checked_wholes_are_determined k cut blif facts c phase h lt =
 
 pub checked_wholes_are_logic : {all_soft : Bool} → CheckedWholesAreLogic all_soft
 checked_wholes_are_logic k cut blif facts c w h on = logic_whole k cut blif facts c h w on
+
+pub checked_models_are_acyclic : {all_soft : Bool} → CheckedModelsAreAcyclic all_soft
+checked_models_are_acyclic k cut blif facts c w h on = acyclic_whole k cut blif facts c h w on
 
 pub checked_circuits_are_acyclic : {all_soft : Bool} → CheckedCircuitsAreAcyclic all_soft
 checked_circuits_are_acyclic k cut blif facts c phase h lt =

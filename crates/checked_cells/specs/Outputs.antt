@@ -1,5 +1,5 @@
 -- The whole instances of a checked circuit: what drives its nets.
-use Rattle.std.specs.Prelude.{◌≡◌, ℕ, ◌<◌, ◌≤◌, Bool, List, length}
+use Rattle.std.specs.Prelude.{◌≡◌, ℕ, ◌<◌, ◌≤◌, Bool, List, Option, length}
 use Rattle.channel_parts.specs.OneSolution.{AreDetermined}
 use Rattle.known_nets.specs.Wired.{IsWired}
 use Rattle.substitution_laws.specs.Agreement.{IsCheckedByFacts, IsCheckedSoftly}
@@ -9,6 +9,7 @@ use Rattle.vrt_model.specs.Cut.{Cut}
 use Rattle.vrt_model.specs.Known.{HasArc, IsHeld, IsPlain}
 use Rattle.vrt_model.specs.Levels.{IsDeviceLevel}
 use Rattle.vrt_model.specs.Lists.{Among, At}
+use Rattle.vrt_model.specs.ModelArcs.{HasModelArc}
 use Rattle.vrt_model.specs.Path.{Joins}
 use Rattle.vrt_model.specs.State.{OutputPin, output_pins}
 use Rattle.vrt_model.specs.Unsupported.{IsAcyclic}
@@ -76,3 +77,9 @@ abbrev pub CheckedCircuitsAreAcyclic : Bool → Type 0
 CheckedCircuitsAreAcyclic all_soft =
     (k : Comparison) (cut : Cut) (blif : Blif) (facts : List CellFacts) (c : Circuit) (phase : ℕ)
     → IsCheckedByFacts all_soft k cut blif facts c → phase < length k.rules.phases → IsAcyclic (HasArc c (phase_at k.rules phase))
+
+-- The law: the model of a whole instance has no cycle, whatever is known of its signals and of its default clock.
+abbrev pub CheckedModelsAreAcyclic : Bool → Type 0
+CheckedModelsAreAcyclic all_soft =
+    (k : Comparison) (cut : Cut) (blif : Blif) (facts : List CellFacts) (c : Circuit) (w : Whole)
+    → IsCheckedByFacts all_soft k cut blif facts c → Among c.wholes w → (given : ℕ → Option Bool) (clock : Option Bool) → IsAcyclic (HasModelArc w.model given clock)

@@ -1,7 +1,7 @@
 //! The whole instances of a checked circuit.
 
 ghost use Rattle.std.specs.Prelude.{Bool};
-ghost use Rattle.checked_cells.specs.Outputs.{CheckedCircuitsAreAcyclic, CheckedCircuitsAreWired, CheckedOutputsAreAllowed, CheckedOutputsAreFree, CheckedWholesAreDetermined, CheckedWholesAreLogic};
+ghost use Rattle.checked_cells.specs.Outputs.{CheckedCircuitsAreAcyclic, CheckedCircuitsAreWired, CheckedModelsAreAcyclic, CheckedOutputsAreAllowed, CheckedOutputsAreFree, CheckedWholesAreDetermined, CheckedWholesAreLogic};
 
 /// Numbers are in range, and outputs are at plain nets.
 pub fn checked_circuits_are_wired()
@@ -27,6 +27,11 @@ pub fn checked_wholes_are_determined()
 /// Its model has no latch and says of which clock or net each input has the bit.
 pub fn checked_wholes_are_logic()
     ensures { (all_soft : Bool) → CheckedWholesAreLogic all_soft }
+{}
+
+/// The model of a whole instance has no cycle, whatever is known of its signals.
+pub fn checked_models_are_acyclic()
+    ensures { (all_soft : Bool) → CheckedModelsAreAcyclic all_soft }
 {}
 
 /// The arcs have no cycle in any phase.

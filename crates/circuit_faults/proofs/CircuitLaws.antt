@@ -56,6 +56,9 @@ use Rattle.vrt_model.specs.declared.ids.Net.{Net}
 use Rattle.vrt_model.specs.declared.rules.Phase.{Phase}
 use Rattle.vrt_model.specs.declared.verdict.FaultKind.{FaultKind}
 use Rattle.vrt_model.specs.declared.verdict.FaultKind.TheVariants.{Fight, FightKept, Float, Unsettled, Constraint, Differs, Next, Apart, Enter}
+use Rattle.path_fixpoint.specs.declared.words.NetWords.{NetWords}
+use Rattle.vrt_model.specs.Levels.{source_level}
+use Rattle.path_fixpoint.specs.Strengths.{circuit_words, net_words}
 
 -- ---- whether a net is inside a part
 
@@ -296,7 +299,7 @@ module _ (w : InPhase) (care : H) (roots gates : Span)
         shown : (v : Valuation) → function_of first care v ≡ true → (n : ℕ) → IsInside part n → observed n ≡ true → IsResponse (alone v) n (Shows (shows new gates n v))
         shown v met n i o =
             shows_bit (alone v) n (shows new gates n v) (p.bits n v i)
-            (reaches_or_not (alone v) (length c.nets) 8 (is_finite c part whole.is wholes.ranges gates roots gates now v) n false)
+            (reaches_or_not (alone v) (length c.nets) (source_level c) (is_finite c part whole.is wholes.ranges gates roots (circuit_words c gates) now v) n false)
             (λ f. p.clear n Fight v i (kept_care v ∙ met) f)
             (λ f. p.clear n Float v i (kept_care v ∙ met) (o, f))
 
@@ -424,8 +427,8 @@ module _ (w : InPhase) (care : H) (roots gates : Span)
 -- ---- the spans, as steps over the parts leave them
 
 -- the words of a part among those of the greatest
-abbrev pub words_in : Span → Part → Span
-words_in out part = record { start = out.start; len = 10 * length part.nets }
+abbrev pub words_in : Circuit → Span → Part → NetWords
+words_in c out part = circuit_words c (record { start = out.start; len = net_words (source_level c) * length part.nets })
 
 pub apart_inner : (a out : Span) (len : ℕ) → len ≤ out.len → IsApart a out → IsApart a (record { start = out.start; len = len })
 apart_inner a out len le (inl low) = inl low
@@ -448,28 +451,29 @@ spans_kept c parts roots gates out first now wr live spans = record {
 }
 
 module _ (c : Circuit) (parts : List Part) (roots gates out : Span) (now : Diagrams) (spans : HasCircuitSpans c parts roots gates out now) (part : Part) (member : Among parts part) where
-  pub words_within : (words : Span) → words ≡ words_in out part → IsWithinSpan words out
+  pub words_within : (words : NetWords) → words ≡ words_in c out part → IsWithinSpan words.span out
   words_within words is =
-      subst (λ (s : Span). IsWithinSpan s out) (sym is) (record { start = omega arith; fits = (let room = spans.room part member in omega (arith, room)) })
+      subst (λ (s : NetWords). IsWithinSpan s.span out) (sym is) (record { start = omega arith; fits = (let room = spans.room part member in omega (arith, room)) })
 
-  pub root_spans : (words : Span) → words ≡ words_in out part → IsFilled now gates → HasRootSpans c part gates roots words now
+  pub root_spans : (words : NetWords) → words ≡ words_in c out part → IsFilled now gates → HasRootSpans c part gates roots words now
   root_spans words is live =
-      subst (λ (s : Span). HasRootSpans c part gates roots s now) (sym is) (record {
+      subst (λ (s : NetWords). HasRootSpans c part gates roots s now) (sym is) (record {
         spans = record {
           gates_span = spans.gates_span;
           gates_len = spans.gates_len;
           gates_live = live;
+          source = refl;
           out_span = (spans.out_span.0, (let end = spans.out_span.1 in omega (arith, end, room)));
           out_len = refl;
-          apart = apart_inner gates out (10 * length part.nets) room spans.gates_out;
+          apart = apart_inner gates out (net_words (source_level c) * length part.nets) room spans.gates_out;
         };
         roots_span = spans.roots_span;
         roots_len = spans.roots_len;
         roots_live = spans.roots_live;
-        roots_apart = apart_inner roots out (10 * length part.nets) room spans.roots_out;
+        roots_apart = apart_inner roots out (net_words (source_level c) * length part.nets) room spans.roots_out;
       })
     where
-      room : 10 * length part.nets ≤ out.len
+      room : net_words (source_level c) * length part.nets ≤ out.len
       room = spans.room part member
 
 -- the bits of the nets' roots stay

@@ -23,6 +23,8 @@ use Rattle.circuit_faults.specs.Results.{first_word}
 use Rattle.path_fixpoint.specs.Reaching.{slot_of}
 use Rattle.path_fixpoint.specs.Strengths.{word_of}
 use Rattle.vrt_model.specs.Lists.{At}
+use Rattle.path_fixpoint.specs.declared.words.NetWords.{NetWords}
+use Rattle.path_fixpoint.specs.Strengths.{net_words}
 
 -- a reduced diagram reads only the variables of its store
 pub reads_variables : (d : Diagrams) (k : ℕ) → IsReduced d.vars d.nodes → k < length d.nodes → IsWithin d.vars (meaning d.nodes k)
@@ -74,9 +76,10 @@ module _ (u : ℕ) where
 
   -- ---- the words of a part
 
-  pub reach_within : (d : Diagrams) (out : Span) (value : Bool) (place : ℕ) (h : H) → h.0 ≡ word_at d out (word_of (slot_of value) place) → 10 * place + 10 ≤ out.len → IsSpanWithin u d out
+  pub reach_within : (d : Diagrams) (out : NetWords) (value : Bool) (place : ℕ) (h : H) → h.0 ≡ word_at d out.span (word_of out (slot_of out value) place)
+      → net_words out.source * place + net_words out.source ≤ out.span.len → IsSpanWithin u d out.span
       → IsWithin u (function_of d h)
-  reach_within d out value place h is fits all = subst (λ (k : ℕ). IsWithin u (meaning d.nodes k)) (sym is) (all (word_of (slot_of value) place) (slot_word value place out.len fits))
+  reach_within d out value place h is fits all = subst (λ (k : ℕ). IsWithin u (meaning d.nodes k)) (sym is) (all (word_of out (slot_of out value) place) (slot_word out value place fits))
 
   -- ---- a circuit
 

@@ -18,7 +18,7 @@ use Rattle.circuit_faults.specs.KeptResults.{HasKeptSpans, WritesKept}
 use Rattle.circuit_faults.specs.KeptScans.{IsCopiedTo, IsPartReached, IsReached, ReadWithin, reach_span}
 use Rattle.circuit_faults.specs.Scans.{IsInside}
 use Rattle.circuit_faults.specs.declared.spans.KeptSpans.{KeptSpans}
-use Rattle.path_fixpoint.proofs.Places.{place_in, place_once}
+use Rattle.path_fixpoint.proofs.Places.{place_in, place_once, place_words}
 use Rattle.path_fixpoint.specs.Parts.{IsPart, IsPlace, pins_of}
 use Rattle.path_fixpoint.specs.Reaching.{slot_of}
 use Rattle.path_fixpoint.specs.Solved.{HasRootSpans, TellsReach, network_at}
@@ -27,6 +27,9 @@ use Rattle.vrt_model.proofs.Members.{all_among}
 use Rattle.vrt_model.specs.Circuits.{IsNet}
 use Rattle.vrt_model.specs.Lists.{Among}
 use Rattle.vrt_model.specs.declared.circuit.Circuit.{Circuit}
+use Rattle.path_fixpoint.specs.declared.words.NetWords.{NetWords}
+use Rattle.path_fixpoint.specs.Strengths.{net_words}
+use Rattle.vrt_model.specs.Levels.{source_level}
 
 apart_turned : (a b : Span) → IsApart a b → IsApart b a
 apart_turned a b (inl low) = inr low
@@ -41,7 +44,7 @@ span_rewritten span old new rest len is = (subst (λ (d : Diagrams). d.own ≤ s
 
 -- ---- one value, net by net
 
-module _ (part : Part) (value : Bool) (out to : Span) where
+module _ (part : Part) (value : Bool) (out : NetWords) (to : Span) where
   pub copied_none : (d : Diagrams) → IsCopiedTo part value out to 0 d d
   copied_none d = record {
     rest = refl;
@@ -51,23 +54,23 @@ module _ (part : Part) (value : Bool) (out to : Span) where
     others = λ n none. refl;
   }
 
-  pub copied_filled : (upto : ℕ) (old new : Diagrams) → IsApart to out → IsFilled old out → IsCopiedTo part value out to upto old new → IsFilled new out
+  pub copied_filled : (upto : ℕ) (old new : Diagrams) → IsApart to out.span → IsFilled old out.span → IsCopiedTo part value out to upto old new → IsFilled new out.span
   copied_filled upto old new apart live c k lt =
-      let same : word_at new out k ≡ word_at old out k = c.beside (out.start + k) (beside_of out to k (apart_turned to out apart) lt) in
+      let same : word_at new out.span k ≡ word_at old out.span k = c.beside (out.span.start + k) (beside_of out.span to k (apart_turned to out.span apart) lt) in
       let nodes : length new.nodes ≡ length old.nodes = ap (λ (d : Diagrams). length d.nodes) c.rest in
       omega (arith, same, nodes, live k lt)
 
-  module _ (once : (i j n : ℕ) → IsPlace part i n → IsPlace part j n → i ≡ j) (len : out.len ≡ 10 * length part.nets) (apart : IsApart to out) (first old new : Diagrams) (i n : ℕ) (there : IsPlace part i n)
+  module _ (once : (i j n : ℕ) → IsPlace part i n → IsPlace part j n → i ≡ j) (len : out.span.len ≡ net_words out.source * length part.nets) (apart : IsApart to out.span) (first old new : Diagrams) (i n : ℕ) (there : IsPlace part i n)
       (before : IsCopiedTo part value out to i first old) (in_to : n < to.len) (span : to.start + to.len ≤ length old.words)
-      (is : new ≡ record old { words = slice_set old.words (to.start + n) (word_at old out (word_of (slot_of value) i)) }) where
+      (is : new ≡ record old { words = slice_set old.words (to.start + n) (word_at old out.span (word_of out (slot_of out value) i)) }) where
     abbrev word : ℕ
-    word = word_at old out (word_of (slot_of value) i)
+    word = word_at old out.span (word_of out (slot_of out value) i)
 
     -- the words of the part stay
-    source : (j m : ℕ) → IsPlace part j m → word_at old out (word_of (slot_of value) j) ≡ word_at first out (word_of (slot_of value) j)
+    source : (j m : ℕ) → IsPlace part j m → word_at old out.span (word_of out (slot_of out value) j) ≡ word_at first out.span (word_of out (slot_of out value) j)
     source j m p =
-        before.beside (out.start + word_of (slot_of value) j)
-        (beside_of out to (word_of (slot_of value) j) (apart_turned to out apart) (slot_word value j out.len (omega (arith, len, place_in part j m p))))
+        before.beside (out.span.start + word_of out (slot_of out value) j)
+        (beside_of out.span to (word_of out (slot_of out value) j) (apart_turned to out.span apart) (slot_word out value j (place_words out (length part.nets) j len (place_in part j m p))))
 
     pub copied_more : IsCopiedTo part value out to (i + 1) first new
     copied_more = record {
@@ -79,10 +82,10 @@ module _ (part : Part) (value : Bool) (out to : Span) where
       copied = λ j m lt p. elim (cases_eq j i) [
         | inl e ↦
             let here : IsPlace part i m = subst (λ (x : ℕ). IsPlace part x m) e p in
-            let at_i : word_at new to m ≡ word_at first out (word_of (slot_of value) i) =
-            subst (λ (x : ℕ). word_at new to x ≡ word_at first out (word_of (slot_of value) i)) (place_once part i n m there here)
+            let at_i : word_at new to m ≡ word_at first out.span (word_of out (slot_of out value) i) =
+            subst (λ (x : ℕ). word_at new to x ≡ word_at first out.span (word_of out (slot_of out value) i)) (place_once part i n m there here)
             (word_here to old new n word is in_to span ∙ source i n there) in
-            subst (λ (x : ℕ). word_at new to m ≡ word_at first out (word_of (slot_of value) x)) (sym e) at_i
+            subst (λ (x : ℕ). word_at new to m ≡ word_at first out.span (word_of out (slot_of out value) x)) (sym e) at_i
         | inr ne ↦
             word_apart to old new n word is in_to span m (λ e. ne (once j i m p (subst (IsPlace part i) (sym e) there)))
             ∙ before.copied j m (omega (arith, lt, ne)) p
@@ -115,15 +118,15 @@ kept_added spans old new a =
     }
 
 -- the words of a part among those of the greatest
-pub kept_solved : (spans : KeptSpans) (part : Part) (words : Span) (old new : Diagrams) → words ≡ words_in spans.out part → 10 * length part.nets ≤ spans.out.len → Writes words old new
+pub kept_solved : (c : Circuit) (spans : KeptSpans) (part : Part) (words : NetWords) (old new : Diagrams) → words ≡ words_in c spans.out part → net_words (source_level c) * length part.nets ≤ spans.out.len → Writes words.span old new
     → WritesKept spans old new
-kept_solved spans part words old new is room w = record {
+kept_solved c spans part words old new is room w = record {
   adds = w.adds;
   len = w.len;
-  others = λ j z o p. w.others j (subst (λ (s : Span). IsBeside s j) (sym is) (inner j p));
+  others = λ j z o p. w.others j (subst (λ (s : NetWords). IsBeside s.span j) (sym is) (inner j p));
 }
   where
-    inner : (j : ℕ) → IsBeside spans.out j → IsBeside (words_in spans.out part) j
+    inner : (j : ℕ) → IsBeside spans.out j → IsBeside (words_in c spans.out part).span j
     inner j (inl low) = inl low
     inner j (inr high) = inr (omega (arith, high, room))
 
@@ -131,7 +134,7 @@ reach_beside : (spans : KeptSpans) (value : Bool) (j : ℕ) → IsBeside spans.z
 reach_beside spans true j z o = o
 reach_beside spans false j z o = z
 
-pub kept_copied : (spans : KeptSpans) (part : Part) (value : Bool) (out : Span) (upto : ℕ) (old new : Diagrams) → IsReduced old.vars old.nodes → length old.nodes ≤ old.budget
+pub kept_copied : (spans : KeptSpans) (part : Part) (value : Bool) (out : NetWords) (upto : ℕ) (old new : Diagrams) → IsReduced old.vars old.nodes → length old.nodes ≤ old.budget
     → IsCopiedTo part value out (reach_span spans value) upto old new → WritesKept spans old new
 kept_copied spans part value out upto old new sound within c = record {
   adds = adds_rewritten old new c.rest sound within;
@@ -209,29 +212,30 @@ module _ (c : Circuit) (parts : List Part) (spans : KeptSpans) (old : Diagrams) 
 
   -- for one part
   module _ (part : Part) (member : Among parts part) where
-    room : 10 * length part.nets ≤ spans.out.len
+    room : net_words (source_level c) * length part.nets ≤ spans.out.len
     room = has.room part member
 
-    pub kept_root_spans : (words : Span) → words ≡ words_in spans.out part → HasRootSpans c part spans.gates spans.roots words old
+    pub kept_root_spans : (words : NetWords) → words ≡ words_in c spans.out part → HasRootSpans c part spans.gates spans.roots words old
     kept_root_spans words is =
-        subst (λ (s : Span). HasRootSpans c part spans.gates spans.roots s old) (sym is) (record {
+        subst (λ (s : NetWords). HasRootSpans c part spans.gates spans.roots s old) (sym is) (record {
           spans = record {
             gates_span = has.gates_span;
             gates_len = has.gates_len;
             gates_live = has.gates_live;
+            source = refl;
             out_span = (has.out_span.0, (let end = has.out_span.1 in omega (arith, end, room)));
             out_len = refl;
-            apart = apart_inner spans.gates spans.out (10 * length part.nets) room has.gates_out;
+            apart = apart_inner spans.gates spans.out (net_words (source_level c) * length part.nets) room has.gates_out;
           };
           roots_span = has.roots_span;
           roots_len = has.roots_len;
           roots_live = has.roots_live;
-          roots_apart = apart_inner spans.roots spans.out (10 * length part.nets) room has.roots_out;
+          roots_apart = apart_inner spans.roots spans.out (net_words (source_level c) * length part.nets) room has.roots_out;
         })
 
-    pub reach_apart : (value : Bool) (words : Span) → words ≡ words_in spans.out part → IsApart (reach_span spans value) words
-    reach_apart true words is = subst (IsApart spans.ones) (sym is) (apart_inner spans.ones spans.out (10 * length part.nets) room has.ones_out)
-    reach_apart false words is = subst (IsApart spans.zeros) (sym is) (apart_inner spans.zeros spans.out (10 * length part.nets) room has.zeros_out)
+    pub reach_apart : (value : Bool) (words : NetWords) → words ≡ words_in c spans.out part → IsApart (reach_span spans value) words.span
+    reach_apart true words is = subst (λ (s : NetWords). IsApart spans.ones s.span) (sym is) (apart_inner spans.ones spans.out (net_words (source_level c) * length part.nets) room has.ones_out)
+    reach_apart false words is = subst (λ (s : NetWords). IsApart spans.zeros s.span) (sym is) (apart_inner spans.zeros spans.out (net_words (source_level c) * length part.nets) room has.zeros_out)
 
   pub reach_len : (value : Bool) → (reach_span spans value).len ≡ length c.nets
   reach_len true = has.ones_len
@@ -243,10 +247,10 @@ module _ (c : Circuit) (parts : List Part) (spans : KeptSpans) (old : Diagrams) 
 
 -- ---- a part that was solved, and its words copied
 
-module _ (c : Circuit) (part : Part) (spans : KeptSpans) (words : Span) (old mid next new : Diagrams) (has : HasKeptSpans c (part ∷ []) spans old)
-    (len : words.len ≡ 10 * length part.nets) (zeros_apart : IsApart spans.zeros words)
+module _ (c : Circuit) (part : Part) (spans : KeptSpans) (words : NetWords) (old mid next new : Diagrams) (has : HasKeptSpans c (part ∷ []) spans old)
+    (len : words.span.len ≡ net_words words.source * length part.nets) (zeros_apart : IsApart spans.zeros words.span)
     (in_range : (n : ℕ) → IsInside part n → n < length c.nets)
-    (solved : Writes words old mid)
+    (solved : Writes words.span old mid)
     (zeros : IsCopiedTo part false words spans.zeros (length part.nets) mid next) (ones : IsCopiedTo part true words spans.ones (length part.nets) next new) where
   next_nodes : next.nodes ≡ mid.nodes
   next_nodes = ap (λ (d : Diagrams). d.nodes) zeros.rest
@@ -255,21 +259,22 @@ module _ (c : Circuit) (part : Part) (spans : KeptSpans) (words : Span) (old mid
   new_nodes = ap (λ (d : Diagrams). d.nodes) ones.rest ∙ next_nodes
 
   -- the word of a net is that of its place
-  copied_word : (value : Bool) (i n : ℕ) → IsPlace part i n → word_at new (reach_span spans value) n ≡ word_at mid words (word_of (slot_of value) i)
+  copied_word : (value : Bool) (i n : ℕ) → IsPlace part i n → word_at new (reach_span spans value) n ≡ word_at mid words.span (word_of words (slot_of words value) i)
   copied_word true i n p =
-      let fits : 10 * i + 10 ≤ words.len = omega (arith, len, place_in part i n p) in
+      let fits = place_words words (length part.nets) i len (place_in part i n p) in
       ones.copied i n (place_in part i n p) p
-      ∙ zeros.beside (words.start + word_of (slot_of true) i) (beside_of words spans.zeros (word_of (slot_of true) i) (apart_turned spans.zeros words zeros_apart) (slot_word true i words.len fits))
+      ∙ zeros.beside (words.span.start + word_of words (slot_of words true) i)
+      (beside_of words.span spans.zeros (word_of words (slot_of words true) i) (apart_turned spans.zeros words.span zeros_apart) (slot_word words true i fits))
   copied_word false i n p =
       ones.beside (spans.zeros.start + n) (beside_of spans.zeros spans.ones n has.zeros_ones (let lt = in_range n (i, p) in omega (arith, lt, has.zeros_len)))
       ∙ zeros.copied i n (place_in part i n p) p
 
   -- it reads only the first variables
-  pub copied_within : (u : ℕ) → IsSpanWithin u mid words → ReadWithin u spans (IsInside part) new
+  pub copied_within : (u : ℕ) → IsSpanWithin u mid words.span → ReadWithin u spans (IsInside part) new
   copied_within u all n value inside =
-      let fits : 10 * inside.0 + 10 ≤ words.len = omega (arith, len, place_in part inside.0 n inside.1) in
+      let fits = place_words words (length part.nets) inside.0 len (place_in part inside.0 n inside.1) in
       subst (λ (ns : List Node). IsWithin u (meaning ns (word_at new (reach_span spans value) n))) (sym new_nodes)
-      (subst (λ (h : ℕ). IsWithin u (meaning mid.nodes h)) (sym (copied_word value inside.0 n inside.1)) (all (word_of (slot_of value) inside.0) (slot_word value inside.0 words.len fits)))
+      (subst (λ (h : ℕ). IsWithin u (meaning mid.nodes h)) (sym (copied_word value inside.0 n inside.1)) (all (word_of words (slot_of words value) inside.0) (slot_word words value inside.0 fits)))
 
   pub counted_copies : (u operations : ℕ) → IsCounted u operations old mid → IsCounted u operations old new
   counted_copies u operations before =
@@ -285,26 +290,26 @@ module _ (c : Circuit) (part : Part) (spans : KeptSpans) (words : Span) (old mid
   last_word true n lt away = ones.others n (λ i below p. away (i, p))
   last_word false n lt away = ones.beside (spans.zeros.start + n) (beside_of spans.zeros spans.ones n has.zeros_ones (omega (arith, lt, has.zeros_len)))
 
-  solved_word : (apart : (value : Bool) → IsApart (reach_span spans value) words) (size : (value : Bool) → (reach_span spans value).len ≡ length c.nets) (value : Bool) (n : ℕ) → n < length c.nets
+  solved_word : (apart : (value : Bool) → IsApart (reach_span spans value) words.span) (size : (value : Bool) → (reach_span spans value).len ≡ length c.nets) (value : Bool) (n : ℕ) → n < length c.nets
       → word_at mid (reach_span spans value) n ≡ word_at old (reach_span spans value) n
-  solved_word apart size value n lt = word_beside words (reach_span spans value) old mid n solved (apart value) (omega (arith, lt, size value))
+  solved_word apart size value n lt = word_beside words.span (reach_span spans value) old mid n solved (apart value) (omega (arith, lt, size value))
 
   module _ (tells : (v : Valuation) → TellsReach part words mid v (network_at old c part spans.gates spans.roots v)) where
     net_reached : (n : ℕ) → IsInside part n → IsReached c part spans n old new
     net_reached n inside = record {
       live = λ value.
-          let fits : 10 * inside.0 + 10 ≤ words.len = omega (arith, len, place_in part inside.0 n inside.1) in
+          let fits = place_words words (length part.nets) inside.0 len (place_in part inside.0 n inside.1) in
           subst (λ (ns : List Node). word_at new (reach_span spans value) n < length ns) (sym new_nodes)
-          (subst (λ (h : ℕ). h < length mid.nodes) (sym (copied_word value inside.0 n inside.1)) (solved.live (word_of (slot_of value) inside.0) (slot_word value inside.0 words.len fits)));
+          (subst (λ (h : ℕ). h < length mid.nodes) (sym (copied_word value inside.0 n inside.1)) (solved.live (word_of words (slot_of words value) inside.0) (slot_word words value inside.0 fits)));
       reaches = λ value v.
-          let same : shows new (reach_span spans value) n v ≡ strong mid words (slot_of value) inside.0 v =
+          let same : shows new (reach_span spans value) n v ≡ strong mid words (slot_of words value) inside.0 v =
           ap (λ (ns : List Node). meaning ns (word_at new (reach_span spans value) n) v) new_nodes
           ∙ ap (λ (h : ℕ). meaning mid.nodes h v) (copied_word value inside.0 n inside.1) in
           let t = tells v inside.0 n value inside.1 in
           (λ e. t.0 (sym same ∙ e), λ r. same ∙ t.1 r);
     }
 
-    pub part_reached : ((value : Bool) → IsApart (reach_span spans value) words) → ((value : Bool) → (reach_span spans value).len ≡ length c.nets) → IsPartReached c part spans old new
+    pub part_reached : ((value : Bool) → IsApart (reach_span spans value) words.span) → ((value : Bool) → (reach_span spans value).len ≡ length c.nets) → IsPartReached c part spans old new
     part_reached apart size = record {
       nets = net_reached;
       others = λ n value lt away. last_word value n lt away ∙ other_word value n lt away ∙ solved_word apart size value n lt;

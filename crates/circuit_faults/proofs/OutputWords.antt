@@ -1,5 +1,5 @@
 -- The words of outputs, as they are written one after the other: those of one output, of the outputs at a net, and of those at a part.
-use Rattle.std.proofs.Common.{◌≡◌, ℕ, ◌+◌, ◌-◌, ◌<◌, ◌≤◌, ◌⊎◌, Bool, List, Option, None, Some, length, arith, ap, refl, subst, sym, ◌∙◌, inl, inr}
+use Rattle.std.proofs.Common.{◌≡◌, ℕ, ◌+◌, ◌-◌, ◌<◌, ◌≤◌, ◌⊎◌, List, Option, None, Some, length, arith, ap, refl, subst, sym, ◌∙◌, inl, inr}
 use Rattle.std.proofs.lemmas.Bool.{cases_eq, cases_lt}
 use Rattle.std.proofs.lemmas.Option.{slice_get_within}
 use Rattle.node_pool.specs.declared.region.Span.{Span}
@@ -19,15 +19,11 @@ use Rattle.circuit_faults.specs.Steps.{InPhase, phase_of}
 use Rattle.circuit_faults.specs.Wholes.{OutputsGive}
 use Rattle.known_nets.proofs.WiredLaws.{pin_of_whole}
 use Rattle.vrt_model.proofs.Lists.{one_at}
-use Rattle.vrt_model.proofs.Members.{among_map}
-use Rattle.vrt_model.specs.Assignment.{Tied}
-use Rattle.vrt_model.specs.Lists.{At, Among}
+use Rattle.vrt_model.specs.Lists.{At}
 use Rattle.vrt_model.specs.Networks.{HasRanges}
 use Rattle.vrt_model.specs.State.{ModelGives, OutputPin, output_pins}
 use Rattle.vrt_model.specs.declared.circuit.Circuit.{Circuit}
 use Rattle.vrt_model.specs.declared.ids.Net.{Net}
-use Rattle.vrt_model.specs.declared.rules.Phase.{Phase}
-use Rattle.vrt_model.specs.declared.whole.WholePin.{WholePin}
 use Rattle.whole_steps.proofs.TableLaws.{input_in_range}
 use Rattle.whole_steps.proofs.DriverLaws.{earlier_whole}
 use Rattle.whole_steps.proofs.EvaluationLaws.{same_reading}

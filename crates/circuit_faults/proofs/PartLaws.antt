@@ -1,5 +1,5 @@
 -- A part that was solved and looked through, by its network at each valuation.
-use Rattle.std.proofs.Common.{◌≡◌, ◌≢◌, ℕ, ◌+◌, ◌*◌, ◌<◌, ◌≤◌, ◌⊎◌, Bool, true, false, Option, Some, None, length, arith, ap, refl, sym, subst, ◌∙◌, inl, inr}
+use Rattle.std.proofs.Common.{◌≡◌, ◌≢◌, ℕ, ◌<◌, ◌⊎◌, Bool, true, false, Option, Some, None, length, ap, refl, sym, subst, ◌∙◌, inl, inr}
 use Rattle.std.specs.Prelude.{◌↔◌}
 use Rattle.std.proofs.lemmas.Bool.{cases_Bool, false≢true}
 use Rattle.node_pool.specs.declared.region.Span.{Span}
@@ -14,7 +14,7 @@ use Rattle.circuit_faults.specs.Scans.{IsClearNet, IsFaultyNet, IsFoundIn, IsPar
 use Rattle.circuit_faults.specs.declared.net.CircuitFault.{CircuitFault}
 use Rattle.channel_parts.specs.declared.part.Part.{Part}
 use Rattle.bdd_core.proofs.Frames.{word_beside}
-use Rattle.path_fixpoint.proofs.Places.{place_in}
+use Rattle.path_fixpoint.proofs.Places.{place_in, place_words}
 use Rattle.path_fixpoint.specs.Parts.{IsPlace}
 use Rattle.path_fixpoint.specs.Reaching.{slot_of}
 use Rattle.path_fixpoint.specs.Solved.{HasRootSpans, TellsReach, network_at}
@@ -24,6 +24,7 @@ use Rattle.vrt_model.specs.Response.{Fight as Fights, Float as Floats, IsRespons
 use Rattle.vrt_model.specs.declared.circuit.Circuit.{Circuit}
 use Rattle.vrt_model.specs.declared.verdict.FaultKind.{FaultKind}
 use Rattle.vrt_model.specs.declared.verdict.FaultKind.TheVariants.{Fight, FightKept, Float, Unsettled, Constraint, Differs, Next, Apart, Enter}
+use Rattle.path_fixpoint.specs.declared.words.NetWords.{NetWords}
 
 -- ---- at one valuation: what the two functions say of a net's response
 
@@ -110,8 +111,8 @@ faulty_live care zero one seen Enter h d f = absurd f
 
 -- ---- a part: it was solved from `old` to `mid`, and looked through from `mid` to `new`
 
-module _ (c : Circuit) (part : Part) (observed : ℕ → Bool) (care : H) (roots gates out : Span) (old mid new : Diagrams) (spans : HasRootSpans c part gates roots out old)
-    (care_live : IsLive old care) (solved : Writes out old mid) (scanned : Writes gates mid new)
+module _ (c : Circuit) (part : Part) (observed : ℕ → Bool) (care : H) (roots gates : Span) (out : NetWords) (old mid new : Diagrams) (spans : HasRootSpans c part gates roots out old)
+    (care_live : IsLive old care) (solved : Writes out.span old mid) (scanned : Writes gates mid new)
     (tells : (v : Valuation) → TellsReach part out mid v (network_at old c part gates roots v)) where
   abbrev pub net_alone : Valuation → Network
   net_alone v = network_at old c part gates roots v
@@ -126,13 +127,13 @@ module _ (c : Circuit) (part : Part) (observed : ℕ → Bool) (care : H) (roots
         (tells v inside.0 n false inside.1) (tells v inside.0 n true inside.1) observed kind (s.clear inside.0 n (place_in part inside.0 n inside.1) inside.1) (care_same v ∙ met);
     bits = λ n v inside.
         let i = inside.0 in
-        let word : word_at new gates n ≡ word_at mid out (word_of (slot_of true) i) = s.bits i n (place_in part i n inside.1) inside.1 in
-        let fits : 10 * i + 10 ≤ out.len = omega (arith, place_in part i n inside.1, spans.spans.out_len) in
+        let word : word_at new gates n ≡ word_at mid out.span (word_of out (slot_of out true) i) = s.bits i n (place_in part i n inside.1) inside.1 in
+        let fits = place_words out (length part.nets) i spans.spans.out_len (place_in part i n inside.1) in
         let same : shows new gates n v ≡ reached mid out true i v =
-        ap (λ (k : ℕ). meaning new.nodes k v) word ∙ scanned.adds.kept (word_at mid out (word_of (slot_of true) i)) (solved.live (word_of (slot_of true) i) (slot_word true i out.len fits)) v in
+        ap (λ (k : ℕ). meaning new.nodes k v) word ∙ scanned.adds.kept (word_at mid out.span (word_of out (slot_of out true) i)) (solved.live (word_of out (slot_of out true) i) (slot_word out true i fits)) v in
         (λ e. (tells v i n true inside.1).0 (sym same ∙ e), λ r. same ∙ (tells v i n true inside.1).1 r);
     others = λ k lt away.
-        s.others k (λ i below p. away (i, p)) ∙ word_beside out gates old mid k solved spans.spans.apart lt;
+        s.others k (λ i below p. away (i, p)) ∙ word_beside out.span gates old mid k solved spans.spans.apart lt;
   }
 
   pub part_fault : (fault : CircuitFault) → IsFoundIn part observed care out fault mid new → IsPartFault c part observed care roots gates fault old new

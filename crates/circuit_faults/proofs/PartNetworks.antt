@@ -33,6 +33,8 @@ use Rattle.vrt_model.specs.declared.circuit.Hold.{Hold}
 use Rattle.vrt_model.specs.declared.rules.Phase.{Phase}
 use Rattle.vrt_model.specs.declared.verdict.FaultKind.{FaultKind}
 use Rattle.vrt_model.specs.declared.verdict.FaultKind.TheVariants.{Fight, FightKept, Float, Unsettled, Constraint, Differs, Next, Apart, Enter}
+use Rattle.vrt_model.specs.Levels.{source_level}
+use Rattle.path_fixpoint.proofs.SourceLevels.{device_below, hold_below}
 
 -- in each state that agrees with a solution the outputs at a part have the bits of their roots, behind those of the nets
 abbrev pub HasRootsAt : Circuit → Phase → (ℕ → Bool) → Setting → (ℕ → Option Bool) → Part → (ℕ → Bool) → Type 0
@@ -47,7 +49,7 @@ part_network c part bit root = record {
   holds = c.holds;
   outputs = pins_of c;
   devices = part_devices c part;
-  source = 8;
+  source = source_level c;
   reading = bit;
   given = root;
   held = λ at. root (net_of (slice_get c.holds at));
@@ -73,11 +75,11 @@ module _ (which : Bool) (c : Circuit) (phase : Phase) (observed : ℕ → Bool) 
     roots = λ r from. elim from [
       | inl g ↦ (let is = g.3 in omega (arith, is))
       | inr other ↦ elim other [
-        | inl h ↦ (let is = h.4 in let le = (all_among (IsHold c) c.holds h.1 wholes.ranges.holds (h.0, h.2)).size.1 in omega (arith, is, le))
+        | inl h ↦ (let is = h.4 in let below = hold_below c h.1.size (all_among (IsHold c) c.holds h.1 wholes.ranges.holds (h.0, h.2)).size in omega (arith, is, below.1))
         | inr o ↦ (let is = o.4 in let le = (pin_level c o.1 wholes.ranges (o.0, o.2)).1 in omega (arith, is, le))
       ]
     ];
-    devices = λ d on. (let le = (in_circuit d on.0).level.1 in omega (arith, le));
+    devices = λ d on. (device_below c d.level (in_circuit d on.0).level).1;
   }
 
   held_bit : (at : ℕ) (hold : Hold) → At c.holds at hold → IsPlain c hold.net.0 → setting.held at ≡ root (net_of (slice_get c.holds at))
@@ -119,7 +121,7 @@ module _ (which : Bool) (c : Circuit) (phase : Phase) (observed : ℕ → Bool) 
         | inr other ↦ elim other [
           | inl h ↦ elim in_it [
             | inl i ↦ inr (inl (h.0, h.1, h.2, h.3, h.4, h.5 ∙ held_bit h.0 h.1 h.2 (subst (IsPlain c) h.3 (whole.plain r.net i))))
-            | inr e ↦ absurd (let small = (all_among (IsHold c) c.holds h.1 wholes.ranges.holds (h.0, h.2)).size.1 in let top : r.level ≡ 8 = e.1 in let is = h.4 in omega (arith, small, top, is))
+            | inr e ↦ absurd (let small = hold_below c h.1.size (all_among (IsHold c) c.holds h.1 wholes.ranges.holds (h.0, h.2)).size in let top : r.level ≡ source_level c = e.1 in let is = h.4 in omega (arith, small.1, top, is))
           ]
           | inr o ↦ elim in_it [
             | inl i ↦ inr (inr (o.0, o.1, o.2, o.3, o.4, o.5 ∙ driven_bit o.0 o.1 r.net o.2 o.3 i))
@@ -142,7 +144,7 @@ module _ (which : Bool) (c : Circuit) (phase : Phase) (observed : ℕ → Bool) 
         | inr other ↦ elim other [
           | inl h ↦ elim in_it [
             | inl i ↦ inr (inl (h.0, h.1, h.2, h.3, h.4, h.5 ∙ sym (held_bit h.0 h.1 h.2 (subst (IsPlain c) h.3 (whole.plain r.net i)))))
-            | inr e ↦ absurd (let small = (all_among (IsHold c) c.holds h.1 wholes.ranges.holds (h.0, h.2)).size.1 in let top : r.level ≡ 8 = e.1 in let is = h.4 in omega (arith, small, top, is))
+            | inr e ↦ absurd (let small = hold_below c h.1.size (all_among (IsHold c) c.holds h.1 wholes.ranges.holds (h.0, h.2)).size in let top : r.level ≡ source_level c = e.1 in let is = h.4 in omega (arith, small.1, top, is))
           ]
           | inr o ↦ elim in_it [
             | inl i ↦ inr (inr (o.0, o.1, o.2, o.3, o.4, o.5 ∙ sym (driven_bit o.0 o.1 r.net o.2 o.3 i)))
@@ -152,7 +154,7 @@ module _ (which : Bool) (c : Circuit) (phase : Phase) (observed : ℕ → Bool) 
       ];
       devices = λ m n d on j i. ((whole.devices d on.0).0, subst (λ (b : Bool). conducts_at d.kind b ≡ true) (sym (gate_bit d on.0)) on.1);
       bounded = λ m n d on j i. bounded d m n (whole.devices d on.0) j i;
-      edge = λ n g. (record { net = n; level = 8; value = root n }, inl (g.0, g.1, g.2, refl, refl), refl, refl);
+      edge = λ n g. (record { net = n; level = source_level c; value = root n }, inl (g.0, g.1, g.2, refl, refl), refl, refl);
     }
 
     pub response_alone : (n : ℕ) (r : Response) → IsInside part n → IsResponse (circuit_at s) n r → IsResponse alone n r

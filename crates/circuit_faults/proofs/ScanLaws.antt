@@ -12,23 +12,25 @@ use Rattle.circuit_faults.specs.Scans.{IsClearNet, IsClearPlace, IsFaultyNet, Is
 use Rattle.circuit_faults.specs.declared.net.CircuitFault.{CircuitFault}
 use Rattle.channel_parts.specs.declared.part.Part.{Part}
 use Rattle.bdd_core.proofs.Frames.{shows_beside, word_beside}
-use Rattle.path_fixpoint.proofs.Places.{place_in, place_once}
+use Rattle.path_fixpoint.proofs.Places.{place_in, place_once, place_words}
 use Rattle.path_fixpoint.specs.Parts.{IsPlace}
 use Rattle.path_fixpoint.specs.Reaching.{slot_of}
 use Rattle.path_fixpoint.specs.Strengths.{word_of}
 use Rattle.vrt_model.specs.Lists.{At}
 use Rattle.vrt_model.specs.declared.ids.Net.{Net}
+use Rattle.path_fixpoint.specs.declared.words.NetWords.{NetWords}
+use Rattle.path_fixpoint.specs.Strengths.{net_words}
 
 -- the net of a turn stands at its place
 pub net_at : (xs ys : List Net) (i : ℕ) (d : Net) → ys ≡ xs → i < length ys → At xs i (get_or ys i d)
 net_at xs ys i d same lt = subst (λ (zs : List Net). At zs i (get_or ys i d)) same (slice_get-get_or ys i d lt)
 
-pub slot_word : (value : Bool) (i len : ℕ) → 10 * i + 10 ≤ len → word_of (slot_of value) i < len
-slot_word true i len fits = omega (arith, fits)
-slot_word false i len fits = omega (arith, fits)
+pub slot_word : (out : NetWords) (value : Bool) (i : ℕ) → net_words out.source * i + net_words out.source ≤ out.span.len → word_of out (slot_of out value) i < out.span.len
+slot_word out true i fits = omega (arith, fits)
+slot_word out false i fits = omega (arith, fits)
 
-module _ (part : Part) (observed : ℕ → Bool) (care : H) (gates out : Span) (once : (i j n : ℕ) → IsPlace part i n → IsPlace part j n → i ≡ j)
-    (len : out.len ≡ 10 * length part.nets) (apart : IsApart out gates) where
+module _ (part : Part) (observed : ℕ → Bool) (care : H) (gates : Span) (out : NetWords) (once : (i j n : ℕ) → IsPlace part i n → IsPlace part j n → i ≡ j)
+    (len : out.span.len ≡ net_words out.source * length part.nets) (apart : IsApart out.span gates) where
   pub scanned_none : (d : Diagrams) → IsScannedTo part observed care gates out 0 d d
   scanned_none d = record {
     clear = λ i n lt p. absurd (omega (arith, lt));
@@ -36,15 +38,15 @@ module _ (part : Part) (observed : ℕ → Bool) (care : H) (gates out : Span) (
     others = λ k none. refl;
   }
 
-  module _ (first old : Diagrams) (wr : Writes gates first old) (care_live : IsLive first care) (filled : IsFilled first out) where
-    place_fits : (i n : ℕ) → IsPlace part i n → 10 * i + 10 ≤ out.len
-    place_fits i n p = omega (arith, place_in part i n p, len)
+  module _ (first old : Diagrams) (wr : Writes gates first old) (care_live : IsLive first care) (filled : IsFilled first out.span) where
+    fits : (i n : ℕ) → IsPlace part i n → net_words out.source * i + net_words out.source ≤ out.span.len
+    fits i n p = place_words out (length part.nets) i len (place_in part i n p)
 
     care_same : IsSame (function_of old care) (function_of first care)
     care_same v = wr.adds.kept care.0 care_live v
 
     reached_same : (value : Bool) (i n : ℕ) → IsPlace part i n → IsSame (reached old out value i) (reached first out value i)
-    reached_same value i n p v = shows_beside gates out first old (word_of (slot_of value) i) v wr apart filled (slot_word value i out.len (place_fits i n p))
+    reached_same value i n p v = shows_beside gates out.span first old (word_of out (slot_of out value) i) v wr apart filled (slot_word out value i (fits i n p))
 
     -- a net that is clear in the store of its turn is so in the first
     pub clear_first : (i n : ℕ) (seen : Bool) → IsPlace part i n → IsClearNet (function_of old care) (reached old out false i) (reached old out true i) seen
@@ -55,7 +57,7 @@ module _ (part : Part) (observed : ℕ → Bool) (care : H) (gates out : Span) (
 
     pub scanned_more : (new : Diagrams) (i : ℕ) (net : Net) → IsPlace part i net.0 → IsScannedTo part observed care gates out i first old
         → IsClearNet (function_of old care) (reached old out false i) (reached old out true i) (observed net.0)
-        → word_at new gates net.0 ≡ word_at old out (word_of (slot_of true) i)
+        → word_at new gates net.0 ≡ word_at old out.span (word_of out (slot_of out true) i)
         → ((k : ℕ) → k ≢ net.0 → word_at new gates k ≡ word_at old gates k)
         → IsScannedTo part observed care gates out (i + 1) first new
     scanned_more new i net p s c here away = record {
@@ -69,10 +71,10 @@ module _ (part : Part) (observed : ℕ → Bool) (care : H) (gates out : Span) (
       bits = λ j n lt q. elim (cases_eq j i) [
         | inl e ↦
             let same : net.0 ≡ n = place_once part i net.0 n p (subst (λ (x : ℕ). IsPlace part x n) e q) in
-            let at_i : word_at new gates n ≡ word_at first out (word_of (slot_of true) i) =
-            subst (λ (m : ℕ). word_at new gates m ≡ word_at first out (word_of (slot_of true) i)) same
-            (here ∙ word_beside gates out first old (word_of (slot_of true) i) wr apart (slot_word true i out.len (place_fits i net.0 p))) in
-            subst (λ (x : ℕ). word_at new gates n ≡ word_at first out (word_of (slot_of true) x)) (sym e) at_i
+            let at_i : word_at new gates n ≡ word_at first out.span (word_of out (slot_of out true) i) =
+            subst (λ (m : ℕ). word_at new gates m ≡ word_at first out.span (word_of out (slot_of out true) i)) same
+            (here ∙ word_beside gates out.span first old (word_of out (slot_of out true) i) wr apart (slot_word out true i (fits i net.0 p))) in
+            subst (λ (x : ℕ). word_at new gates n ≡ word_at first out.span (word_of out (slot_of out true) x)) (sym e) at_i
         | inr ne ↦ away n (λ e. ne (once j i n q (subst (λ (m : ℕ). IsPlace part i m) (sym e) p))) ∙ s.bits j n (omega (arith, lt, ne)) q
       ];
       others = λ k none.

@@ -31,6 +31,8 @@ use Rattle.vrt_model.specs.declared.rules.Phase.{Phase}
 use Rattle.vrt_model.specs.declared.whole.WholePin.{WholePin}
 use Rattle.circuit_faults.specs.Faults.{HasFixedBits, IsSettingAt}
 use Rattle.vrt_model.specs.Networks.{HasLevels, IsSource}
+use Rattle.vrt_model.specs.Levels.{source_level}
+use Rattle.path_fixpoint.proofs.SourceLevels.{hold_below}
 
 -- whether a net is given
 abbrev given_in : Option FlatNet → Bool
@@ -82,16 +84,16 @@ module _ (which : Bool) (c : Circuit) (phase : Phase) (observed : ℕ → Bool) 
   given_shows s is n g = subst (λ (v : Bool). IsResponse (circuit_in s) n (Shows v)) (given_reading s is n g) (shows_from (circuit_in s) n (s.reading n) reached only)
     where
       reached : Reaches (circuit_in s) n (s.reading n)
-      reached = (record { net = n; level = 8; value = s.reading n }, [], inl (g.0, g.1, g.2, refl, refl), source_strength (circuit_in s) (levels s) n (source s n g), refl, refl)
+      reached = (record { net = n; level = source_level c; value = s.reading n }, [], inl (g.0, g.1, g.2, refl, refl), source_strength (circuit_in s) (levels s) n (source s n g), refl, refl)
 
       -- the root of a path of the source level is the net itself
       own_value : (r : Root) → IsRoot (circuit_in s) r → r.net ≡ n → IsStrength (circuit_in s) r.net r.level → r.value ≡ s.reading n
       own_value r from e strong =
-          let top : 8 ≤ r.level = strong.0 (record { net = n; level = 8; value = s.reading n }) [] (inl (g.0, g.1, g.2, refl, refl)) (sym e) in
+          let top : source_level c ≤ r.level = strong.0 (record { net = n; level = source_level c; value = s.reading n }) [] (inl (g.0, g.1, g.2, refl, refl)) (sym e) in
           elim from [
             | inl h ↦ h.4 ∙ ap s.reading e
             | inr other ↦ elim other [
-              | inl h ↦ absurd (let same = h.4 in let le = (all_among (IsHold c) c.holds h.1 wholes.ranges.holds (h.0, h.2)).size.1 in omega (arith, top, same, le))
+              | inl h ↦ absurd (let same = h.4 in let below = hold_below c h.1.size (all_among (IsHold c) c.holds h.1 wholes.ranges.holds (h.0, h.2)).size in omega (arith, top, same, below.1))
               | inr o ↦ absurd (no_output s o.0 o.1 o.2 (subst (IsGiven c) (sym e ∙ o.3) g))
             ]
           ]

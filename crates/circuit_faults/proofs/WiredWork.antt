@@ -1,5 +1,5 @@
 -- The operations of the outputs of whole instances at a net, from the last on: the model of each instance is evaluated once.
-use Rattle.std.proofs.Common.{◌≡◌, ℕ, zero, suc, ◌+◌, ◌≤◌, Bool, true, false, cond, List, [], ◌∷◌, Option, None, Some, Result, arith, ap, subst, sym, ◌∙◌, inl, inr}
+use Rattle.std.proofs.Common.{◌≡◌, ℕ, zero, suc, ◌+◌, ◌≤◌, Bool, true, cond, List, [], ◌∷◌, Option, None, Some, Result, arith, ap, inl, inr}
 use Rattle.std.specs.Prelude.{◌==◌, drop, sum_by}
 use Rattle.std.specs.List.{list_any}
 use Rattle.std.proofs.lemmas.Bool.{cases_eq, eq-eqb, ne_eqb}
@@ -18,7 +18,7 @@ use Rattle.vrt_model.specs.Lists.{At, Among}
 use Rattle.vrt_model.specs.declared.circuit.Circuit.{Circuit}
 use Rattle.vrt_model.specs.declared.whole.Whole.{Whole}
 use Rattle.vrt_model.specs.declared.whole.WholePin.{WholePin}
-use Rattle.whole_steps.specs.Evaluations.{evaluation_operations, is_evaluated, output_operations}
+use Rattle.whole_steps.specs.Evaluations.{evaluation_operations, output_operations}
 
 -- what is said of both spans says it of the first
 pub wired_gates : {A : Type 0} (u : ℕ) (gates roots : Span) (operations : ℕ) (old new : Diagrams) (r : Result A Spent) → SpendsWired u operations gates roots old new r → Spends u operations gates old new r

@@ -20,6 +20,7 @@ use Rattle.vrt_model.specs.Solution.{AlwaysResponds}
 use Rattle.vrt_model.specs.declared.circuit.Circuit.{Circuit}
 use Rattle.vrt_model.specs.declared.rules.Phase.{Phase}
 use Rattle.vrt_model.specs.declared.verdict.FaultKind.TheVariants.{FightKept, Unsettled}
+use Rattle.vrt_model.specs.Levels.{source_level}
 
 -- Live handles of the roots and of the bits of the bare circuit, one for each net and of the roots one for each output pin of the
 -- whole instances; two words for each net, of where 0 and
@@ -36,7 +37,7 @@ pub record HasKeptSpans (c : Circuit) (parts : List Part) (spans : KeptSpans) (d
   pub ones_span : IsSpan d spans.ones
   pub ones_len : spans.ones.len ≡ length c.nets
   pub out_span : IsSpan d spans.out
-  pub room : (part : Part) → Among parts part → net_words * length part.nets ≤ spans.out.len
+  pub room : (part : Part) → Among parts part → net_words (source_level c) * length part.nets ≤ spans.out.len
   pub roots_zeros : IsApart spans.roots spans.zeros
   pub roots_ones : IsApart spans.roots spans.ones
   pub roots_out : IsApart spans.roots spans.out

@@ -25,6 +25,7 @@ use Rattle.whole_steps.specs.Tables.{free_at}
 use Rattle.whole_steps.specs.declared.table.OutputPlace.{OutputPlace}
 use Rattle.vrt_model.specs.declared.verdict.FaultKind.{FaultKind}
 use Rattle.vrt_model.specs.declared.verdict.FaultKind.TheVariants.{Fight, FightKept, Float, Unsettled, Constraint, Differs, Next, Apart, Enter}
+use Rattle.path_fixpoint.specs.declared.words.NetWords.{NetWords}
 
 -- the span whose handles say where a value reaches the nets
 abbrev pub reach_span : KeptSpans → Bool → Span
@@ -34,11 +35,11 @@ reach_span spans value = cond value spans.ones spans.zeros
 
 -- Words of one span alone were written: at each net of the places before one, the word of the part that says where the
 -- value reaches it; the words of other nets stay.
-pub record IsCopiedTo (part : Part) (value : Bool) (out to : Span) (upto : ℕ) (old new : Diagrams) : Type 0 where
+pub record IsCopiedTo (part : Part) (value : Bool) (out : NetWords) (to : Span) (upto : ℕ) (old new : Diagrams) : Type 0 where
   pub rest : new ≡ record old { words = new.words }
   pub len : length new.words ≡ length old.words
   pub beside : (j : ℕ) → IsBeside to j → slice_index new.words j ≡ slice_index old.words j
-  pub copied : (i n : ℕ) → i < upto → IsPlace part i n → word_at new to n ≡ word_at old out (word_of (slot_of value) i)
+  pub copied : (i n : ℕ) → i < upto → IsPlace part i n → word_at new to n ≡ word_at old out.span (word_of out (slot_of out value) i)
   pub others : (n : ℕ) → ((i : ℕ) → i < upto → IsPlace part i n → ⊥) → word_at new to n ≡ word_at old to n
 
 -- ---- a part, by its network at each valuation

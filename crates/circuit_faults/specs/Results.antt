@@ -26,6 +26,7 @@ use Rattle.vrt_model.specs.declared.circuit.FlatInstance.{FlatInstance}
 use Rattle.vrt_model.specs.declared.rules.Phase.{Phase}
 use Rattle.vrt_model.specs.declared.verdict.FaultKind.{FaultKind}
 use Rattle.vrt_model.specs.declared.verdict.FaultKind.TheVariants.{Fight, Float, Constraint}
+use Rattle.vrt_model.specs.Levels.{source_level}
 
 -- the bits of the roots at a valuation
 abbrev pub root_at : Diagrams → Span → Valuation → ℕ → Bool
@@ -62,7 +63,7 @@ pub record HasCircuitSpans (c : Circuit) (parts : List Part) (roots gates out : 
   pub gates_span : IsSpan d gates
   pub gates_len : gates.len ≡ length c.nets
   pub out_span : IsSpan d out
-  pub room : (part : Part) → Among parts part → net_words * length part.nets ≤ out.len
+  pub room : (part : Part) → Among parts part → net_words (source_level c) * length part.nets ≤ out.len
   pub roots_gates : IsApart roots gates
   pub roots_out : IsApart roots out
   pub gates_out : IsApart gates out

@@ -20,6 +20,7 @@ use Rattle.whole_steps.specs.Tables.{free_at}
 use Rattle.whole_steps.specs.declared.table.OutputPlace.{OutputPlace}
 use Rattle.vrt_model.specs.declared.verdict.FaultKind.{FaultKind}
 use Rattle.vrt_model.specs.declared.verdict.FaultKind.TheVariants.{Fight, FightKept, Float, Unsettled, Constraint, Differs, Next, Apart, Enter}
+use Rattle.path_fixpoint.specs.declared.words.NetWords.{NetWords}
 
 -- the net is one of the part
 abbrev pub IsInside : Part → ℕ → Type 0
@@ -68,26 +69,26 @@ NetGives care zero one seen net d (Some fault) = (fault.place ≡ net.0) × IsFa
 -- ---- the nets of a part
 
 -- where the value reaches the net at a place
-abbrev pub reached : Diagrams → Span → Bool → ℕ → Function
-reached d out value i = λ v. strong d out (slot_of value) i v
+abbrev pub reached : Diagrams → NetWords → Bool → ℕ → Function
+reached d out value i = λ v. strong d out (slot_of out value) i v
 
-abbrev pub IsClearPlace : (ℕ → Bool) → H → Span → Diagrams → ℕ → ℕ → Type 0
+abbrev pub IsClearPlace : (ℕ → Bool) → H → NetWords → Diagrams → ℕ → ℕ → Type 0
 IsClearPlace observed care out d i n = IsClearNet (function_of d care) (reached d out false i) (reached d out true i) (observed n)
 
 -- no net before a place has a fault, and the handles of these nets say where 1 reaches them; those of other nets stay
-pub record IsScannedTo (part : Part) (observed : ℕ → Bool) (care : H) (gates out : Span) (upto : ℕ) (old new : Diagrams) : Type 0 where
+pub record IsScannedTo (part : Part) (observed : ℕ → Bool) (care : H) (gates : Span) (out : NetWords) (upto : ℕ) (old new : Diagrams) : Type 0 where
   pub clear : (i n : ℕ) → i < upto → IsPlace part i n → IsClearPlace observed care out old i n
-  pub bits : (i n : ℕ) → i < upto → IsPlace part i n → word_at new gates n ≡ word_at old out (word_of (slot_of true) i)
+  pub bits : (i n : ℕ) → i < upto → IsPlace part i n → word_at new gates n ≡ word_at old out.span (word_of out (slot_of out true) i)
   pub others : (k : ℕ) → ((i : ℕ) → i < upto → IsPlace part i k → ⊥) → word_at new gates k ≡ word_at old gates k
 
 -- the first fault of the part
-pub record IsFoundIn (part : Part) (observed : ℕ → Bool) (care : H) (out : Span) (fault : CircuitFault) (old new : Diagrams) : Type 0 where
+pub record IsFoundIn (part : Part) (observed : ℕ → Bool) (care : H) (out : NetWords) (fault : CircuitFault) (old new : Diagrams) : Type 0 where
   pub place : ℕ
   pub stands : IsPlace part place fault.place
   pub before : (i n : ℕ) → i < place → IsPlace part i n → IsClearPlace observed care out old i n
   pub is : IsFaultyNet (function_of old care) (reached old out false place) (reached old out true place) (observed fault.place) fault.kind fault.at new
 
-abbrev pub ScanGives : Part → (ℕ → Bool) → H → Span → Span → Diagrams → Diagrams → Option CircuitFault → Type 0
+abbrev pub ScanGives : Part → (ℕ → Bool) → H → Span → NetWords → Diagrams → Diagrams → Option CircuitFault → Type 0
 ScanGives part observed care gates out old new None = IsScannedTo part observed care gates out (length part.nets) old new
 ScanGives part observed care gates out old new (Some fault) = IsFoundIn part observed care out fault old new
 

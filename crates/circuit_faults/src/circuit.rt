@@ -13,7 +13,8 @@ ghost use Rattle.circuit_faults.specs.Steps.{AreOrderedSteps, IsReadyInstance, I
 ghost use Rattle.circuit_faults.specs.declared.steps.CircuitStep.TheVariants.{Part as PartStep, Instance as InstanceStep};
 ghost use Rattle.known_nets.specs.KnownTables.{known_at};
 ghost use Rattle.path_fixpoint.specs.Spending.{HasOneHold, Spends, solving_operations};
-ghost use Rattle.path_fixpoint.specs.Strengths.{net_words};
+ghost use Rattle.path_fixpoint.specs.Strengths.{circuit_words, net_words};
+ghost use Rattle.vrt_model.specs.Levels.{source_level};
 ghost use Rattle.circuit_faults.specs.Scans.{PartGives, free_part};
 ghost use Rattle.circuit_faults.specs.Wholes.{IsCopied, IsReadyWholes, SpendsWired, WiredGives};
 ghost use Rattle.path_fixpoint.specs.Parts.{AreSoftInside, IsPart};
@@ -34,7 +35,7 @@ use crate::undriven::undriven_net;
 use bdd_core::{H, Spent, Store, ZERO};
 use channel_parts::Part;
 use node_pool::Span;
-use path_fixpoint::net_words;
+use path_fixpoint::{NetWords, net_words, source_level};
 use vrt_model::Circuit;
 use whole_steps::{OutputPlace, WholeTable, free_driver};
 
@@ -67,14 +68,16 @@ fn write_first_handles(store: &mut Store, known: &[Option<bool>], roots: Span, g
 }
 
 /// The words for a part among those for the greatest.
-pub(crate) fn words_of(part: &Part, out: Span) -> Span
-    requires { net_words * length part.now.nets ≤ out.len }
-    ensures { result ≡ record { start = out.start; len = net_words * length part.now.nets } }
+pub(crate) fn words_of(circuit: &Circuit, part: &Part, out: Span) -> NetWords
+    requires { net_words (source_level circuit.now) * length part.now.nets ≤ out.len }
+    ensures { result ≡ circuit_words circuit.now (record { start = out.start; len = net_words (source_level circuit.now) * length part.now.nets }) }
 {
-    Span {
+    let source = source_level(circuit);
+    let span = Span {
         start: out.start,
-        len: net_words() * part.nets.len() as u32,
-    }
+        len: net_words(source) * part.nets.len() as u32,
+    };
+    NetWords { span, source }
 }
 
 /// The output at the first net of a part that is marked as free, if one is.
@@ -117,7 +120,7 @@ fn check_solved(
             return Ok(None);
         }
     }
-    let words = words_of(part, spans.out);
+    let words = words_of(phased.circuit, part, spans.out);
     check_part(
         store,
         phased.circuit,

@@ -23,28 +23,28 @@ use crate::undriven::undriven_net;
 use bdd_core::{Spent, Store, ZERO};
 use channel_parts::Part;
 use node_pool::Span;
-use path_fixpoint::{reached, solve_part};
+use path_fixpoint::{NetWords, reached, solve_part};
 use vrt_model::{Circuit, Net};
 use whole_steps::WholeTable;
 
 /// Copies the handle that says where a value reaches the net at a place of a part to the word of the net.
-fn copy_word(store: &mut Store, net: Net, place: usize, value: bool, out: Span, to: Span)
-    requires out { IsSpan store.old out × IsFilled store.old out }
-    requires place { (net_words * place + net_words ≤ out.len) × (out.len < 2 ^ 32) }
+fn copy_word(store: &mut Store, net: Net, place: usize, value: bool, out: NetWords, to: Span)
+    requires out { IsSpan store.old out.span × IsFilled store.old out.span }
+    requires place { (net_words out.source * place + net_words out.source ≤ out.span.len) × (out.span.len < 2 ^ 32) }
     requires to { IsSpan store.old to × (net.0 < to.len) }
-    ensures { store.new ≡ record store.old { words = slice_set store.old.words (to.start + net.0) (word_at store.old out (word_of (slot_of value) place)) } }
+    ensures { store.new ≡ record store.old { words = slice_set store.old.words (to.start + net.0) (word_at store.old out.span (word_of out (slot_of out value) place)) } }
 {
     let handle = reached(store, out, place, value);
     store.write(to, net.0, handle.0);
 }
 
 /// Copies for each net of a part the handle that says where a value reaches it.
-fn copy_reach(store: &mut Store, part: &Part, value: bool, out: Span, to: Span)
+fn copy_reach(store: &mut Store, part: &Part, value: bool, out: NetWords, to: Span)
     requires nets { All (λ (n : Net). n.0 < to.len) part.now.nets }
     requires once { (i j n : ℕ) → IsPlace part.now i n → IsPlace part.now j n → i ≡ j }
-    requires out { IsSpan store.old out × IsFilled store.old out × (out.len ≡ net_words * length part.now.nets) × (out.len < 2 ^ 32) }
+    requires out { IsSpan store.old out.span × IsFilled store.old out.span × (out.span.len ≡ net_words out.source * length part.now.nets) × (out.span.len < 2 ^ 32) }
     requires to { IsSpan store.old to }
-    requires apart { IsApart to out }
+    requires apart { IsApart to out.span }
     ensures { IsCopiedTo part.now value out to (length part.now.nets) store.old store.new }
 {
     store.sound();
@@ -79,8 +79,8 @@ fn solve_kept(
         store.write(spans.ones, net.0, ZERO.0);
         return Ok(());
     }
-    let out = words_of(part, spans.out);
-    match solve_part(store, circuit, part, spans.gates, spans.roots, out) {
+    let out = words_of(circuit, part, spans.out);
+    match solve_part(store, circuit, part, spans.gates, spans.roots, out.span) {
         Ok(()) => {}
         Err(spent) => return Err(spent),
     }

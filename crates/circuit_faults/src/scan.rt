@@ -16,7 +16,7 @@ use crate::net::{CircuitFault, net_fault};
 use bdd_core::{H, Spent, Store};
 use channel_parts::Part;
 use node_pool::Span;
-use path_fixpoint::reached;
+use path_fixpoint::{NetWords, reached};
 use vrt_model::Net;
 
 /// Whether a net is observed.
@@ -36,17 +36,17 @@ fn check_net(
     seen: bool,
     care: H,
     gates: Span,
-    out: Span,
+    out: NetWords,
 ) -> Result<Option<CircuitFault>, Spent>
     requires care { IsLive store.old care }
     requires gates { IsSpan store.old gates × IsFilled store.old gates }
-    requires out { IsSpan store.old out × IsFilled store.old out }
-    requires place { (net.0 < gates.len) × (net_words * place + net_words ≤ out.len) × (out.len < 2 ^ 32) }
+    requires out { IsSpan store.old out.span × IsFilled store.old out.span }
+    requires place { (net.0 < gates.len) × (net_words out.source * place + net_words out.source ≤ out.span.len) × (out.span.len < 2 ^ 32) }
     ensures writes { Writes gates store.old store.new }
     ensures apart { (k : ℕ) → k ≢ net.0 → word_at store.new gates k ≡ word_at store.old gates k }
     ensures gives { IfOk result (λ found. NetGives (function_of store.old care) (reached store.old out false place) (reached store.old out true place) seen net store.new found) }
-    ensures few { (u : ℕ) → IsWithin u (function_of store.old care) → IsSpanWithin u store.old gates → IsSpanWithin u store.old out → Spends u 4 gates store.old store.new result }
-    ensures bit { IfOk result (λ found. found ≡ None → word_at store.new gates net.0 ≡ word_at store.old out (word_of (slot_of true) place)) }
+    ensures few { (u : ℕ) → IsWithin u (function_of store.old care) → IsSpanWithin u store.old gates → IsSpanWithin u store.old out.span → Spends u 4 gates store.old store.new result }
+    ensures bit { IfOk result (λ found. found ≡ None → word_at store.new gates net.0 ≡ word_at store.old out.span (word_of out (slot_of out true) place)) }
 {
     store.sound();
     let zero = reached(store, out, place, false);
@@ -71,17 +71,17 @@ pub(crate) fn scan(
     observed: &[bool],
     care: H,
     gates: Span,
-    out: Span,
+    out: NetWords,
 ) -> Result<Option<CircuitFault>, Spent>
     requires care { IsLive store.old care }
     requires gates { IsSpan store.old gates × IsFilled store.old gates }
     requires nets { All (λ (n : Net). (n.0 < gates.len) × (n.0 < length observed.now)) part.now.nets }
     requires once { (i j n : ℕ) → IsPlace part.now i n → IsPlace part.now j n → i ≡ j }
-    requires out { IsSpan store.old out × IsFilled store.old out × (out.len ≡ net_words * length part.now.nets) × (out.len < 2 ^ 32) }
-    requires apart { IsApart out gates }
+    requires out { IsSpan store.old out.span × IsFilled store.old out.span × (out.span.len ≡ net_words out.source * length part.now.nets) × (out.span.len < 2 ^ 32) }
+    requires apart { IsApart out.span gates }
     ensures writes { Writes gates store.old store.new }
     ensures gives { IfOk result (λ found. ScanGives part.now (mark_at observed.now) care gates out store.old store.new found) }
-    ensures few { (u : ℕ) → IsWithin u (function_of store.old care) → IsSpanWithin u store.old gates → IsSpanWithin u store.old out → Spends u (4 * length part.now.nets) gates store.old store.new result }
+    ensures few { (u : ℕ) → IsWithin u (function_of store.old care) → IsSpanWithin u store.old gates → IsSpanWithin u store.old out.span → Spends u (4 * length part.now.nets) gates store.old store.new result }
 {
     store.sound();
     let nets = part.nets.as_slice();

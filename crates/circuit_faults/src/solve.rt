@@ -17,7 +17,7 @@ use crate::scan::scan;
 use bdd_core::{H, Spent, Store};
 use channel_parts::Part;
 use node_pool::Span;
-use path_fixpoint::solve_part;
+use path_fixpoint::{NetWords, solve_part};
 use vrt_model::Circuit;
 
 /// The first fault of a part in the care set, at the valuations at which its devices have the bits of `gates`. Where
@@ -31,7 +31,7 @@ pub(crate) fn check_part(
     care: H,
     roots: Span,
     gates: Span,
-    out: Span,
+    out: NetWords,
 ) -> Result<Option<CircuitFault>, Spent>
     requires circuit { HasRanges circuit.now }
     requires part { IsPart circuit.now part.now }
@@ -39,12 +39,12 @@ pub(crate) fn check_part(
     requires care { IsLive store.old care }
     requires soft { AreSoftInside circuit.now part.now }
     requires spans { HasRootSpans circuit.now part.now gates roots out store.old }
-    ensures writes { WritesTwo gates out store.old store.new }
+    ensures writes { WritesTwo gates out.span store.old store.new }
     ensures live { IsFilled store.new gates }
     ensures few { HasOneHold circuit.now → (u : ℕ) → IsWithin u (function_of store.old care) → IsSpanWithin u store.old gates → IsSpanWithin u store.old roots → Spends u (solving_operations circuit.now part.now + 4 * length part.now.nets) gates store.old store.new result }
     ensures gives { IfOk result (λ found. PartGives circuit.now part.now (mark_at observed.now) care roots gates store.old store.new found) }
 {
-    match solve_part(store, circuit, part, gates, roots, out) {
+    match solve_part(store, circuit, part, gates, roots, out.span) {
         Ok(()) => {}
         Err(spent) => return Err(spent),
     }

@@ -1,20 +1,29 @@
 //! A store for the part of all plain nets of a circuit. Each input is the variable of its place among the inputs, and
 //! the root of each hold the one behind them.
 
-ghost use Rattle.std.specs.Prelude.{◌≡◌, IsTrue};
+ghost use Rattle.std.specs.Prelude.{◌≡◌, ◌≤◌, IsTrue};
 ghost use Rattle.bdd_core.specs.Store.{IsSpan};
 
 use crate::stop::Stop;
 use bdd_core::{H, ONE, Spent, Store, ZERO};
 use circuit_draft::HIGH;
 use node_pool::Span;
-use path_fixpoint::{Part, are_spans, is_part, net_words, solve_part};
+use path_fixpoint::{NetWords, Part, are_spans, is_part, net_words, solve_part, source_level};
 use plain_paths::is_flat;
 use std::alloc::Global;
 use vrt_model::{Circuit, Dev, Net, NetKind, Seq, Var};
 
 /// The most nets and devices of a circuit, and variables of its store.
 const MOST: usize = 1000;
+
+/// What is told of a net of the part.
+#[derive(Clone, Copy)]
+pub enum Entry {
+    /// Whether its strength is at least a level.
+    Level(u32),
+    /// Whether a value reaches it.
+    Value(bool),
+}
 
 /// A part, and the spans of its words in a store.
 pub struct Board {
@@ -23,7 +32,7 @@ pub struct Board {
     part: Part,
     gates: Span,
     roots: Span,
-    out: Span,
+    out: NetWords,
 }
 
 /// By hand, so that letting go of one is a call.
@@ -112,13 +121,13 @@ impl Board {
     pub(crate) fn open(alloc: Global, circuit: &Circuit, budget: u32) -> Result<Board, Stop> {
         let part = whole_part(alloc, circuit)?;
         let nets = circuit.nets.len().min(MOST) as u32;
-        let words = net_words() * part.nets.len().min(MOST) as u32;
+        let words = net_words(source_level(circuit)) * part.nets.len().min(MOST) as u32;
         let budget = budget.clamp(2, 64_000_000);
         let vars = variables(circuit).min(MOST as u32);
         let mut store = Store::with_budget(alloc, budget, 2 * nets + words, vars)?;
         let gates = take(&mut store, nets)?;
         let roots = take(&mut store, nets)?;
-        let out = take(&mut store, words)?;
+        let out = NetWords::new(circuit, take(&mut store, words)?);
         let mut board = Board {
             store,
             part,
@@ -157,7 +166,7 @@ impl Board {
     #[tactic(auto, using(vrt_model::proofs::Networks::flat_ranges))]
     pub(crate) fn solve(&mut self, circuit: &Circuit) -> Result<Result<(), Spent>, Stop> {
         let part = &self.part;
-        let (gates, roots, out) = (self.gates, self.roots, self.out);
+        let (gates, roots, out) = (self.gates, self.roots, self.out.span);
         if !is_flat(circuit)
             || !is_part(circuit, part)
             || !are_spans(&self.store, circuit, part, gates, roots, out)
@@ -172,15 +181,37 @@ impl Board {
         word(&self.store, self.gates, net)
     }
 
-    /// The handle of a net at a place of the part: of a level from 1 to 8, of the value 0 as 9, and of 1 as 10.
-    pub(crate) fn entry(&self, place: usize, level: u32) -> H {
-        if place > MOST || level < 1 || level > net_words() {
+    /// The source level of the circuit.
+    pub(crate) fn source(&self) -> u32
+        ensures { result ≤ 255 }
+    {
+        self.out.source as u32
+    }
+
+    /// Which word of a net has an entry, from 1 on; 0 for a level above the source level.
+    fn number(&self, entry: Entry) -> u32 {
+        let source = self.out.source as u32;
+        match entry {
+            Entry::Level(level) => {
+                if level > source {
+                    return 0;
+                }
+                level
+            }
+            Entry::Value(value) => source + 1 + value as u32,
+        }
+    }
+
+    /// The handle of an entry of the net at a place of the part.
+    pub(crate) fn entry(&self, place: usize, entry: Entry) -> H {
+        let (number, words) = (self.number(entry), net_words(self.out.source));
+        if place > MOST || number < 1 || number > words {
             return ZERO;
         }
         word(
             &self.store,
-            self.out,
-            net_words() * place as u32 + level - 1,
+            self.out.span,
+            words * place as u32 + number - 1,
         )
     }
 

@@ -42,7 +42,7 @@ fn clock(draft: &mut Draft, inverted: bool) -> Result<(), Stop> {
 fn device(draft: &mut Draft, kind: Kind, numbers: &[u32]) -> Result<(), Stop> {
     let (left, gate) = (net(numbers, 0)?, net(numbers, 1)?);
     let (right, level) = (net(numbers, 2)?, number(numbers, 3)?);
-    draft.device(kind, level.min(8) as u8, gate, left, right)?;
+    draft.device(kind, level.min(255) as u8, gate, left, right)?;
     Ok(())
 }
 

@@ -1,6 +1,6 @@
 //! The clear paths of a circuit, asked for by sums of products of its inputs.
 
-use crate::board::Board;
+use crate::board::{Board, Entry};
 use crate::stop::Stop;
 use crate::words::{Path, number};
 use anyhow::Result;
@@ -8,12 +8,6 @@ use bdd_core::{H, ONE, Spent, Store, ZERO};
 use bdd_ops::{and, not, or};
 use std::alloc::Global;
 use vrt_model::{Circuit, Net};
-
-/// The entry of the value 0.
-pub const ZEROS: u32 = 9;
-
-/// The entry of the value 1.
-pub const ONES: u32 = 10;
 
 /// A circuit's part with its words, whether the budget was used up, and a sum of products.
 pub struct Solved {
@@ -105,9 +99,9 @@ impl Solved {
         match what {
             Path::Product => self.add_product(numbers)?,
             Path::Complement => self.add_complement(number(numbers, 0)?)?,
-            Path::Level => self.tell(rt, number(numbers, 0)?, number(numbers, 1)?)?,
-            Path::Zeros => self.tell(rt, ZEROS, number(numbers, 0)?)?,
-            Path::Ones => self.tell(rt, ONES, number(numbers, 0)?)?,
+            Path::Level => self.tell(rt, Entry::Level(number(numbers, 0)?), number(numbers, 1)?)?,
+            Path::Zeros => self.tell(rt, Entry::Value(false), number(numbers, 0)?)?,
+            Path::Ones => self.tell(rt, Entry::Value(true), number(numbers, 0)?)?,
             Path::Solve => {}
         }
         Ok(())
@@ -133,22 +127,24 @@ impl Solved {
     }
 
     /// Whether an entry of a net is the sum. A new sum begins.
-    fn is_sum(&mut self, level: u32, net: u32) -> Result<bool, Stop> {
+    fn is_sum(&mut self, entry: Entry, net: u32) -> Result<bool, Stop> {
         let Some(place) = self.board.place(Net(net)) else {
             return Err(Stop::NotRead);
         };
-        let is_sum = self.board.entry(place, level) == self.sum;
+        let is_sum = self.board.entry(place, entry) == self.sum;
         self.sum = ZERO;
         Ok(is_sum)
     }
 
     /// Tells whether an entry of a net is the sum.
-    fn tell(&mut self, rt: HostRuntime, level: u32, net: u32) -> Result<()> {
-        let is_sum = self.is_sum(level, net)?;
-        match level {
-            ZEROS => println!(rt; "paths: 0 reaches net {net} as told: {is_sum}")?,
-            ONES => println!(rt; "paths: 1 reaches net {net} as told: {is_sum}")?,
-            _ => println!(rt; "paths: net {net} has level {level} as told: {is_sum}")?,
+    fn tell(&mut self, rt: HostRuntime, entry: Entry, net: u32) -> Result<()> {
+        let is_sum = self.is_sum(entry, net)?;
+        match entry {
+            Entry::Value(false) => println!(rt; "paths: 0 reaches net {net} as told: {is_sum}")?,
+            Entry::Value(true) => println!(rt; "paths: 1 reaches net {net} as told: {is_sum}")?,
+            Entry::Level(level) => println!(rt;
+                "paths: net {net} has level {level} as told: {is_sum}"
+            )?,
         }
         Ok(())
     }

@@ -1,7 +1,6 @@
 //! All circuits of three plain nets with at most three devices beside the plain search.
 
-use crate::board::Board;
-use crate::paths::{ONES, ZEROS};
+use crate::board::{Board, Entry};
 use crate::stop::Stop;
 use crate::values::{valuation, value};
 use circuit_draft::Draft;
@@ -75,13 +74,15 @@ fn reading(at: u32) -> [bool; 8] {
 fn agrees(board: &Board, table: &Signals, place: usize, at: &Valuation) -> Result<bool, Stop> {
     let net = place.saturating_add(5);
     let strength = table.strengths.get(net).copied().unwrap_or(0) as u32;
-    for level in 1..=8u32 {
-        if value(&board.store, board.entry(place, level), at)? != (level <= strength) {
+    for level in 1..=board.source() {
+        if value(&board.store, board.entry(place, Entry::Level(level)), at)?
+            != (level <= strength)
+        {
             return Ok(false);
         }
     }
-    let zero = value(&board.store, board.entry(place, ZEROS), at)?;
-    let one = value(&board.store, board.entry(place, ONES), at)?;
+    let zero = value(&board.store, board.entry(place, Entry::Value(false)), at)?;
+    let one = value(&board.store, board.entry(place, Entry::Value(true)), at)?;
     Ok(table.zeros.get(net) == Some(&zero) && table.ones.get(net) == Some(&one))
 }
 

@@ -20,15 +20,15 @@ files_rule = record (new_rule (codes "files")) { action = Some Append }
 abbrev pub with_version : App → App
 with_version a = record { top = record a.top { has_version = true }; subs = a.subs }
 
--- the command: `--help` and `--version`, which a command has by itself, six options and the files
+-- the command: `--help` and `--version`, which a command has by itself, seven options and the files
 abbrev pub bare_command : App
 bare_command = with_version (new_app (codes "verity"))
 
 abbrev pub simple_command : App
 simple_command =
-    with_rule (with_rule (with_rule (with_rule (with_rule (with_rule (with_rule bare_command
+    with_rule (with_rule (with_rule (with_rule (with_rule (with_rule (with_rule (with_rule bare_command
     (option_rule (codes "do"))) (option_rule (codes "cell"))) (option_rule (codes "phase"))) (option_rule (codes "at")))
-    (option_rule (codes "budget"))) (option_rule (codes "size"))) files_rule
+    (option_rule (codes "budget"))) (option_rule (codes "size"))) (option_rule (codes "rise"))) files_rule
 
 -- why the command does not take the words: the cause at the first word that fails, none where it takes all
 unfoldable pub refusals : List Text → Kinds

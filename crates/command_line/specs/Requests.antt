@@ -16,7 +16,7 @@ use Rattle.command_line.specs.declared.request.Asked.{Asked}
 use Rattle.command_line.specs.declared.request.Asked.TheVariants.{Help, Version, Run}
 use Rattle.command_line.specs.declared.request.FileWords.{FileWords}
 use Rattle.command_line.specs.declared.request.Request.{Request}
-use Rattle.command_line.specs.declared.request.Request.TheVariants.{Check, Replay, Classes, Generate}
+use Rattle.command_line.specs.declared.request.Request.TheVariants.{Check, Replay, Classes, Generate, Arrive}
 
 -- ---- values
 
@@ -25,7 +25,8 @@ mode_named word =
     if bytes_eq word (codes "check") then Some mode.Check
     else (if bytes_eq word (codes "replay") then Some mode.Replay
     else (if bytes_eq word (codes "classes") then Some mode.Classes
-    else (if bytes_eq word (codes "gen") then Some mode.Generate else None)))
+    else (if bytes_eq word (codes "gen") then Some mode.Generate
+    else (if bytes_eq word (codes "arrive") then Some mode.Arrive else None))))
 
 -- one decimal digit or more, at most `places`
 abbrev pub is_numeral : ℕ → Text → Bool
@@ -55,6 +56,7 @@ pub record Options : Type 0 where
   pub at : Option Text
   pub budget : Option ℕ
   pub size : Option ℕ
+  pub rise : Option Text
   pub files : List Text
 
 -- `--do`, of which `check` is the default
@@ -72,6 +74,7 @@ pub record Gives (rows : List Row) (options : Options) : Type 0 where
   pub at : first_of (codes "at") rows ≡ options.at
   pub budget : option_map budget_in (first_of (codes "budget") rows) ≡ option_map (λ n. Some n) options.budget
   pub size : option_map size_in (first_of (codes "size") rows) ≡ option_map (λ n. Some n) options.size
+  pub rise : first_of (codes "rise") rows ≡ options.rise
   pub files : files_given rows ≡ options.files
 
 -- ---- requests
@@ -86,13 +89,15 @@ names_of files = files.spice.now ∷ files.blif.now ∷ files.rules.now ∷ []
 -- the options of a request: each mode with those that it takes, and three files but where they are generated
 abbrev pub options_of : Request → Options
 options_of (Check cell budget files) =
-    record { mode = mode.Check; cell = value_of cell; phase = None; at = None; budget = budget; size = None; files = names_of files }
+    record { mode = mode.Check; cell = value_of cell; phase = None; at = None; budget = budget; size = None; rise = None; files = names_of files }
 options_of (Replay cell phase at files) =
-    record { mode = mode.Replay; cell = Some cell.now; phase = Some phase.now; at = value_of at; budget = None; size = None; files = names_of files }
+    record { mode = mode.Replay; cell = Some cell.now; phase = Some phase.now; at = value_of at; budget = None; size = None; rise = None; files = names_of files }
 options_of (Classes cell files) =
-    record { mode = mode.Classes; cell = value_of cell; phase = None; at = None; budget = None; size = None; files = names_of files }
+    record { mode = mode.Classes; cell = value_of cell; phase = None; at = None; budget = None; size = None; rise = None; files = names_of files }
 options_of (Generate size budget) =
-    record { mode = mode.Generate; cell = None; phase = None; at = None; budget = budget; size = Some size; files = [] }
+    record { mode = mode.Generate; cell = None; phase = None; at = None; budget = budget; size = Some size; rise = None; files = [] }
+options_of (Arrive cell phase rise budget files) =
+    record { mode = mode.Arrive; cell = Some cell.now; phase = Some phase.now; at = None; budget = budget; size = None; rise = Some rise.now; files = names_of files }
 
 -- the names of the files that a request reads
 abbrev pub file_names : Request → List Text
@@ -113,7 +118,7 @@ Asks words Version = refusals words ≡ DisplayVersion ∷ []
 Asks words (Run request) = AsksFor words request
 
 -- the words are not understood: the command refuses them for another cause than help and version, or it takes them, and
--- they are those of no request: a mode that is none of the four, a number out of its range, an option that the mode needs
+-- they are those of no request: a mode that is none of the five, a number out of its range, an option that the mode needs
 -- and that is missing, one that the mode does not take, or another number of files
 abbrev pub IsUsage : List Text → Type 0
 IsUsage words =

@@ -30,6 +30,7 @@ shown c = record {
   at = value_of c.at;
   budget = c.budget;
   size = c.size;
+  rise = value_of c.rise;
   files = listed c.files;
 }
 

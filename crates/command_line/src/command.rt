@@ -36,6 +36,7 @@ fn command<'a>(alloc: Global) -> Result<Command<'a>, AllocError>
         .arg(value_option(alloc, "at"))?
         .arg(value_option(alloc, "budget"))?
         .arg(value_option(alloc, "size"))?
+        .arg(value_option(alloc, "rise"))?
         .arg(files_argument(alloc))
 }
 

@@ -21,6 +21,8 @@ pub enum Mode {
     Classes,
     /// `gen`: a hierarchy is generated and checked.
     Generate,
+    /// `arrive`: whether the order matters in which inputs of a cell rise.
+    Arrive,
 }
 
 /// The values of the options, where they are there, and the three files; no files where no file is named.
@@ -38,6 +40,8 @@ pub struct Choices<'a> {
     pub budget: Option<u32>,
     /// The value of `--size`, of the hierarchy that is generated, from 1 to 32.
     pub size: Option<u32>,
+    /// The value of `--rise`, names of input ports as `a,b`.
+    pub rise: Option<&'a str>,
     /// The three words that are no options; none where there is no such word.
     pub files: Option<FileWords<'a>>,
 }
@@ -63,6 +67,8 @@ fn named(word: &str) -> Option<Mode>
         Some(Mode::Classes)
     } else if word == "gen" {
         Some(Mode::Generate)
+    } else if word == "arrive" {
+        Some(Mode::Arrive)
     } else {
         None
     }
@@ -166,6 +172,7 @@ pub fn read_options<'a>(matches: &ArgMatches<'a>) -> Result<Choices<'a>, Misfit>
         at: value(matches, "at"),
         budget,
         size,
+        rise: value(matches, "rise"),
         files,
     })
 }

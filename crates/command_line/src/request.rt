@@ -43,6 +43,14 @@ pub enum Request<'a> {
         size: u32,
         budget: Option<u32>,
     },
+    /// To say whether the order matters in which some input ports of a cell rise within a phase, by a list of their names.
+    Arrive {
+        cell: &'a str,
+        phase: &'a str,
+        rise: &'a str,
+        budget: Option<u32>,
+        files: FileWords<'a>,
+    },
 }
 
 impl<'a> Request<'a> {
@@ -53,7 +61,8 @@ impl<'a> Request<'a> {
         match self {
             Request::Check { files, .. }
             | Request::Replay { files, .. }
-            | Request::Classes { files, .. } => Some(*files),
+            | Request::Classes { files, .. }
+            | Request::Arrive { files, .. } => Some(*files),
             Request::Generate { .. } => None,
         }
     }
@@ -74,7 +83,11 @@ fn check<'a>(choices: &Choices<'a>) -> Option<Request<'a>>
     requires { choices.now.mode ≡ Mode.Check }
     ensures { MatchOption result (IsOfNone (shown choices.now)) (λ request. options_of request ≡ shown choices.now) }
 {
-    if choices.phase.is_some() || choices.at.is_some() || choices.size.is_some() {
+    if choices.phase.is_some()
+        || choices.at.is_some()
+        || choices.size.is_some()
+        || choices.rise.is_some()
+    {
         return None;
     }
     Some(Request::Check {
@@ -88,7 +101,7 @@ fn replay<'a>(choices: &Choices<'a>) -> Option<Request<'a>>
     requires { choices.now.mode ≡ Mode.Replay }
     ensures { MatchOption result (IsOfNone (shown choices.now)) (λ request. options_of request ≡ shown choices.now) }
 {
-    if choices.budget.is_some() || choices.size.is_some() {
+    if choices.budget.is_some() || choices.size.is_some() || choices.rise.is_some() {
         return None;
     }
     Some(Request::Replay {
@@ -107,6 +120,7 @@ fn classes<'a>(choices: &Choices<'a>) -> Option<Request<'a>>
         || choices.at.is_some()
         || choices.budget.is_some()
         || choices.size.is_some()
+        || choices.rise.is_some()
     {
         return None;
     }
@@ -123,6 +137,7 @@ fn generate<'a>(choices: &Choices<'a>) -> Option<Request<'a>>
     if choices.cell.is_some()
         || choices.phase.is_some()
         || choices.at.is_some()
+        || choices.rise.is_some()
         || choices.files.is_some()
     {
         return None;
@@ -130,6 +145,22 @@ fn generate<'a>(choices: &Choices<'a>) -> Option<Request<'a>>
     Some(Request::Generate {
         size: choices.size?,
         budget: choices.budget,
+    })
+}
+
+fn arrive<'a>(choices: &Choices<'a>) -> Option<Request<'a>>
+    requires { choices.now.mode ≡ Mode.Arrive }
+    ensures { MatchOption result (IsOfNone (shown choices.now)) (λ request. options_of request ≡ shown choices.now) }
+{
+    if choices.at.is_some() || choices.size.is_some() {
+        return None;
+    }
+    Some(Request::Arrive {
+        cell: choices.cell?,
+        phase: choices.phase?,
+        rise: choices.rise?,
+        budget: choices.budget,
+        files: choices.files?,
     })
 }
 
@@ -142,5 +173,6 @@ pub fn request_with<'a>(choices: &Choices<'a>) -> Option<Request<'a>>
         Mode::Replay => replay(choices),
         Mode::Classes => classes(choices),
         Mode::Generate => generate(choices),
+        Mode::Arrive => arrive(choices),
     }
 }

@@ -22,6 +22,7 @@ use Rattle.vrt_model.specs.declared.blif.LatchKind.{LatchKind}
 use Rattle.vrt_model.specs.declared.blif.LatchKind.TheVariants.{Re, Fe, Ah, Al}
 use Rattle.vrt_model.specs.declared.flat_model.FlatLatch.{FlatLatch}
 use Rattle.vrt_model.specs.declared.flat_model.FlatModel.{FlatModel}
+use Rattle.vrt_model.specs.Levels.{source_level}
 use Rattle.vrt_model.specs.declared.whole.Whole.{Whole}
 
 -- ---- words
@@ -40,15 +41,16 @@ elements_are flat (l ∷ ls) =
     let here = names_count l.kind name in
     let both = length-append (names_by_kind l.kind name) (flat_map (λ (x : FlatLatch). names_by_kind x.kind (signal_name flat x.output)) ls) in omega (arith, rest, here, both)
 
-pub counts_are : (k : Comparison) (variables nets signals elements : ℕ) → IsFlat k.circuit → nets ≡ length k.circuit.nets → signals ≡ length k.model.signals → elements ≡ latch_elements k.model.latches
-    → (let counts : WordCounts = record { nets = nets; pins = 0; models = 0; signals = signals; elements = elements; variables = variables } in counts) ≡ counts_of k variables
-counts_are k variables nets signals elements flat a b c =
-    let make : ℕ → ℕ → ℕ → ℕ → ℕ → WordCounts =
-    λ n p m s e. record { nets = n; pins = p; models = m; signals = s; elements = e; variables = variables } in
+pub counts_are : (k : Comparison) (variables nets source signals elements : ℕ) → IsFlat k.circuit → nets ≡ length k.circuit.nets → source ≡ source_level k.circuit → signals ≡ length k.model.signals → elements ≡ latch_elements k.model.latches
+    → (let counts : WordCounts = record { nets = nets; source = source; pins = 0; models = 0; signals = signals; elements = elements; variables = variables } in counts) ≡ counts_of k variables
+counts_are k variables nets source signals elements flat a from b c =
+    let make : ℕ → ℕ → ℕ → ℕ → ℕ → ℕ → WordCounts =
+    λ n l p m s e. record { nets = n; source = l; pins = p; models = m; signals = s; elements = e; variables = variables } in
     let here = counts_of k variables in
-    ap (λ (n : ℕ). make n 0 0 signals elements) a ∙ ap (λ (p : ℕ). make here.nets p 0 signals elements) (sym (flat_pins k.circuit flat))
-    ∙ ap (λ (ws : List Whole). make here.nets here.pins (most_model_words ws) signals elements) (sym flat.wholes) ∙ ap (λ (s : ℕ). make here.nets here.pins here.models s elements) b
-    ∙ ap (λ (e : ℕ). make here.nets here.pins here.models here.signals e) (c ∙ elements_are k.model k.model.latches)
+    ap (λ (n : ℕ). make n source 0 0 signals elements) a ∙ ap (λ (l : ℕ). make here.nets l 0 0 signals elements) from
+    ∙ ap (λ (p : ℕ). make here.nets here.source p 0 signals elements) (sym (flat_pins k.circuit flat))
+    ∙ ap (λ (ws : List Whole). make here.nets here.source here.pins (most_model_words ws) signals elements) (sym flat.wholes) ∙ ap (λ (s : ℕ). make here.nets here.source here.pins here.models s elements) b
+    ∙ ap (λ (e : ℕ). make here.nets here.source here.pins here.models here.signals e) (c ∙ elements_are k.model k.model.latches)
 
 -- ---- nets
 

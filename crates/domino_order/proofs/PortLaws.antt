@@ -1,6 +1,5 @@
 -- Port by port: where each step of each net holds, each step holds.
-use Rattle.std.proofs.Common.{◌≡◌, ℕ, ◌+◌, ◌<◌, arith, eqb, length, subst, sym, ◌∙◌, inl, inr}
-use Rattle.std.proofs.lemmas.Bool.{cases_eq}
+use Rattle.std.proofs.Common.{◌≡◌, ℕ, ◌<◌, arith, eqb, length, subst, sym, ◌∙◌}
 use Rattle.std.proofs.lemmas.Option.{same_Some, slice_get-get_or, slice_get_within}
 use Rattle.std.proofs.lemmas.Bool.{eqb-true}
 use Rattle.domino_order.specs.Ports.{HoldsFor, net_at}
@@ -8,14 +7,6 @@ use Rattle.domino_order.specs.Runs.{of_asked}
 use Rattle.domino_order.specs.StepBits.{AllHoldAt}
 use Rattle.domino_order.specs.declared.runs.Asked.{Asked}
 use Rattle.vrt_model.proofs.Members.{any_among}
-
--- one port more
-pub holds_more : (s : Asked) (upto : ℕ) → ((i : ℕ) → i < upto → HoldsFor s i) → HoldsFor s upto → (i : ℕ) → i < upto + 1 → HoldsFor s i
-holds_more s upto before here i lt =
-    elim (cases_eq i upto) [
-      | inl e ↦ subst (HoldsFor s) (sym e) here
-      | inr ne ↦ before i (omega (arith, lt, ne))
-    ]
 
 -- all of them: what rises at a step is one of the nets
 pub all_ports : (s : Asked) (upto : ℕ) → length s.rising.nets.now ≡ upto → ((i : ℕ) → i < upto → HoldsFor s i) → (n : ℕ) → AllHoldAt (of_asked s) s.rising.phase s.rising.nets.now n

@@ -32,6 +32,7 @@ use Rattle.phase_terms.specs.Stores.{IsUsed}
 use Rattle.vrt_model.specs.Comparison.{Comparison}
 use Rattle.vrt_model.specs.Held.{sources_of}
 use Rattle.vrt_model.specs.State.{Setting}
+use Rattle.vrt_model.specs.declared.circuit.Circuit.{Circuit}
 use Rattle.vrt_model.specs.declared.groups.Valuation.{Valuation as Found}
 
 -- ---- operations
@@ -76,12 +77,6 @@ opened_passes k phase budget u a most le more spends = record {
       let longer : 2 ^ u * a ≤ 2 ^ u * most = mul-le-mul_left {m = a} {n = most} (2 ^ u) more in omega (arith, passed, wider, longer);
 }
 
-pub passes_more : (u budget a b : ℕ) → a ≤ b → MayPass u budget a → MayPass u budget b
-passes_more u budget a b le passes = record {
-  many = passes.many;
-  passed = (let passed = passes.passed in let longer : 2 ^ u * a ≤ 2 ^ u * b = mul-le-mul_left {m = a} {n = b} (2 ^ u) le in omega (arith, passed, longer));
-}
-
 -- ---- nodes alone were added
 
 pub stays_added : (span : Span) (old new : Diagrams) → AddsNodes old new → IsFilled old span → StaysFilled span old new
@@ -90,9 +85,9 @@ stays_added span old new adds filled = record {
   shown = λ n v lt. ap (λ (h : ℕ). meaning new.nodes h v) (word_added span old new n adds) ∙ adds.kept (word_at old span n) (filled n lt) v;
 }
 
-pub handles_added : (nets : ℕ) (w : StepWords) (old new : Diagrams) → AddsNodes old new → HasStepHandles nets w old → HasStepHandles nets w new
-handles_added nets w old new adds h = record {
-  words = words_there nets w old new (adds_now old new adds) (words_now old new adds) h.words;
+pub handles_added : (circuit : Circuit) (w : StepWords) (old new : Diagrams) → AddsNodes old new → HasStepHandles circuit w old → HasStepHandles circuit w new
+handles_added circuit w old new adds h = record {
+  words = words_there circuit w old new (adds_now old new adds) (words_now old new adds) h.words;
   given = (stays_added w.given old new adds h.given).live;
   setting = (stays_added w.setting old new adds h.setting).live;
   rose = (stays_added w.rose old new adds h.rose).live;

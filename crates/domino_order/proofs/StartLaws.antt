@@ -1,11 +1,12 @@
 -- Where a run begins: the words of a step, and the roots of the setting where each step begins.
 use Rattle.std.proofs.Common.{◌≡◌, ℕ, ◌+◌, ◌<◌, ◌≤◌, ◌++◌, All, List, Err, ap, arith, eqb, length, length-append, refl, slice_index, subst, sym, ◌∙◌}
 use Rattle.std.proofs.lemmas.Bool.{eq-eqb}
+use Rattle.std.proofs.lemmas.List.{get_or_append_left}
 use Rattle.std.proofs.lemmas.Option.{slice_get_within}
 use Rattle.node_pool.specs.declared.region.Span.{Span}
 use Rattle.bdd_core.specs.Diagram.{Valuation, meaning}
 use Rattle.bdd_core.specs.Store.{Adds, Diagrams}
-use Rattle.bdd_core.specs.Words.{shows}
+use Rattle.bdd_core.specs.Words.{IsFilled, shows, word_at}
 use Rattle.bdd_core.specs.declared.handle.H.{H}
 use Rattle.bdd_core.specs.declared.handle.Spent.{Spent}
 use Rattle.bdd_ops.specs.Counting.{Counts, IsCounted}
@@ -20,7 +21,7 @@ use Rattle.domino_order.specs.declared.step.StepWords.{StepWords}
 use Rattle.phase_check.proofs.Spans.{least_span}
 use Rattle.phase_laws.proofs.Work.{may_spend, used_more, used_none}
 use Rattle.phase_terms.specs.Opened.{AreRootsOpen, IsOpen, opened_operations}
-use Rattle.phase_terms.specs.Stores.{HasPhaseWords, IsUsed}
+use Rattle.phase_terms.specs.Stores.{HasPhaseWords, IsUsed, counts_of}
 use Rattle.phase_terms.specs.declared.words.PhaseWords.{PhaseWords}
 use Rattle.phase_terms.specs.declared.words.WordCounts.{WordCounts}
 use Rattle.step_roots.specs.Roots.{bit_by_arrivals}
@@ -58,6 +59,32 @@ module _ (old new : Diagrams) (more : List ℕ) (taken : new ≡ record old { wo
     least_len = h.least_len;
   }
 
+  -- ---- words that are longer by some at their end
+
+  -- live handles stay
+  pub filled_longer : (span : Span) → span.start + span.len ≤ length old.words → IsFilled old span → IsFilled new span
+  filled_longer span within filled k lt =
+      let same : word_at new span k ≡ word_at old span k =
+      ap (λ (d : Diagrams). word_at d span k) taken ∙ get_or_append_left old.words more 0 (span.start + k) (omega (arith, within, lt)) in
+      let live = filled k lt in
+      let nodes : length new.nodes ≡ length old.nodes = ap (λ (d : Diagrams). length d.nodes) taken in omega (arith, same, live, nodes)
+
+-- a store to whose words some were added twice
+pub rest_longer : (old mid new : Diagrams) (more : List ℕ) → mid ≡ record old { words = mid.words } → new ≡ record mid { words = mid.words ++ more } → new ≡ record old { words = new.words }
+rest_longer old mid new more rest taken =
+    taken ∙ ap (λ (d : Diagrams). record d { words = mid.words ++ more }) rest
+    ∙ ap (λ (ws : List ℕ). record old { words = ws }) (sym (ap (λ (d : Diagrams). d.words) taken))
+
+module _ (c : WordCounts) (w : PhaseWords) (mid new : Diagrams) (more : List ℕ) (taken : new ≡ record mid { words = mid.words ++ more }) (h : HasPhaseWords c w mid) where
+  pub roots_longer : IsFilled mid w.roots → IsFilled new w.roots
+  roots_longer filled = filled_longer mid new more taken w.roots (omega (arith, h.gates_behind, h.zeros_behind, h.ones_behind, h.out_behind, h.inputs_behind, h.held_behind, h.values_behind, h.least_behind, h.last)) filled
+
+  pub inputs_longer : IsFilled mid w.inputs → IsFilled new w.inputs
+  inputs_longer filled = filled_longer mid new more taken w.inputs (omega (arith, h.held_behind, h.values_behind, h.least_behind, h.last)) filled
+
+  pub held_longer : IsFilled mid w.held → IsFilled new w.held
+  held_longer filled = filled_longer mid new more taken w.held (omega (arith, h.values_behind, h.least_behind, h.last)) filled
+
 -- ---- the roots where each step begins
 
 -- each net that rises has a word in a span with one for each net
@@ -94,19 +121,16 @@ given_open k phase roots given d start len opened = record {
     same : (n : ℕ) (v : Valuation) → shows d given n v ≡ shows d roots n v
     same n v = ap (λ (x : ℕ). meaning d.nodes (slice_index d.words (x + n)) v) start
 
-module _ (s : Asked) (is : IsAsked s) (old d1 d2 d3 d4 : Diagrams) (room : IsRoomFor s old) (rest : d1 ≡ record old { words = d1.words }) (more : List ℕ) (taken : d2 ≡ record d1 { words = d1.words ++ more })
-    (w : PhaseWords) (steps : StepWords) (first_words : HasPhaseWords s.counts w d1) (start : steps.given.start ≡ w.roots.start) (there : HasStepWords (length (of_asked s).circuit.nets) steps d2) where
-  words : HasPhaseWords s.counts w d2
-  words = words_longer d1 d2 more taken s.counts w first_words
-
+module _ (s : Asked) (is : IsAsked s) (old d2 d3 d4 : Diagrams) (room : IsRoomFor s old) (rest : d2 ≡ record old { words = d2.words }) (w : PhaseWords) (steps : StepWords) (words : HasPhaseWords s.counts w d2)
+    (start : steps.given.start ≡ w.roots.start) (there : HasStepWords (of_asked s).circuit steps d2) where
   budget : d2.budget ≡ old.budget
-  budget = ap (λ (d : Diagrams). d.budget) taken ∙ ap (λ (d : Diagrams). d.budget) rest
+  budget = ap (λ (d : Diagrams). d.budget) rest
 
   vars : d2.vars ≡ old.vars
-  vars = ap (λ (d : Diagrams). d.vars) taken ∙ ap (λ (d : Diagrams). d.vars) rest
+  vars = ap (λ (d : Diagrams). d.vars) rest
 
   count : length d2.nodes ≡ 2
-  count = ap (λ (d : Diagrams). length d.nodes) taken ∙ ap (λ (d : Diagrams). length d.nodes) rest ∙ room.count
+  count = ap (λ (d : Diagrams). length d.nodes) rest ∙ room.count
 
   abbrev k : Comparison
   k = of_asked s
@@ -116,6 +140,10 @@ module _ (s : Asked) (is : IsAsked s) (old d1 d2 d3 d4 : Diagrams) (room : IsRoo
 
   abbrev nets : ℕ
   nets = length k.circuit.nets
+
+  -- what opening the phase asks of its words
+  pub phase_there : HasPhaseWords (counts_of k d2.vars) w d2
+  phase_there = subst (λ (c : WordCounts). HasPhaseWords c w d2) (is.counts ∙ ap (λ (v : ℕ). counts_of k v) (sym (vars ∙ room.vars))) words
 
   abbrev variables : ℕ
   variables = length (sources_of k phase)
@@ -154,7 +182,7 @@ module _ (s : Asked) (is : IsAsked s) (old d1 d2 d3 d4 : Diagrams) (room : IsRoo
         subst (λ (x : ℕ). MayPass x old.budget (prepared_operations s)) vars_three
         (used_passes {A = A} old.budget d3.vars (opened_operations k phase) (length s.rising.nets.now) (prepared_operations s) d3 d4 e used_three room.budget (omega arith) counts)
 
-    module _ (care : H) (opened : IsOpen k phase care w d3) (handles : HasStepHandles nets steps d4) (keeps : KeepsWords d3 d4) (stays : StaysFilled steps.given d3 d4)
+    module _ (care : H) (opened : IsOpen k phase care w d3) (handles : HasStepHandles k.circuit steps d4) (keeps : KeepsWords d3 d4) (stays : StaysFilled steps.given d3 d4)
         (arrive : (m : ℕ) (v : Valuation) → m < nets → shows d4 steps.setting m v ≡ bit_by_arrivals s.rising.nets.now s.rising.first v m (shows d3 steps.given m v))
         (arrived : IsCounted d3.vars (length s.rising.nets.now) d3 d4) where
       roots : AreRootsOpen k phase steps.given d3

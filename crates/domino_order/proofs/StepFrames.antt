@@ -19,6 +19,9 @@ use Rattle.vrt_model.specs.Circuits.{IsFlat}
 use Rattle.vrt_model.specs.State.{OutputPin}
 use Rattle.vrt_model.specs.declared.circuit.Circuit.{Circuit}
 use Rattle.vrt_model.specs.declared.whole.Whole.{Whole}
+use Rattle.std.proofs.Math.Nat.{mul-le-mul_left}
+use Rattle.path_fixpoint.specs.Strengths.{net_words}
+use Rattle.vrt_model.specs.Levels.{source_level}
 use Rattle.vrt_model.specs.declared.whole.WholePin.{WholePin}
 
 -- a flat circuit has no output of a whole instance
@@ -28,7 +31,7 @@ flat_pins c flat =
 
 -- ---- the spans
 
-module _ (nets : ℕ) (w : StepWords) (d : Diagrams) (h : HasStepWords nets w d) where
+module _ (circuit : Circuit) (w : StepWords) (d : Diagrams) (h : HasStepWords circuit w d) where
   pub given_span : IsSpan d w.given
   given_span =
       (h.first, omega (arith, h.rose_behind, h.zeros_behind, h.ones_behind, h.out_behind, h.setting_behind, h.together_behind, h.last))
@@ -142,7 +145,7 @@ module _ (nets : ℕ) (w : StepWords) (d : Diagrams) (h : HasStepWords nets w d)
 
 -- ---- what settling asks
 
-module _ (s : Rising) (is : IsRising s) (w : StepWords) (d : Diagrams) (h : HasStepHandles (length (of_rising s).circuit.nets) w d) where
+module _ (s : Rising) (is : IsRising s) (w : StepWords) (d : Diagrams) (h : HasStepHandles (of_rising s).circuit w d) where
   abbrev c : Circuit
   c = (of_rising s).circuit
 
@@ -154,80 +157,80 @@ module _ (s : Rising) (is : IsRising s) (w : StepWords) (d : Diagrams) (h : HasS
 
   pub bare_rose : HasCircuitSpans c s.plan.now.parts.list w.setting w.rose w.out d
   bare_rose = record {
-    roots_span = setting_span nets w d h.words;
+    roots_span = setting_span c w d h.words;
     roots_len = roots_fit;
     roots_live = h.setting;
-    gates_span = rose_span nets w d h.words;
+    gates_span = rose_span c w d h.words;
     gates_len = h.words.rose_len;
-    out_span = out_span nets w d h.words;
-    room = λ part m. (let few = bare_room (of_rising s) s.phase s.plan.now is.ready is.planned part m in let len = h.words.out_len in omega (arith, few, len));
-    roots_gates = setting_rose nets w d h.words;
-    roots_out = setting_out nets w d h.words;
-    gates_out = rose_out nets w d h.words;
+    out_span = out_span c w d h.words;
+    room = λ part m. (let few = mul-le-mul_left {m = length part.nets} {n = nets} (net_words (source_level c)) (bare_room (of_rising s) s.phase s.plan.now is.ready is.planned part m) in let len = h.words.out_len in omega (arith, few, len));
+    roots_gates = setting_rose c w d h.words;
+    roots_out = setting_out c w d h.words;
+    gates_out = rose_out c w d h.words;
   }
 
   pub bare_together : HasCircuitSpans c s.plan.now.parts.list w.setting w.together w.out d
   bare_together = record {
-    roots_span = setting_span nets w d h.words;
+    roots_span = setting_span c w d h.words;
     roots_len = roots_fit;
     roots_live = h.setting;
-    gates_span = together_span nets w d h.words;
+    gates_span = together_span c w d h.words;
     gates_len = h.words.together_len;
-    out_span = out_span nets w d h.words;
-    room = λ part m. (let few = bare_room (of_rising s) s.phase s.plan.now is.ready is.planned part m in let len = h.words.out_len in omega (arith, few, len));
-    roots_gates = setting_together nets w d h.words;
-    roots_out = setting_out nets w d h.words;
-    gates_out = together_out nets w d h.words;
+    out_span = out_span c w d h.words;
+    room = λ part m. (let few = mul-le-mul_left {m = length part.nets} {n = nets} (net_words (source_level c)) (bare_room (of_rising s) s.phase s.plan.now is.ready is.planned part m) in let len = h.words.out_len in omega (arith, few, len));
+    roots_gates = setting_together c w d h.words;
+    roots_out = setting_out c w d h.words;
+    gates_out = together_out c w d h.words;
   }
 
   pub kept_rose : HasKeptSpans c s.plan.now.kept.list (settle_spans w w.rose) d
   kept_rose = record {
-    roots_span = setting_span nets w d h.words;
+    roots_span = setting_span c w d h.words;
     roots_len = roots_fit;
     roots_live = h.setting;
-    gates_span = rose_span nets w d h.words;
+    gates_span = rose_span c w d h.words;
     gates_len = h.words.rose_len;
     gates_live = h.rose;
-    zeros_span = zeros_span nets w d h.words;
+    zeros_span = zeros_span c w d h.words;
     zeros_len = h.words.zeros_len;
-    ones_span = ones_span nets w d h.words;
+    ones_span = ones_span c w d h.words;
     ones_len = h.words.ones_len;
-    out_span = out_span nets w d h.words;
-    room = λ part m. (let few = kept_room (of_rising s) s.phase s.plan.now is.ready is.planned part m in let len = h.words.out_len in omega (arith, few, len));
-    roots_zeros = setting_zeros nets w d h.words;
-    roots_ones = setting_ones nets w d h.words;
-    roots_out = setting_out nets w d h.words;
-    gates_zeros = rose_zeros nets w d h.words;
-    gates_ones = rose_ones nets w d h.words;
-    gates_out = rose_out nets w d h.words;
-    zeros_ones = zeros_ones nets w d h.words;
-    zeros_out = zeros_out nets w d h.words;
-    ones_out = ones_out nets w d h.words;
+    out_span = out_span c w d h.words;
+    room = λ part m. (let few = mul-le-mul_left {m = length part.nets} {n = nets} (net_words (source_level c)) (kept_room (of_rising s) s.phase s.plan.now is.ready is.planned part m) in let len = h.words.out_len in omega (arith, few, len));
+    roots_zeros = setting_zeros c w d h.words;
+    roots_ones = setting_ones c w d h.words;
+    roots_out = setting_out c w d h.words;
+    gates_zeros = rose_zeros c w d h.words;
+    gates_ones = rose_ones c w d h.words;
+    gates_out = rose_out c w d h.words;
+    zeros_ones = zeros_ones c w d h.words;
+    zeros_out = zeros_out c w d h.words;
+    ones_out = ones_out c w d h.words;
   }
 
   pub kept_together : HasKeptSpans c s.plan.now.kept.list (settle_spans w w.together) d
   kept_together = record {
-    roots_span = setting_span nets w d h.words;
+    roots_span = setting_span c w d h.words;
     roots_len = roots_fit;
     roots_live = h.setting;
-    gates_span = together_span nets w d h.words;
+    gates_span = together_span c w d h.words;
     gates_len = h.words.together_len;
     gates_live = h.together;
-    zeros_span = zeros_span nets w d h.words;
+    zeros_span = zeros_span c w d h.words;
     zeros_len = h.words.zeros_len;
-    ones_span = ones_span nets w d h.words;
+    ones_span = ones_span c w d h.words;
     ones_len = h.words.ones_len;
-    out_span = out_span nets w d h.words;
-    room = λ part m. (let few = kept_room (of_rising s) s.phase s.plan.now is.ready is.planned part m in let len = h.words.out_len in omega (arith, few, len));
-    roots_zeros = setting_zeros nets w d h.words;
-    roots_ones = setting_ones nets w d h.words;
-    roots_out = setting_out nets w d h.words;
-    gates_zeros = together_zeros nets w d h.words;
-    gates_ones = together_ones nets w d h.words;
-    gates_out = together_out nets w d h.words;
-    zeros_ones = zeros_ones nets w d h.words;
-    zeros_out = zeros_out nets w d h.words;
-    ones_out = ones_out nets w d h.words;
+    out_span = out_span c w d h.words;
+    room = λ part m. (let few = mul-le-mul_left {m = length part.nets} {n = nets} (net_words (source_level c)) (kept_room (of_rising s) s.phase s.plan.now is.ready is.planned part m) in let len = h.words.out_len in omega (arith, few, len));
+    roots_zeros = setting_zeros c w d h.words;
+    roots_ones = setting_ones c w d h.words;
+    roots_out = setting_out c w d h.words;
+    gates_zeros = together_zeros c w d h.words;
+    gates_ones = together_ones c w d h.words;
+    gates_out = together_out c w d h.words;
+    zeros_ones = zeros_ones c w d h.words;
+    zeros_out = zeros_out c w d h.words;
+    ones_out = ones_out c w d h.words;
   }
 
 -- ---- what stays
@@ -251,8 +254,8 @@ written_stays out span old new w apart filled = record {
 }
 
 -- the words are there as long as none comes or goes
-pub words_there : (nets : ℕ) (w : StepWords) (old new : Diagrams) → Adds old new new.words → length new.words ≡ length old.words → HasStepWords nets w old → HasStepWords nets w new
-words_there nets w old new adds len h = record {
+pub words_there : (circuit : Circuit) (w : StepWords) (old new : Diagrams) → Adds old new new.words → length new.words ≡ length old.words → HasStepWords circuit w old → HasStepWords circuit w new
+words_there circuit w old new adds len h = record {
   first = (let own : new.own ≡ old.own = ap (λ (d : Diagrams). d.own) adds.rest in let first = h.first in omega (arith, own, first));
   rose_behind = h.rose_behind;
   zeros_behind = h.zeros_behind;
@@ -270,27 +273,27 @@ words_there nets w old new adds len h = record {
   together_len = h.together_len;
 }
 
-module _ (nets : ℕ) (w : StepWords) (old new : Diagrams) (h : HasStepHandles nets w old) where
+module _ (circuit : Circuit) (w : StepWords) (old new : Diagrams) (h : HasStepHandles circuit w old) where
   -- settling into the bits where the net rose
   module _ (writes : WritesSettled (settle_spans w w.rose) old new) where
     pub setting_by_rose : StaysFilled w.setting old new
     setting_by_rose =
-        settled_stays (settle_spans w w.rose) w.setting old new writes (setting_rose nets w old h.words) (setting_zeros nets w old h.words) (setting_ones nets w old h.words)
-        (setting_out nets w old h.words) h.setting
+        settled_stays (settle_spans w w.rose) w.setting old new writes (setting_rose circuit w old h.words) (setting_zeros circuit w old h.words) (setting_ones circuit w old h.words)
+        (setting_out circuit w old h.words) h.setting
 
     pub together_by_rose : StaysFilled w.together old new
     together_by_rose =
-        settled_stays (settle_spans w w.rose) w.together old new writes (together_rose nets w old h.words) (together_zeros nets w old h.words) (together_ones nets w old h.words)
-        (together_out nets w old h.words) h.together
+        settled_stays (settle_spans w w.rose) w.together old new writes (together_rose circuit w old h.words) (together_zeros circuit w old h.words) (together_ones circuit w old h.words)
+        (together_out circuit w old h.words) h.together
 
     given_by_rose : StaysFilled w.given old new
     given_by_rose =
-        settled_stays (settle_spans w w.rose) w.given old new writes (given_rose nets w old h.words) (given_zeros nets w old h.words) (given_ones nets w old h.words)
-        (given_out nets w old h.words) h.given
+        settled_stays (settle_spans w w.rose) w.given old new writes (given_rose circuit w old h.words) (given_zeros circuit w old h.words) (given_ones circuit w old h.words)
+        (given_out circuit w old h.words) h.given
 
-    pub handles_by_rose : IsFilled new w.rose → HasStepHandles nets w new
+    pub handles_by_rose : IsFilled new w.rose → HasStepHandles circuit w new
     handles_by_rose live = record {
-      words = words_there nets w old new writes.adds writes.len h.words;
+      words = words_there circuit w old new writes.adds writes.len h.words;
       given = given_by_rose.live;
       setting = setting_by_rose.live;
       rose = live;
@@ -301,22 +304,22 @@ module _ (nets : ℕ) (w : StepWords) (old new : Diagrams) (h : HasStepHandles n
   module _ (writes : WritesSettled (settle_spans w w.together) old new) where
     pub rose_by_together : StaysFilled w.rose old new
     rose_by_together =
-        settled_stays (settle_spans w w.together) w.rose old new writes (rose_together nets w old h.words) (rose_zeros nets w old h.words) (rose_ones nets w old h.words)
-        (rose_out nets w old h.words) h.rose
+        settled_stays (settle_spans w w.together) w.rose old new writes (rose_together circuit w old h.words) (rose_zeros circuit w old h.words) (rose_ones circuit w old h.words)
+        (rose_out circuit w old h.words) h.rose
 
     pub setting_by_together : StaysFilled w.setting old new
     setting_by_together =
-        settled_stays (settle_spans w w.together) w.setting old new writes (setting_together nets w old h.words) (setting_zeros nets w old h.words) (setting_ones nets w old h.words)
-        (setting_out nets w old h.words) h.setting
+        settled_stays (settle_spans w w.together) w.setting old new writes (setting_together circuit w old h.words) (setting_zeros circuit w old h.words) (setting_ones circuit w old h.words)
+        (setting_out circuit w old h.words) h.setting
 
     given_by_together : StaysFilled w.given old new
     given_by_together =
-        settled_stays (settle_spans w w.together) w.given old new writes (given_together nets w old h.words) (given_zeros nets w old h.words) (given_ones nets w old h.words)
-        (given_out nets w old h.words) h.given
+        settled_stays (settle_spans w w.together) w.given old new writes (given_together circuit w old h.words) (given_zeros circuit w old h.words) (given_ones circuit w old h.words)
+        (given_out circuit w old h.words) h.given
 
-    pub handles_by_together : IsFilled new w.together → HasStepHandles nets w new
+    pub handles_by_together : IsFilled new w.together → HasStepHandles circuit w new
     handles_by_together live = record {
-      words = words_there nets w old new writes.adds writes.len h.words;
+      words = words_there circuit w old new writes.adds writes.len h.words;
       given = given_by_together.live;
       setting = setting_by_together.live;
       rose = rose_by_together.live;
@@ -326,17 +329,17 @@ module _ (nets : ℕ) (w : StepWords) (old new : Diagrams) (h : HasStepHandles n
   -- writing roots
   module _ (writes : Writes w.setting old new) where
     pub rose_by_setting : StaysFilled w.rose old new
-    rose_by_setting = written_stays w.setting w.rose old new writes (rose_setting nets w old h.words) h.rose
+    rose_by_setting = written_stays w.setting w.rose old new writes (rose_setting circuit w old h.words) h.rose
 
     pub together_by_setting : StaysFilled w.together old new
-    together_by_setting = written_stays w.setting w.together old new writes (together_setting nets w old h.words) h.together
+    together_by_setting = written_stays w.setting w.together old new writes (together_setting circuit w old h.words) h.together
 
     pub given_by_setting : StaysFilled w.given old new
-    given_by_setting = written_stays w.setting w.given old new writes (given_setting nets w old h.words) h.given
+    given_by_setting = written_stays w.setting w.given old new writes (given_setting circuit w old h.words) h.given
 
-    pub handles_by_setting : HasStepHandles nets w new
+    pub handles_by_setting : HasStepHandles circuit w new
     handles_by_setting = record {
-      words = words_there nets w old new writes.adds writes.len h.words;
+      words = words_there circuit w old new writes.adds writes.len h.words;
       given = given_by_setting.live;
       setting = writes.live;
       rose = rose_by_setting.live;

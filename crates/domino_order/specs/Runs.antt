@@ -70,7 +70,7 @@ pub record MayPass (variables budget operations : ℕ) : Type 0 where
 
 -- the phase is opened, and the roots are those of the setting where each step begins; behind the words of the phase stand those of the steps
 pub record IsPrepared (s : Asked) (p : Prepared) (d : Diagrams) : Type 0 where
-  pub handles : HasStepHandles (length (of_asked s).circuit.nets) p.words d
+  pub handles : HasStepHandles (of_asked s).circuit p.words d
   pub start : (n : ℕ) → GivesSettings (of_asked s) s.rising.phase s.rising.nets.now n (start_at (of_asked s) s.rising.phase s.rising.nets.now) p.words.setting d
   pub arrive :
       (m : ℕ) (v : Valuation) → has_number s.rising.nets.now m ≡ true

@@ -18,6 +18,7 @@ use Rattle.vrt_model.specs.Held.{sources_of}
 use Rattle.vrt_model.specs.Lists.{At, has_number}
 use Rattle.vrt_model.specs.declared.circuit.Circuit.{Circuit}
 use Rattle.vrt_model.specs.declared.circuit.FlatNet.{FlatNet}
+use Rattle.vrt_model.specs.Levels.{source_level}
 use Rattle.vrt_model.specs.declared.circuit.NetKind.TheVariants.{Input}
 
 -- ---- inputs that rise
@@ -42,8 +43,8 @@ pub record IsRising (s : Rising) : Type 0 where
 
 -- ---- words
 
--- the spans of a step, one behind the other, in a circuit of so many nets
-pub record HasStepWords (nets : ℕ) (w : StepWords) (d : Diagrams) : Type 0 where
+-- the spans of a step, one behind the other: one word for each net of the circuit, and those in which its parts are solved
+pub record HasStepWords (c : Circuit) (w : StepWords) (d : Diagrams) : Type 0 where
   pub first : d.own ≤ w.given.start
   pub rose_behind : w.given.start + w.given.len ≤ w.rose.start
   pub zeros_behind : w.rose.start + w.rose.len ≤ w.zeros.start
@@ -52,17 +53,17 @@ pub record HasStepWords (nets : ℕ) (w : StepWords) (d : Diagrams) : Type 0 whe
   pub setting_behind : w.out.start + w.out.len ≤ w.setting.start
   pub together_behind : w.setting.start + w.setting.len ≤ w.together.start
   pub last : w.together.start + w.together.len ≤ length d.words
-  pub given_len : w.given.len ≡ nets
-  pub rose_len : w.rose.len ≡ nets
-  pub zeros_len : w.zeros.len ≡ nets
-  pub ones_len : w.ones.len ≡ nets
-  pub out_len : net_words * nets ≤ w.out.len
-  pub setting_len : w.setting.len ≡ nets
-  pub together_len : w.together.len ≡ nets
+  pub given_len : w.given.len ≡ length c.nets
+  pub rose_len : w.rose.len ≡ length c.nets
+  pub zeros_len : w.zeros.len ≡ length c.nets
+  pub ones_len : w.ones.len ≡ length c.nets
+  pub out_len : net_words (source_level c) * length c.nets ≤ w.out.len
+  pub setting_len : w.setting.len ≡ length c.nets
+  pub together_len : w.together.len ≡ length c.nets
 
 -- these words are there, and four spans have live handles
-pub record HasStepHandles (nets : ℕ) (w : StepWords) (d : Diagrams) : Type 0 where
-  pub words : HasStepWords nets w d
+pub record HasStepHandles (c : Circuit) (w : StepWords) (d : Diagrams) : Type 0 where
+  pub words : HasStepWords c w d
   pub given : IsFilled d w.given
   pub setting : IsFilled d w.setting
   pub rose : IsFilled d w.rose

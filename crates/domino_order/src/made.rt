@@ -9,6 +9,7 @@ ghost use Rattle.phase_terms.specs.Stores.{counts_of};
 ghost use Rattle.vrt_model.specs.Circuits.{IsFlat};
 ghost use Rattle.vrt_model.specs.Elements.{element_count};
 
+use path_fixpoint::source_level;
 use phase_ports::{Port, ports_by};
 use phase_terms::{Comparison, WordCounts};
 use std::alloc::Global;
@@ -96,6 +97,7 @@ pub(crate) fn run_counts(compared: Comparison<'_>, variables: u32) -> Result<Wor
     let elements = elements_of(compared.model.latches.as_slice())?;
     Ok(WordCounts {
         nets: compared.circuit.nets.len() as u32,
+        source: source_level(compared.circuit),
         pins: 0,
         models: 0,
         signals: compared.model.signals.len() as u32,

@@ -8,12 +8,15 @@ ghost use Rattle.bdd_ops.specs.Counting.{Counts};
 ghost use Rattle.domino_order.specs.Runs.{IsAsked, IsBound, IsPrepared, IsRoomFor, MayPass, RunGives, asked_variables, below_of, of_asked, prepared_operations, run_operations};
 ghost use Rattle.domino_order.specs.StepSettings.{GivesSettings, start_at};
 ghost use Rattle.domino_order.specs.StepWords.{HasStepHandles, HasStepWords, IsRising, KeepsWords, StaysFilled, of_rising};
+ghost use Rattle.path_fixpoint.specs.Strengths.{net_words};
 ghost use Rattle.phase_check.specs.States.{KeepsRoom};
+ghost use Rattle.phase_open.specs.Given.{AreFew};
 ghost use Rattle.phase_terms.specs.Opened.{AreRootsOpen};
-ghost use Rattle.phase_terms.specs.Stores.{HasPhaseWords};
+ghost use Rattle.phase_terms.specs.Stores.{HasPhaseWords, word_count};
 ghost use Rattle.phase_terms.specs.declared.words.WordCounts.{WordCounts as CountsValue};
 ghost use Rattle.step_roots.specs.Care.{rise_care};
 ghost use Rattle.step_roots.specs.Roots.{bit_by_arrivals};
+ghost use Rattle.vrt_model.specs.Levels.{source_level};
 ghost use Rattle.vrt_model.specs.Lists.{has_number};
 
 use crate::step::{Rising, StepWords, failing};
@@ -23,7 +26,7 @@ use node_pool::Span;
 use phase_open::{open_phase, take_words};
 use phase_terms::{PhaseWords, WordCounts};
 use step_roots::{before, copy_handles, step_care, write_arrivals};
-use vrt_model::{Valuation, Vars};
+use vrt_model::{Circuit, Valuation, Vars};
 
 /// What is asked of inputs that rise in a phase.
 #[derive(Clone, Copy)]
@@ -34,6 +37,15 @@ pub struct Asked<'a> {
     pub vars: &'a Vars,
     /// How many words the phase has in a store with a variable for each of these and for each arrival.
     pub counts: WordCounts,
+}
+
+/// The words of a run.
+#[derive(Clone, Copy)]
+pub struct RunWords {
+    /// Those of the phase.
+    pub phase: PhaseWords,
+    /// Those of a step, of which some are words of the phase.
+    pub steps: StepWords,
 }
 
 /// What stands in the store where a run begins.
@@ -60,15 +72,17 @@ fn taken(store: &mut Store, len: u32) -> Span
 }
 
 /// The words of a step, behind those of a phase; of these it has the roots, the gates, and the words in which parts are solved.
-fn step_words(store: &mut Store, words: PhaseWords, nets: u32) -> StepWords
-    requires words { (c : CountsValue) × HasPhaseWords c words store.old × (c.nets ≡ nets) × (c.pins ≡ 0) }
-    requires few { nets ≤ 20000 }
-    requires room { length store.old.words + 2 * nets ≤ store.old.word_room }
-    ensures words { HasStepWords nets result store.new }
+fn step_words(store: &mut Store, circuit: &Circuit, words: PhaseWords) -> StepWords
+    requires words { (c : CountsValue) × HasPhaseWords c words store.old × (c.nets ≡ length circuit.now.nets) × (c.pins ≡ 0) }
+    requires out { net_words (source_level circuit.now) * length circuit.now.nets ≤ words.out.len }
+    requires few { length circuit.now.nets ≤ 20000 }
+    requires room { length store.old.words + 2 * length circuit.now.nets ≤ store.old.word_room }
+    ensures words { HasStepWords circuit.now result store.new }
     ensures given { result.given.start ≡ words.roots.start }
-    ensures taken { store.new ≡ record store.old { words = store.old.words ++ replicate (2 * nets) 0 } }
+    ensures taken { store.new ≡ record store.old { words = store.old.words ++ replicate (2 * length circuit.now.nets) 0 } }
 {
     store.sound();
+    let nets = circuit.nets.len() as u32;
     let more = taken(store, 2 * nets);
     let _end = store.mark();
     StepWords {
@@ -91,17 +105,40 @@ fn step_words(store: &mut Store, words: PhaseWords, nets: u32) -> StepWords
     }
 }
 
+/// Takes the words of a run, those of the steps behind those of the phase. No node is made.
+fn run_words(store: &mut Store, circuit: &Circuit, counts: WordCounts) -> RunWords
+    requires few { AreFew counts }
+    requires pins { counts.pins ≡ 0 }
+    requires nets { counts.nets ≡ length circuit.now.nets }
+    requires source { counts.source ≡ source_level circuit.now }
+    requires room { length store.old.words + word_count counts + 2 * counts.nets ≤ store.old.word_room }
+    requires own { store.old.own ≤ length store.old.words }
+    ensures phase { HasPhaseWords counts result.phase store.new }
+    ensures roots { IsFilled store.new result.phase.roots }
+    ensures inputs { IsFilled store.new result.phase.inputs }
+    ensures held { IsFilled store.new result.phase.held }
+    ensures steps { HasStepWords circuit.now result.steps store.new }
+    ensures given { result.steps.given.start ≡ result.phase.roots.start }
+    ensures rest { store.new ≡ record store.old { words = store.new.words } }
+    ensures len { length store.old.words ≤ length store.new.words }
+{
+    let phase = take_words(store, counts);
+    let steps = step_words(store, circuit, phase);
+    RunWords { phase, steps }
+}
+
 /// Fills the spans of a step with the given bits, so that they have live handles.
-fn fill_words(store: &mut Store, words: StepWords, nets: u32)
-    requires words { HasStepWords nets words store.old }
+fn fill_words(store: &mut Store, circuit: &Circuit, words: StepWords)
+    requires words { HasStepWords circuit.now words store.old }
     requires given { IsFilled store.old words.given }
-    ensures handles { HasStepHandles nets words store.new }
+    ensures handles { HasStepHandles circuit.now words store.new }
     ensures rest { store.new ≡ record store.old { words = store.new.words } }
     ensures keeps { KeepsWords store.old store.new }
     ensures given { StaysFilled words.given store.old store.new }
-    ensures setting { (n : ℕ) (v : Bits) → n < nets → shows store.new words.setting n v ≡ shows store.old words.given n v }
+    ensures setting { (n : ℕ) (v : Bits) → n < length circuit.now.nets → shows store.new words.setting n v ≡ shows store.old words.given n v }
 {
     store.sound();
+    let _circuit = circuit;
     copy_handles(store, words.given, words.rose);
     copy_handles(store, words.given, words.together);
     copy_handles(store, words.given, words.setting);
@@ -111,17 +148,16 @@ fn fill_words(store: &mut Store, words: StepWords, nets: u32)
 fn start_roots(store: &mut Store, rising: Rising<'_>, words: StepWords) -> Result<(), Spent>
     requires rising { IsRising rising }
     requires vars { rising.first + length rising.nets.now ≤ store.old.vars }
-    requires words { HasStepWords (length rising.compared.circuit.now.nets) words store.old }
+    requires words { HasStepWords rising.compared.circuit.now words store.old }
     requires opened { AreRootsOpen (of_rising rising) rising.phase words.given store.old }
-    ensures handles { HasStepHandles (length rising.entry.compared.circuit.now.nets) words store.new }
+    ensures handles { HasStepHandles rising.entry.compared.circuit.now words store.new }
     ensures keeps { KeepsWords store.old store.new }
     ensures given { StaysFilled words.given store.old store.new }
     ensures arrive { IfOk result (λ _. (m : ℕ) (v : Bits) → m < length rising.entry.compared.circuit.now.nets → shows store.new words.setting m v ≡ bit_by_arrivals rising.entry.nets.now rising.entry.first v m (shows store.old words.given m v)) }
     ensures counts { Counts store.old.vars (length rising.entry.nets.now) store.old store.new result }
 {
     store.sound();
-    let nets = rising.compared.circuit.nets.len() as u32;
-    fill_words(store, words, nets);
+    fill_words(store, rising.compared.circuit, words);
     write_arrivals(store, rising.nets, rising.first, words.setting)
 }
 
@@ -134,24 +170,22 @@ fn prepare(store: &mut Store, asked: Asked<'_>) -> Result<Prepared, Spent>
     ensures keeps { KeepsRoom store.old store.new }
 {
     store.sound();
-    let words = take_words(store, asked.counts);
-    let nets = asked.rising.compared.circuit.nets.len() as u32;
-    let steps = step_words(store, words, nets);
+    let words = run_words(store, asked.rising.compared.circuit, asked.counts);
     let care = match open_phase(
         store,
         asked.rising.compared,
         asked.rising.phase,
         asked.vars,
-        words,
+        words.phase,
     ) {
         Ok(care) => care,
         Err(spent) => return Err(spent),
     };
-    match start_roots(store, asked.rising, steps) {
+    match start_roots(store, asked.rising, words.steps) {
         Ok(()) => Ok(Prepared {
             care,
-            words: steps,
-            least: words.least,
+            words: words.steps,
+            least: words.phase.least,
         }),
         Err(spent) => Err(spent),
     }
@@ -185,7 +219,7 @@ fn asked_care(
 ) -> Result<H, Spent>
     requires rising { IsRising rising }
     requires net { has_number rising.nets.now net ≡ true }
-    requires handles { HasStepHandles (length rising.compared.circuit.now.nets) start.words store.old }
+    requires handles { HasStepHandles rising.compared.circuit.now start.words store.old }
     requires care { IsLive store.old start.care }
     requires bound { IsBound store.old.vars bound.now }
     ensures gives { Gives store.old store.new (λ v. rise_care store.old rising.entry.nets.now net start.words.given start.words.setting (function_of store.old start.care) v && below_of bound.now v) result }

@@ -121,12 +121,12 @@ fn look_together(
     requires rising { IsRising rising }
     requires net { has_number rising.nets.now net ≡ true }
     requires care { IsLive store.old care }
-    requires words { HasStepHandles (length rising.compared.circuit.now.nets) words store.old }
+    requires words { HasStepHandles rising.compared.circuit.now words store.old }
     requires start { GivesSettings (of_rising rising) rising.phase rising.nets.now net (start_at (of_rising rising) rising.phase rising.nets.now) words.setting store.old }
     ensures gives { IfOk result (SettlesAt (of_rising rising.entry) rising.entry.phase rising.entry.nets.now net (together_at (of_rising rising.entry) rising.entry.phase rising.entry.nets.now net) care words.together store.old store.new) }
     ensures setting { GivesSettings (of_rising rising.entry) rising.entry.phase rising.entry.nets.now net (together_at (of_rising rising.entry) rising.entry.phase rising.entry.nets.now net) words.setting store.new }
     ensures rose { StaysFilled words.rose store.old store.new }
-    ensures handles { HasStepHandles (length rising.entry.compared.circuit.now.nets) words store.new }
+    ensures handles { HasStepHandles rising.entry.compared.circuit.now words store.new }
     ensures keeps { KeepsWords store.old store.new }
     ensures counts { Counts store.old.vars (settle_operations rising.entry) store.old store.new result }
 {
@@ -146,10 +146,10 @@ fn look_twice(
     requires rising { IsRising rising }
     requires net { has_number rising.nets.now net ≡ true }
     requires care { IsLive store.old care }
-    requires words { HasStepHandles (length rising.compared.circuit.now.nets) words store.old }
+    requires words { HasStepHandles rising.compared.circuit.now words store.old }
     requires start { GivesSettings (of_rising rising) rising.phase rising.nets.now net (start_at (of_rising rising) rising.phase rising.nets.now) words.setting store.old }
     ensures gives { IfOk result (TwiceGives (of_rising rising.entry) rising.entry.phase rising.entry.nets.now net care words.setting words.rose words.together store.old store.new) }
-    ensures handles { HasStepHandles (length rising.entry.compared.circuit.now.nets) words store.new }
+    ensures handles { HasStepHandles rising.entry.compared.circuit.now words store.new }
     ensures keeps { KeepsWords store.old store.new }
     ensures counts { Counts store.old.vars (2 * settle_operations rising.entry) store.old store.new result }
 {
@@ -172,7 +172,7 @@ fn look_after(
 ) -> Result<Option<H>, Spent>
     requires rising { IsRising rising }
     requires care { IsLive store.old care }
-    requires words { HasStepHandles (length rising.compared.circuit.now.nets) words store.old }
+    requires words { HasStepHandles rising.compared.circuit.now words store.old }
     requires twice { IsSettledTwice (of_rising rising) rising.phase rising.nets.now net care words.setting words.rose words.together store.old }
     ensures gives { IfOk result (StepGives (of_rising rising.entry) rising.entry.phase rising.entry.nets.now net care store.old store.new) }
     ensures keeps { KeepsWords store.old store.new }
@@ -204,7 +204,7 @@ pub fn failing(
     requires rising { IsRising rising }
     requires net { has_number rising.nets.now net ≡ true }
     requires care { IsLive store.old care }
-    requires words { HasStepHandles (length rising.compared.circuit.now.nets) words store.old }
+    requires words { HasStepHandles rising.compared.circuit.now words store.old }
     requires start { GivesSettings (of_rising rising) rising.phase rising.nets.now net (start_at (of_rising rising) rising.phase rising.nets.now) words.setting store.old }
     ensures gives { IfOk result (StepGives (of_rising rising.entry) rising.entry.phase rising.entry.nets.now net care store.old store.new) }
     ensures keeps { KeepsWords store.old store.new }

@@ -26,6 +26,7 @@ use Rattle.vrt_model.specs.Response.{IsStrength}
 use Rattle.vrt_model.specs.Solution.{Agrees, IsSolution}
 use Rattle.vrt_model.specs.State.{IsState, Setting, State, network_of}
 use Rattle.vrt_model.specs.declared.circuit.Circuit.{Circuit}
+use Rattle.vrt_model.specs.Levels.{source_level}
 use Rattle.vrt_model.specs.declared.rules.Phase.{Phase}
 
 module _ (c : Circuit) (phase : Phase) (observed : ℕ → Bool) (setting : Valuation → Setting) (care : H) (roots gates : Span) (d : Diagrams)
@@ -57,7 +58,7 @@ module _ (c : Circuit) (phase : Phase) (observed : ℕ → Bool) (setting : Valu
       one_strength (network_of c which (setting v).held at.state) n level other (first v at.solution at.state solved.some.1 at.solves at.is at.agrees) (second v at.solution at.state solved.some.1 at.solves at.is at.agrees)
 
   -- a given net has the greatest strength
-  pub given_level : (which : Bool) (n : ℕ) → IsGiven c n → HasLevelOf c phase observed setting (function_of d care) which n 8
+  pub given_level : (which : Bool) (n : ℕ) → IsGiven c n → HasLevelOf c phase observed setting (function_of d care) which n (source_level c)
   given_level which n g v a s here solves is agrees =
       let held = (setting v).held in
       source_strength (network_of c which held s) (network_levels c which held s solved.wholes.ranges) n (given_source c which held s solved.wholes.ranges n g.0 g.1 g.2)

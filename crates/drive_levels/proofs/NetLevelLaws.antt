@@ -102,7 +102,7 @@ module _ (c : Circuit) (phase : Phase) (observed : ℕ → Bool) (setting : Valu
       → (n : ℕ) → n < length c.nets → mark_at asked n ≡ true → NetGives c phase observed setting (function_of d care) n (level_by c bare_levels kept_levels n)
   tables_give bare_parts kept_parts of_bare of_kept asked bare_levels kept_levels told_bare told_kept n inside mark = by_kind (is_plain_at c n) refl
     where
-      by_kind : (b : Bool) → is_plain_at c n ≡ b → NetGives c phase observed setting (function_of d care) n (cond b (same_level (level_at bare_levels n) (level_at kept_levels n)) (Some 8))
+      by_kind : (b : Bool) → is_plain_at c n ≡ b → NetGives c phase observed setting (function_of d care) n (cond b (same_level (level_at bare_levels n) (level_at kept_levels n)) (Some (source_level c)))
       by_kind true plain =
           let first = of_bare.all n (plain_is c n plain) in
           let second = of_kept.all n (plain_is c n plain) in
@@ -121,7 +121,7 @@ module _ (c : Circuit) (phase : Phase) (observed : ℕ → Bool) (setting : Valu
       → (n : ℕ) → n < length c.nets → mark_at asked n ≡ true → NetGives c phase observed setting (function_of d care) n (level_by c levels levels n)
   table_gives no_keeper bare_parts of_bare asked levels told n inside mark = by_kind (is_plain_at c n) refl
     where
-      by_kind : (b : Bool) → is_plain_at c n ≡ b → NetGives c phase observed setting (function_of d care) n (cond b (same_level (level_at levels n) (level_at levels n)) (Some 8))
+      by_kind : (b : Bool) → is_plain_at c n ≡ b → NetGives c phase observed setting (function_of d care) n (cond b (same_level (level_at levels n) (level_at levels n)) (Some (source_level c)))
       by_kind true plain =
           let there = of_bare.all n (plain_is c n plain) in
           subst (NetGives c phase observed setting (function_of d care) n) (sym (same_as_itself (level_at levels n)))

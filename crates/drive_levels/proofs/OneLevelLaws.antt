@@ -31,6 +31,8 @@ use Rattle.vrt_model.specs.declared.circuit.Circuit.{Circuit}
 use Rattle.vrt_model.specs.declared.circuit.Device.{Device}
 use Rattle.vrt_model.specs.declared.rules.Phase.{Phase}
 use Rattle.vrt_model.specs.declared.whole.Whole.{Whole}
+use Rattle.vrt_model.specs.Levels.{source_level}
+use Rattle.path_fixpoint.proofs.SourceLevels.{device_below}
 use Rattle.vrt_model.specs.declared.whole.WholePin.{WholePin}
 
 -- nothing stands in an empty list
@@ -47,7 +49,7 @@ module _ (c : Circuit) (ranges : HasRanges c) (level : ℕ) (one : HasOneLevel c
   no_outputs = ap (λ (wholes : List Whole). map (λ (out : OutputPin). out.pin) (flat_map (λ (x : Whole). map (λ (p : WholePin). let pin : OutputPin = record { whole = x; pin = p } in pin) x.outputs) wholes)) one.wholes
 
   -- a path begins at a given net
-  root_given : (root : Root) → IsRoot w root → IsGiven c root.net × (root.level ≡ 8)
+  root_given : (root : Root) → IsRoot w root → IsGiven c root.net × (root.level ≡ source_level c)
   root_given root (inl g) = ((g.0, g.1, g.2), g.3)
   root_given root (inr (inl h)) = absurd (nothing_at c.holds h.0 h.1 one.holds h.2)
   root_given root (inr (inr o)) = absurd (nothing_at w.outputs o.0 o.1 no_outputs o.2)
@@ -55,9 +57,9 @@ module _ (c : Circuit) (ranges : HasRanges c) (level : ℕ) (one : HasOneLevel c
   device_level : (hop : Hop) → Among w.devices hop.device → hop.device.level ≡ level
   device_level hop on = one.devices hop.device (device_among which c hop.device on).0
 
-  low : (hop : Hop) → Among w.devices hop.device → level ≤ 8
+  low : (hop : Hop) → Among w.devices hop.device → level ≤ source_level c
   low hop on =
-      let most = (all_among (IsDevice c) c.devices hop.device ranges.devices (device_among which c hop.device on).0).level.1 in
+      let most = (device_below c hop.device.level (all_among (IsDevice c) c.devices hop.device ranges.devices (device_among which c hop.device on).0).level).1 in
       let is = device_level hop on in
       omega (arith, most, is)
 
@@ -122,7 +124,7 @@ module _ (c : Circuit) (level : ℕ) (one : HasOneLevel c level) (phase : Phase)
           ap₂ same_level (in_bare n (omega (arith, inside, bare_len))) (in_kept n (omega (arith, inside, kept_len)))
           ∙ same_as_itself (Some level)
 
-      by_kind : (b : Bool) → is_plain_at c n ≡ b → NetGives c phase observed setting (function_of d care) n (cond b (same_level (level_at bare_levels n) (level_at kept_levels n)) (Some 8))
+      by_kind : (b : Bool) → is_plain_at c n ≡ b → NetGives c phase observed setting (function_of d care) n (cond b (same_level (level_at bare_levels n) (level_at kept_levels n)) (Some (source_level c)))
       by_kind true plain = subst (NetGives c phase observed setting (function_of d care) n) (sym both) (seen_level n (plain_is c n plain) seen)
       by_kind false other =
           elim (given_or_plain c n inside) [

@@ -28,6 +28,7 @@ use Rattle.vrt_model.specs.Solution.{Agrees, IsSolution}
 use Rattle.vrt_model.specs.State.{Setting, State, network_of}
 use Rattle.vrt_model.specs.declared.circuit.Circuit.{Circuit}
 use Rattle.vrt_model.specs.declared.circuit.Device.{Device}
+use Rattle.path_fixpoint.proofs.SourceLevels.{device_below}
 use Rattle.vrt_model.specs.declared.rules.Phase.{Phase}
 
 module _ (which : Bool) (c : Circuit) (phase : Phase) (ranges : HasRanges c) (part : Part) (whole : IsWholePart which c phase part) (bit : ℕ → Bool) (setting : Setting) (s : State) where
@@ -53,13 +54,13 @@ module _ (which : Bool) (c : Circuit) (phase : Phase) (ranges : HasRanges c) (pa
   alone_levels : HasLevels alone
   alone_levels = record {
     roots = λ r from. (network_levels c which setting.held s ranges).roots r from;
-    devices = λ d on. (let le = (device_ranges c part d ranges on.0).level.1 in omega (arith, le));
+    devices = λ d on. (device_below c d.level (device_ranges c part d ranges on.0).level).1;
   }
 
   end_in : (d : Device) (m n : ℕ) → IsDevice c d → Joins d m n → n < length c.nets
   end_in d m n is j = elim j [ inl e ↦ subst (λ (x : ℕ). x < length c.nets) e.1 is.right | inr e ↦ subst (λ (x : ℕ). x < length c.nets) e.0 is.left ]
 
-  alone_finite : IsFinite alone (length c.nets) 8
+  alone_finite : IsFinite alone (length c.nets) (source_level c)
   alone_finite = record {
     bounded = record {
       roots = λ r from. (network_finite c which setting.held s ranges).bounded.roots r from;
@@ -69,7 +70,7 @@ module _ (which : Bool) (c : Circuit) (phase : Phase) (ranges : HasRanges c) (pa
   }
 
   pub strength_alone : (n : ℕ) → (level : ℕ) × IsStrength alone n level
-  strength_alone n = strength_exists alone (length c.nets) 8 alone_finite n
+  strength_alone n = strength_exists alone (length c.nets) (source_level c) alone_finite n
 
   -- ---- which are those of the circuit
 

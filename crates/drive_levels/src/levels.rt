@@ -20,6 +20,7 @@ use circuit_faults::has_keeper;
 use known_nets::is_plain;
 use node_pool::Span;
 use output_levels::circuit_levels;
+use path_fixpoint::source_level;
 use vrt_model::{Circuit, Net};
 
 /// Writes the levels of another table of as many places.
@@ -157,7 +158,7 @@ pub fn level_of(circuit: &Circuit, levels: &NetLevels, net: Net) -> Option<u8>
     ensures { result ≡ level_in circuit.now levels.now net.0 }
 {
     if !is_plain(circuit, net.0 as usize) {
-        return Some(8);
+        return Some(source_level(circuit));
     }
     same_level(
         level_at(levels.bare.as_slice(), net.0 as usize),

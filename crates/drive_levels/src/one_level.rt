@@ -4,7 +4,7 @@ ghost use Rattle.std.specs.Prelude.{◌≡◌, ◌==◌, ◌<◌, ℕ, IsTrue, S
 ghost use Rattle.std.specs.List.{list_any};
 ghost use Rattle.drive_levels.specs.OneLevel.{HasOneLevel};
 ghost use Rattle.output_levels.specs.PartLevels.{level_at};
-ghost use Rattle.vrt_model.specs.Lists.{mark_at};
+ghost use Rattle.vrt_model.specs.Lists.{Among, mark_at};
 ghost use Rattle.vrt_model.specs.declared.circuit.Device.{Device as DeviceValue};
 
 use known_nets::is_marked;
@@ -26,7 +26,8 @@ fn has_other(devices: &[Device], level: u8) -> bool
 
 /// The level of all devices of a circuit that has devices, and neither holds nor whole instances; none where they have several.
 pub(crate) fn one_level(circuit: &Circuit) -> Option<u8>
-    ensures { (level : ℕ) → result ≡ Some level → HasOneLevel circuit.now level }
+    ensures one { (level : ℕ) → result ≡ Some level → HasOneLevel circuit.now level }
+    ensures all { (d : DeviceValue) → Among circuit.now.devices d → HasOneLevel circuit.now d.level → result ≡ Some d.level }
 {
     if !circuit.holds.is_empty() {
         return None;
@@ -46,7 +47,8 @@ pub(crate) fn one_level(circuit: &Circuit) -> Option<u8>
 
 /// Whether each net that is asked for is observed.
 pub(crate) fn are_observed(asked: &[bool], observed: &[bool]) -> bool
-    ensures { IsTrue result → (n : ℕ) → mark_at asked.now n ≡ true → mark_at observed.now n ≡ true }
+    ensures seen { IsTrue result → (n : ℕ) → mark_at asked.now n ≡ true → mark_at observed.now n ≡ true }
+    ensures all { ((n : ℕ) → mark_at asked.now n ≡ true → mark_at observed.now n ≡ true) → IsTrue result }
 {
     for at in 0..asked.len() {
         if asked[at] && !is_marked(observed, at) {

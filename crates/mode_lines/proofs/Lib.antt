@@ -1,3 +1,4 @@
 pub mod ComparisonLaws
 pub mod MeetLaws
+pub mod NameLaws
 pub mod ReplayLaws

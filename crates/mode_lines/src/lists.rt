@@ -93,7 +93,7 @@ fn read_item(alloc: Global, piece: &[u8]) -> Result<AtItem, ListFault>
 }
 
 /// The first piece and what is behind its comma, none where there is no comma.
-fn cut_piece(list: &[u8]) -> Option<(&[u8], &[u8])>
+pub(crate) fn cut_piece(list: &[u8]) -> Option<(&[u8], &[u8])>
     ensures cut { IfSome result (λ p. (length p.1.now < length list.now) × (cut list.now ≡ p.0.now ∷ cut p.1.now)) }
     ensures last { IfNone result (cut list.now ≡ list.now ∷ []) }
 {

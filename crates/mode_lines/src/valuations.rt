@@ -8,10 +8,10 @@ use crate::lists::AtItem;
 use std::alloc::Global;
 use vrt_model::{NoMemory, Seq, Text, Valuation};
 
-/// Why names and bits give no valuation.
+/// Why names, of variables with bits or of ports, do not stand for what is asked.
 #[derive(Drop)]
 pub enum AtFault {
-    /// No variable has this name: `no such name: NAME`.
+    /// No variable and no port that is asked for has this name: `no such name: NAME`.
     NoSuchName { name: Text },
     /// The name stands twice: `given twice: NAME`.
     Twice { name: Text },
@@ -20,7 +20,7 @@ pub enum AtFault {
 }
 
 /// Whether a name is among names.
-fn has_name(names: &[Text], name: &[u8]) -> bool
+pub fn has_name(names: &[Text], name: &[u8]) -> bool
     ensures { result ≡ has_name names.now name.now }
 {
     for other in names {
@@ -43,8 +43,8 @@ fn has_item(items: &[AtItem], name: &[u8]) -> bool
     false
 }
 
-/// The fault that a name is none of the variables'.
-fn no_such_name(alloc: Global, name: &[u8]) -> AtFault
+/// The fault that a name is none of those that may be given.
+pub fn no_such_name(alloc: Global, name: &[u8]) -> AtFault
     ensures { NamesNone name.now result }
 {
     match Text::from_bytes(alloc, name) {
@@ -54,7 +54,7 @@ fn no_such_name(alloc: Global, name: &[u8]) -> AtFault
 }
 
 /// The fault that a name stands twice.
-fn twice(alloc: Global, name: &[u8]) -> AtFault
+pub fn twice(alloc: Global, name: &[u8]) -> AtFault
     ensures { NamesTwice name.now result }
 {
     match Text::from_bytes(alloc, name) {

@@ -11,6 +11,7 @@ use Rattle.bdd_core.specs.declared.handle.H.{H}
 use Rattle.node_pool.specs.declared.region.Span.{Span}
 use Rattle.bdd_ops.specs.Ops.{and_of}
 use Rattle.output_levels.specs.Always.{IsAlways, IsNever}
+use Rattle.path_fixpoint.specs.declared.words.NetWords.{NetWords}
 
 module _ (d : Diagrams) (h : H) (f : Function) (means : Means d h f) (canonical : IsCanonical d) (ends : 2 ≤ length d.nodes) where
   zero_then : h.0 ≡ 0 → (v : Valuation) → f v ≡ false
@@ -61,8 +62,8 @@ pub kept_care : (u : ℕ) (old new : Diagrams) (h : H) → AddsNodes old new →
 kept_care u old new h adds live w = within_same u (function_of old h) (function_of new h) (adds.kept h.0 live) w
 
 -- the word of a level is one of the words of its place
-pub word_range : (level place len : ℕ) → level ≤ 8 → net_words * place + net_words ≤ len → word_of level place < len
-word_range level place len most fits = omega (arith, most, fits)
+pub word_range : (out : NetWords) (level place : ℕ) → level ≤ out.source → net_words out.source * place + net_words out.source ≤ out.span.len → word_of out level place < out.span.len
+word_range out level place most fits = omega (arith, most, fits)
 
 pub written_care : (u : ℕ) (out : Span) (old new : Diagrams) (h : H) → Writes out old new → IsLive old h → IsWithin u (function_of old h) → IsWithin u (function_of new h)
 written_care u out old new h w live within = within_same u (function_of old h) (function_of new h) (w.adds.kept h.0 live) within

@@ -19,6 +19,7 @@ use Rattle.path_fixpoint.specs.Parts.{IsPlace}
 use Rattle.path_fixpoint.specs.Strengths.{net_words, word_of}
 use Rattle.vrt_model.specs.Lists.{At, mark_at}
 use Rattle.vrt_model.specs.declared.ids.Net.{Net}
+use Rattle.path_fixpoint.specs.declared.words.NetWords.{NetWords}
 
 -- the net at a place of a list
 pub net_at : (nets ys : List Net) (i : ℕ) (d : Net) → ys ≡ nets → i < length ys → At nets i (get_or ys i d)
@@ -31,17 +32,17 @@ level_same care other same s None gives = λ level all. gives level (λ v here. 
 
 -- ---- a store to which nodes were added
 
-module _ (first now : Diagrams) (adds : AddsNodes first now) (care : H) (care_live : IsLive first care) (out : Span) (filled : IsFilled first out) (place : ℕ)
-    (range : net_words * place + net_words ≤ out.len) where
+module _ (first now : Diagrams) (adds : AddsNodes first now) (care : H) (care_live : IsLive first care) (out : NetWords) (filled : IsFilled first out.span) (place : ℕ)
+    (range : net_words out.source * place + net_words out.source ≤ out.span.len) where
   care_same : (v : Valuation) → function_of now care v ≡ function_of first care v
   care_same v = adds.kept care.0 care_live v
 
-  strong_same : (level : ℕ) → level ≤ 8 → (v : Valuation) → strong_at now out place level v ≡ strong_at first out place level v
+  strong_same : (level : ℕ) → level ≤ out.source → (v : Valuation) → strong_at now out place level v ≡ strong_at first out place level v
   strong_same level high v =
-      ap (λ (h : ℕ). meaning now.nodes h v) (word_added out first now (word_of level place) adds)
-      ∙ adds.kept (word_at first out (word_of level place)) (filled (word_of level place) (word_range level place out.len high range)) v
+      ap (λ (h : ℕ). meaning now.nodes h v) (word_added out.span first now (word_of out level place) adds)
+      ∙ adds.kept (word_at first out.span (word_of out level place)) (filled (word_of out level place) (word_range out level place high range)) v
 
-  strengths_on : (s : Valuation → ℕ) → AreStrengths (function_of first care) (strong_at first out place) s → AreStrengths (function_of now care) (strong_at now out place) s
+  strengths_on : (s : Valuation → ℕ) → AreStrengths out.source (function_of first care) (strong_at first out place) s → AreStrengths out.source (function_of now care) (strong_at now out place) s
   strengths_on s are = record {
     most = λ v here. are.most v (sym (care_same v) ∙ here);
     says = λ v level here low high.
@@ -51,30 +52,30 @@ module _ (first now : Diagrams) (adds : AddsNodes first now) (care : H) (care_li
   }
 
   -- what the words of a place tell then, they told at first
-  pub place_first : (found : Option ℕ) → PlaceTells (function_of now care) (strong_at now out place) found → PlaceTells (function_of first care) (strong_at first out place) found
+  pub place_first : (found : Option ℕ) → PlaceTells out.source (function_of now care) (strong_at now out place) found → PlaceTells out.source (function_of first care) (strong_at first out place) found
   place_first found tells s are = level_same (function_of now care) (function_of first care) care_same s found (tells s (strengths_on s are))
 
-  pub judged_first : (asked : List Bool) (net : ℕ) (old new : List (Option ℕ)) → IsPlaceJudged asked (function_of now care) (strong_at now out place) net old new
-      → IsPlaceJudged asked (function_of first care) (strong_at first out place) net old new
+  pub judged_first : (asked : List Bool) (net : ℕ) (old new : List (Option ℕ)) → IsPlaceJudged out.source asked (function_of now care) (strong_at now out place) net old new
+      → IsPlaceJudged out.source asked (function_of first care) (strong_at first out place) net old new
   judged_first asked net old new is = record { told = λ mark. place_first (level_at new net) (is.told mark); others = is.others }
 
 -- ---- one place more
 
-module _ (part : Part) (asked : List Bool) (care : Function) (is_strong : ℕ → ℕ → Function) where
-  pub judged_none : (levels : List (Option ℕ)) → AreJudged part asked care is_strong 0 levels levels
+module _ (source : ℕ) (part : Part) (asked : List Bool) (care : Function) (is_strong : ℕ → ℕ → Function) where
+  pub judged_none : (levels : List (Option ℕ)) → AreJudged source part asked care is_strong 0 levels levels
   judged_none levels = record { told = λ i n lt p mark. absurd (omega (arith, lt)); others = λ n none. refl }
 
   pub judged_more : (once : (i j n : ℕ) → IsPlace part i n → IsPlace part j n → i ≡ j) (k net : ℕ) → IsPlace part k net → (old mid new : List (Option ℕ))
-      → AreJudged part asked care is_strong k old mid → IsPlaceJudged asked care (is_strong k) net mid new → AreJudged part asked care is_strong (k + 1) old new
+      → AreJudged source part asked care is_strong k old mid → IsPlaceJudged source asked care (is_strong k) net mid new → AreJudged source part asked care is_strong (k + 1) old new
   judged_more once k net here old mid new before step = record {
     told = λ i n lt p mark. elim (cases_eq i k) [
       | inl e ↦
           let same : net ≡ n = place_once part k net n here (subst (λ (j : ℕ). IsPlace part j n) e p) in
           let told = step.told (ap (mark_at asked) same ∙ mark) in
-          subst (λ (j : ℕ). PlaceTells care (is_strong j) (level_at new n)) (sym e) (subst (λ (m : ℕ). PlaceTells care (is_strong k) (level_at new m)) same told)
+          subst (λ (j : ℕ). PlaceTells source care (is_strong j) (level_at new n)) (sym e) (subst (λ (m : ℕ). PlaceTells source care (is_strong k) (level_at new m)) same told)
       | inr ne ↦
           let stays = step.others n (λ e on. ne (once i k n p (subst (IsPlace part k) (sym e) here))) in
-          subst (PlaceTells care (is_strong i)) (sym stays) (before.told i n (omega (arith, lt, ne)) p mark)
+          subst (PlaceTells source care (is_strong i)) (sym stays) (before.told i n (omega (arith, lt, ne)) p mark)
     ];
     others = λ n none.
         step.others n (λ e on. none k (omega arith) (subst (IsPlace part k) (sym e) here) on)

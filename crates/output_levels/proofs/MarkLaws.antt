@@ -7,15 +7,15 @@ use Rattle.bdd_core.specs.Words.{IsFilled, word_at}
 use Rattle.bdd_core.specs.declared.handle.H.{H}
 use Rattle.bdd_ops.proofs.WithinLaws.{within_same}
 use Rattle.bdd_ops.specs.Counting.{IsSpanWithin}
-use Rattle.node_pool.specs.declared.region.Span.{Span}
 use Rattle.output_levels.specs.Always.{IsAlways, IsNever, strong_at}
 use Rattle.path_fixpoint.specs.Strengths.{word_of}
+use Rattle.path_fixpoint.specs.declared.words.NetWords.{NetWords}
 
-module _ (first now : Diagrams) (adds : AddsNodes first now) (care : H) (care_live : IsLive first care) (out : Span) (filled : IsFilled first out) (place level : ℕ)
-    (range : word_of level place < out.len) (mark : H) (is : mark.0 ≡ word_at now out (word_of level place)) where
+module _ (first now : Diagrams) (adds : AddsNodes first now) (care : H) (care_live : IsLive first care) (out : NetWords) (filled : IsFilled first out.span) (place level : ℕ)
+    (range : word_of out level place < out.span.len) (mark : H) (is : mark.0 ≡ word_at now out.span (word_of out level place)) where
   mark_shows : (v : Valuation) → function_of now mark v ≡ strong_at first out place level v
   mark_shows v =
-      ap (λ (h : ℕ). meaning now.nodes h v) (is ∙ word_added out first now (word_of level place) adds) ∙ adds.kept (word_at first out (word_of level place)) (filled (word_of level place) range) v
+      ap (λ (h : ℕ). meaning now.nodes h v) (is ∙ word_added out.span first now (word_of out level place) adds) ∙ adds.kept (word_at first out.span (word_of out level place)) (filled (word_of out level place) range) v
 
   care_shows : (v : Valuation) → function_of now care v ≡ function_of first care v
   care_shows v = adds.kept care.0 care_live v
@@ -33,5 +33,5 @@ module _ (first now : Diagrams) (adds : AddsNodes first now) (care : H) (care_li
   never_on never v here = mark_shows v ∙ never v (sym (care_shows v) ∙ here)
 
   -- the handle reads what the word reads
-  pub mark_within : (u : ℕ) → IsSpanWithin u first out → IsWithin u (function_of now mark)
-  mark_within u all = within_same u (strong_at first out place level) (function_of now mark) mark_shows (all (word_of level place) range)
+  pub mark_within : (u : ℕ) → IsSpanWithin u first out.span → IsWithin u (function_of now mark)
+  mark_within u all = within_same u (strong_at first out place level) (function_of now mark) mark_shows (all (word_of out level place) range)

@@ -19,7 +19,9 @@ use Rattle.output_levels.specs.PartLevels.{AreJudged, HasLevelSpans, HasStrength
 use Rattle.path_fixpoint.proofs.Places.{on_a_side, place_in}
 use Rattle.path_fixpoint.proofs.ReachLaws.{strength_most}
 use Rattle.path_fixpoint.specs.Parts.{IsPart, IsPlace}
-use Rattle.path_fixpoint.specs.Strengths.{HasSpans, StandsAt, TellsStrengths, net_words}
+use Rattle.path_fixpoint.specs.declared.words.NetWords.{NetWords}
+use Rattle.vrt_model.specs.Levels.{source_level}
+use Rattle.path_fixpoint.specs.Strengths.{HasSpans, StandsAt, TellsStrengths, net_words, circuit_words}
 use Rattle.vrt_model.proofs.Lists.{one_at}
 use Rattle.vrt_model.proofs.Members.{at_none}
 use Rattle.vrt_model.specs.Lists.{Among, At, mark_at}
@@ -92,13 +94,14 @@ module _ (out : Span) where
 
 -- the front of the words is as the part wants it
 pub part_spans : (c : Circuit) (part : Part) (parts : List Part) (gates out : Span) (d : Diagrams) → HasLevelSpans c parts gates out d → Among parts part
-    → HasSpans c part gates (record { start = out.start; len = net_words * length part.nets }) d
+    → HasSpans c part gates (circuit_words c (record { start = out.start; len = net_words (source_level c) * length part.nets })) d
 part_spans c part parts gates out d has m =
     let room = has.room part m in
     record {
       gates_span = has.gates_span;
       gates_len = has.gates_len;
       gates_live = has.gates_live;
+      source = refl;
       out_span = (has.out_span.0, let end = has.out_span.1 in omega (arith, room, end));
       out_len = refl;
       apart = elim has.apart [ inl low ↦ inl low | inr high ↦ inr (omega (arith, room, high)) ];
@@ -112,20 +115,20 @@ one_among part other parts m (suc i, e) = absurd (at_none i other e)
 pub part_range : (c : Circuit) (part : Part) → IsPart c part → (asked : List Bool) → length asked ≡ length c.nets → All (λ (n : Net). n.0 < length asked) part.nets
 part_range c part is asked len k d lt = (let inside = is.nets k d lt in omega (arith, inside, len))
 
-module _ (c : Circuit) (part : Part) (ranges : HasRanges c) (is_part : IsPart c part) (gates out : Span) (care : H) (old mid : Diagrams) (live : IsLive old care)
-    (writes : Writes out old mid) (tells : (v : Valuation) (w : Network) → StandsAt c part gates old v w → TellsStrengths c part out mid v w) where
+module _ (c : Circuit) (part : Part) (ranges : HasRanges c) (is_part : IsPart c part) (gates : Span) (out : NetWords) (source : out.source ≡ source_level c) (care : H) (old mid : Diagrams) (live : IsLive old care)
+    (writes : Writes out.span old mid) (tells : (v : Valuation) (w : Network) → StandsAt c part gates old v w → TellsStrengths c part out mid v w) where
   mid_care : (v : Valuation) → function_of mid care v ≡ function_of old care v
   mid_care v = writes.adds.kept care.0 live v
 
   -- the strengths of a net in the network of the part are those that its words say
-  strengths_said : (i n : ℕ) → IsPlace part i n → (s : Valuation → ℕ) → HasStrengths c part gates (function_of old care) old n s → AreStrengths (function_of mid care) (strong_at mid out i) s
+  strengths_said : (i n : ℕ) → IsPlace part i n → (s : Valuation → ℕ) → HasStrengths c part gates (function_of old care) old n s → AreStrengths out.source (function_of mid care) (strong_at mid out i) s
   strengths_said i n p s has = record {
-    most = λ v here. (let at = has v (sym (mid_care v) ∙ here) in strength_most c part is_part ranges gates gates out true old v at.0 n (s v) at.1 at.2);
-    says = λ v level here low high. (let at = has v (sym (mid_care v) ∙ here) in tells v at.0 at.1 i n level (s v) p low high at.2);
+    most = λ v here. (let at = has v (sym (mid_care v) ∙ here) in omega (arith, strength_most c part is_part ranges gates gates out true old v at.0 n (s v) at.1 at.2, source));
+    says = λ v level here low high. (let at = has v (sym (mid_care v) ∙ here) in tells v at.0 at.1 i n level (s v) p low (omega (arith, high, source)) at.2);
   }
 
   -- so the judged places of the part tell of its nets
-  pub part_told : (asked : List Bool) (levels after : List (Option ℕ)) → AreJudged part asked (function_of mid care) (strong_at mid out) (length part.nets) levels after
+  pub part_told : (asked : List Bool) (levels after : List (Option ℕ)) → AreJudged out.source part asked (function_of mid care) (strong_at mid out) (length part.nets) levels after
       → IsPartTold c part asked gates care old levels after
   part_told asked levels after judged = record {
     told = λ n inside mark s has.

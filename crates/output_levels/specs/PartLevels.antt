@@ -23,18 +23,18 @@ level_at levels n = slice_index_or levels n None
 
 -- ---- one part, by its words
 
--- the level that the words of a place give
-abbrev pub PlaceTells : Function → (ℕ → Function) → Option ℕ → Type 0
-PlaceTells care is_strong found = (s : Valuation → ℕ) → AreStrengths care is_strong s → LevelGives care s found
+-- the level that the words of a place give, by the source level
+abbrev pub PlaceTells : ℕ → Function → (ℕ → Function) → Option ℕ → Type 0
+PlaceTells source care is_strong found = (s : Valuation → ℕ) → AreStrengths source care is_strong s → LevelGives care s found
 
 -- one place was judged: its net has its level where it is asked for, and all others have what they had
-pub record IsPlaceJudged (asked : List Bool) (care : Function) (is_strong : ℕ → Function) (net : ℕ) (old new : List (Option ℕ)) : Type 0 where
-  pub told : mark_at asked net ≡ true → PlaceTells care is_strong (level_at new net)
+pub record IsPlaceJudged (source : ℕ) (asked : List Bool) (care : Function) (is_strong : ℕ → Function) (net : ℕ) (old new : List (Option ℕ)) : Type 0 where
+  pub told : mark_at asked net ≡ true → PlaceTells source care is_strong (level_at new net)
   pub others : (n : ℕ) → (n ≡ net → mark_at asked n ≡ true → ⊥) → level_at new n ≡ level_at old n
 
 -- so many places of a part were judged
-pub record AreJudged (part : Part) (asked : List Bool) (care : Function) (is_strong : ℕ → ℕ → Function) (upto : ℕ) (old new : List (Option ℕ)) : Type 0 where
-  pub told : (i n : ℕ) → i < upto → IsPlace part i n → mark_at asked n ≡ true → PlaceTells care (is_strong i) (level_at new n)
+pub record AreJudged (source : ℕ) (part : Part) (asked : List Bool) (care : Function) (is_strong : ℕ → ℕ → Function) (upto : ℕ) (old new : List (Option ℕ)) : Type 0 where
+  pub told : (i n : ℕ) → i < upto → IsPlace part i n → mark_at asked n ≡ true → PlaceTells source care (is_strong i) (level_at new n)
   pub others : (n : ℕ) → ((i : ℕ) → i < upto → IsPlace part i n → mark_at asked n ≡ true → ⊥) → level_at new n ≡ level_at old n
 
 -- ---- one part, by its network at each valuation
@@ -70,7 +70,7 @@ pub record HasLevelSpans (c : Circuit) (parts : List Part) (gates out : Span) (d
   pub gates_len : gates.len ≡ length c.nets
   pub gates_live : IsFilled d gates
   pub out_span : IsSpan d out
-  pub room : (part : Part) → Among parts part → net_words * length part.nets ≤ out.len
+  pub room : (part : Part) → Among parts part → net_words (source_level c) * length part.nets ≤ out.len
   pub apart : IsApart gates out
 
 -- nodes were only added, and words of one span alone changed

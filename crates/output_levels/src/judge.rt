@@ -15,7 +15,7 @@ ghost use Rattle.vrt_model.specs.declared.ids.Net.{Net as NetValue};
 use crate::level::constant_level;
 use bdd_core::{H, Spent, Store};
 use channel_parts::Part;
-use node_pool::Span;
+use path_fixpoint::NetWords;
 use vrt_model::Net;
 
 /// Whether a net is asked for.
@@ -43,17 +43,17 @@ fn judge_place(
     place: usize,
     asked: &[bool],
     care: H,
-    out: Span,
+    out: NetWords,
     levels: &mut Vec<Option<u8>>,
 ) -> Result<(), Spent>
     requires net { (net.0 < length asked.now) × (length levels.old.items ≡ length asked.now) }
     requires care { IsLive store.old care }
-    requires out { IsSpan store.old out × IsFilled store.old out }
-    requires place { (net_words * place + net_words ≤ out.len) × (out.len < 2 ^ 32) }
+    requires out { IsSpan store.old out.span × IsFilled store.old out.span }
+    requires place { (net_words out.source * place + net_words out.source ≤ out.span.len) × (out.span.len < 2 ^ 32) }
     ensures adds { AddsNodes store.old store.new }
     ensures len { length levels.new.items ≡ length levels.old.items }
-    ensures gives { IfOk result (λ _. IsPlaceJudged asked.now (function_of store.old care) (strong_at store.old out place) net.0 levels.old.items levels.new.items) }
-    ensures few { (u : ℕ) → IsWithin u (function_of store.old care) → IsSpanWithin u store.old out → Counts u 9 store.old store.new result }
+    ensures gives { IfOk result (λ _. IsPlaceJudged out.source asked.now (function_of store.old care) (strong_at store.old out place) net.0 levels.old.items levels.new.items) }
+    ensures few { (u : ℕ) → IsWithin u (function_of store.old care) → IsSpanWithin u store.old out.span → Counts u (out.source + 1) store.old store.new result }
 {
     store.sound();
     let wanted = is_asked(asked, net);
@@ -74,18 +74,18 @@ pub(crate) fn judge_part(
     part: &Part,
     asked: &[bool],
     care: H,
-    out: Span,
+    out: NetWords,
     levels: &mut Vec<Option<u8>>,
 ) -> Result<(), Spent>
     requires nets { All (λ (n : NetValue). n.0 < length asked.now) part.now.nets }
     requires once { (i j n : ℕ) → IsPlace part.now i n → IsPlace part.now j n → i ≡ j }
     requires levels { length levels.old.items ≡ length asked.now }
     requires care { IsLive store.old care }
-    requires out { IsSpan store.old out × IsFilled store.old out × (out.len ≡ net_words * length part.now.nets) × (out.len < 2 ^ 32) }
+    requires out { IsSpan store.old out.span × IsFilled store.old out.span × (out.span.len ≡ net_words out.source * length part.now.nets) × (out.span.len < 2 ^ 32) }
     ensures adds { AddsNodes store.old store.new }
     ensures len { length levels.new.items ≡ length levels.old.items }
-    ensures gives { IfOk result (λ _. AreJudged part.now asked.now (function_of store.old care) (strong_at store.old out) (length part.now.nets) levels.old.items levels.new.items) }
-    ensures few { (u : ℕ) → IsWithin u (function_of store.old care) → IsSpanWithin u store.old out → Counts u (9 * length part.now.nets) store.old store.new result }
+    ensures gives { IfOk result (λ _. AreJudged out.source part.now asked.now (function_of store.old care) (strong_at store.old out) (length part.now.nets) levels.old.items levels.new.items) }
+    ensures few { (u : ℕ) → IsWithin u (function_of store.old care) → IsSpanWithin u store.old out.span → Counts u ((out.source + 1) * length part.now.nets) store.old store.new result }
 {
     store.sound();
     let nets = part.nets.as_slice();

@@ -6,7 +6,8 @@ ghost use Rattle.bdd_core.specs.Store.{IsLive, function_of};
 ghost use Rattle.bdd_ops.specs.Counting.{Counts, IsSpanWithin};
 ghost use Rattle.output_levels.specs.PartLevels.{HasLevelSpans, IsInPart, IsPartTold, IsToldIn, WritesIn, level_operations};
 ghost use Rattle.path_fixpoint.specs.Parts.{IsPart};
-ghost use Rattle.path_fixpoint.specs.Strengths.{net_words};
+ghost use Rattle.path_fixpoint.specs.Strengths.{net_words, circuit_words};
+ghost use Rattle.vrt_model.specs.Levels.{source_level};
 ghost use Rattle.vrt_model.specs.Lists.{Among, At, mark_at};
 ghost use Rattle.vrt_model.specs.Networks.{HasRanges};
 ghost use Rattle.channel_parts.specs.declared.part.Part.{Part as PartValue};
@@ -16,18 +17,20 @@ use crate::judge::{is_asked, judge_part};
 use bdd_core::{H, Spent, Store};
 use channel_parts::Part;
 use node_pool::Span;
-use path_fixpoint::{net_words, strengths};
+use path_fixpoint::{NetWords, net_words, source_level, strengths};
 use vrt_model::{Circuit, Net};
 
 /// The words for a part among those for the greatest.
-fn words_of(part: &Part, out: Span) -> Span
-    requires { net_words * length part.now.nets ≤ out.len }
-    ensures { result ≡ record { start = out.start; len = net_words * length part.now.nets } }
+fn words_of(circuit: &Circuit, part: &Part, out: Span) -> NetWords
+    requires { net_words (source_level circuit.now) * length part.now.nets ≤ out.len }
+    ensures { result ≡ circuit_words circuit.now (record { start = out.start; len = net_words (source_level circuit.now) * length part.now.nets }) }
 {
-    Span {
+    let source = source_level(circuit);
+    let span = Span {
         start: out.start,
-        len: net_words() * part.nets.len() as u32,
-    }
+        len: net_words(source) * part.nets.len() as u32,
+    };
+    NetWords { span, source }
 }
 
 /// Whether one of some nets is asked for.
@@ -69,7 +72,7 @@ fn part_levels(
     if !wanted {
         return Ok(());
     }
-    let words = words_of(part, out);
+    let words = words_of(circuit, part, out);
     match strengths(store, circuit, part, gates, words) {
         Ok(()) => {}
         Err(spent) => return Err(spent),
@@ -82,8 +85,8 @@ fn part_levels(
 /// such a net is solved once, the others not at all. `asked` has a mark for each net of the circuit, and `levels` a place.
 ///
 /// Handles from before keep their functions and words outside `out` stay as they are, also where the budget is used up.
-/// Where the handles read only the first `u` variables, a part of p nets and q devices takes at most 32 p q + 9 p operations
-/// of `2 ^ u` nodes.
+/// Where the handles read only the first `u` variables, a part of p nets and q devices takes at most 4 l p q + (l + 1) p operations
+/// of `2 ^ u` nodes, where l is the source level.
 pub fn circuit_levels(
     store: &mut Store,
     circuit: &Circuit,

@@ -25,13 +25,14 @@ use Rattle.path_fixpoint.specs.Passed.{blocking}
 use Rattle.path_fixpoint.specs.Reaching.{PassesSignal, SpreadsValue, slot_of}
 use Rattle.path_fixpoint.specs.Strengths.{Passes, Spreads, StandsAt, strong, word_of}
 use Rattle.path_fixpoint.proofs.Spreading.{device_ranges}
+use Rattle.path_fixpoint.specs.declared.words.NetWords.{NetWords}
 
 -- at the constant that blocks it no device conducts
 blocked : (nodes : List Node) (kind : Kind) (v : Valuation) → conducts_at kind (meaning nodes (blocking kind) v) ≡ false
 blocked nodes N v = meaning_zero nodes v
 blocked nodes P v = ap not (meaning_one nodes v)
 
-module _ (c : Circuit) (part : Part) (in_range : HasRanges c) (gates out : Span) (d : Device) (member : Among (part_devices c part) d) (s : Diagrams)
+module _ (c : Circuit) (part : Part) (in_range : HasRanges c) (gates : Span) (out : NetWords) (d : Device) (member : Among (part_devices c part) d) (s : Diagrams)
     (gate_is : word_at s gates d.gate.0 ≡ blocking d.kind) where
   -- it is on at no valuation
   pub never_on : (x : Device) → x ≡ d → (v : Valuation) (w : Network) → StandsAt c part gates s v w → IsOn w x → ⊥
@@ -58,7 +59,7 @@ module _ (c : Circuit) (part : Part) (in_range : HasRanges c) (gates out : Span)
   }
 
 -- both ends are in the part, so nothing comes from outside over the device
-module _ (c : Circuit) (part : Part) (is_part : IsPart c part) (gates out : Span) (d : Device) (member : Among (part_devices c part) d) (s : Diagrams)
+module _ (c : Circuit) (part : Part) (is_part : IsPart c part) (gates : Span) (out : NetWords) (d : Device) (member : Among (part_devices c part) d) (s : Diagrams)
     (side : Side) (no_given : IsWithoutGivenEnd c d) (outer : side ≡ Outside) where
   in_part : (net : Net) → Among part.nets net ⊎ IsGiven c net.0 → (IsGiven c net.0 → ⊥) → IsOnSide part Outside net.0 → ⊥
   in_part net (inl p) none away = away p.0 (net, p.1, refl)
@@ -89,7 +90,7 @@ module _ (c : Circuit) (part : Part) (is_part : IsPart c part) (gates out : Span
   }
 
 -- nothing is added to the constant 1
-module _ (out : Span) (level : ℕ) (d : Diagrams) (i : ℕ) (full : word_at d out (word_of level i) ≡ 1) where
+module _ (out : NetWords) (level : ℕ) (d : Diagrams) (i : ℕ) (full : word_at d out.span (word_of out level i) ≡ 1) where
   full_strong : (v : Valuation) → strong d out level i v ≡ true
   full_strong v = ap (λ (h : ℕ). meaning d.nodes h v) full ∙ meaning_one d.nodes v
 
@@ -101,7 +102,7 @@ module _ (out : Span) (level : ℕ) (d : Diagrams) (i : ℕ) (full : word_at d o
     same = λ e. refl;
   }
 
-module _ (out : Span) (level : ℕ) (d : Diagrams) (to : Option ℕ) where
+module _ (out : NetWords) (level : ℕ) (d : Diagrams) (to : Option ℕ) where
   -- nothing is passed on of the constant 0
   pub passes_none : (kind : Kind) (gate signal : ℕ) → signal ≡ 0 → Passes out level kind gate signal to false d d
   passes_none kind gate signal none = record {
@@ -111,11 +112,11 @@ module _ (out : Span) (level : ℕ) (d : Diagrams) (to : Option ℕ) where
     same = λ e. refl;
   }
 
-module _ (out : Span) (value : Bool) (kind : Kind) (gate signal : ℕ) (from : Option ℕ) (i device : ℕ) (d : Diagrams) where
-  pub signal_full : word_at d out (word_of (slot_of value) i) ≡ 1 → PassesSignal out value kind gate signal from (Some i) device false d d
+module _ (out : NetWords) (value : Bool) (kind : Kind) (gate signal : ℕ) (from : Option ℕ) (i device : ℕ) (d : Diagrams) where
+  pub signal_full : word_at d out.span (word_of out (slot_of out value) i) ≡ 1 → PassesSignal out value kind gate signal from (Some i) device false d d
   signal_full full = record {
     grown = λ j lt v e. e;
-    passed = λ j is v on seen fit. subst (λ (x : ℕ). strong d out (slot_of value) x v ≡ true) (same_Some i j is) (full_strong out (slot_of value) d i full v);
+    passed = λ j is v on seen fit. subst (λ (x : ℕ). strong d out (slot_of out value) x v ≡ true) (same_Some i j is) (full_strong out (slot_of out value) d i full v);
     only = λ j lt v e. inl e;
     same = λ e. refl;
   }

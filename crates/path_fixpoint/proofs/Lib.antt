@@ -14,6 +14,7 @@ pub mod RoundLaws
 pub mod SignalLaws
 pub mod SolveLaws
 pub mod SourceLaws
+pub mod SourceLevels
 pub mod SpendingLaws
 pub mod Spreading
 pub mod Unused

@@ -22,6 +22,7 @@ use Rattle.path_fixpoint.specs.Strengths.{HasPaths, HasWords, IsStrong, Passes, 
 use Rattle.bdd_core.specs.Words.{IsFilled, Writes, word_at}
 use Rattle.bdd_core.proofs.Frames.{shows_kept, adds_words, writes_added}
 use Rattle.path_fixpoint.proofs.Places.{EndIs, place_once, place_word, words_differ}
+use Rattle.path_fixpoint.specs.declared.words.NetWords.{NetWords}
 
 -- a p-device conducts where its gate is 0
 pub blocked_choice : (a b : Bool) → cond a false b ≡ (not a && b)
@@ -29,25 +30,25 @@ blocked_choice true b = refl
 blocked_choice false b = refl
 
 -- a word that shows a signal too, and the signal that a device passes on
-module _ (out : Span) (level : ℕ) (kind : Kind) (gate signal : ℕ) (i : ℕ) (old mid new : Diagrams) (passed : H) (changed : Bool)
+module _ (out : NetWords) (level : ℕ) (kind : Kind) (gate signal : ℕ) (i : ℕ) (old mid new : Diagrams) (passed : H) (changed : Bool)
     (made : Makes old mid (gated kind (meaning old.nodes gate) (meaning old.nodes signal)) (Ok passed))
-    (live : IsFilled old out)
-    (wider : IsWider out (word_of level i) (meaning mid.nodes passed.0) changed mid new)
-    (wrote : Writes out mid new)
-    (apart : (k : ℕ) → k ≢ word_of level i → word_at new out k ≡ word_at mid out k)
-    (inside : word_of level i < out.len) where
-  made_writes : Writes out old mid
-  made_writes = writes_added out old mid live made.adds
+    (live : IsFilled old out.span)
+    (wider : IsWider out.span (word_of out level i) (meaning mid.nodes passed.0) changed mid new)
+    (wrote : Writes out.span mid new)
+    (apart : (k : ℕ) → k ≢ word_of out level i → word_at new out.span k ≡ word_at mid out.span k)
+    (inside : word_of out level i < out.span.len) where
+  made_writes : Writes out.span old mid
+  made_writes = writes_added out.span old mid live made.adds
 
-  before : (j : ℕ) → word_of level j < out.len → (v : Valuation) → strong mid out level j v ≡ strong old out level j v
-  before j lt v = shows_kept out out old mid (word_of level j) v made_writes
-      (ap (λ (ws : List ℕ). get_or ws (out.start + word_of level j) 0) (adds_words old mid old.words made.adds)) (live (word_of level j) lt)
+  before : (j : ℕ) → word_of out level j < out.span.len → (v : Valuation) → strong mid out level j v ≡ strong old out level j v
+  before j lt v = shows_kept out.span out.span old mid (word_of out level j) v made_writes
+      (ap (λ (ws : List ℕ). get_or ws (out.span.start + word_of out level j) 0) (adds_words old mid old.words made.adds)) (live (word_of out level j) lt)
 
   here : (v : Valuation) → strong new out level i v ≡ (strong old out level i v || (conducts_at kind (meaning old.nodes gate v) && meaning old.nodes signal v))
   here v = wider.here v ∙ ap₂ (λ (a b : Bool). a || b) (before i inside v) (made.ok.same v)
 
-  other : (j : ℕ) → word_of level j < out.len → j ≢ i → (v : Valuation) → strong new out level j v ≡ strong old out level j v
-  other j lt ne v = shows_kept out out mid new (word_of level j) v wrote (apart (word_of level j) (λ e. ne (words_differ level j i e))) (made_writes.live (word_of level j) lt) ∙ before j lt v
+  other : (j : ℕ) → word_of out level j < out.span.len → j ≢ i → (v : Valuation) → strong new out level j v ≡ strong old out level j v
+  other j lt ne v = shows_kept out.span out.span mid new (word_of out level j) v wrote (apart (word_of out level j) (λ e. ne (words_differ out level j i e))) (made_writes.live (word_of out level j) lt) ∙ before j lt v
 
   pub passes_from : Passes out level kind gate signal (Some i) changed old new
   passes_from = record {
@@ -74,7 +75,7 @@ none-some : {X : Type 0} (x : X) → None ≡ Some x → ⊥
 none-some x e = cc e
 
 -- one direction, from the net m to the net n
-module _ (c : Circuit) (part : Part) (is_part : IsPart c part) (gates out : Span) (level : ℕ) (low : 1 ≤ level) (high : level ≤ 8)
+module _ (c : Circuit) (part : Part) (is_part : IsPart c part) (gates : Span) (out : NetWords) (level : ℕ) (low : 1 ≤ level) (high : level ≤ out.source)
     (kind : Kind) (gate signal : ℕ) (changed : Bool) (m n : ℕ) where
   pub over : (to : Option ℕ) (old new : Diagrams) → EndIs part to n → Passes out level kind gate signal to changed old new
       → (v : Valuation) → conducts_at kind (meaning old.nodes gate v) ≡ true → meaning old.nodes signal v ≡ true → IsStrong part out level new v n
@@ -98,7 +99,7 @@ module _ (c : Circuit) (part : Part) (is_part : IsPart c part) (gates out : Span
       ]
 
 -- what stands at the end of a channel: at a marked net the mark, and where the mark is seen a path ends
-module _ (part : Part) (out : Span) (level : ℕ) (d : Diagrams) (v : Valuation) where
+module _ (part : Part) (out : NetWords) (level : ℕ) (d : Diagrams) (v : Valuation) where
   pub end_marked : (place : Option ℕ) (n : ℕ) → EndIs part place n → IsStrong part out level d v n → strong_end d out level place v ≡ true
   end_marked (Some i) n e s = s i e.some
   end_marked None n e s = refl
@@ -109,8 +110,8 @@ module _ (part : Part) (out : Span) (level : ℕ) (d : Diagrams) (v : Valuation)
   end_path w None n e given paths s = given refl
 
 -- a net outside the part has a given value, so a path of the source level
-pub given_path : (c : Circuit) (w : Network) (level n : ℕ) → w.nets ≡ c.nets → w.source ≡ 8 → level ≤ 8 → IsGiven c n → AtLeast w level n
-given_path c w level n nets source high given =
-    let root : Root = record { net = n; level = 8; value = w.given n } in
+pub given_path : (c : Circuit) (w : Network) (level n : ℕ) → w.nets ≡ c.nets → level ≤ w.source → IsGiven c n → AtLeast w level n
+given_path c w level n nets high given =
+    let root : Root = record { net = n; level = w.source; value = w.given n } in
     let there : At w.nets n given.0 = subst (λ (ns : List FlatNet). At ns n given.0) (sym nets) given.1 in
-    arrives_root w (RootHas level) (HopHas level) root (inl (given.0, there, given.2, sym source, refl)) high
+    arrives_root w (RootHas level) (HopHas level) root (inl (given.0, there, given.2, refl, refl)) high

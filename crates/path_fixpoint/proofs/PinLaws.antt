@@ -9,19 +9,19 @@ use Rattle.std.proofs.lemmas.List.Sums.{sum_by-append, sum_by-cons, sum_by-take-
 use Rattle.vrt_model.proofs.Lists.{at_back, at_either, at_front, at_last, at_split, take_one}
 use Rattle.vrt_model.proofs.Members.{all_among, among_any, among_flat_map, among_later, any_among, flat_map_among}
 use Rattle.vrt_model.specs.Circuits.{IsDrive, IsNet, IsWhole}
+use Rattle.vrt_model.specs.Levels.{source_level}
 use Rattle.vrt_model.specs.Lists.{At, Among}
 use Rattle.vrt_model.specs.Networks.{HasRanges}
 use Rattle.vrt_model.specs.Path.{level_of_drive}
 use Rattle.vrt_model.specs.State.{OutputPin}
 use Rattle.vrt_model.specs.declared.circuit.Circuit.{Circuit}
 use Rattle.vrt_model.specs.declared.ids.Net.{Net}
-use Rattle.vrt_model.specs.declared.whole.Drive.{Drive}
-use Rattle.vrt_model.specs.declared.whole.Drive.TheVariants.{Soft, Level}
 use Rattle.vrt_model.specs.declared.whole.Whole.{Whole}
 use Rattle.vrt_model.specs.declared.whole.WholePin.{WholePin}
 use Rattle.channel_parts.specs.declared.part.Part.{Part}
 use Rattle.path_fixpoint.specs.Parts.{IsPlace, has_net, pins_at, pins_of}
 use Rattle.path_fixpoint.specs.Sources.{HasDriveLevel, IsPinSource}
+use Rattle.path_fixpoint.proofs.SourceLevels.{drive_ranges}
 
 -- ---- instance by instance
 
@@ -146,40 +146,31 @@ pin_ranges c pin in_range m =
 
 -- ---- their levels
 
-pub drive_ranges : (c : Circuit) (drive : Drive) → IsDrive c drive → (1 ≤ level_of_drive 8 drive) × (level_of_drive 8 drive ≤ 8)
-drive_ranges c Soft is = (omega arith, omega arith)
-drive_ranges c (Level level) is = (omega (arith, is.0), omega (arith, is.1))
-
-pub pin_level : (c : Circuit) (pin : WholePin) → HasRanges c → Among (pins_of c) pin → HasDriveLevel pin
+pub pin_level : (c : Circuit) (pin : WholePin) → HasRanges c → Among (pins_of c) pin → HasDriveLevel (source_level c) pin
 pin_level c pin in_range m = drive_ranges c pin.drive (pin_ranges c pin in_range m).1
-
--- a drive is soft, or its root is below those of given nets
-pub drive_below : (c : Circuit) (drive : Drive) → IsDrive c drive → (drive ≡ Soft) ⊎ (level_of_drive 8 drive < 8)
-drive_below c Soft is = inl refl
-drive_below c (Level level) is = inr (omega (arith, is.1))
 
 -- ---- their roots
 
-pub source_front : (xs ys : List WholePin) (first n at size : ℕ) → IsPinSource xs first n at size → IsPinSource (xs ++ ys) first n at size
-source_front xs ys first n at size s = (s.0, s.1, at_front xs ys s.0 s.1 s.2, s.3, s.4, s.5)
+pub source_front : (source : ℕ) (xs ys : List WholePin) (first n at size : ℕ) → IsPinSource source xs first n at size → IsPinSource source (xs ++ ys) first n at size
+source_front source xs ys first n at size s = (s.0, s.1, at_front xs ys s.0 s.1 s.2, s.3, s.4, s.5)
 
-pub source_back : (xs ys : List WholePin) (first second n at size : ℕ) → second ≡ first + length xs → IsPinSource ys second n at size → IsPinSource (xs ++ ys) first n at size
-source_back xs ys first second n at size e s = (length xs + s.0, s.1, at_back xs ys s.0 s.1 s.2, s.3, (let is = s.4 in omega (arith, is, e)), s.5)
+pub source_back : (source : ℕ) (xs ys : List WholePin) (first second n at size : ℕ) → second ≡ first + length xs → IsPinSource source ys second n at size → IsPinSource source (xs ++ ys) first n at size
+source_back source xs ys first second n at size e s = (length xs + s.0, s.1, at_back xs ys s.0 s.1 s.2, s.3, (let is = s.4 in omega (arith, is, e)), s.5)
 
-pub source_either : (xs ys : List WholePin) (first second n at size : ℕ) → second ≡ first + length xs → IsPinSource (xs ++ ys) first n at size
-    → IsPinSource xs first n at size ⊎ IsPinSource ys second n at size
-source_either xs ys first second n at size e s =
+pub source_either : (source : ℕ) (xs ys : List WholePin) (first second n at size : ℕ) → second ≡ first + length xs → IsPinSource source (xs ++ ys) first n at size
+    → IsPinSource source xs first n at size ⊎ IsPinSource source ys second n at size
+source_either source xs ys first second n at size e s =
     elim (at_either xs ys s.0 s.1 s.2) [
       | inl front ↦ inl (s.0, s.1, front, s.3, s.4, s.5)
       | inr back ↦ inr (back.0, s.1, back.2, s.3, (let is = s.4 in let there = back.1 in omega (arith, is, there, e)), s.5)
     ]
 
 -- the pins before a place, and the one there
-module _ (pins : List WholePin) (i : ℕ) (pin : WholePin) (first n at size : ℕ) (there : At pins i pin) where
+module _ (source : ℕ) (pins : List WholePin) (i : ℕ) (pin : WholePin) (first n at size : ℕ) (there : At pins i pin) where
   before_is : length (take i pins) ≡ i
   before_is = length-take-le i pins (let inside = slice_get_within pins i pin there in omega (arith, inside))
 
-  pub source_split : IsPinSource (take i pins ++ pin ∷ []) first n at size → IsPinSource (take i pins) first n at size ⊎ ((n ≡ pin.net.0) × (at ≡ first + i) × (size ≡ level_of_drive 8 pin.drive))
+  pub source_split : IsPinSource source (take i pins ++ pin ∷ []) first n at size → IsPinSource source (take i pins) first n at size ⊎ ((n ≡ pin.net.0) × (at ≡ first + i) × (size ≡ level_of_drive source pin.drive))
   source_split s =
       elim (at_split (take i pins) pin s.0 s.1 s.2) [
         | inl front ↦ inl (s.0, s.1, front, s.3, s.4, s.5)
@@ -189,18 +180,18 @@ module _ (pins : List WholePin) (i : ℕ) (pin : WholePin) (first n at size : �
             inr (
               sym s.3 ∙ ap (λ (p : WholePin). p.net.0) last.1,
               omega (arith, handle, place, before_is),
-              sym s.5 ∙ ap (λ (p : WholePin). level_of_drive 8 p.drive) last.1,
+              sym s.5 ∙ ap (λ (p : WholePin). level_of_drive source p.drive) last.1,
             )
       ]
 
-  pub source_last : n ≡ pin.net.0 → at ≡ first + i → size ≡ level_of_drive 8 pin.drive → IsPinSource (take i pins ++ pin ∷ []) first n at size
+  pub source_last : n ≡ pin.net.0 → at ≡ first + i → size ≡ level_of_drive source pin.drive → IsPinSource source (take i pins ++ pin ∷ []) first n at size
   source_last net handle level = (length (take i pins), pin, at_last (take i pins) pin, sym net, omega (arith, handle, before_is), sym level)
 
 -- a pin before a place is one of the list
-pub taken_source : (pins : List WholePin) (i first n at size : ℕ) → IsPinSource (take i pins) first n at size → IsPinSource pins first n at size
-taken_source pins i first n at size s =
+pub taken_source : (source : ℕ) (pins : List WholePin) (i first n at size : ℕ) → IsPinSource source (take i pins) first n at size → IsPinSource source pins first n at size
+taken_source source pins i first n at size s =
     (s.0, s.1, subst (λ (ps : List WholePin). At ps s.0 s.1) (take-append-drop i pins) (at_front (take i pins) (drop i pins) s.0 s.1 s.2), s.3, s.4, s.5)
 
-pub before_source : (c : Circuit) (i first n at size : ℕ) → IsPinSource (pins_before c i) first n at size → IsPinSource (pins_of c) first n at size
-before_source c i first n at size s =
-    subst (λ (ps : List WholePin). IsPinSource ps first n at size) (sym (before_rest c i)) (source_front (pins_before c i) (outputs_of (drop i c.wholes)) first n at size s)
+pub before_source : (c : Circuit) (source i first n at size : ℕ) → IsPinSource source (pins_before c i) first n at size → IsPinSource source (pins_of c) first n at size
+before_source c source i first n at size s =
+    subst (λ (ps : List WholePin). IsPinSource source ps first n at size) (sym (before_rest c i)) (source_front source (pins_before c i) (outputs_of (drop i c.wholes)) first n at size s)

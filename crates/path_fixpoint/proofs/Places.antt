@@ -1,8 +1,10 @@
 -- The places of a part, and their words.
-use Rattle.std.proofs.Common.{◌≡◌, ℕ, ◌+◌, ◌*◌, ◌<◌, ◌≤◌, ◌⊎◌, ◌==◌, true, length, Option, Some, None, arith, ap, refl, sym, ◌∙◌, inl, inr}
+use Rattle.std.proofs.Common.{◌≡◌, ℕ, ◌+◌, ◌*◌, ◌-◌, ◌<◌, ◌≤◌, ◌⊎◌, ◌==◌, true, length, Option, Some, None, arith, ap, refl, sym, ◌∙◌, inl, inr}
 use Rattle.std.specs.Prelude.{IfSome, IsNone}
 use Rattle.std.specs.List.{list_any}
+use Rattle.std.proofs.Math.Nat.{mul_comm}
 use Rattle.std.proofs.lemmas.Bool.{cases_Bool, eq-eqb, eqb-true, false≢true}
+use Rattle.std.proofs.lemmas.Nat.{column_fits, same_from_place}
 use Rattle.std.proofs.lemmas.Option.{same_Some, slice_get_within}
 use Rattle.node_pool.specs.declared.region.Span.{Span}
 use Rattle.bdd_core.specs.Store.{Diagrams}
@@ -14,6 +16,8 @@ use Rattle.path_fixpoint.specs.declared.side.Side.{Side}
 use Rattle.path_fixpoint.specs.declared.side.Side.TheVariants.{Inside, Outside}
 use Rattle.path_fixpoint.specs.Parts.{IsOnSide, IsPlace, is_on_side}
 use Rattle.path_fixpoint.specs.Strengths.{HasWords, word_of}
+use Rattle.path_fixpoint.specs.declared.words.NetWords.{NetWords}
+use Rattle.path_fixpoint.specs.Strengths.{net_words}
 
 -- where a net stands in a part
 pub record EndIs (part : Part) (place : Option ℕ) (n : ℕ) : Type 0 where
@@ -43,12 +47,18 @@ side_of part Outside None n e lies = refl
 pub place_in : (part : Part) (i n : ℕ) → IsPlace part i n → i < length part.nets
 place_in part i n p = slice_get_within part.nets i p.0 p.1
 
-pub word_in : (c : Circuit) (part : Part) (gates out : Span) (d : Diagrams) (level i : ℕ) → HasWords c part gates out d → 1 ≤ level → level ≤ 8
-    → i < length part.nets → word_of level i < out.len
-word_in c part gates out d level i words low high lt = omega (arith, words.out_len, low, high, lt)
+-- a place has its words
+pub place_words : (out : NetWords) (count i : ℕ) → out.span.len ≡ net_words out.source * count → i < count → net_words out.source * i + net_words out.source ≤ out.span.len
+place_words out count i len lt =
+    let fits : net_words out.source * i + net_words out.source ≤ net_words out.source * count = column_fits (net_words out.source) i (net_words out.source) count lt (omega arith) in
+    omega (arith, fits, len)
 
-pub place_word : (c : Circuit) (part : Part) (gates out : Span) (d : Diagrams) (level i n : ℕ) → HasWords c part gates out d → 1 ≤ level → level ≤ 8
-    → IsPlace part i n → word_of level i < out.len
+pub word_in : (c : Circuit) (part : Part) (gates : Span) (out : NetWords) (d : Diagrams) (level i : ℕ) → HasWords c part gates out d → 1 ≤ level → level ≤ out.source
+    → i < length part.nets → word_of out level i < out.span.len
+word_in c part gates out d level i words low high lt = omega (arith, place_words out (length part.nets) i words.out_len lt, low, high)
+
+pub place_word : (c : Circuit) (part : Part) (gates : Span) (out : NetWords) (d : Diagrams) (level i n : ℕ) → HasWords c part gates out d → 1 ≤ level → level ≤ out.source
+    → IsPlace part i n → word_of out level i < out.span.len
 place_word c part gates out d level i n words low high p = word_in c part gates out d level i words low high (place_in part i n p)
 
 -- one net stands at a place
@@ -56,13 +66,20 @@ pub place_once : (part : Part) (i m n : ℕ) → IsPlace part i m → IsPlace pa
 place_once part i m n p q = sym p.2 ∙ ap (λ (x : Net). x.0) (same_Some p.0 q.0 (sym p.1 ∙ q.1)) ∙ q.2
 
 -- different places have different words, and so have different levels
-pub words_differ : (level i j : ℕ) → word_of level i ≡ word_of level j → i ≡ j
-words_differ level i j e = omega (arith, e)
+pub words_differ : (out : NetWords) (level i j : ℕ) → word_of out level i ≡ word_of out level j → i ≡ j
+words_differ out level i j e =
+    let turned : i * net_words out.source + 0 ≡ j * net_words out.source + 0 = omega (arith, e, mul_comm i (net_words out.source), mul_comm j (net_words out.source)) in
+    (same_from_place i 0 j 0 (net_words out.source) (omega arith) (omega arith) turned).0
 
-pub levels_differ : (level other i j : ℕ) → 1 ≤ level → level ≤ 10 → 1 ≤ other → other ≤ 10 → word_of level i ≡ word_of other j → level ≡ other
-levels_differ level other i j low high low' high' e = omega (arith, e, low, high, low', high')
+pub levels_differ : (out : NetWords) (level other i j : ℕ) → 1 ≤ level → level ≤ net_words out.source → 1 ≤ other → other ≤ net_words out.source
+    → word_of out level i ≡ word_of out other j → level ≡ other
+levels_differ out level other i j low high low' high' e =
+    let turned : i * net_words out.source + (level - 1) ≡ j * net_words out.source + (other - 1) =
+    omega (arith, e, mul_comm i (net_words out.source), mul_comm j (net_words out.source)) in
+    let same = (same_from_place i (level - 1) j (other - 1) (net_words out.source) (omega (arith, low, high)) (omega (arith, low', high')) turned).1 in
+    omega (arith, same, low, low')
 
--- a place that was found has its ten words
-pub place_fits : (part : Part) (out : Span) (place : Option ℕ) (n : ℕ) → out.len ≡ 10 * length part.nets → IfSome place (λ i. IsPlace part i n) → IfSome place (λ i. 10 * i + 10 ≤ out.len)
+-- a place that was found has its words
+pub place_fits : (part : Part) (out : NetWords) (place : Option ℕ) (n : ℕ) → out.span.len ≡ net_words out.source * length part.nets → IfSome place (λ i. IsPlace part i n) → IfSome place (λ i. net_words out.source * i + net_words out.source ≤ out.span.len)
 place_fits part out None n len p = tt
-place_fits part out (Some i) n len p = omega (arith, len, place_in part i n p)
+place_fits part out (Some i) n len p = place_words out (length part.nets) i len (place_in part i n p)

@@ -1,5 +1,5 @@
 -- Parts whose nets rise by number, and whose devices were tested one by one.
-use Rattle.std.proofs.Common.{◌≡◌, ℕ, zero, suc, ◌+◌, ◌-◌, ◌<◌, ◌≤◌, List, length, get_or, All, arith, ap, refl, sym, subst, ◌∙◌, inl, inr}
+use Rattle.std.proofs.Common.{◌≡◌, ℕ, zero, suc, ◌+◌, ◌-◌, ◌<◌, ◌≤◌, List, length, get_or, All, arith, ap, refl, sym, subst, ◌∙◌, inl, inr, ◌*◌, ◌/◌, ◌%◌}
 use Rattle.std.specs.Prelude.{slice_get}
 use Rattle.std.proofs.lemmas.Bool.{cases_lt}
 use Rattle.std.proofs.lemmas.Option.{get_or_from_slice_get, slice_get-get_or}
@@ -13,6 +13,8 @@ use Rattle.vrt_model.specs.declared.ids.Dev.{Dev}
 use Rattle.vrt_model.specs.declared.ids.Net.{Net}
 use Rattle.channel_parts.specs.declared.part.Part.{Part}
 use Rattle.path_fixpoint.specs.Parts.{IsPart, IsPartDevice, IsPlace, Rises, part_devices}
+use Rattle.std.specs.Prelude.{◌↔◌}
+use Rattle.std.proofs.Math.Nat.{div-add-mod, div-eq_of_eq-mul_right, mul-mod_right}
 use Rattle.path_fixpoint.proofs.Places.{place_in}
 
 -- the number at a place
@@ -98,3 +100,14 @@ absent_from part n low high met below above i p = elim (cases_lt i low) [
   | inl before ↦ omega (arith, below i before, place_net part i n p)
   | inr behind ↦ omega (arith, above i (omega (arith, met, behind)) (place_in part i n p), place_net part i n p)
 ]
+
+-- ---- so many words a net
+
+pub fits_exactly : (words nets len : ℕ) → 1 ≤ words → len % words ≡ 0 → (len / words ≡ nets) ↔ (len ≡ words * nets)
+fits_exactly words nets len some none = (
+  λ e. (let whole : words * (len / words) ≡ len = omega (arith, div-add-mod len words, none) in sym whole ∙ ap (λ (x : ℕ). words * x) e),
+  λ e. div-eq_of_eq-mul_right some e,
+)
+
+pub fits_never : (words nets len : ℕ) → (len % words ≡ 0 → ⊥) → len ≡ words * nets → ⊥
+fits_never words nets len other e = other (ap (λ (x : ℕ). x % words) e ∙ mul-mod_right words nets)

@@ -21,13 +21,14 @@ use Rattle.bdd_core.proofs.Frames.{shows_kept}
 use Rattle.path_fixpoint.proofs.Places.{EndIs, place_in, side_of}
 use Rattle.path_fixpoint.proofs.ReachLaws.{end_arrives, end_reached, over_value, over_value_paths, reached_grown, root_words_kept, slot_place, solved_kept, value_same}
 use Rattle.path_fixpoint.proofs.Spreading.{device_ranges, outside_given}
+use Rattle.path_fixpoint.specs.declared.words.NetWords.{NetWords}
 
-module _ (c : Circuit) (part : Part) (is_part : IsPart c part) (in_range : HasRanges c) (gates roots out : Span) (value : Bool) (side : Side) where
+module _ (c : Circuit) (part : Part) (is_part : IsPart c part) (in_range : HasRanges c) (gates roots : Span) (out : NetWords) (value : Bool) (side : Side) where
   -- what the two ends offer, which writes no word, and then what the device brings to the right and to the left
   module _ (d : Device) (member : Among (part_devices c part) d) (left right : Option ℕ) (left_is : EndIs part left d.left.0) (right_is : EndIs part right d.right.0)
       (old a mid new : Diagrams) (gate there here : ℕ) (forth back : Bool) (words : HasRootWords c part gates roots out old) (gate_is : gate ≡ word_at old gates d.gate.0)
-      (wa : Writes out old a) (wm : Writes out a mid) (wn : Writes out mid new)
-      (sa : a.words ≡ old.words) (sm : ChangesLevel out (slot_of value) a mid) (here_live : here < length a.nodes)
+      (wa : Writes out.span old a) (wm : Writes out.span a mid) (wn : Writes out.span mid new)
+      (sa : a.words ≡ old.words) (sm : ChangesLevel out (slot_of out value) a mid) (here_live : here < length a.nodes)
       (there_is : (v : Valuation) → meaning a.nodes there v ≡ offered_end a roots out value side left d.left.0 v)
       (here_is : (v : Valuation) → meaning a.nodes here v ≡ offered_end a roots out value side right d.right.0 v)
       (first : PassesSignal out value d.kind gate there left right d.level forth a mid) (second : PassesSignal out value d.kind gate here right left d.level back mid new) where
@@ -61,7 +62,7 @@ module _ (c : Circuit) (part : Part) (is_part : IsPart c part) (in_range : HasRa
 
     module _ (v : Valuation) (w : Network) (s : ℕ → ℕ) (is : SolvedAt c part gates roots out old v w s) where
       is_a : SolvedAt c part gates roots out a v w s
-      is_a = solved_kept c part is_part in_range gates roots out value old a v w s words wa (λ k away. ap (λ (ws : List ℕ). get_or ws (out.start + k) 0) sa) is
+      is_a = solved_kept c part is_part in_range gates roots out value old a v w s words wa (λ k away. ap (λ (ws : List ℕ). get_or ws (out.span.start + k) 0) sa) is
 
       is_m : SolvedAt c part gates roots out mid v w s
       is_m = solved_kept c part is_part in_range gates roots out value a mid v w s words_a wm sm is_a
@@ -75,7 +76,7 @@ module _ (c : Circuit) (part : Part) (is_part : IsPart c part) (in_range : HasRa
       member_w : Among w.devices d
       member_w = subst (λ (ds : List Device). Among ds d) (sym is.stands.devices) member
 
-      back_a : (i n : ℕ) → IsPlace part i n → strong a out (slot_of value) i v ≡ strong old out (slot_of value) i v
+      back_a : (i n : ℕ) → IsPlace part i n → strong a out (slot_of out value) i v ≡ strong old out (slot_of out value) i v
       back_a i n p = value_same c part is_part in_range gates roots out value old a i v words wa sa (place_in part i n p)
 
       -- marks of before stand after a step that wrote no word
@@ -116,10 +117,10 @@ module _ (c : Circuit) (part : Part) (is_part : IsPart c part) (in_range : HasRa
           (λ e. end_arrives c part is_part in_range gates roots out value a v w s is_a d.left.0 left left_is left_out left_in left refl paths_a
           (and_parts (is_on_side side left) (reached_end a roots out value left d.left.0 v) (sym (there_is v) ∙ e)).1) paths_a)
 
-    grown_all : StrongGrows out (slot_of value) old new
+    grown_all : StrongGrows out (slot_of out value) old new
     grown_all i lt v e =
-        second.grown i lt v (first.grown i lt v (shows_kept out out old a (word_of (slot_of value) i) v wa (ap (λ (ws : List ℕ). get_or ws (out.start + word_of (slot_of value) i) 0) sa)
-        (words.words.out_live (word_of (slot_of value) i) lt) ∙ e))
+        second.grown i lt v (first.grown i lt v (shows_kept out.span out.span old a (word_of out (slot_of out value) i) v wa (ap (λ (ws : List ℕ). get_or ws (out.span.start + word_of out (slot_of out value) i) 0) sa)
+        (words.words.out_live (word_of out (slot_of out value) i) lt) ∙ e))
 
     pub spreads_value_both : SpreadsValue c part gates roots out value side (λ x. x ≡ d) (forth || back) old new
     spreads_value_both = record {
@@ -131,7 +132,7 @@ module _ (c : Circuit) (part : Part) (is_part : IsPart c part) (in_range : HasRa
     }
 
   -- one step after another
-  pub spreads_value_then : (P Q R : Device → Type 0) (f g : Bool) (x y z : Diagrams) → HasRootWords c part gates roots out x → Writes out x y → ChangesLevel out (slot_of value) x y
+  pub spreads_value_then : (P Q R : Device → Type 0) (f g : Bool) (x y z : Diagrams) → HasRootWords c part gates roots out x → Writes out.span x y → ChangesLevel out (slot_of out value) x y
       → ((d : Device) → R d → P d ⊎ Q d) → SpreadsValue c part gates roots out value side P f x y → SpreadsValue c part gates roots out value side Q g y z → SpreadsValue c part gates roots out value side R (f || g) x z
   spreads_value_then P Q R f g x y z words writes changes either a b = record {
     grown = λ i lt v e. b.grown i lt v (a.grown i lt v e);

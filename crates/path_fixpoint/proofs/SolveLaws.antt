@@ -8,6 +8,7 @@ use Rattle.vrt_model.proofs.Decidable.{strength_exists}
 use Rattle.vrt_model.proofs.Members.{all_among}
 use Rattle.vrt_model.proofs.Strength.{at_least-strength, strength-at_least}
 use Rattle.vrt_model.specs.Circuits.{IsHold}
+use Rattle.vrt_model.specs.Levels.{source_level}
 use Rattle.vrt_model.specs.Networks.{HasRanges, IsFinite}
 use Rattle.vrt_model.specs.Path.{Network}
 use Rattle.vrt_model.specs.Response.{IsStrength}
@@ -22,17 +23,18 @@ use Rattle.bdd_core.specs.Words.{Writes, shows}
 use Rattle.bdd_core.proofs.Frames.{filled_beside, shows_beside, shows_kept, span_written}
 use Rattle.path_fixpoint.proofs.PinLaws.{pin_ranges}
 use Rattle.path_fixpoint.proofs.Places.{levels_differ, place_word}
-use Rattle.path_fixpoint.proofs.ReachLaws.{levels_of, slot_high, slot_low, slot_place}
+use Rattle.path_fixpoint.proofs.ReachLaws.{levels_of, slot_high, slot_low, slot_place, values_differ}
 use Rattle.path_fixpoint.proofs.RoundLaws.{words_from}
 use Rattle.path_fixpoint.proofs.Spreading.{device_ranges}
+use Rattle.path_fixpoint.specs.declared.words.NetWords.{NetWords}
 
-module _ (c : Circuit) (part : Part) (is_part : IsPart c part) (in_range : HasRanges c) (gates roots out : Span) where
-  pub root_words_from : (old new : Diagrams) → HasRootSpans c part gates roots out old → Writes out old new → HasRootWords c part gates roots out new
+module _ (c : Circuit) (part : Part) (is_part : IsPart c part) (in_range : HasRanges c) (gates roots : Span) (out : NetWords) where
+  pub root_words_from : (old new : Diagrams) → HasRootSpans c part gates roots out old → Writes out.span old new → HasRootWords c part gates roots out new
   root_words_from old new spans w = record {
     words = words_from c part gates out old new spans.spans w;
-    roots_span = span_written out roots old new w spans.roots_span;
+    roots_span = span_written out.span roots old new w spans.roots_span;
     roots_len = spans.roots_len;
-    roots_live = filled_beside out roots old new w spans.roots_apart spans.roots_live;
+    roots_live = filled_beside out.span roots old new w spans.roots_apart spans.roots_live;
     roots_apart = spans.roots_apart;
   }
 
@@ -48,7 +50,7 @@ module _ (c : Circuit) (part : Part) (is_part : IsPart c part) (in_range : HasRa
   }
 
   -- its nets and levels are in range, so each net has a strength
-  pub is_finite : (old : Diagrams) (v : Valuation) → IsFinite (network_at old c part gates roots v) (length c.nets) 8
+  pub is_finite : (old : Diagrams) (v : Valuation) → IsFinite (network_at old c part gates roots v) (length c.nets) (source_level c)
   is_finite old v =
       let w : Network = network_at old c part gates roots v in
       record {
@@ -68,16 +70,17 @@ module _ (c : Circuit) (part : Part) (is_part : IsPart c part) (in_range : HasRa
       }
 
   pub strength_here : (old : Diagrams) (v : Valuation) (n : ℕ) → (s : ℕ) × IsStrength (network_at old c part gates roots v) n s
-  strength_here old v n = strength_exists (network_at old c part gates roots v) (length c.nets) 8 (is_finite old v) n
+  strength_here old v n = strength_exists (network_at old c part gates roots v) (length c.nets) (source_level c) (is_finite old v) n
 
-  pub levels_from : (d : Diagrams) (v : Valuation) (w : Network) → ((n : ℕ) → (s : ℕ) × IsStrength w n s) → TellsStrengths c part out d v w → (level : ℕ) → 1 ≤ level → level ≤ 8 → HasLevel part out level d v w
-  levels_from d v w has tells level low high i n p =
+  pub levels_from : (d : Diagrams) (v : Valuation) (w : Network) → out.source ≡ source_level c → ((n : ℕ) → (s : ℕ) × IsStrength w n s) → TellsStrengths c part out d v w → (level : ℕ) → 1 ≤ level → level ≤ out.source
+      → HasLevel part out level d v w
+  levels_from d v w source has tells level low high i n p =
       let e = has n in
-      let t = tells i n level e.0 p low high e.1 in
+      let t = tells i n level e.0 p low (omega (arith, high, source)) e.1 in
       (λ on. strength-at_least w n e.0 level (omega (arith, low)) e.1 (t.0 on), λ r. t.1 (at_least-strength w n e.0 level e.1 r))
 
   -- it is solved once the words of the levels are written
-  pub solved_from : (old new : Diagrams) (v : Valuation) → AreSoftInside c part → HasRootSpans c part gates roots out old → Writes out old new
+  pub solved_from : (old new : Diagrams) (v : Valuation) → AreSoftInside c part → HasRootSpans c part gates roots out old → Writes out.span old new
       → TellsStrengths c part out new v (network_at old c part gates roots v)
       → SolvedAt c part gates roots out new v (network_at old c part gates roots v) (λ n. (strength_here old v n).0)
   solved_from old new v soft spans wr tells = record {
@@ -87,40 +90,41 @@ module _ (c : Circuit) (part : Part) (is_part : IsPart c part) (in_range : HasRa
       outputs = refl;
       source = refl;
       devices = refl;
-      reading = λ n lt. shows_beside out gates old new n v wr spans.spans.apart spans.spans.gates_live (omega (arith, lt, spans.spans.gates_len));
+      reading = λ n lt. shows_beside out.span gates old new n v wr spans.spans.apart spans.spans.gates_live (omega (arith, lt, spans.spans.gates_len));
     };
-    given = λ n lt. shows_beside out roots old new n v wr spans.roots_apart spans.roots_live (omega (arith, lt, spans.roots_len));
+    source = spans.spans.source;
+    given = λ n lt. shows_beside out.span roots old new n v wr spans.roots_apart spans.roots_live (omega (arith, lt, spans.roots_len));
     held = λ at hold e.
         let lt = (all_among (IsHold c) c.holds hold in_range.holds (at, e)).net in
-        shows_beside out roots old new hold.net.0 v wr spans.roots_apart spans.roots_live (omega (arith, lt, spans.roots_len))
+        shows_beside out.span roots old new hold.net.0 v wr spans.roots_apart spans.roots_live (omega (arith, lt, spans.roots_len))
         ∙ ap (λ (o : Option Hold). shows old roots (net_of o) v) (sym e);
     driven = λ at pin e.
         let lt = slice_get_within (pins_of c) at pin e in
-        shows_beside out roots old new (length c.nets + at) v wr spans.roots_apart spans.roots_live (omega (arith, lt, spans.roots_len));
+        shows_beside out.span roots old new (length c.nets + at) v wr spans.roots_apart spans.roots_live (omega (arith, lt, spans.roots_len));
     soft = soft;
     strength = λ n. (strength_here old v n).1;
-    solved = levels_from new v (network_at old c part gates roots v) (strength_here old v) tells;
+    solved = levels_from new v (network_at old c part gates roots v) spans.spans.source (strength_here old v) tells;
   }
 
   -- the words of the levels stay, where those of a value alone change
-  pub tells_stay : (value : Bool) (a b : Diagrams) (v : Valuation) (w : Network) → HasRootWords c part gates roots out a → Writes out a b → ChangesLevel out (slot_of value) a b
+  pub tells_stay : (value : Bool) (a b : Diagrams) (v : Valuation) (w : Network) → HasRootWords c part gates roots out a → Writes out.span a b → ChangesLevel out (slot_of out value) a b
       → TellsStrengths c part out a v w → TellsStrengths c part out b v w
   tells_stay value a b v w words wr changes tells i n level s p low high is =
       let same : strong b out level i v ≡ strong a out level i v =
-      shows_kept out out a b (word_of level i) v wr
-      (changes (word_of level i) (λ j e. omega (arith, levels_differ level (slot_of value) i j low (omega (arith, high)) (omega (arith, slot_low value)) (slot_high value) e, high, slot_low value)))
-      (words.words.out_live (word_of level i) (place_word c part gates out a level i n words.words low high p)) in
+      shows_kept out.span out.span a b (word_of out level i) v wr
+      (changes (word_of out level i) (λ j e. omega (arith, levels_differ out level (slot_of out value) i j low (omega (arith, high, words.words.source)) (omega (arith, slot_low out value)) (slot_high out value) e, high, words.words.source, slot_low out value)))
+      (words.words.out_live (word_of out level i) (place_word c part gates out a level i n words.words low (omega (arith, high, words.words.source)) p)) in
       let t = tells i n level s p low high is in
       (λ e. t.0 (sym same ∙ e), λ le. same ∙ t.1 le)
 
   -- and so do those of 0, where those of 1 change
-  pub zeros_stay : (a b : Diagrams) (v : Valuation) (w : Network) → HasRootWords c part gates roots out a → Writes out a b → ChangesLevel out (slot_of true) a b
+  pub zeros_stay : (a b : Diagrams) (v : Valuation) (w : Network) → HasRootWords c part gates roots out a → Writes out.span a b → ChangesLevel out (slot_of out true) a b
       → HasReach part out false a v w → HasReach part out false b v w
   zeros_stay a b v w words wr changes is i n p =
-      let same : strong b out (slot_of false) i v ≡ strong a out (slot_of false) i v =
-      shows_kept out out a b (word_of (slot_of false) i) v wr
-      (changes (word_of (slot_of false) i) (λ j e. omega (arith, levels_differ 9 10 i j (omega arith) (omega arith) (omega arith) (omega arith) e)))
-      (words.words.out_live (word_of (slot_of false) i) (slot_place c part is_part in_range gates roots out false a i n words p)) in
+      let same : strong b out (slot_of out false) i v ≡ strong a out (slot_of out false) i v =
+      shows_kept out.span out.span a b (word_of out (slot_of out false) i) v wr
+      (changes (word_of out (slot_of out false) i) (λ j e. values_differ out i j e))
+      (words.words.out_live (word_of out (slot_of out false) i) (slot_place c part is_part in_range gates roots out false a i n words p)) in
       (λ e. (is i n p).0 (sym same ∙ e), λ r. same ∙ (is i n p).1 r)
 
   pub both_reach : (d : Diagrams) (v : Valuation) (w : Network) → HasReach part out false d v w → HasReach part out true d v w → TellsReach part out d v w

@@ -14,6 +14,7 @@ use Rattle.vrt_model.proofs.PathKinds.{Arrives, arrives_root}
 use Rattle.vrt_model.proofs.Strength.{AtLeast, HopHas, RootHas, at_least-strength, strength-at_least}
 use Rattle.vrt_model.specs.Circuits.{IsHold}
 use Rattle.vrt_model.specs.Networks.{HasRanges}
+use Rattle.vrt_model.specs.Levels.{source_level}
 use Rattle.vrt_model.specs.Lists.{At, Among}
 use Rattle.vrt_model.specs.Path.{IsRoot, Network, Root, level_of_drive}
 use Rattle.vrt_model.specs.declared.circuit.Circuit.{Circuit}
@@ -24,29 +25,32 @@ use Rattle.channel_parts.specs.declared.part.Part.{Part}
 use Rattle.path_fixpoint.specs.Parts.{IsGiven, IsPart, IsPlace, pins_of}
 use Rattle.path_fixpoint.specs.Passed.{IsWider}
 use Rattle.path_fixpoint.specs.Reaching.{HasReachPaths, HasReachRoots, HasRootWords, SolvedAt, bit_is, slot_of}
-use Rattle.path_fixpoint.specs.Sources.{AddsRoots, IsGivenSource, IsHoldSource, IsOpen, IsPinSource}
+use Rattle.path_fixpoint.specs.Sources.{AddsRoots, HasDriveLevel, IsGivenSource, IsHoldSource, IsOpen, IsPinSource}
 use Rattle.path_fixpoint.specs.Strengths.{ChangesLevel, strong, word_of}
 use Rattle.bdd_core.specs.Words.{IsApart, IsFilled, Writes, shows, word_at}
 use Rattle.bdd_core.proofs.Frames.{shows_beside, shows_kept, writes_then, adds_words, writes_added}
-use Rattle.path_fixpoint.proofs.PinLaws.{drive_below, pin_level, pin_ranges}
-use Rattle.path_fixpoint.proofs.Places.{levels_differ, place_in, place_once, words_differ}
+use Rattle.path_fixpoint.proofs.PinLaws.{pin_level, pin_ranges}
+use Rattle.path_fixpoint.proofs.Places.{levels_differ, place_in, place_once, place_words, words_differ}
+use Rattle.path_fixpoint.proofs.SourceLevels.{drive_below, hold_below, source_low}
 use Rattle.path_fixpoint.proofs.ReachLaws.{differ_same, given_strength, slot_high, slot_low, slot_place, strength_most}
+use Rattle.path_fixpoint.specs.declared.words.NetWords.{NetWords}
+use Rattle.path_fixpoint.specs.Strengths.{net_words}
 
 -- the word of a level at a place
-level_in : (part : Part) (out : Span) (level i n : ℕ) → out.len ≡ 10 * length part.nets → 1 ≤ level → level ≤ 8 → IsPlace part i n → word_of level i < out.len
-level_in part out level i n len low high p = omega (arith, len, low, high, place_in part i n p)
+level_in : (part : Part) (out : NetWords) (level i n : ℕ) → out.span.len ≡ net_words out.source * length part.nets → 1 ≤ level → level ≤ out.source → IsPlace part i n → word_of out level i < out.span.len
+level_in part out level i n len low high p = omega (arith, place_words out (length part.nets) i len (place_in part i n p), low, high)
 
 -- a step that changes words of the value alone leaves a root open, or not open
-module _ (part : Part) (roots out : Span) (value : Bool) (len : out.len ≡ 10 * length part.nets) (a b : Diagrams) (wr : Writes out a b) (changes : ChangesLevel out (slot_of value) a b)
-    (apart : IsApart roots out) (roots_live : IsFilled a roots) (out_live : IsFilled a out) (n at size i : ℕ) (at_in : at < roots.len) (low : 1 ≤ size) (p : IsPlace part i n) (v : Valuation) where
-  upper_same : size < 8 → strong b out (size + 1) i v ≡ strong a out (size + 1) i v
+module _ (part : Part) (roots : Span) (out : NetWords) (value : Bool) (len : out.span.len ≡ net_words out.source * length part.nets) (a b : Diagrams) (wr : Writes out.span a b) (changes : ChangesLevel out (slot_of out value) a b)
+    (apart : IsApart roots out.span) (roots_live : IsFilled a roots) (out_live : IsFilled a out.span) (n at size i : ℕ) (at_in : at < roots.len) (low : 1 ≤ size) (p : IsPlace part i n) (v : Valuation) where
+  upper_same : size < out.source → strong b out (size + 1) i v ≡ strong a out (size + 1) i v
   upper_same lt =
-      shows_kept out out a b (word_of (size + 1) i) v wr
-      (changes (word_of (size + 1) i) (λ j e. omega (arith, levels_differ (size + 1) (slot_of value) i j (omega arith) (omega (arith, lt)) (omega (arith, slot_low value)) (slot_high value) e, lt, slot_low value)))
-      (out_live (word_of (size + 1) i) (level_in part out (size + 1) i n len (omega arith) (omega (arith, lt)) p))
+      shows_kept out.span out.span a b (word_of out (size + 1) i) v wr
+      (changes (word_of out (size + 1) i) (λ j e. omega (arith, levels_differ out (size + 1) (slot_of out value) i j (omega arith) (omega (arith, lt)) (omega (arith, slot_low out value)) (slot_high out value) e, lt, slot_low out value)))
+      (out_live (word_of out (size + 1) i) (level_in part out (size + 1) i n len (omega arith) (omega (arith, lt)) p))
 
   root_same : shows b roots at v ≡ shows a roots at v
-  root_same = shows_beside out roots a b at v wr apart roots_live at_in
+  root_same = shows_beside out.span roots a b at v wr apart roots_live at_in
 
   pub open_later : IsOpen roots out value at size a i v → IsOpen roots out value at size b i v
   open_later o = (root_same ∙ o.0, λ lt. upper_same lt ∙ o.1 lt)
@@ -60,7 +64,7 @@ block_bits true b = (λ e. absurd (false≢true e), λ q. absurd (false≢true (
 block_bits false b = (λ e. (e, refl), λ q. q.0)
 
 -- the same roots by another description
-pub adds_same : (part : Part) (roots out : Span) (value : Bool) (P R : ℕ → ℕ → ℕ → Type 0) (a b : Diagrams) → ((n at size : ℕ) → R n at size → P n at size)
+pub adds_same : (part : Part) (roots : Span) (out : NetWords) (value : Bool) (P R : ℕ → ℕ → ℕ → Type 0) (a b : Diagrams) → ((n at size : ℕ) → R n at size → P n at size)
     → ((n at size : ℕ) → P n at size → R n at size) → AddsRoots part roots out value P a b → AddsRoots part roots out value R a b
 adds_same part roots out value P R a b less more x = record {
   grown = x.grown;
@@ -69,7 +73,7 @@ adds_same part roots out value P R a b less more x = record {
 }
 
 -- no root
-pub adds_none : (part : Part) (roots out : Span) (value : Bool) (P : ℕ → ℕ → ℕ → Type 0) (d : Diagrams) → ((n at size : ℕ) → P n at size → (i : ℕ) → IsPlace part i n → ⊥)
+pub adds_none : (part : Part) (roots : Span) (out : NetWords) (value : Bool) (P : ℕ → ℕ → ℕ → Type 0) (d : Diagrams) → ((n at size : ℕ) → P n at size → (i : ℕ) → IsPlace part i n → ⊥)
     → AddsRoots part roots out value P d d
 adds_none part roots out value P d none = record {
   grown = λ i lt v e. e;
@@ -78,15 +82,15 @@ adds_none part roots out value P d none = record {
 }
 
 -- some roots, and then others
-pub adds_then : (part : Part) (roots out : Span) (value : Bool) (P Q R : ℕ → ℕ → ℕ → Type 0) (a b c : Diagrams) → out.len ≡ 10 * length part.nets → Writes out a b → ChangesLevel out (slot_of value) a b
-    → IsApart roots out → IsFilled a roots → IsFilled a out
+pub adds_then : (part : Part) (roots : Span) (out : NetWords) (value : Bool) (P Q R : ℕ → ℕ → ℕ → Type 0) (a b c : Diagrams) → out.span.len ≡ net_words out.source * length part.nets → Writes out.span a b → ChangesLevel out (slot_of out value) a b
+    → IsApart roots out.span → IsFilled a roots → IsFilled a out.span
     → ((n at size : ℕ) → R n at size → P n at size ⊎ Q n at size) → ((n at size : ℕ) → P n at size → R n at size) → ((n at size : ℕ) → Q n at size → R n at size)
     → ((n at size : ℕ) → R n at size → (at < roots.len) × (1 ≤ size))
     → AddsRoots part roots out value P a b → AddsRoots part roots out value Q b c → AddsRoots part roots out value R a c
 adds_then part roots out value P Q R a b c len wr changes apart roots_live out_live either from_p from_q ranges first second = record {
   grown = λ i lt v e. second.grown i lt v (first.grown i lt v e);
   marked = λ n at size r i p v o. elim (either n at size r) [
-    | inl q ↦ second.grown i (omega (arith, len, slot_low value, slot_high value, place_in part i n p)) v (first.marked n at size q i p v o)
+    | inl q ↦ second.grown i (omega (arith, place_words out (length part.nets) i len (place_in part i n p), slot_low out value, slot_high out value)) v (first.marked n at size q i p v o)
     | inr q ↦ second.marked n at size q i p v (open_later part roots out value len a b wr changes apart roots_live out_live n at size i (ranges n at size r).0 (ranges n at size r).1 p v o)
   ];
   only = λ i lt v e. elim (second.only i lt v e) [
@@ -102,36 +106,36 @@ adds_then part roots out value P Q R a b c len wr changes apart roots_live out_l
 }
 
 -- one root: its bit, what is left of it where its net is not stronger, and the word to which that is added
-module _ (part : Part) (once : (i j n : ℕ) → IsPlace part i n → IsPlace part j n → i ≡ j) (roots out : Span) (value : Bool) (net handle size i : ℕ) (old a b new : Diagrams) (bit signal : H) (changed : Bool)
-    (len : out.len ≡ 10 * length part.nets) (low : 1 ≤ size) (out_live : IsFilled old out) (here : IsPlace part i net)
-    (made : Makes old a (bit_is value (λ v. shows old roots handle v)) (Ok bit)) (wb : Writes out a b) (sb : b.words ≡ a.words)
-    (signal_is : (v : Valuation) → (meaning b.nodes signal.0 v ≡ true) ↔ ((meaning a.nodes bit.0 v ≡ true) × (size < 8 → strong a out (size + 1) i v ≡ false)))
-    (wider : IsWider out (word_of (slot_of value) i) (meaning b.nodes signal.0) changed b new) (wn : Writes out b new)
-    (apart : (k : ℕ) → k ≢ word_of (slot_of value) i → word_at new out k ≡ word_at b out k) where
-  wa : Writes out old a
-  wa = writes_added out old a out_live made.adds
+module _ (part : Part) (once : (i j n : ℕ) → IsPlace part i n → IsPlace part j n → i ≡ j) (roots : Span) (out : NetWords) (value : Bool) (net handle size i : ℕ) (old a b new : Diagrams) (bit signal : H) (changed : Bool)
+    (len : out.span.len ≡ net_words out.source * length part.nets) (low : 1 ≤ size) (out_live : IsFilled old out.span) (here : IsPlace part i net)
+    (made : Makes old a (bit_is value (λ v. shows old roots handle v)) (Ok bit)) (wb : Writes out.span a b) (sb : b.words ≡ a.words)
+    (signal_is : (v : Valuation) → (meaning b.nodes signal.0 v ≡ true) ↔ ((meaning a.nodes bit.0 v ≡ true) × (size < out.source → strong a out (size + 1) i v ≡ false)))
+    (wider : IsWider out.span (word_of out (slot_of out value) i) (meaning b.nodes signal.0) changed b new) (wn : Writes out.span b new)
+    (apart : (k : ℕ) → k ≢ word_of out (slot_of out value) i → word_at new out.span k ≡ word_at b out.span k) where
+  wa : Writes out.span old a
+  wa = writes_added out.span old a out_live made.adds
 
   sa : a.words ≡ old.words
   sa = adds_words old a old.words made.adds
 
-  before : Writes out old b
-  before = writes_then out old a b wa wb
+  before : Writes out.span old b
+  before = writes_then out.span old a b wa wb
 
-  inside : word_of (slot_of value) i < out.len
-  inside = omega (arith, len, slot_low value, slot_high value, place_in part i net here)
+  inside : word_of out (slot_of out value) i < out.span.len
+  inside = omega (arith, place_words out (length part.nets) i len (place_in part i net here), slot_low out value, slot_high out value)
 
-  same_b : (j : ℕ) → word_of (slot_of value) j < out.len → (v : Valuation) → strong b out (slot_of value) j v ≡ strong old out (slot_of value) j v
-  same_b j lt v = shows_kept out out old b (word_of (slot_of value) j) v before (ap (λ (ws : List ℕ). get_or ws (out.start + word_of (slot_of value) j) 0) (sb ∙ sa)) (out_live (word_of (slot_of value) j) lt)
+  same_b : (j : ℕ) → word_of out (slot_of out value) j < out.span.len → (v : Valuation) → strong b out (slot_of out value) j v ≡ strong old out (slot_of out value) j v
+  same_b j lt v = shows_kept out.span out.span old b (word_of out (slot_of out value) j) v before (ap (λ (ws : List ℕ). get_or ws (out.span.start + word_of out (slot_of out value) j) 0) (sb ∙ sa)) (out_live (word_of out (slot_of out value) j) lt)
 
-  other : (j : ℕ) → word_of (slot_of value) j < out.len → j ≢ i → (v : Valuation) → strong new out (slot_of value) j v ≡ strong old out (slot_of value) j v
-  other j lt ne v = shows_kept out out b new (word_of (slot_of value) j) v wn (apart (word_of (slot_of value) j) (λ e. ne (words_differ (slot_of value) j i e))) (before.live (word_of (slot_of value) j) lt) ∙ same_b j lt v
+  other : (j : ℕ) → word_of out (slot_of out value) j < out.span.len → j ≢ i → (v : Valuation) → strong new out (slot_of out value) j v ≡ strong old out (slot_of out value) j v
+  other j lt ne v = shows_kept out.span out.span b new (word_of out (slot_of out value) j) v wn (apart (word_of out (slot_of out value) j) (λ e. ne (words_differ out (slot_of out value) j i e))) (before.live (word_of out (slot_of out value) j) lt) ∙ same_b j lt v
 
-  at : (v : Valuation) → strong new out (slot_of value) i v ≡ (strong old out (slot_of value) i v || meaning b.nodes signal.0 v)
+  at : (v : Valuation) → strong new out (slot_of out value) i v ≡ (strong old out (slot_of out value) i v || meaning b.nodes signal.0 v)
   at v = wider.here v ∙ ap (λ (x : Bool). x || meaning b.nodes signal.0 v) (same_b i inside v)
 
-  upper : (v : Valuation) → size < 8 → strong a out (size + 1) i v ≡ strong old out (size + 1) i v
-  upper v lt = shows_kept out out old a (word_of (size + 1) i) v wa (ap (λ (ws : List ℕ). get_or ws (out.start + word_of (size + 1) i) 0) sa)
-      (out_live (word_of (size + 1) i) (level_in part out (size + 1) i net len (omega arith) (omega (arith, lt)) here))
+  upper : (v : Valuation) → size < out.source → strong a out (size + 1) i v ≡ strong old out (size + 1) i v
+  upper v lt = shows_kept out.span out.span old a (word_of out (size + 1) i) v wa (ap (λ (ws : List ℕ). get_or ws (out.span.start + word_of out (size + 1) i) 0) sa)
+      (out_live (word_of out (size + 1) i) (level_in part out (size + 1) i net len (omega arith) (omega (arith, lt)) here))
 
   says : (v : Valuation) → (meaning b.nodes signal.0 v ≡ true) ↔ IsOpen roots out value handle size old i v
   says v = (
@@ -142,19 +146,19 @@ module _ (part : Part) (once : (i j n : ℕ) → IsPlace part i n → IsPlace pa
   pub adds_one : AddsRoots part roots out value (λ n at' size'. (n ≡ net) × (at' ≡ handle) × (size' ≡ size)) old new
   adds_one = record {
     grown = λ j lt v e. elim (cases_eq j i) [
-      | inl is ↦ subst (λ (x : ℕ). strong new out (slot_of value) x v ≡ true) (sym is)
-          (at v ∙ or_left (strong old out (slot_of value) i v) (meaning b.nodes signal.0 v) (subst (λ (x : ℕ). strong old out (slot_of value) x v ≡ true) is e))
+      | inl is ↦ subst (λ (x : ℕ). strong new out (slot_of out value) x v ≡ true) (sym is)
+          (at v ∙ or_left (strong old out (slot_of out value) i v) (meaning b.nodes signal.0 v) (subst (λ (x : ℕ). strong old out (slot_of out value) x v ≡ true) is e))
       | inr ne ↦ other j lt ne v ∙ e
     ];
     marked = λ n k l q j p v o.
         let j_is : j ≡ i = once j i net (subst (IsPlace part j) q.0 p) here in
         let o' : IsOpen roots out value handle size old i v =
         subst (λ (x : ℕ). IsOpen roots out value handle size old x v) j_is (subst (λ (x : ℕ). IsOpen roots out value handle x old j v) q.2 (subst (λ (x : ℕ). IsOpen roots out value x l old j v) q.1 o)) in
-        subst (λ (x : ℕ). strong new out (slot_of value) x v ≡ true) (sym j_is)
-        (at v ∙ or_right (strong old out (slot_of value) i v) (meaning b.nodes signal.0 v) ((says v).1 o'));
+        subst (λ (x : ℕ). strong new out (slot_of out value) x v ≡ true) (sym j_is)
+        (at v ∙ or_right (strong old out (slot_of out value) i v) (meaning b.nodes signal.0 v) ((says v).1 o'));
     only = λ j lt v e. elim (cases_eq j i) [
-      | inl is ↦ elim (or_cases (strong old out (slot_of value) i v) (meaning b.nodes signal.0 v) (sym (at v) ∙ subst (λ (x : ℕ). strong new out (slot_of value) x v ≡ true) is e)) [
-        | inl was ↦ inl (subst (λ (x : ℕ). strong old out (slot_of value) x v ≡ true) (sym is) was)
+      | inl is ↦ elim (or_cases (strong old out (slot_of out value) i v) (meaning b.nodes signal.0 v) (sym (at v) ∙ subst (λ (x : ℕ). strong new out (slot_of out value) x v ≡ true) is e)) [
+        | inl was ↦ inl (subst (λ (x : ℕ). strong old out (slot_of out value) x v ≡ true) (sym is) was)
         | inr new' ↦ inr (net, handle, size, (refl, refl, refl), subst (λ (x : ℕ). IsPlace part x net) (sym is) here, subst (λ (x : ℕ). IsOpen roots out value handle size old x v) (sym is) ((says v).0 new'))
       ]
       | inr ne ↦ inl (sym (other j lt ne v) ∙ e)
@@ -167,16 +171,16 @@ false_or_true : (b : Bool) → (b ≡ true → ⊥) → b ≡ false
 false_or_true true h = absurd (h refl)
 false_or_true false h = refl
 
-module _ (c : Circuit) (part : Part) (is_part : IsPart c part) (in_range : HasRanges c) (gates roots out : Span) (value : Bool) (old a b d new : Diagrams) (words : HasRootWords c part gates roots out old)
-    (zero : (i : ℕ) → i < length part.nets → word_at a out (word_of (slot_of value) i) ≡ 0) (wa : Writes out old a) (ca : ChangesLevel out (slot_of value) old a)
-    (wb : Writes out a b) (cb : ChangesLevel out (slot_of value) a b) (wd : Writes out b d) (cd : ChangesLevel out (slot_of value) b d)
+module _ (c : Circuit) (part : Part) (is_part : IsPart c part) (in_range : HasRanges c) (gates roots : Span) (out : NetWords) (value : Bool) (old a b d new : Diagrams) (words : HasRootWords c part gates roots out old)
+    (zero : (i : ℕ) → i < length part.nets → word_at a out.span (word_of out (slot_of out value) i) ≡ 0) (wa : Writes out.span old a) (ca : ChangesLevel out (slot_of out value) old a)
+    (wb : Writes out.span a b) (cb : ChangesLevel out (slot_of out value) a b) (wd : Writes out.span b d) (cd : ChangesLevel out (slot_of out value) b d)
     (given : AddsRoots part roots out value (IsGivenSource c part) a b) (holds : AddsRoots part roots out value (IsHoldSource c) b d)
-    (pins : AddsRoots part roots out value (IsPinSource (pins_of c) (length c.nets)) d new)
+    (pins : AddsRoots part roots out value (IsPinSource out.source (pins_of c) (length c.nets)) d new)
     (v : Valuation) (w : Network) (s : ℕ → ℕ) (is : SolvedAt c part gates roots out old v w s) where
-  len : out.len ≡ 10 * length part.nets
+  len : out.span.len ≡ net_words out.source * length part.nets
   len = words.words.out_len
 
-  roots_in : (x y : Diagrams) → Writes out x y → IsFilled x roots → IsFilled y roots
+  roots_in : (x y : Diagrams) → Writes out.span x y → IsFilled x roots → IsFilled y roots
   roots_in x y wr live k lt = omega (arith, wr.others (roots.start + k) (elim words.roots_apart [ inl l ↦ inl (omega (arith, l, lt)) | inr h ↦ inr (omega (arith, h)) ]), live k lt, wr.adds.longer)
 
   roots_a : IsFilled a roots
@@ -210,16 +214,19 @@ module _ (c : Circuit) (part : Part) (is_part : IsPart c part) (in_range : HasRa
   pin_in : (k : ℕ) (pin : WholePin) → At (pins_of c) k pin → length c.nets + k < roots.len
   pin_in k pin e = omega (arith, slice_get_within (pins_of c) k pin e, words.roots_len)
 
+  pin_levels : (k : ℕ) (pin : WholePin) → At (pins_of c) k pin → HasDriveLevel out.source pin
+  pin_levels k pin e = subst (λ (l : ℕ). HasDriveLevel l pin) (sym words.words.source) (pin_level c pin in_range (k, e))
+
   -- a net that is as strong as a root is not one level stronger
-  not_above : (n size i : ℕ) → IsPlace part i n → size ≡ s n → size < 8 → strong old out (size + 1) i v ≡ false
+  not_above : (n size i : ℕ) → IsPlace part i n → size ≡ s n → size < out.source → strong old out (size + 1) i v ≡ false
   not_above n size i p e lt = false_or_true (strong old out (size + 1) i v)
       (λ on. let le = at_least-strength w n (s n) (size + 1) (is.strength n) ((is.solved (size + 1) (omega arith) (omega (arith, lt)) i n p).0 on) in omega (arith, le, e))
 
   -- a root of an output outside the part is weaker than a given net
-  pin_outside : (pin : WholePin) (n : ℕ) → Among (pins_of c) pin → n ≡ pin.net.0 → ((i : ℕ) → IsPlace part i n → ⊥) → IsGiven c n → level_of_drive 8 pin.drive < 8
+  pin_outside : (pin : WholePin) (n : ℕ) → Among (pins_of c) pin → n ≡ pin.net.0 → ((i : ℕ) → IsPlace part i n → ⊥) → IsGiven c n → level_of_drive out.source pin.drive < out.source
   pin_outside pin n m net none q =
       elim (drive_below c pin.drive (pin_ranges c pin in_range m).1) [
-        | inr lt ↦ lt
+        | inr lt ↦ subst (λ (l : ℕ). level_of_drive l pin.drive < l) (sym words.words.source) lt
         | inl soft ↦ absurd (let there = is.soft pin m soft (subst (IsGiven c) net q) in none there.0 (subst (IsPlace part there.0) (sym net) there.1))
       ]
 
@@ -234,8 +241,8 @@ module _ (c : Circuit) (part : Part) (is_part : IsPart c part) (in_range : HasRa
                   let bit : shows old roots root.net v ≡ value = is.given root.net n_in ∙ sym g.4 ∙ k.1 in
                   let lt = slot_place c part is_part in_range gates roots out value old i root.net words p in
                   pins.grown i lt v (holds.grown i lt v
-                  (given.marked root.net root.net 8 ((i, p), given_net, refl, refl) i p v
-                  ((to_a root.net root.net 8 i (omega (arith, n_in, words.roots_len)) (omega arith) p).0 (bit, λ l. absurd (omega (arith, l)))))),
+                  (given.marked root.net root.net (source_level c) ((i, p), given_net, refl, refl) i p v
+                  ((to_a root.net root.net (source_level c) i (omega (arith, n_in, words.roots_len)) (source_low c) p).0 (bit, λ l. absurd (omega (arith, l, words.words.source)))))),
               λ none q. sym g.4 ∙ k.1,
             )
         | inr other ↦ elim other [
@@ -250,34 +257,35 @@ module _ (c : Circuit) (part : Part) (is_part : IsPart c part) (in_range : HasRa
                     pins.grown i (slot_place c part is_part in_range gates roots out value old i root.net words p) v
                     (holds.marked h.1.net.0 h.1.net.0 h.1.size (h.0, h.1, there, refl, refl, refl) i p' v
                     ((to_b h.1.net.0 h.1.net.0 h.1.size i (omega (arith, range.net, words.roots_len)) range.size.0 p').0 (bit, not_above h.1.net.0 h.1.size i p' strength))),
-                λ none q. absurd (omega (arith, given_strength c part is_part in_range gates roots out value old v w root.net (s root.net) is.stands (is.strength root.net) q, k.0, size, range.size.1)),
+                λ none q. absurd (omega (arith, given_strength c part is_part in_range gates roots out value old v w root.net (s root.net) is.stands (is.strength root.net) q, k.0, size, (hold_below c h.1.size range.size).1)),
               )
           | inr o ↦
               let pin : WholePin = o.1 in
               let there : At (pins_of c) o.0 pin = subst (λ (ps : List WholePin). At ps o.0 pin) is.stands.outputs o.2 in
-              let level : ℕ = level_of_drive 8 pin.drive in
-              let size : root.level ≡ level = o.4 ∙ ap (λ (x : ℕ). level_of_drive x pin.drive) is.stands.source in
+              let level : ℕ = level_of_drive out.source pin.drive in
+              let size : root.level ≡ level = o.4 ∙ ap (λ (x : ℕ). level_of_drive x pin.drive) (is.stands.source ∙ sym words.words.source) in
               let bit : shows old roots (length c.nets + o.0) v ≡ value = is.driven o.0 pin there ∙ sym o.5 ∙ k.1 in
               let strength : level ≡ s pin.net.0 = sym size ∙ k.0 ∙ ap s o.3 in (
                 λ i p.
                     let p' : IsPlace part i pin.net.0 = subst (IsPlace part i) o.3 p in
                     pins.marked pin.net.0 (length c.nets + o.0) level (o.0, pin, there, refl, refl, refl) i p' v
-                    ((to_d pin.net.0 (length c.nets + o.0) level i (pin_in o.0 pin there) (pin_level c pin in_range (o.0, there)).0 p').0 (bit, not_above pin.net.0 level i p' strength)),
+                    ((to_d pin.net.0 (length c.nets + o.0) level i (pin_in o.0 pin there) (pin_levels o.0 pin there).0 p').0 (bit, not_above pin.net.0 level i p' strength)),
                 λ none q. absurd (omega (
                   arith,
                   given_strength c part is_part in_range gates roots out value old v w root.net (s root.net) is.stands (is.strength root.net) q,
                   k.0,
                   size,
+                  words.words.source,
                   pin_outside pin root.net (o.0, there) o.3 none q,
                 )),
               )
         ]
       ]
 
-  at_most : (m size j : ℕ) → IsPlace part j m → (size < 8 → strong old out (size + 1) j v ≡ false) → s m ≤ size
+  at_most : (m size j : ℕ) → IsPlace part j m → (size < out.source → strong old out (size + 1) j v ≡ false) → s m ≤ size
   at_most m size j q off =
-      elim (cases_lt size 8) [
-        | inr top ↦ omega (arith, top, strength_most c part is_part in_range gates roots out value old v w m (s m) is.stands (is.strength m))
+      elim (cases_lt size out.source) [
+        | inr top ↦ omega (arith, top, words.words.source, strength_most c part is_part in_range gates roots out value old v w m (s m) is.stands (is.strength m))
         | inl lt ↦ elim (cases_lt size (s m)) [
           | inr done ↦ done
           | inl up ↦
@@ -302,12 +310,11 @@ module _ (c : Circuit) (part : Part) (is_part : IsPart c part) (in_range : HasRa
         | inr x ↦
             let h = x.3 in
             let pin : WholePin = h.1 in
-            let level : ℕ = level_of_drive 8 pin.drive in
             let root : Root = record { net = pin.net.0; level = level_of_drive w.source pin.drive; value = w.driven h.0 } in
             let there : At w.outputs h.0 pin = subst (λ (ps : List WholePin). At ps h.0 pin) (sym is.stands.outputs) h.2 in
-            let low : 1 ≤ x.2 = (let lowest = (pin_level c pin in_range (h.0, h.2)).0 in let same = h.5 in omega (arith, lowest, same)) in
+            let low : 1 ≤ x.2 = (let lowest = (pin_levels h.0 pin h.2).0 in let same = h.5 in omega (arith, lowest, same)) in
             let at_in : x.1 < roots.len = (let inside = pin_in h.0 pin h.2 in let same = h.4 in omega (arith, inside, same)) in
-            fits_from root x.1 x.2 i n (inr (inr (h.0, pin, there, refl, refl, refl))) (ap (λ (y : ℕ). level_of_drive y pin.drive) is.stands.source ∙ h.5) at_in low
+            fits_from root x.1 x.2 i n (inr (inr (h.0, pin, there, refl, refl, refl))) (ap (λ (y : ℕ). level_of_drive y pin.drive) (is.stands.source ∙ sym words.words.source) ∙ h.5) at_in low
             (subst (IsPlace part i) (sym h.3) x.4) p (ap (λ (m : ℕ). shows old roots m v) h.4 ∙ is.driven h.0 pin h.2) ((to_d x.0 x.1 x.2 i at_in low x.4).1 x.5)
         | inl later ↦ elim (holds.only i lt v later) [
           | inr x ↦
@@ -325,9 +332,9 @@ module _ (c : Circuit) (part : Part) (is_part : IsPart c part) (in_range : HasRa
             | inr x ↦
                 let g = x.3 in
                 let n_in : x.0 < length c.nets = slice_get_within c.nets x.0 g.1.0 g.1.1 in
-                let root : Root = record { net = x.0; level = 8; value = w.given x.0 } in
+                let root : Root = record { net = x.0; level = source_level c; value = w.given x.0 } in
                 let there : At w.nets x.0 g.1.0 = subst (λ (ns : List FlatNet). At ns x.0 g.1.0) (sym is.stands.nets) g.1.1 in
-                let low : 1 ≤ x.2 = (let top = g.3 in omega (arith, top)) in
+                let low : 1 ≤ x.2 = (let top = g.3 in omega (arith, top, source_low c)) in
                 let at_in : x.1 < roots.len = (let same = g.2 in omega (arith, n_in, same, words.roots_len)) in
                 fits_from root x.1 x.2 i n (inl (g.1.0, there, g.1.2, sym is.stands.source, refl)) (sym g.3) at_in low x.4 p
                 (ap (λ (m : ℕ). shows old roots m v) g.2 ∙ is.given x.0 n_in) ((to_a x.0 x.1 x.2 i at_in low x.4).1 x.5)

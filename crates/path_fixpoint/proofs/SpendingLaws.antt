@@ -1,7 +1,7 @@
 -- Counts of the operations on the words of a part, one step after another.
 use Rattle.std.proofs.Common.{◌≡◌, ℕ, ◌+◌, ◌*◌, ◌<◌, ◌≤◌, Bool, not, ◌&&◌, Option, Some, None, List, length, Result, Ok, Err, slice_index, arith, ap, ap₂, refl, sym, subst, inl, inr}
 use Rattle.std.specs.Prelude.{IfSome, slice_set}
-use Rattle.std.proofs.Math.Nat.{add-mul, mul-add, mul_assoc, mul-le-mul_right}
+use Rattle.std.proofs.Math.Nat.{add-mul, mul_assoc, mul_comm, mul-le-mul_right}
 use Rattle.std.proofs.lemmas.Bool.{cases_eq}
 use Rattle.node_pool.specs.declared.region.Node.{Node}
 use Rattle.node_pool.specs.declared.region.Span.{Span}
@@ -19,9 +19,10 @@ use Rattle.vrt_model.specs.Reading.{conducts_at}
 use Rattle.vrt_model.specs.declared.design.Kind.{Kind}
 use Rattle.path_fixpoint.specs.Passed.{gated}
 use Rattle.path_fixpoint.specs.declared.side.Side.{Side}
+use Rattle.path_fixpoint.specs.declared.words.NetWords.{NetWords}
 use Rattle.path_fixpoint.specs.Parts.{is_on_side}
 use Rattle.path_fixpoint.specs.Reaching.{bit_is, offered_end, reached_end, slot_of}
-use Rattle.path_fixpoint.specs.Strengths.{word_of}
+use Rattle.path_fixpoint.specs.Strengths.{net_words, word_of}
 use Rattle.path_fixpoint.specs.Spending.{Finds, Rewrites, Spends}
 use Rattle.bdd_core.proofs.Frames.{word_apart, word_beside, word_here}
 use Rattle.path_fixpoint.proofs.ReachLaws.{slot_high, slot_low}
@@ -56,14 +57,14 @@ module _ (u : ℕ) where
   root_within d roots n value lt all v w same = ap (λ (b : Bool). differ (not value) b) (all n lt v w same)
 
   -- whether a value reaches the end of a channel
-  pub reached_within : (d : Diagrams) (roots out : Span) (value : Bool) (place : Option ℕ) (n : ℕ) → n < roots.len → IfSome place (λ i. 10 * i + 10 ≤ out.len)
-      → IsSpanWithin u d roots → IsSpanWithin u d out → IsWithin u (λ v. reached_end d roots out value place n v)
+  pub reached_within : (d : Diagrams) (roots : Span) (out : NetWords) (value : Bool) (place : Option ℕ) (n : ℕ) → n < roots.len
+      → IfSome place (λ i. net_words out.source * i + net_words out.source ≤ out.span.len) → IsSpanWithin u d roots → IsSpanWithin u d out.span → IsWithin u (λ v. reached_end d roots out value place n v)
   reached_within d roots out value None n lt fits roots_in all = λ v w same. ap (λ (b : Bool). differ (not value) b) (roots_in n lt v w same)
-  reached_within d roots out value (Some i) n lt fits roots_in all = all (word_of (slot_of value) i) (omega (arith, fits, slot_low value, slot_high value))
+  reached_within d roots out value (Some i) n lt fits roots_in all = all (word_of out (slot_of out value) i) (omega (arith, fits, slot_low out value, slot_high out value))
 
   -- the same where the end is on a side
-  pub offered_within : (d : Diagrams) (roots out : Span) (value : Bool) (side : Side) (place : Option ℕ) (n : ℕ) → n < roots.len → IfSome place (λ i. 10 * i + 10 ≤ out.len)
-      → IsSpanWithin u d roots → IsSpanWithin u d out → IsWithin u (λ v. offered_end d roots out value side place n v)
+  pub offered_within : (d : Diagrams) (roots : Span) (out : NetWords) (value : Bool) (side : Side) (place : Option ℕ) (n : ℕ) → n < roots.len
+      → IfSome place (λ i. net_words out.source * i + net_words out.source ≤ out.span.len) → IsSpanWithin u d roots → IsSpanWithin u d out.span → IsWithin u (λ v. offered_end d roots out value side place n v)
   offered_within d roots out value side place n lt fits roots_in all = λ v w same. ap (λ (b : Bool). is_on_side side place && b) (reached_within d roots out value place n lt fits roots_in all v w same)
 
   module _ (out : Span) where
@@ -134,18 +135,27 @@ one_more n size = omega (arith, add-mul n 1 size)
 pub times_most : (n most size : ℕ) → n + 1 ≤ most → n * size + size ≤ most * size
 times_most n most size le = omega (arith, add-mul n 1 size, mul-le-mul_right {m = n + 1} {n = most} size le)
 
--- the operations of the levels and of the two values, for n nets and m devices
-part_levels : (n m : ℕ) → 8 * (n * (m * 4)) ≡ 32 * (n * m)
-part_levels n m = omega (arith, mul_assoc n m 4)
+-- the operations of the levels and of one value, for n nets, m devices and the source level s
+part_levels : (s n m : ℕ) → s * (n * (m * 4)) ≡ 4 * (s * (n * m))
+part_levels s n m =
+    let four : n * (m * 4) ≡ n * m * 4 = sym (mul_assoc n m 4) in
+    omega (arith, ap (λ (x : ℕ). s * x) four, sym (mul_assoc s (n * m) 4))
 
-part_values : (n m : ℕ) → n * (m * 38) ≡ 38 * (n * m)
-part_values n m = omega (arith, mul_assoc n m 38)
+part_values : (s n m : ℕ) → n * (m * (4 * s + 6)) ≡ 4 * (s * (n * m)) + 6 * (n * m)
+part_values s n m =
+    let all : n * (m * (4 * s + 6)) ≡ n * m * (4 * s + 6) = sym (mul_assoc n m (4 * s + 6)) in
+    let turned : n * m * (4 * s + 6) ≡ (4 * s + 6) * (n * m) = mul_comm (n * m) (4 * s + 6) in
+    omega (arith, all, turned, add-mul (4 * s) 6 (n * m), mul_assoc 4 s (n * m))
 
-pub part_most_levels : (n m r : ℕ) → 8 * (n * (m * 4)) ≤ 108 * (n * m) + 12 * n + 6 * r
-part_most_levels n m r = omega (arith, part_levels n m)
+-- and of all
+part_all : (s n m : ℕ) → (12 * s + 12) * (n * m) ≡ 12 * (s * (n * m)) + 12 * (n * m)
+part_all s n m = omega (arith, add-mul (12 * s) 12 (n * m), mul_assoc 12 s (n * m))
 
-pub part_most_one : (n m r : ℕ) → 8 * (n * (m * 4)) + (n * 6 + r * 3 + n * (m * 38)) ≤ 108 * (n * m) + 12 * n + 6 * r
-part_most_one n m r = omega (arith, part_levels n m, part_values n m)
+pub part_most_levels : (s n m r : ℕ) → s * (n * (m * 4)) ≤ (12 * s + 12) * (n * m) + 12 * n + 6 * r
+part_most_levels s n m r = omega (arith, part_levels s n m, part_all s n m)
 
-pub part_most : (n m r : ℕ) → 8 * (n * (m * 4)) + (n * 6 + r * 3 + n * (m * 38)) + (n * 6 + r * 3 + n * (m * 38)) ≤ 108 * (n * m) + 12 * n + 6 * r
-part_most n m r = omega (arith, part_levels n m, part_values n m)
+pub part_most_one : (s n m r : ℕ) → s * (n * (m * 4)) + (n * 6 + r * 3 + n * (m * (4 * s + 6))) ≤ (12 * s + 12) * (n * m) + 12 * n + 6 * r
+part_most_one s n m r = omega (arith, part_levels s n m, part_values s n m, part_all s n m)
+
+pub part_most : (s n m r : ℕ) → s * (n * (m * 4)) + (n * 6 + r * 3 + n * (m * (4 * s + 6))) + (n * 6 + r * 3 + n * (m * (4 * s + 6))) ≤ (12 * s + 12) * (n * m) + 12 * n + 6 * r
+part_most s n m r = omega (arith, part_levels s n m, part_values s n m, part_all s n m)

@@ -27,6 +27,7 @@ use Rattle.bdd_core.specs.Words.{Writes, word_at}
 use Rattle.path_fixpoint.proofs.RoundLaws.{stands_kept, words_kept}
 use Rattle.path_fixpoint.proofs.Passing.{end_marked, end_path, given_path, over, over_paths}
 use Rattle.path_fixpoint.proofs.Places.{EndIs, place_word, side_of}
+use Rattle.path_fixpoint.specs.declared.words.NetWords.{NetWords}
 
 pub device_of_circuit : (c : Circuit) (part : Part) (d : Device) → Among (part_devices c part) d → Among c.devices d
 device_of_circuit c part d m = let r = among_filter_map (λ (x : Dev). slice_get c.devices x.0) part.devices d m in (r.0.0, r.2)
@@ -79,7 +80,7 @@ outside_given c part None net e (inr g) none = g
 outside_given c part (Some i) net e h none = absurd (cc none)
 
 -- one device, in both directions
-module _ (c : Circuit) (part : Part) (is_part : IsPart c part) (in_range : HasRanges c) (gates out : Span) (level : ℕ) (low : 1 ≤ level) (high : level ≤ 8) (side : Side)
+module _ (c : Circuit) (part : Part) (is_part : IsPart c part) (in_range : HasRanges c) (gates : Span) (out : NetWords) (level : ℕ) (low : 1 ≤ level) (high : level ≤ out.source) (side : Side)
     (d : Device) (member : Among (part_devices c part) d) where
   -- too weak for the level
   pub spreads_weak : (s : Diagrams) → d.level < level → Spreads c part gates out level side (λ x. x ≡ d) false s s
@@ -95,7 +96,7 @@ module _ (c : Circuit) (part : Part) (is_part : IsPart c part) (in_range : HasRa
       (here_live : here < length old.nodes)
       (there_is : (v : Valuation) → meaning old.nodes there v ≡ (is_on_side side left && strong_end old out level left v))
       (here_is : (v : Valuation) → meaning old.nodes here v ≡ (is_on_side side right && strong_end old out level right v))
-      (first : Writes out old mid) (second : Writes out mid new)
+      (first : Writes out.span old mid) (second : Writes out.span mid new)
       (onward : Passes out level d.kind gate there right forth old mid) (backward : Passes out level d.kind gate here left back mid new) where
     gate_in : d.gate.0 < length c.nets
     gate_in = (device_ranges c part d in_range member).gate
@@ -145,19 +146,19 @@ module _ (c : Circuit) (part : Part) (is_part : IsPart c part) (in_range : HasRa
           let on : Among w.devices d = subst (λ (ds : List Device). Among ds d) (sym st.devices) member in
           over_paths c part is_part gates out level low high d.kind gate here back d.right.0 d.left.0 left mid new d w v (words_kept c part gates out old mid words first) left_is backward
           (λ e. end_path part out level old v w right d.right.0 right_is
-          (λ none. given_path c w level d.right.0 st.nets st.source high (outside_given c part right d.right right_is (is_part.right d member) none)) paths
+          (λ none. given_path c w level d.right.0 st.nets (omega (arith, high, st.source, words.source)) (outside_given c part right d.right right_is (is_part.right d member) none)) paths
           (and_parts (is_on_side side right) (strong_end old out level right v) (sym (here_mid v) ∙ e)).1)
           on (λ e. ap (λ (b : Bool). conducts_at d.kind b) (sym (gate_mid v w st)) ∙ e) le (inr (refl, refl))
           (over_paths c part is_part gates out level low high d.kind gate there forth d.left.0 d.right.0 right old mid d w v words right_is onward
           (λ e. end_path part out level old v w left d.left.0 left_is
-          (λ none. given_path c w level d.left.0 st.nets st.source high (outside_given c part left d.left left_is (is_part.left d member) none)) paths
+          (λ none. given_path c w level d.left.0 st.nets (omega (arith, high, st.source, words.source)) (outside_given c part left d.left left_is (is_part.left d member) none)) paths
           (and_parts (is_on_side side left) (strong_end old out level left v) (sym (there_is v) ∙ e)).1)
           on (λ e. ap (λ (b : Bool). conducts_at d.kind b) (sym (gate_old v w st)) ∙ e) le (inl (refl, refl)) paths);
       same = λ e. let h = or_parts forth back e in backward.same h.1 ∙ onward.same h.0;
     }
 
 -- one step after another
-module _ (c : Circuit) (part : Part) (gates out : Span) (level : ℕ) (low : 1 ≤ level) (high : level ≤ 8) (side : Side) where
+module _ (c : Circuit) (part : Part) (gates : Span) (out : NetWords) (level : ℕ) (low : 1 ≤ level) (high : level ≤ out.source) (side : Side) where
   pub spreads_none : (IsPassed : Device → Type 0) (s : Diagrams) → ((d : Device) → IsPassed d → ⊥) → Spreads c part gates out level side IsPassed false s s
   spreads_none IsPassed s none = record {
     grown = λ i lt v e. e;
@@ -169,7 +170,7 @@ module _ (c : Circuit) (part : Part) (gates out : Span) (level : ℕ) (low : 1 �
   pub spreads_less : (P R : Device → Type 0) (a : Bool) (x y : Diagrams) → ((d : Device) → R d → P d) → Spreads c part gates out level side P a x y → Spreads c part gates out level side R a x y
   spreads_less P R a x y less s = record { grown = s.grown; passed = λ d is. s.passed d (less d is); paths = s.paths; same = s.same }
 
-  pub spreads_then : (P Q R : Device → Type 0) (a b : Bool) (x y z : Diagrams) → HasWords c part gates out x → Writes out x y
+  pub spreads_then : (P Q R : Device → Type 0) (a b : Bool) (x y z : Diagrams) → HasWords c part gates out x → Writes out.span x y
       → ((d : Device) → R d → P d ⊎ Q d) → Spreads c part gates out level side P a x y → Spreads c part gates out level side Q b y z → Spreads c part gates out level side R (a || b) x z
   spreads_then P Q R a b x y z words writes either f s = record {
     grown = λ i lt v e. s.grown i lt v (f.grown i lt v e);

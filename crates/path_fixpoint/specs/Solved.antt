@@ -9,6 +9,7 @@ use Rattle.vrt_model.specs.Response.{Reaches}
 use Rattle.vrt_model.specs.declared.circuit.Circuit.{Circuit}
 use Rattle.vrt_model.specs.declared.circuit.Hold.{Hold}
 use Rattle.channel_parts.specs.declared.part.Part.{Part}
+use Rattle.path_fixpoint.specs.declared.words.NetWords.{NetWords}
 use Rattle.path_fixpoint.specs.Parts.{IsPlace, part_devices, pins_of}
 use Rattle.path_fixpoint.specs.Reaching.{slot_of}
 use Rattle.path_fixpoint.specs.Strengths.{HasSpans, strong}
@@ -34,13 +35,13 @@ network_at d c part gates roots v = record {
 
 -- spans of live handles of the gates, one for each net of the circuit, and of the roots, one for each net and behind these one
 -- for each output pin of the whole instances, in order; and a span apart from them of the words of each net of the part
-pub record HasRootSpans (c : Circuit) (part : Part) (gates roots out : Span) (d : Diagrams) : Type 0 where
+pub record HasRootSpans (c : Circuit) (part : Part) (gates roots : Span) (out : NetWords) (d : Diagrams) : Type 0 where
   pub spans : HasSpans c part gates out d
   pub roots_span : IsSpan d roots
   pub roots_len : length c.nets + length (pins_of c) ≤ roots.len
   pub roots_live : IsFilled d roots
-  pub roots_apart : IsApart roots out
+  pub roots_apart : IsApart roots out.span
 
 -- the words of the values say of each net of the part whether a clear path from a root of the value ends there
-abbrev pub TellsReach : Part → Span → Diagrams → Valuation → Network → Type 0
-TellsReach part out d v w = (i n : ℕ) (value : Bool) → IsPlace part i n → (strong d out (slot_of value) i v ≡ true) ↔ Reaches w n value
+abbrev pub TellsReach : Part → NetWords → Diagrams → Valuation → Network → Type 0
+TellsReach part out d v w = (i n : ℕ) (value : Bool) → IsPlace part i n → (strong d out (slot_of out value) i v ≡ true) ↔ Reaches w n value

@@ -20,6 +20,7 @@ use crate::pins::{drive_level, pin_at};
 use crate::ranges::rises;
 use crate::rounds::settle;
 use crate::steps::visited;
+use crate::words::{NetWords, source_level};
 use bdd_core::{Spent, Store};
 use node_pool::Span;
 use vrt_model::{Circuit, WholePin};
@@ -62,13 +63,13 @@ fn no_hold_has(circuit: &Circuit, level: u32) -> bool
     true
 }
 
-/// Whether no output of a whole instance has exactly the level.
-fn no_output_has(outputs: &[WholePin], level: u32) -> bool
-    ensures { result ≡ true → NoPinHas outputs.now level }
+/// Whether no output of a whole instance has exactly the level, where a soft one has the source level.
+fn no_output_has(source: u8, outputs: &[WholePin], level: u32) -> bool
+    ensures { result ≡ true → NoPinHas source outputs.now level }
 {
     for at in 0..outputs.len() {
         let pin = pin_at(outputs, at);
-        if drive_level(pin.drive) == level {
+        if drive_level(source, pin.drive) == level {
             return false;
         }
     }
@@ -77,22 +78,23 @@ fn no_output_has(outputs: &[WholePin], level: u32) -> bool
 
 /// Whether no output of the whole instances has exactly the level.
 fn no_pin_has(circuit: &Circuit, level: u32) -> bool
-    ensures { result ≡ true → NoPinHas (pins_of circuit.now) level }
+    ensures { result ≡ true → NoPinHas (source_level circuit.now) (pins_of circuit.now) level }
 {
+    let source = source_level(circuit);
     for whole in circuit.wholes.as_slice() {
-        if !no_output_has(whole.outputs.as_slice(), level) {
+        if !no_output_has(source, whole.outputs.as_slice(), level) {
             return false;
         }
     }
     true
 }
 
-/// Whether a level is below the greatest, and no device of the part and no root has exactly it.
+/// Whether a level is below the source level, and no device of the part and no root has exactly it.
 fn is_unused(circuit: &Circuit, part: &Part, level: u32) -> bool
     requires { IsPart circuit.now part.now }
     ensures { result ≡ true → IsUnused circuit.now part.now level }
 {
-    if level >= 8 {
+    if level >= source_level(circuit) as u32 {
         return false;
     }
     if !no_device_has(circuit, part, level) {
@@ -112,16 +114,16 @@ fn make_level(
     part: &Part,
     rising: bool,
     gates: Span,
-    out: Span,
+    out: NetWords,
     level: u32,
 ) -> Result<(), Spent>
     requires part { IsPartOf circuit.now part.now rising }
     requires words { HasWords circuit.now part.now gates out store.old }
-    requires level { (1 ≤ level) × (level ≤ 8) }
-    ensures writes { Writes out store.old store.new }
+    requires level { (1 ≤ level) × (level ≤ out.source) }
+    ensures writes { Writes out.span store.old store.new }
     ensures apart { ChangesLevel out level store.old store.new }
-    ensures level { IfOk result (λ _. (v : Valuation) (w : Network) → StandsAt circuit.now part.now gates store.old v w → (level < 8 → HasLevel part.now out (level + 1) store.old v w) → HasLevel part.now out level store.new v w) }
-    ensures few { (u : ℕ) → IsSpanWithin u store.old gates → IsSpanWithin u store.old out → Spends u (length part.now.nets * (length part.now.devices * 4)) out store.old store.new result }
+    ensures level { IfOk result (λ _. (v : Valuation) (w : Network) → StandsAt circuit.now part.now gates store.old v w → (level < out.source → HasLevel part.now out (level + 1) store.old v w) → HasLevel part.now out level store.new v w) }
+    ensures few { (u : ℕ) → IsSpanWithin u store.old gates → IsSpanWithin u store.old out.span → Spends u (length part.now.nets * (length part.now.devices * 4)) out.span store.old store.new result }
 {
     if is_unused(circuit, part, level) {
         take_above(store, part, out, level);
@@ -138,17 +140,18 @@ fn levels(
     part: &Part,
     rising: bool,
     gates: Span,
-    out: Span,
+    out: NetWords,
 ) -> Result<(), Spent>
     requires part { IsPartOf circuit.now part.now rising }
     requires words { HasWords circuit.now part.now gates out store.old }
-    ensures writes { Writes out store.old store.new }
+    ensures writes { Writes out.span store.old store.new }
     ensures levels { IfOk result (λ _. (v : Valuation) (w : Network) → StandsAt circuit.now part.now gates store.old v w → (level : ℕ) → 1 ≤ level → level ≤ source_level circuit.now → HasLevel part.now out level store.new v w) }
-    ensures few { (u : ℕ) → IsSpanWithin u store.old gates → IsSpanWithin u store.old out → Spends u (source_level circuit.now * (length part.now.nets * (length part.now.devices * 4))) out store.old store.new result }
+    ensures few { (u : ℕ) → IsSpanWithin u store.old gates → IsSpanWithin u store.old out.span → Spends u (source_level circuit.now * (length part.now.nets * (length part.now.devices * 4))) out.span store.old store.new result }
 {
     store.sound();
-    for done in 0..8u32 {
-        match make_level(store, circuit, part, rising, gates, out, 8 - done) {
+    let source = out.source as u32;
+    for done in 0..source {
+        match make_level(store, circuit, part, rising, gates, out, source - done) {
             Ok(()) => {}
             Err(spent) => return Err(spent),
         }
@@ -157,7 +160,7 @@ fn levels(
 }
 
 /// Writes for each net of a part, as diagrams over all valuations, whether its strength is at least each level from 1 to
-/// the source level: the word of the net at place `i` for a level is number `net_words() * i + level - 1` of `out`. `gates` has the handle of each net of the
+/// the source level: the word of the net at place `i` for a level is number `net_words(out.source) * i + level - 1` of `out`. `gates` has the handle of each net of the
 /// circuit. At each valuation the network is that of the part's devices, with the gates' bits as their handles say.
 ///
 /// Handles from before keep their functions and words outside `out` stay as they are, also where the budget is used up.
@@ -166,16 +169,16 @@ pub fn strengths(
     circuit: &Circuit,
     part: &Part,
     gates: Span,
-    out: Span,
+    out: NetWords,
 ) -> Result<(), Spent>
     requires circuit { HasRanges circuit.now }
     requires part { IsPart circuit.now part.now }
     requires spans { HasSpans circuit.now part.now gates out store.old }
-    ensures writes { Writes out store.old store.new }
+    ensures writes { Writes out.span store.old store.new }
     ensures strengths { IfOk result (λ _. (v : Valuation) (w : Network) → StandsAt circuit.now part.now gates store.old v w → TellsStrengths circuit.now part.now out store.new v w) }
-    ensures few { (u : ℕ) → IsSpanWithin u store.old gates → Spends u (source_level circuit.now * (length part.now.nets * (length part.now.devices * 4))) out store.old store.new result }
+    ensures few { (u : ℕ) → IsSpanWithin u store.old gates → Spends u (source_level circuit.now * (length part.now.nets * (length part.now.devices * 4))) out.span store.old store.new result }
 {
-    clear(store, out);
+    clear(store, out.span);
     let rising = rises(part);
     levels(store, circuit, part, rising, gates, out)
 }

@@ -19,6 +19,7 @@ use crate::Part;
 use crate::pins::{drive_level, pin_at};
 use crate::side::Side;
 use crate::steps::{place, word};
+use crate::words::NetWords;
 use bdd_core::{H, ONE, Store, ZERO};
 use node_pool::Span;
 use vrt_model::{Circuit, Device, Net, NetKind, WholePin};
@@ -38,49 +39,57 @@ pub(crate) fn set(store: &mut Store, out: Span, at: u32, handle: H)
 }
 
 /// Where the mark of a net begins: at that of the level above.
-fn above(store: &Store, out: Span, place: usize, level: u32) -> H
-    requires out { IsSpan store.now out × IsFilled store.now out }
-    requires level { (1 ≤ level) × (level ≤ 8) }
-    requires place { (net_words * place + net_words ≤ out.len) × (out.len < 2 ^ 32) }
+fn above(store: &Store, out: NetWords, place: usize, level: u32) -> H
+    requires out { IsSpan store.now out.span × IsFilled store.now out.span }
+    requires level { (1 ≤ level) × (level ≤ out.source) }
+    requires place { (net_words out.source * place + net_words out.source ≤ out.span.len) × (out.span.len < 2 ^ 32) }
     ensures live { IsLive store.now result }
-    ensures below { level < 8 → result.0 ≡ mark_of store.now out (level + 1) place }
-    ensures highest { level ≡ 8 → result.0 ≡ 0 }
-    ensures few { (u : ℕ) → IsSpanWithin u store.now out → IsWithin u (function_of store.now result) }
+    ensures below { level < out.source → result.0 ≡ mark_of store.now out (level + 1) place }
+    ensures highest { level ≡ out.source → result.0 ≡ 0 }
+    ensures few { (u : ℕ) → IsSpanWithin u store.now out.span → IsWithin u (function_of store.now result) }
 {
     store.sound();
-    if level < 8 {
-        return H(store.read(out, word(place, level + 1)));
+    if level < out.source as u32 {
+        return H(store.read(out.span, word(out, place, level + 1)));
     }
     ZERO
 }
 
 /// Takes the marks of the level above.
-pub(crate) fn take_above(store: &mut Store, part: &Part, out: Span, level: u32)
+pub(crate) fn take_above(store: &mut Store, part: &Part, out: NetWords, level: u32)
     requires out { HasMarks part.now out store.old }
-    requires level { (1 ≤ level) × (level ≤ 8) }
-    ensures writes { Writes out store.old store.new }
+    requires level { (1 ≤ level) × (level ≤ out.source) }
+    ensures writes { Writes out.span store.old store.new }
     ensures apart { ChangesLevel out level store.old store.new }
     ensures taken { (i : ℕ) → i < length part.now.nets → TakesAbove out level store.old store.new i }
-    ensures few { (u : ℕ) → IsSpanWithin u store.old out → Rewrites u out store.old store.new }
+    ensures few { (u : ℕ) → IsSpanWithin u store.old out.span → Rewrites u out.span store.old store.new }
 {
     store.sound();
     for i in 0..part.nets.len() {
         let handle = above(store, out, i, level);
-        set(store, out, word(i, level), handle);
+        set(store, out.span, word(out, i, level), handle);
     }
 }
 
 /// Marks a net of the part, by the constant 1, where the test says so.
-fn mark(store: &mut Store, part: &Part, rising: bool, out: Span, net: Net, level: u32, fits: bool)
+fn mark(
+    store: &mut Store,
+    part: &Part,
+    rising: bool,
+    out: NetWords,
+    net: Net,
+    level: u32,
+    fits: bool,
+)
     requires rising { IsTrue rising → Rises part.now }
     requires part { (i j n : ℕ) → IsPlace part.now i n → IsPlace part.now j n → i ≡ j }
     requires out { HasMarks part.now out store.old }
-    requires level { (1 ≤ level) × (level ≤ 8) }
-    ensures writes { Writes out store.old store.new }
+    requires level { (1 ≤ level) × (level ≤ out.source) }
+    ensures writes { Writes out.span store.old store.new }
     ensures apart { ChangesLevel out level store.old store.new }
     ensures marked { fits ≡ true → (i : ℕ) → IsPlace part.now i net.0 → mark_of store.new out level i ≡ 1 }
     ensures only { OnlyBy out level (λ i. (fits ≡ true) × IsPlace part.now i net.0) store.old store.new }
-    ensures few { (u : ℕ) → IsSpanWithin u store.old out → Rewrites u out store.old store.new }
+    ensures few { (u : ℕ) → IsSpanWithin u store.old out.span → Rewrites u out.span store.old store.new }
 {
     store.sound();
     if !fits {
@@ -89,7 +98,7 @@ fn mark(store: &mut Store, part: &Part, rising: bool, out: Span, net: Net, level
     let Some(i) = place(part, rising, net) else {
         return;
     };
-    set(store, out, word(i, level), ONE);
+    set(store, out.span, word(out, i, level), ONE);
 }
 
 /// Whether a net has a given value: a supply, an input or a clock port.
@@ -132,18 +141,18 @@ fn mark_given(
     circuit: &Circuit,
     part: &Part,
     rising: bool,
-    out: Span,
+    out: NetWords,
     level: u32,
 )
     requires rising { IsTrue rising → Rises part.now }
     requires part { (i j n : ℕ) → IsPlace part.now i n → IsPlace part.now j n → i ≡ j }
     requires out { HasMarks part.now out store.old }
-    requires level { (1 ≤ level) × (level ≤ 8) }
-    ensures writes { Writes out store.old store.new }
+    requires level { (1 ≤ level) × (level ≤ out.source) }
+    ensures writes { Writes out.span store.old store.new }
     ensures apart { ChangesLevel out level store.old store.new }
     ensures marked { (i : ℕ) → IsGivenAt circuit.now part.now i → mark_of store.new out level i ≡ 1 }
     ensures only { OnlyBy out level (IsGivenAt circuit.now part.now) store.old store.new }
-    ensures few { (u : ℕ) → IsSpanWithin u store.old out → Rewrites u out store.old store.new }
+    ensures few { (u : ℕ) → IsSpanWithin u store.old out.span → Rewrites u out.span store.old store.new }
 {
     store.sound();
     for net in part.nets.as_slice() {
@@ -165,18 +174,18 @@ fn mark_holds(
     circuit: &Circuit,
     part: &Part,
     rising: bool,
-    out: Span,
+    out: NetWords,
     level: u32,
 )
     requires rising { IsTrue rising → Rises part.now }
     requires part { (i j n : ℕ) → IsPlace part.now i n → IsPlace part.now j n → i ≡ j }
     requires out { HasMarks part.now out store.old }
-    requires level { (1 ≤ level) × (level ≤ 8) }
-    ensures writes { Writes out store.old store.new }
+    requires level { (1 ≤ level) × (level ≤ out.source) }
+    ensures writes { Writes out.span store.old store.new }
     ensures apart { ChangesLevel out level store.old store.new }
     ensures marked { (i : ℕ) → IsHoldAt circuit.now part.now level i → mark_of store.new out level i ≡ 1 }
     ensures only { OnlyBy out level (IsHoldAt circuit.now part.now level) store.old store.new }
-    ensures few { (u : ℕ) → IsSpanWithin u store.old out → Rewrites u out store.old store.new }
+    ensures few { (u : ℕ) → IsSpanWithin u store.old out.span → Rewrites u out.span store.old store.new }
 {
     store.sound();
     for hold in circuit.holds.as_slice() {
@@ -190,39 +199,46 @@ fn mark_outputs(
     store: &mut Store,
     part: &Part,
     rising: bool,
-    out: Span,
+    out: NetWords,
     level: u32,
     outputs: &[WholePin],
 )
     requires rising { IsTrue rising → Rises part.now }
     requires part { (i j n : ℕ) → IsPlace part.now i n → IsPlace part.now j n → i ≡ j }
     requires out { HasMarks part.now out store.old }
-    requires level { (1 ≤ level) × (level ≤ 8) }
-    ensures writes { Writes out store.old store.new }
+    requires level { (1 ≤ level) × (level ≤ out.source) }
+    ensures writes { Writes out.span store.old store.new }
     ensures apart { ChangesLevel out level store.old store.new }
-    ensures marked { (i : ℕ) → IsPinAt part.now outputs.now level i → mark_of store.new out level i ≡ 1 }
-    ensures only { OnlyBy out level (IsPinAt part.now outputs.now level) store.old store.new }
-    ensures few { (u : ℕ) → IsSpanWithin u store.old out → Rewrites u out store.old store.new }
+    ensures marked { (i : ℕ) → IsPinAt out.source part.now outputs.now level i → mark_of store.new out level i ≡ 1 }
+    ensures only { OnlyBy out level (IsPinAt out.source part.now outputs.now level) store.old store.new }
+    ensures few { (u : ℕ) → IsSpanWithin u store.old out.span → Rewrites u out.span store.old store.new }
 {
     store.sound();
     for at in 0..outputs.len() {
         let pin = pin_at(outputs, at);
-        let fits = has_level(drive_level(pin.drive), level);
+        let fits = has_level(drive_level(out.source, pin.drive), level);
         mark(store, part, rising, out, pin.net, level, fits);
     }
 }
 
 /// Marks the nets of the outputs of whole instances of at least this level.
-fn mark_pins(store: &mut Store, circuit: &Circuit, part: &Part, rising: bool, out: Span, level: u32)
+fn mark_pins(
+    store: &mut Store,
+    circuit: &Circuit,
+    part: &Part,
+    rising: bool,
+    out: NetWords,
+    level: u32,
+)
     requires rising { IsTrue rising → Rises part.now }
     requires part { (i j n : ℕ) → IsPlace part.now i n → IsPlace part.now j n → i ≡ j }
     requires out { HasMarks part.now out store.old }
-    requires level { (1 ≤ level) × (level ≤ 8) }
-    ensures writes { Writes out store.old store.new }
+    requires level { (1 ≤ level) × (level ≤ out.source) }
+    ensures writes { Writes out.span store.old store.new }
     ensures apart { ChangesLevel out level store.old store.new }
-    ensures marked { (i : ℕ) → IsPinAt part.now (pins_of circuit.now) level i → mark_of store.new out level i ≡ 1 }
-    ensures only { OnlyBy out level (IsPinAt part.now (pins_of circuit.now) level) store.old store.new }
-    ensures few { (u : ℕ) → IsSpanWithin u store.old out → Rewrites u out store.old store.new }
+    ensures marked { (i : ℕ) → IsPinAt out.source part.now (pins_of circuit.now) level i → mark_of store.new out level i ≡ 1 }
+    ensures only { OnlyBy out level (IsPinAt out.source part.now (pins_of circuit.now) level) store.old store.new }
+    ensures few { (u : ℕ) → IsSpanWithin u store.old out.span → Rewrites u out.span store.old store.new }
 {
     store.sound();
     for whole in circuit.wholes.as_slice() {
@@ -237,18 +253,18 @@ pub(crate) fn open(
     part: &Part,
     rising: bool,
     gates: Span,
-    out: Span,
+    out: NetWords,
     level: u32,
 )
     requires rising { IsTrue rising → Rises part.now }
     requires part { IsPart circuit.now part.now }
     requires words { HasWords circuit.now part.now gates out store.old }
-    requires level { (1 ≤ level) × (level ≤ 8) }
-    ensures writes { Writes out store.old store.new }
+    requires level { (1 ≤ level) × (level ≤ out.source) }
+    ensures writes { Writes out.span store.old store.new }
     ensures apart { ChangesLevel out level store.old store.new }
     ensures roots { (v : Valuation) (w : Network) → StandsAt circuit.now part.now gates store.old v w → HasRoots part.now out level store.new v w }
-    ensures paths { (v : Valuation) (w : Network) → StandsAt circuit.now part.now gates store.old v w → (level < 8 → HasLevel part.now out (level + 1) store.old v w) → HasPaths part.now out level store.new v w }
-    ensures few { (u : ℕ) → IsSpanWithin u store.old out → Rewrites u out store.old store.new }
+    ensures paths { (v : Valuation) (w : Network) → StandsAt circuit.now part.now gates store.old v w → (level < out.source → HasLevel part.now out (level + 1) store.old v w) → HasPaths part.now out level store.new v w }
+    ensures few { (u : ℕ) → IsSpanWithin u store.old out.span → Rewrites u out.span store.old store.new }
 {
     let _gates = gates;
     take_above(store, part, out, level);

@@ -13,12 +13,12 @@ pub(crate) fn pin_at(outputs: &[WholePin], at: usize) -> &WholePin
     &outputs[at]
 }
 
-/// The level of the root at an output, by its drive: that of a source, where nothing is said.
-pub(crate) fn drive_level(drive: Drive) -> u32
-    ensures { result ≡ level_of_drive 8 drive }
+/// The level of the root at an output, by its drive: the source level, where nothing is said.
+pub(crate) fn drive_level(source: u8, drive: Drive) -> u32
+    ensures { result ≡ level_of_drive source drive }
 {
     match drive {
-        Drive::Soft => 8,
+        Drive::Soft => source as u32,
         Drive::Level(level) => level as u32,
     }
 }

@@ -7,12 +7,12 @@ ghost use Rattle.vrt_model.specs.Circuits.{IsNet};
 ghost use Rattle.vrt_model.specs.Lists.{Among};
 ghost use Rattle.path_fixpoint.specs.Parts.{IsGiven, IsPart, IsPartDevice, Rises, pins_of};
 ghost use Rattle.path_fixpoint.specs.Solved.{HasRootSpans};
-ghost use Rattle.path_fixpoint.specs.Strengths.{net_words};
+ghost use Rattle.path_fixpoint.specs.Strengths.{net_words, circuit_words};
 
 use crate::Part;
 use crate::opening::is_given;
 use crate::steps::place;
-use crate::words::net_words;
+use crate::words::{net_words, source_level};
 use bdd_core::Store;
 use node_pool::Span;
 use vrt_model::{Circuit, Dev, Net};
@@ -148,13 +148,22 @@ fn has_lengths(circuit: &Circuit, gates: usize, roots: usize) -> bool
     has_room(circuit, roots - nets)
 }
 
-/// Whether a span has the words of each net of the part.
-fn has_words(store: &Store, part: &Part, out: Span) -> bool
-    ensures { IsTrue result ↔ (IsSpan store.now out × (out.len ≡ net_words * length part.now.nets)) }
+/// Whether so many words are those of so many nets, by the source level.
+fn is_words(source: u8, nets: usize, len: u32) -> bool
+    ensures { IsTrue result ↔ (len ≡ net_words source * nets) }
 {
-    is_span(store, out)
-        && out.len % net_words() == 0
-        && (out.len / net_words()) as usize == part.nets.len()
+    let words = net_words(source);
+    if len % words != 0 {
+        return false;
+    }
+    (len / words) as usize == nets
+}
+
+/// Whether a span has the words of each net of the part, by the source level.
+fn has_words(store: &Store, source: u8, part: &Part, out: Span) -> bool
+    ensures { IsTrue result ↔ (IsSpan store.now out × (out.len ≡ net_words source * length part.now.nets)) }
+{
+    is_span(store, out) && is_words(source, part.nets.len(), out.len)
 }
 
 /// Whether the spans of the gates, of the roots and of the words of a part are as `solve_part` asks.
@@ -166,9 +175,9 @@ pub fn are_spans(
     roots: Span,
     out: Span,
 ) -> bool
-    ensures { IsTrue result ↔ HasRootSpans circuit.now part.now gates roots out store.now }
+    ensures { IsTrue result ↔ HasRootSpans circuit.now part.now gates roots (circuit_words circuit.now out) store.now }
 {
-    has_words(store, part, out)
+    has_words(store, source_level(circuit), part, out)
         && has_handles(store, gates, out)
         && has_handles(store, roots, out)
         && has_lengths(circuit, gates.len as usize, roots.len as usize)

@@ -19,6 +19,7 @@ use crate::opening::is_idle;
 use crate::side::Side;
 use crate::signals::{fitting, offers, slot};
 use crate::steps::{blocks, is_full, place, through, visited, widen, word};
+use crate::words::NetWords;
 use bdd_core::{H, Spent, Store};
 use node_pool::Span;
 use vrt_model::{Circuit, Device, Kind};
@@ -29,20 +30,20 @@ fn pass(
     device: &Device,
     gate: H,
     signal: H,
-    out: Span,
+    out: NetWords,
     from: Option<usize>,
     to: Option<usize>,
     value: bool,
 ) -> Result<bool, Spent>
     requires gate { IsLive store.old gate }
     requires signal { IsLive store.old signal }
-    requires out { IsSpan store.old out × IsFilled store.old out × (out.len < 2 ^ 32) }
-    requires from { IfSome from (λ i. net_words * i + net_words ≤ out.len) }
-    requires to { IfSome to (λ i. net_words * i + net_words ≤ out.len) }
-    ensures writes { Writes out store.old store.new }
-    ensures apart { ChangesLevel out (slot_of value) store.old store.new }
+    requires out { IsSpan store.old out.span × IsFilled store.old out.span × (out.span.len < 2 ^ 32) }
+    requires from { IfSome from (λ i. net_words out.source * i + net_words out.source ≤ out.span.len) }
+    requires to { IfSome to (λ i. net_words out.source * i + net_words out.source ≤ out.span.len) }
+    ensures writes { Writes out.span store.old store.new }
+    ensures apart { ChangesLevel out (slot_of out value) store.old store.new }
     ensures passes { IfOk result (λ changed. PassesSignal out value device.now.kind gate.0 signal.0 from to device.now.level changed store.old store.new) }
-    ensures few { (u : ℕ) → IsSpanWithin u store.old out → IsWithin u (function_of store.old gate) → IsWithin u (function_of store.old signal) → Spends u 18 out store.old store.new result }
+    ensures few { (u : ℕ) → IsSpanWithin u store.old out.span → IsWithin u (function_of store.old gate) → IsWithin u (function_of store.old signal) → Spends u (2 * out.source + 2) out.span store.old store.new result }
 {
     store.sound();
     let Some(to) = to else {
@@ -51,8 +52,8 @@ fn pass(
     if signal.0 == 0 {
         return Ok(false);
     }
-    let at = word(to, slot(value));
-    if is_full(store, out, at) {
+    let at = word(out, to, slot(out, value));
+    if is_full(store, out.span, at) {
         return Ok(false);
     }
     let passed = match through(store, device.kind, gate, signal) {
@@ -63,7 +64,7 @@ fn pass(
         Ok(fits) => fits,
         Err(spent) => return Err(spent),
     };
-    widen(store, out, at, fits)
+    widen(store, out.span, at, fits)
 }
 
 /// Passes on over one device, in both directions, the marks of a value that its ends had before, of those ends that are in
@@ -75,7 +76,7 @@ fn visit(
     rising: bool,
     gates: Span,
     roots: Span,
-    out: Span,
+    out: NetWords,
     device: &Device,
     value: bool,
     side: Side,
@@ -83,10 +84,10 @@ fn visit(
     requires part { IsPartOf circuit.now part.now rising }
     requires words { HasRootWords circuit.now part.now gates roots out store.old }
     requires device { Among (part_devices circuit.now part.now) device.now }
-    ensures writes { Writes out store.old store.new }
-    ensures apart { ChangesLevel out (slot_of value) store.old store.new }
+    ensures writes { Writes out.span store.old store.new }
+    ensures apart { ChangesLevel out (slot_of out value) store.old store.new }
     ensures spreads { IfOk result (λ changed. SpreadsValue circuit.now part.now gates roots out value side (λ d. d ≡ device.now) changed store.old store.new) }
-    ensures few { (u : ℕ) → IsSpanWithin u store.old gates → IsSpanWithin u store.old roots → IsSpanWithin u store.old out → Spends u 38 out store.old store.new result }
+    ensures few { (u : ℕ) → IsSpanWithin u store.old gates → IsSpanWithin u store.old roots → IsSpanWithin u store.old out.span → Spends u (4 * out.source + 6) out.span store.old store.new result }
 {
     store.sound();
     let gate = H(store.read(gates, device.gate.0));
@@ -126,17 +127,17 @@ fn round(
     rising: bool,
     gates: Span,
     roots: Span,
-    out: Span,
+    out: NetWords,
     value: bool,
     side: Side,
     direction: Direction,
 ) -> Result<bool, Spent>
     requires part { IsPartOf circuit.now part.now rising }
     requires words { HasRootWords circuit.now part.now gates roots out store.old }
-    ensures writes { Writes out store.old store.new }
-    ensures apart { ChangesLevel out (slot_of value) store.old store.new }
+    ensures writes { Writes out.span store.old store.new }
+    ensures apart { ChangesLevel out (slot_of out value) store.old store.new }
     ensures spreads { IfOk result (λ changed. SpreadsValue circuit.now part.now gates roots out value side (Among (part_devices circuit.now part.now)) changed store.old store.new) }
-    ensures few { (u : ℕ) → IsSpanWithin u store.old gates → IsSpanWithin u store.old roots → IsSpanWithin u store.old out → Spends u (length part.now.devices * 38) out store.old store.new result }
+    ensures few { (u : ℕ) → IsSpanWithin u store.old gates → IsSpanWithin u store.old roots → IsSpanWithin u store.old out.span → Spends u (length part.now.devices * (4 * out.source + 6)) out.span store.old store.new result }
 {
     store.sound();
     let mut changed = false;
@@ -162,15 +163,15 @@ pub(crate) fn settle(
     rising: bool,
     gates: Span,
     roots: Span,
-    out: Span,
+    out: NetWords,
     value: bool,
 ) -> Result<(), Spent>
     requires part { IsPartOf circuit.now part.now rising }
     requires words { HasRootWords circuit.now part.now gates roots out store.old }
-    ensures writes { Writes out store.old store.new }
-    ensures apart { ChangesLevel out (slot_of value) store.old store.new }
+    ensures writes { Writes out.span store.old store.new }
+    ensures apart { ChangesLevel out (slot_of out value) store.old store.new }
     ensures reach { IfOk result (λ _. (v : Valuation) (w : Network) (s : ℕ → ℕ) → SolvedAt circuit.now part.now gates roots out store.old v w s → HasReachRoots circuit.now part.now out value store.old v w s → HasReachPaths part.now out value store.old v w s → HasReach part.now out value store.new v w) }
-    ensures few { (u : ℕ) → IsSpanWithin u store.old gates → IsSpanWithin u store.old roots → IsSpanWithin u store.old out → Spends u (length part.now.nets * (length part.now.devices * 38)) out store.old store.new result }
+    ensures few { (u : ℕ) → IsSpanWithin u store.old gates → IsSpanWithin u store.old roots → IsSpanWithin u store.old out.span → Spends u (length part.now.nets * (length part.now.devices * (4 * out.source + 6))) out.span store.old store.new result }
 {
     store.sound();
     let mut direction = Direction::Backward;

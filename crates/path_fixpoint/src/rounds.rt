@@ -17,6 +17,7 @@ use crate::direction::Direction;
 use crate::opening::is_idle;
 use crate::side::Side;
 use crate::steps::{blocks, is_full, place, strength, through, visited, widen, word};
+use crate::words::NetWords;
 use bdd_core::{H, Spent, Store};
 use node_pool::Span;
 use vrt_model::{Circuit, Device, Kind};
@@ -27,19 +28,19 @@ fn pass(
     kind: Kind,
     gate: H,
     signal: H,
-    out: Span,
+    out: NetWords,
     to: Option<usize>,
     level: u32,
 ) -> Result<bool, Spent>
     requires gate { IsLive store.old gate }
     requires signal { IsLive store.old signal }
-    requires out { IsSpan store.old out × IsFilled store.old out × (out.len < 2 ^ 32) }
-    requires level { (1 ≤ level) × (level ≤ 8) }
-    requires to { IfSome to (λ i. net_words * i + net_words ≤ out.len) }
-    ensures writes { Writes out store.old store.new }
+    requires out { IsSpan store.old out.span × IsFilled store.old out.span × (out.span.len < 2 ^ 32) }
+    requires level { (1 ≤ level) × (level ≤ out.source) }
+    requires to { IfSome to (λ i. net_words out.source * i + net_words out.source ≤ out.span.len) }
+    ensures writes { Writes out.span store.old store.new }
     ensures apart { ChangesLevel out level store.old store.new }
     ensures passes { IfOk result (λ changed. Passes out level kind gate.0 signal.0 to changed store.old store.new) }
-    ensures few { (u : ℕ) → IsSpanWithin u store.old out → IsWithin u (function_of store.old gate) → IsWithin u (function_of store.old signal) → Spends u 2 out store.old store.new result }
+    ensures few { (u : ℕ) → IsSpanWithin u store.old out.span → IsWithin u (function_of store.old gate) → IsWithin u (function_of store.old signal) → Spends u 2 out.span store.old store.new result }
 {
     store.sound();
     if signal.0 == 0 {
@@ -48,15 +49,15 @@ fn pass(
     let Some(to) = to else {
         return Ok(false);
     };
-    let at = word(to, level);
-    if is_full(store, out, at) {
+    let at = word(out, to, level);
+    if is_full(store, out.span, at) {
         return Ok(false);
     }
     let passed = match through(store, kind, gate, signal) {
         Ok(passed) => passed,
         Err(spent) => return Err(spent),
     };
-    widen(store, out, at, passed)
+    widen(store, out.span, at, passed)
 }
 
 /// Passes on over one device, in both directions, the marks of a level that its ends had before, of those ends that are
@@ -67,19 +68,19 @@ fn visit(
     part: &Part,
     rising: bool,
     gates: Span,
-    out: Span,
+    out: NetWords,
     device: &Device,
     level: u32,
     side: Side,
 ) -> Result<bool, Spent>
     requires part { IsPartOf circuit.now part.now rising }
     requires words { HasWords circuit.now part.now gates out store.old }
-    requires level { (1 ≤ level) × (level ≤ 8) }
+    requires level { (1 ≤ level) × (level ≤ out.source) }
     requires device { Among (part_devices circuit.now part.now) device.now }
-    ensures writes { Writes out store.old store.new }
+    ensures writes { Writes out.span store.old store.new }
     ensures apart { ChangesLevel out level store.old store.new }
     ensures spreads { IfOk result (λ changed. Spreads circuit.now part.now gates out level side (λ d. d ≡ device.now) changed store.old store.new) }
-    ensures few { (u : ℕ) → IsSpanWithin u store.old gates → IsSpanWithin u store.old out → Spends u 4 out store.old store.new result }
+    ensures few { (u : ℕ) → IsSpanWithin u store.old gates → IsSpanWithin u store.old out.span → Spends u 4 out.span store.old store.new result }
 {
     store.sound();
     if (device.level as u32) < level {
@@ -117,18 +118,18 @@ fn round(
     part: &Part,
     rising: bool,
     gates: Span,
-    out: Span,
+    out: NetWords,
     level: u32,
     side: Side,
     direction: Direction,
 ) -> Result<bool, Spent>
     requires part { IsPartOf circuit.now part.now rising }
     requires words { HasWords circuit.now part.now gates out store.old }
-    requires level { (1 ≤ level) × (level ≤ 8) }
-    ensures writes { Writes out store.old store.new }
+    requires level { (1 ≤ level) × (level ≤ out.source) }
+    ensures writes { Writes out.span store.old store.new }
     ensures apart { ChangesLevel out level store.old store.new }
     ensures spreads { IfOk result (λ changed. Spreads circuit.now part.now gates out level side (Among (part_devices circuit.now part.now)) changed store.old store.new) }
-    ensures few { (u : ℕ) → IsSpanWithin u store.old gates → IsSpanWithin u store.old out → Spends u (length part.now.devices * 4) out store.old store.new result }
+    ensures few { (u : ℕ) → IsSpanWithin u store.old gates → IsSpanWithin u store.old out.span → Spends u (length part.now.devices * 4) out.span store.old store.new result }
 {
     store.sound();
     let mut changed = false;
@@ -153,16 +154,16 @@ pub(crate) fn settle(
     part: &Part,
     rising: bool,
     gates: Span,
-    out: Span,
+    out: NetWords,
     level: u32,
 ) -> Result<(), Spent>
     requires part { IsPartOf circuit.now part.now rising }
     requires words { HasWords circuit.now part.now gates out store.old }
-    requires level { (1 ≤ level) × (level ≤ 8) }
-    ensures writes { Writes out store.old store.new }
+    requires level { (1 ≤ level) × (level ≤ out.source) }
+    ensures writes { Writes out.span store.old store.new }
     ensures apart { ChangesLevel out level store.old store.new }
     ensures level { IfOk result (λ _. (v : Valuation) (w : Network) → StandsAt circuit.now part.now gates store.old v w → HasRoots part.now out level store.old v w → HasPaths part.now out level store.old v w → HasLevel part.now out level store.new v w) }
-    ensures few { (u : ℕ) → IsSpanWithin u store.old gates → IsSpanWithin u store.old out → Spends u (length part.now.nets * (length part.now.devices * 4)) out store.old store.new result }
+    ensures few { (u : ℕ) → IsSpanWithin u store.old gates → IsSpanWithin u store.old out.span → Spends u (length part.now.nets * (length part.now.devices * 4)) out.span store.old store.new result }
 {
     store.sound();
     let mut direction = Direction::Backward;

@@ -31,7 +31,8 @@ impl Side {
     /// Whether no round changes a mark behind one on this side, by whether it changed any itself: inside the part, where it
     /// did not.
     pub(crate) fn is_settled(self, changed: bool) -> bool
-        ensures { result ≡ true → (self ≡ Inside) × (changed ≡ false) }
+        ensures settled { result ≡ true → (self ≡ Inside) × (changed ≡ false) }
+        ensures still { self ≡ Inside → changed ≡ false → result ≡ true }
     {
         match self {
             Side::Inside => !changed,

@@ -13,17 +13,18 @@ ghost use Rattle.path_fixpoint.specs.Spending.{Finds};
 
 use crate::side::Side;
 use crate::steps::{strength, word};
-use crate::words::net_words;
+use crate::words::{NetWords, net_words};
 use bdd_core::{H, Spent, Store, ZERO};
 use bdd_ops::{and, not};
 use node_pool::Span;
 use vrt_model::Net;
 
 /// The number of the word of a value, as a level.
-pub(crate) fn slot(value: bool) -> u32
-    ensures { result ≡ slot_of value }
+pub(crate) fn slot(out: NetWords, value: bool) -> u32
+    ensures { result ≡ slot_of out value }
 {
-    if value { net_words() } else { net_words() - 1 }
+    let most = net_words(out.source);
+    if value { most } else { most - 1 }
 }
 
 /// Whether the root whose handle stands at a place has the value.
@@ -44,23 +45,23 @@ pub(crate) fn root_bit(store: &mut Store, roots: Span, at: u32, value: bool) -> 
 pub(crate) fn reached(
     store: &mut Store,
     roots: Span,
-    out: Span,
+    out: NetWords,
     place: Option<usize>,
     net: Net,
     value: bool,
 ) -> Result<H, Spent>
     requires roots { IsSpan store.old roots × IsFilled store.old roots }
-    requires out { IsSpan store.old out × IsFilled store.old out }
+    requires out { IsSpan store.old out.span × IsFilled store.old out.span }
     requires net { net.0 < roots.len }
-    requires place { IfSome place (λ i. net_words * i + net_words ≤ out.len) }
-    requires len { out.len < 2 ^ 32 }
+    requires place { IfSome place (λ i. net_words out.source * i + net_words out.source ≤ out.span.len) }
+    requires len { out.span.len < 2 ^ 32 }
     ensures { Makes store.old store.new (λ v. reached_end store.old roots out value place net.0 v) result }
 {
     store.sound();
     let Some(place) = place else {
         return root_bit(store, roots, net.0, value);
     };
-    Ok(H(store.read(out, word(place, slot(value)))))
+    Ok(H(store.read(out.span, word(out, place, slot(out, value)))))
 }
 
 /// What an end of a channel offers to the other one of a value: whether the value reaches it, where it is on the side; else
@@ -68,17 +69,17 @@ pub(crate) fn reached(
 pub(crate) fn offers(
     store: &mut Store,
     roots: Span,
-    out: Span,
+    out: NetWords,
     place: Option<usize>,
     net: Net,
     value: bool,
     side: Side,
 ) -> Result<H, Spent>
     requires roots { IsSpan store.old roots × IsFilled store.old roots }
-    requires out { IsSpan store.old out × IsFilled store.old out }
+    requires out { IsSpan store.old out.span × IsFilled store.old out.span }
     requires net { net.0 < roots.len }
-    requires place { IfSome place (λ i. net_words * i + net_words ≤ out.len) }
-    requires len { out.len < 2 ^ 32 }
+    requires place { IfSome place (λ i. net_words out.source * i + net_words out.source ≤ out.span.len) }
+    requires len { out.span.len < 2 ^ 32 }
     ensures { Makes store.old store.new (λ v. offered_end store.old roots out value side place net.0 v) result }
 {
     store.sound();
@@ -89,14 +90,14 @@ pub(crate) fn offers(
 }
 
 /// The strength of the one end of a channel is at least a level, and so is the device's level.
-fn prefix(store: &Store, out: Span, from: Option<usize>, device: u8, level: u32) -> H
-    requires out { IsSpan store.now out × IsFilled store.now out }
-    requires level { (1 ≤ level) × (level ≤ 8) }
-    requires from { IfSome from (λ i. net_words * i + net_words ≤ out.len) }
-    requires len { out.len < 2 ^ 32 }
+fn prefix(store: &Store, out: NetWords, from: Option<usize>, device: u8, level: u32) -> H
+    requires out { IsSpan store.now out.span × IsFilled store.now out.span }
+    requires level { (1 ≤ level) × (level ≤ out.source) }
+    requires from { IfSome from (λ i. net_words out.source * i + net_words out.source ≤ out.span.len) }
+    requires len { out.span.len < 2 ^ 32 }
     ensures live { IsLive store.now result }
     ensures is { (v : Valuation) → (function_of store.now result v ≡ true) ↔ ((level ≤ device) × (strong_end store.now out level from v ≡ true)) }
-    ensures few { (u : ℕ) → IsSpanWithin u store.now out → IsWithin u (function_of store.now result) }
+    ensures few { (u : ℕ) → IsSpanWithin u store.now out.span → IsWithin u (function_of store.now result) }
 {
     store.sound();
     if level <= device as u32 {
@@ -153,25 +154,25 @@ fn limit(store: &mut Store, signal: H, other: H, here: H) -> Result<H, Spent>
 /// the strength of the one end. Elsewhere a stronger signal blocks it.
 pub(crate) fn fitting(
     store: &mut Store,
-    out: Span,
+    out: NetWords,
     from: Option<usize>,
     to: usize,
     device: u8,
     signal: H,
 ) -> Result<H, Spent>
-    requires out { IsSpan store.old out × IsFilled store.old out × (out.len < 2 ^ 32) }
-    requires from { IfSome from (λ i. net_words * i + net_words ≤ out.len) }
-    requires to { net_words * to + net_words ≤ out.len }
+    requires out { IsSpan store.old out.span × IsFilled store.old out.span × (out.span.len < 2 ^ 32) }
+    requires from { IfSome from (λ i. net_words out.source * i + net_words out.source ≤ out.span.len) }
+    requires to { net_words out.source * to + net_words out.source ≤ out.span.len }
     requires signal { IsLive store.old signal }
-    ensures writes { Writes out store.old store.new }
+    ensures writes { Writes out.span store.old store.new }
     ensures words { store.new.words ≡ store.old.words }
     ensures live { IfOk result (IsLive store.new) }
     ensures is { IfOk result (λ r. (v : Valuation) → (function_of store.new r v ≡ true) ↔ ((function_of store.old signal v ≡ true) × FitsAt store.old out from to device v)) }
-    ensures few { (u : ℕ) → IsSpanWithin u store.old out → IsWithin u (function_of store.old signal) → Finds u 16 store.old store.new result }
+    ensures few { (u : ℕ) → IsSpanWithin u store.old out.span → IsWithin u (function_of store.old signal) → Finds u (2 * out.source) store.old store.new result }
 {
     store.sound();
     let mut signal = signal;
-    for below in 0..8u32 {
+    for below in 0..out.source as u32 {
         let here = strength(store, out, Some(to), below + 1);
         let other = prefix(store, out, from, device, below + 1);
         signal = match limit(store, signal, other, here) {

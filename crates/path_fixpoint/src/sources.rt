@@ -3,6 +3,7 @@
 ghost use Rattle.std.specs.Prelude.{IsTrue, ◌≡◌, ◌≢◌, ℕ, ◌+◌, ◌*◌, ◌^◌, ◌<◌, ◌≤◌, ◌⊎◌, ◌↔◌, true, false, length, IfOk, IfSome};
 ghost use Rattle.bdd_core.specs.Diagram.{IsWithin, Valuation};
 ghost use Rattle.bdd_core.specs.Store.{IsLive, IsSpan, function_of};
+ghost use Rattle.vrt_model.specs.Levels.{source_level};
 ghost use Rattle.vrt_model.specs.Lists.{Among};
 ghost use Rattle.vrt_model.specs.Path.{Network};
 ghost use Rattle.vrt_model.specs.declared.whole.WholePin.{WholePin as PinValue};
@@ -20,6 +21,7 @@ use crate::opening::{is_given, set};
 use crate::pins::{drive_level, pin_at};
 use crate::signals::{root_bit, slot};
 use crate::steps::{place, strength, widen, word};
+use crate::words::NetWords;
 use bdd_core::{H, Spent, Store, ZERO};
 use node_pool::Span;
 use vrt_model::{Circuit, Net, WholePin};
@@ -31,38 +33,38 @@ struct Source {
     net: Net,
     /// The place of its handle: the number of the net, and of an output its place behind all nets.
     at: u32,
-    /// Its level, 1 to 8.
+    /// Its level, from 1 to the source level.
     size: u32,
 }
 
 /// Writes the constant 0 into the word of each net for a value.
-fn clear(store: &mut Store, part: &Part, out: Span, value: bool)
+fn clear(store: &mut Store, part: &Part, out: NetWords, value: bool)
     requires out { HasMarks part.now out store.old }
-    ensures writes { Writes out store.old store.new }
-    ensures apart { ChangesLevel out (slot_of value) store.old store.new }
-    ensures zero { (i : ℕ) → i < length part.now.nets → word_at store.new out (word_of (slot_of value) i) ≡ 0 }
-    ensures few { (u : ℕ) → IsSpanWithin u store.old out → Rewrites u out store.old store.new }
+    ensures writes { Writes out.span store.old store.new }
+    ensures apart { ChangesLevel out (slot_of out value) store.old store.new }
+    ensures zero { (i : ℕ) → i < length part.now.nets → word_at store.new out.span (word_of out (slot_of out value) i) ≡ 0 }
+    ensures few { (u : ℕ) → IsSpanWithin u store.old out.span → Rewrites u out.span store.old store.new }
 {
     store.sound();
     for i in 0..part.nets.len() {
-        set(store, out, word(i, slot(value)), ZERO);
+        set(store, out.span, word(out, i, slot(out, value)), ZERO);
     }
 }
 
 /// A root's bit where its net is no stronger than the root: where its strength is not one level more.
-fn unblocked(store: &mut Store, out: Span, place: usize, size: u32, bit: H) -> Result<H, Spent>
-    requires out { IsSpan store.old out × IsFilled store.old out }
-    requires place { (net_words * place + net_words ≤ out.len) × (out.len < 2 ^ 32) }
-    requires size { (1 ≤ size) × (size ≤ 8) }
+fn unblocked(store: &mut Store, out: NetWords, place: usize, size: u32, bit: H) -> Result<H, Spent>
+    requires out { IsSpan store.old out.span × IsFilled store.old out.span }
+    requires place { (net_words out.source * place + net_words out.source ≤ out.span.len) × (out.span.len < 2 ^ 32) }
+    requires size { (1 ≤ size) × (size ≤ out.source) }
     requires bit { IsLive store.old bit }
-    ensures writes { Writes out store.old store.new }
+    ensures writes { Writes out.span store.old store.new }
     ensures words { store.new.words ≡ store.old.words }
     ensures live { IfOk result (IsLive store.new) }
-    ensures is { IfOk result (λ r. (v : Valuation) → (function_of store.new r v ≡ true) ↔ ((function_of store.old bit v ≡ true) × (size < 8 → strong store.old out (size + 1) place v ≡ false))) }
-    ensures few { (u : ℕ) → IsSpanWithin u store.old out → IsWithin u (function_of store.old bit) → Finds u 1 store.old store.new result }
+    ensures is { IfOk result (λ r. (v : Valuation) → (function_of store.new r v ≡ true) ↔ ((function_of store.old bit v ≡ true) × (size < out.source → strong store.old out (size + 1) place v ≡ false))) }
+    ensures few { (u : ℕ) → IsSpanWithin u store.old out.span → IsWithin u (function_of store.old bit) → Finds u 1 store.old store.new result }
 {
     store.sound();
-    if size == 8 {
+    if size == out.source as u32 {
         return Ok(bit);
     }
     let above = strength(store, out, Some(place), size + 1);
@@ -75,7 +77,7 @@ fn add_root(
     part: &Part,
     rising: bool,
     roots: Span,
-    out: Span,
+    out: NetWords,
     source: Source,
     value: bool,
 ) -> Result<(), Spent>
@@ -83,11 +85,11 @@ fn add_root(
     requires part { (i j n : ℕ) → IsPlace part.now i n → IsPlace part.now j n → i ≡ j }
     requires roots { IsSpan store.old roots × IsFilled store.old roots × (source.at < roots.len) }
     requires out { HasMarks part.now out store.old }
-    requires size { (1 ≤ source.size) × (source.size ≤ 8) }
-    ensures writes { Writes out store.old store.new }
-    ensures apart { ChangesLevel out (slot_of value) store.old store.new }
+    requires size { (1 ≤ source.size) × (source.size ≤ out.source) }
+    ensures writes { Writes out.span store.old store.new }
+    ensures apart { ChangesLevel out (slot_of out value) store.old store.new }
     ensures adds { IfOk result (λ _. AddsRoots part.now roots out value (λ n at size. (n ≡ source.net.0) × (at ≡ source.at) × (size ≡ source.size)) store.old store.new) }
-    ensures few { (u : ℕ) → IsSpanWithin u store.old roots → IsSpanWithin u store.old out → Spends u 0 out store.old store.new result ⊎ ((i : ℕ) × IsPlace part.now i source.net.0 × Spends u 3 out store.old store.new result) }
+    ensures few { (u : ℕ) → IsSpanWithin u store.old roots → IsSpanWithin u store.old out.span → Spends u 0 out.span store.old store.new result ⊎ ((i : ℕ) × IsPlace part.now i source.net.0 × Spends u 3 out.span store.old store.new result) }
 {
     store.sound();
     let Some(i) = place(part, rising, source.net) else {
@@ -101,7 +103,7 @@ fn add_root(
         Ok(signal) => signal,
         Err(spent) => return Err(spent),
     };
-    match widen(store, out, word(i, slot(value)), signal) {
+    match widen(store, out.span, word(out, i, slot(out, value)), signal) {
         Ok(_) => Ok(()),
         Err(spent) => Err(spent),
     }
@@ -114,18 +116,19 @@ fn add_net(
     part: &Part,
     rising: bool,
     roots: Span,
-    out: Span,
+    out: NetWords,
     net: Net,
     value: bool,
 ) -> Result<(), Spent>
+    requires source { out.source ≡ source_level circuit.now }
     requires rising { IsTrue rising → Rises part.now }
     requires part { (i j n : ℕ) → IsPlace part.now i n → IsPlace part.now j n → i ≡ j }
     requires roots { IsSpan store.old roots × IsFilled store.old roots × (net.0 < roots.len) }
     requires out { HasMarks part.now out store.old }
-    ensures writes { Writes out store.old store.new }
-    ensures apart { ChangesLevel out (slot_of value) store.old store.new }
-    ensures adds { IfOk result (λ _. AddsRoots part.now roots out value (λ n at size. IsGiven circuit.now n × (n ≡ net.0) × (at ≡ n) × (size ≡ 8)) store.old store.new) }
-    ensures few { (u : ℕ) → IsSpanWithin u store.old roots → IsSpanWithin u store.old out → Spends u 3 out store.old store.new result }
+    ensures writes { Writes out.span store.old store.new }
+    ensures apart { ChangesLevel out (slot_of out value) store.old store.new }
+    ensures adds { IfOk result (λ _. AddsRoots part.now roots out value (λ n at size. IsGiven circuit.now n × (n ≡ net.0) × (at ≡ n) × (size ≡ source_level circuit.now)) store.old store.new) }
+    ensures few { (u : ℕ) → IsSpanWithin u store.old roots → IsSpanWithin u store.old out.span → Spends u 3 out.span store.old store.new result }
 {
     store.sound();
     if !is_given(circuit, net) {
@@ -134,7 +137,7 @@ fn add_net(
     let source = Source {
         net,
         at: net.0,
-        size: 8,
+        size: out.source as u32,
     };
     add_root(store, part, rising, roots, out, source, value)
 }
@@ -147,15 +150,15 @@ fn add_given(
     rising: bool,
     gates: Span,
     roots: Span,
-    out: Span,
+    out: NetWords,
     value: bool,
 ) -> Result<(), Spent>
     requires part { IsPartOf circuit.now part.now rising }
     requires words { HasRootWords circuit.now part.now gates roots out store.old }
-    ensures writes { Writes out store.old store.new }
-    ensures apart { ChangesLevel out (slot_of value) store.old store.new }
+    ensures writes { Writes out.span store.old store.new }
+    ensures apart { ChangesLevel out (slot_of out value) store.old store.new }
     ensures adds { IfOk result (λ _. AddsRoots part.now roots out value (IsGivenSource circuit.now part.now) store.old store.new) }
-    ensures few { (u : ℕ) → IsSpanWithin u store.old roots → IsSpanWithin u store.old out → Spends u (length part.now.nets * 3) out store.old store.new result }
+    ensures few { (u : ℕ) → IsSpanWithin u store.old roots → IsSpanWithin u store.old out.span → Spends u (length part.now.nets * 3) out.span store.old store.new result }
 {
     store.sound();
     let _gates = gates;
@@ -176,15 +179,15 @@ fn add_holds(
     rising: bool,
     gates: Span,
     roots: Span,
-    out: Span,
+    out: NetWords,
     value: bool,
 ) -> Result<(), Spent>
     requires part { IsPartOf circuit.now part.now rising }
     requires words { HasRootWords circuit.now part.now gates roots out store.old }
-    ensures writes { Writes out store.old store.new }
-    ensures apart { ChangesLevel out (slot_of value) store.old store.new }
+    ensures writes { Writes out.span store.old store.new }
+    ensures apart { ChangesLevel out (slot_of out value) store.old store.new }
     ensures adds { IfOk result (λ _. AddsRoots part.now roots out value (IsHoldSource circuit.now) store.old store.new) }
-    ensures few { HasOneHold circuit.now → (u : ℕ) → IsSpanWithin u store.old roots → IsSpanWithin u store.old out → Spends u (length part.now.nets * 3) out store.old store.new result }
+    ensures few { HasOneHold circuit.now → (u : ℕ) → IsSpanWithin u store.old roots → IsSpanWithin u store.old out.span → Spends u (length part.now.nets * 3) out.span store.old store.new result }
 {
     store.sound();
     let _gates = gates;
@@ -209,21 +212,21 @@ fn add_outputs(
     part: &Part,
     rising: bool,
     roots: Span,
-    out: Span,
+    out: NetWords,
     outputs: &[WholePin],
     first: u32,
     value: bool,
 ) -> Result<(), Spent>
     requires rising { IsTrue rising → Rises part.now }
     requires part { (i j n : ℕ) → IsPlace part.now i n → IsPlace part.now j n → i ≡ j }
-    requires roots { IsSpan store.old roots × IsFilled store.old roots × IsApart roots out }
+    requires roots { IsSpan store.old roots × IsFilled store.old roots × IsApart roots out.span }
     requires handles { first + length outputs.now ≤ roots.len }
-    requires levels { (pin : PinValue) → Among outputs.now pin → HasDriveLevel pin }
+    requires levels { (pin : PinValue) → Among outputs.now pin → HasDriveLevel out.source pin }
     requires out { HasMarks part.now out store.old }
-    ensures writes { Writes out store.old store.new }
-    ensures apart { ChangesLevel out (slot_of value) store.old store.new }
-    ensures adds { IfOk result (λ _. AddsRoots part.now roots out value (IsPinSource outputs.now first) store.old store.new) }
-    ensures few { (u : ℕ) → IsSpanWithin u store.old roots → IsSpanWithin u store.old out → Spends u (pins_at part.now outputs.now * 3) out store.old store.new result }
+    ensures writes { Writes out.span store.old store.new }
+    ensures apart { ChangesLevel out (slot_of out value) store.old store.new }
+    ensures adds { IfOk result (λ _. AddsRoots part.now roots out value (IsPinSource out.source outputs.now first) store.old store.new) }
+    ensures few { (u : ℕ) → IsSpanWithin u store.old roots → IsSpanWithin u store.old out.span → Spends u (pins_at part.now outputs.now * 3) out.span store.old store.new result }
 {
     store.sound();
     for at in 0..outputs.len() {
@@ -231,7 +234,7 @@ fn add_outputs(
         let source = Source {
             net: pin.net,
             at: first + at as u32,
-            size: drive_level(pin.drive),
+            size: drive_level(out.source, pin.drive),
         };
         match add_root(store, part, rising, roots, out, source, value) {
             Ok(()) => {}
@@ -249,15 +252,15 @@ fn add_pins(
     rising: bool,
     gates: Span,
     roots: Span,
-    out: Span,
+    out: NetWords,
     value: bool,
 ) -> Result<(), Spent>
     requires part { IsPartOf circuit.now part.now rising }
     requires words { HasRootWords circuit.now part.now gates roots out store.old }
-    ensures writes { Writes out store.old store.new }
-    ensures apart { ChangesLevel out (slot_of value) store.old store.new }
-    ensures adds { IfOk result (λ _. AddsRoots part.now roots out value (IsPinSource (pins_of circuit.now) (length circuit.now.nets)) store.old store.new) }
-    ensures few { (u : ℕ) → IsSpanWithin u store.old roots → IsSpanWithin u store.old out → Spends u (pins_at part.now (pins_of circuit.now) * 3) out store.old store.new result }
+    ensures writes { Writes out.span store.old store.new }
+    ensures apart { ChangesLevel out (slot_of out value) store.old store.new }
+    ensures adds { IfOk result (λ _. AddsRoots part.now roots out value (IsPinSource out.source (pins_of circuit.now) (length circuit.now.nets)) store.old store.new) }
+    ensures few { (u : ℕ) → IsSpanWithin u store.old roots → IsSpanWithin u store.old out.span → Spends u (pins_at part.now (pins_of circuit.now) * 3) out.span store.old store.new result }
 {
     store.sound();
     let _gates = gates;
@@ -281,16 +284,16 @@ pub(crate) fn open(
     rising: bool,
     gates: Span,
     roots: Span,
-    out: Span,
+    out: NetWords,
     value: bool,
 ) -> Result<(), Spent>
     requires part { IsPartOf circuit.now part.now rising }
     requires words { HasRootWords circuit.now part.now gates roots out store.old }
-    ensures writes { Writes out store.old store.new }
-    ensures apart { ChangesLevel out (slot_of value) store.old store.new }
+    ensures writes { Writes out.span store.old store.new }
+    ensures apart { ChangesLevel out (slot_of out value) store.old store.new }
     ensures roots { IfOk result (λ _. (v : Valuation) (w : Network) (s : ℕ → ℕ) → SolvedAt circuit.now part.now gates roots out store.old v w s → HasReachRoots circuit.now part.now out value store.new v w s) }
     ensures paths { IfOk result (λ _. (v : Valuation) (w : Network) (s : ℕ → ℕ) → SolvedAt circuit.now part.now gates roots out store.old v w s → HasReachPaths part.now out value store.new v w s) }
-    ensures few { HasOneHold circuit.now → (u : ℕ) → IsSpanWithin u store.old roots → IsSpanWithin u store.old out → Spends u (length part.now.nets * 6 + pins_at part.now (pins_of circuit.now) * 3) out store.old store.new result }
+    ensures few { HasOneHold circuit.now → (u : ℕ) → IsSpanWithin u store.old roots → IsSpanWithin u store.old out.span → Spends u (length part.now.nets * 6 + pins_at part.now (pins_of circuit.now) * 3) out.span store.old store.new result }
 {
     clear(store, part, out, value);
     match add_given(store, circuit, part, rising, gates, roots, out, value) {

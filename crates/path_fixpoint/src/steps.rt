@@ -12,7 +12,7 @@ ghost use Rattle.path_fixpoint.specs.Spending.{Spends};
 
 use crate::Part;
 use crate::direction::Direction;
-use crate::words::net_words;
+use crate::words::{NetWords, net_words};
 use bdd_core::{H, ONE, Spent, Store, ZERO};
 use bdd_ops::{and, or};
 use node_pool::Span;
@@ -77,26 +77,26 @@ pub(crate) fn visited<'a>(
 }
 
 /// The word of a net for a level.
-pub(crate) fn word(place: usize, level: u32) -> u32
+pub(crate) fn word(out: NetWords, place: usize, level: u32) -> u32
     requires level { 1 ≤ level }
-    requires fits { net_words * place + level < 2 ^ 32 }
-    ensures { result ≡ word_of level place }
+    requires fits { net_words out.source * place + level < 2 ^ 32 }
+    ensures { result ≡ word_of out level place }
 {
-    net_words() * place as u32 + (level - 1)
+    net_words(out.source) * place as u32 + (level - 1)
 }
 
 /// Whether the strength at the end of a channel is at least a level. A net outside the part has a given value.
-pub(crate) fn strength(store: &Store, out: Span, place: Option<usize>, level: u32) -> H
-    requires out { IsSpan store.now out × IsFilled store.now out }
-    requires level { (1 ≤ level) × (level ≤ net_words) }
-    requires place { IfSome place (λ i. (net_words * i + net_words ≤ out.len) × (out.len < 2 ^ 32)) }
+pub(crate) fn strength(store: &Store, out: NetWords, place: Option<usize>, level: u32) -> H
+    requires out { IsSpan store.now out.span × IsFilled store.now out.span }
+    requires level { (1 ≤ level) × (level ≤ net_words out.source) }
+    requires place { IfSome place (λ i. (net_words out.source * i + net_words out.source ≤ out.span.len) × (out.span.len < 2 ^ 32)) }
     ensures live { IsLive store.now result }
     ensures is { (v : Valuation) → function_of store.now result v ≡ strong_end store.now out level place v }
-    ensures few { (u : ℕ) → IsSpanWithin u store.now out → IsWithin u (function_of store.now result) }
+    ensures few { (u : ℕ) → IsSpanWithin u store.now out.span → IsWithin u (function_of store.now result) }
 {
     store.sound();
     match place {
-        Some(place) => H(store.read(out, word(place, level))),
+        Some(place) => H(store.read(out.span, word(out, place, level))),
         None => ONE,
     }
 }

@@ -40,6 +40,9 @@ use Rattle.vrt_model.specs.Held.{setting_of}
 use Rattle.vrt_model.specs.Lists.{Among}
 use Rattle.vrt_model.specs.declared.circuit.Circuit.{Circuit}
 use Rattle.vrt_model.specs.declared.verdict.FaultKind.{FaultKind}
+use Rattle.std.proofs.Math.Nat.{mul-le-mul_left}
+use Rattle.path_fixpoint.specs.Strengths.{net_words}
+use Rattle.vrt_model.specs.Levels.{source_level}
 use Rattle.vrt_model.specs.declared.verdict.FaultKind.TheVariants.{FightKept, Unsettled}
 
 abbrev pub kept_spans : PhaseWords → KeptSpans
@@ -77,7 +80,7 @@ module _ (k : Comparison) (phase : ℕ) (plan : PhasePlan) (ready : IsReady k) (
     ones_span = ones_span (counts_of k d.vars) w d h;
     ones_len = h.ones_len;
     out_span = out_span (counts_of k d.vars) w d h;
-    room = λ part m. (let few = kept_room k phase plan ready is part m in let len = h.out_len in omega (arith, few, len));
+    room = λ part m. (let few = mul-le-mul_left {m = length part.nets} {n = length k.circuit.nets} (net_words (source_level k.circuit)) (kept_room k phase plan ready is part m) in let len = h.out_len in omega (arith, few, len));
     roots_zeros = roots_zeros (counts_of k d.vars) w d h;
     roots_ones = roots_ones (counts_of k d.vars) w d h;
     roots_out = roots_out (counts_of k d.vars) w d h;

@@ -1,6 +1,8 @@
 -- The words of a phase are taken, behind those that are there.
 use Rattle.std.proofs.Common.{◌≡◌, ℕ, ◌≤◌, length, arith, ap, refl, subst, sym}
-use Rattle.bdd_core.specs.Store.{Diagrams}
+use Rattle.bdd_core.proofs.Frames.{adds_rewritten, adds_then}
+use Rattle.bdd_core.specs.Diagram.{IsReduced}
+use Rattle.bdd_core.specs.Store.{Adds, Diagrams}
 use Rattle.phase_laws.proofs.Work.{used_words}
 use Rattle.phase_terms.specs.Stores.{HasPhaseWords, IsPhaseStore, IsUsed, counts_of}
 use Rattle.phase_terms.specs.declared.words.PhaseWords.{PhaseWords}
@@ -23,3 +25,7 @@ module _ (k : Comparison) (phase made : ℕ) (counts : WordCounts) (w : PhaseWor
     vars = omega (arith, few, vars_same);
     used = record { budget_is = refl; few = used_mid.few; within = used_mid.within };
   }
+
+-- what is added once the words are there is added in all
+pub taken_adds : (old mid new : Diagrams) → mid ≡ record old { words = mid.words } → IsReduced old.vars old.nodes → length old.nodes ≤ old.budget → Adds mid new new.words → Adds old new new.words
+taken_adds old mid new rest sound within adds = adds_then old mid new mid.words new.words (adds_rewritten old mid rest sound within) adds

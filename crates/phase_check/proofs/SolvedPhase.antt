@@ -25,6 +25,9 @@ use Rattle.vrt_model.specs.Comparison.{Comparison, is_observed, phase_at}
 use Rattle.vrt_model.specs.Constraints.{Meets}
 use Rattle.vrt_model.specs.Held.{setting_of, sources_of}
 use Rattle.vrt_model.specs.Lists.{Among}
+use Rattle.std.proofs.Math.Nat.{mul-le-mul_left}
+use Rattle.path_fixpoint.specs.Strengths.{net_words}
+use Rattle.vrt_model.specs.Levels.{source_level}
 use Rattle.vrt_model.specs.State.{Setting}
 
 -- ---- the first bits
@@ -120,6 +123,6 @@ module _ (k : Comparison) (phase : ℕ) (budget operations : ℕ) (care : H) (w 
     gates_len = store.words.gates_len;
     gates_live = nets.live;
     out_span = out_span (counts_of k d.vars) w d store.words;
-    room = λ part m. (let few = small part m in let len = store.words.out_len in omega (arith, few, len));
+    room = λ part m. (let few = mul-le-mul_left {m = length part.nets} {n = length k.circuit.nets} (net_words (source_level k.circuit)) (small part m) in let len = store.words.out_len in omega (arith, few, len));
     apart = gates_out (counts_of k d.vars) w d store.words;
   }

@@ -40,6 +40,9 @@ use Rattle.vrt_model.specs.declared.verdict.FaultKind.TheVariants.{Fight, Float,
 use Rattle.vrt_model.specs.declared.whole.Whole.{Whole}
 use Rattle.whole_steps.specs.Tables.{HasModelRoom, IsWholeTable}
 use Rattle.whole_steps.specs.Words.{model_words}
+use Rattle.std.proofs.Math.Nat.{mul-le-mul_left}
+use Rattle.path_fixpoint.specs.Strengths.{net_words}
+use Rattle.vrt_model.specs.Levels.{source_level}
 use Rattle.whole_steps.specs.declared.table.OutputPlace.{OutputPlace}
 
 -- the words for parts are enough for the model of each whole instance
@@ -86,7 +89,7 @@ module _ (k : Comparison) (phase : ℕ) (plan : PhasePlan) (ready : IsReady k) (
     gates_span = gates_span (counts_of k d.vars) words d h;
     gates_len = h.gates_len;
     out_span = out_span (counts_of k d.vars) words d h;
-    room = λ part m. (let few = bare_room k phase plan ready is part m in let len = h.out_len in omega (arith, few, len));
+    room = λ part m. (let few = mul-le-mul_left {m = length part.nets} {n = length k.circuit.nets} (net_words (source_level k.circuit)) (bare_room k phase plan ready is part m) in let len = h.out_len in omega (arith, few, len));
     roots_gates = roots_gates (counts_of k d.vars) words d h;
     roots_out = roots_out (counts_of k d.vars) words d h;
     gates_out = gates_out (counts_of k d.vars) words d h;

@@ -1,6 +1,7 @@
 //! The bare circuit of a phase.
 
 ghost use Rattle.std.specs.Prelude.{◌≢◌, ℕ, ◌≤◌};
+ghost use Rattle.bdd_core.specs.Store.{Adds};
 ghost use Rattle.phase_check.specs.States.{IsOpened, IsSearchable, KeepsRoom, SolvesBare};
 ghost use Rattle.phase_terms.specs.Ready.{comparison_in};
 ghost use Rattle.whole_steps.specs.Tables.{IsWholeTable};
@@ -11,7 +12,7 @@ use circuit_faults::{CircuitSpans, PhasedCircuit, wired_fault};
 use phase_terms::PhaseFault;
 
 /// Solves the bare circuit of an opened phase whose constraints some valuation meets: its first fault; or none, and then its observed nets
-/// have their bits.
+/// have their bits. Handles from before keep their functions.
 ///
 /// `Spent` comes only with more than four variables, where the operations so far and those of the circuit's steps may add more nodes than
 /// the budget has; then as many nodes are there.
@@ -23,6 +24,7 @@ pub fn solve_bare(store: &mut Store, search: Search<'_>) -> Result<Option<PhaseF
     requires some { search.care.0 ≢ 0 }
     ensures gives { (made : ℕ) → SolvesBare search.entry made store.old store.new result }
     ensures kept { KeepsRoom store.old store.new }
+    ensures adds { Adds store.old store.new store.new.words }
 {
     store.sound();
     let words = search.words;

@@ -26,6 +26,7 @@ use Rattle.vrt_model.specs.Held.{sources_of}
 use Rattle.vrt_model.specs.Levels.{source_level}
 use Rattle.vrt_model.specs.declared.circuit.Circuit.{Circuit}
 use Rattle.vrt_model.specs.declared.rules.Phase.{Phase}
+use Rattle.path_fixpoint.proofs.SourceLevels.{source_most}
 use Rattle.vrt_model.specs.declared.whole.Whole.{Whole}
 
 -- ---- numbers
@@ -111,7 +112,7 @@ module _ (k : Comparison) (phase : ℕ) (plan : PhasePlan) (devices : ℕ) (read
       within_work l n devices (length k.circuit.holds) (length (element_names k.model)) (length (pins_of k.circuit)) (wholes_size k.circuit) (model_size k.model) (assume_size k.rules name)
       (sum_by (lines_of here) k.circuit.instances) (circuit_operations k.circuit plan.parts.list) (sum_by (solving_operations k.circuit) plan.kept.list)
       (drive_operations k.circuit plan.parts.list plan.kept.list) (length plan.wishes) (sum_by (constraint_operations here) k.circuit.instances)
-      (omega arith) (holds_few k.circuit ready.circuit) (omega (arith, elements, latches)) few (is_small small) (omega (arith, bare, solving)) (omega (arith, kept, solving))
+      (source_most k.circuit) (holds_few k.circuit ready.circuit) (omega (arith, elements, latches)) few (is_small small) (omega (arith, bare, solving)) (omega (arith, kept, solving))
       (omega (arith, bare_levels, kept_levels, strengths)) is.few (instances_few here k.circuit.instances) in
       let asked = assumed_few k.rules name phase in
       omega (arith, sum, steps, asked)

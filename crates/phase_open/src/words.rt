@@ -1,7 +1,8 @@
 //! The words of a phase in its store.
 
-ghost use Rattle.std.specs.Prelude.{◌≡◌, ◌+◌, ◌++◌, ◌≤◌, ◌<◌, All, length, replicate};
+ghost use Rattle.std.specs.Prelude.{◌≡◌, ◌+◌, ◌*◌, ◌++◌, ◌≤◌, ◌<◌, All, length, replicate};
 ghost use Rattle.bdd_core.specs.Words.{IsFilled};
+ghost use Rattle.path_fixpoint.specs.Strengths.{net_words};
 ghost use Rattle.phase_open.specs.Given.{AreFew};
 ghost use Rattle.phase_terms.specs.Stores.{HasPhaseWords, most_model_words, word_count};
 ghost use Rattle.vrt_model.specs.declared.whole.Whole.{Whole as WholeValue};
@@ -41,12 +42,23 @@ pub fn most_model_words(wholes: &[Whole]) -> u32
     most
 }
 
+/// The words in which the parts of a circuit are solved.
+fn part_words(counts: WordCounts) -> u32
+    requires few { AreFew counts }
+    ensures words { result ≡ net_words counts.source * counts.nets }
+    ensures few { result ≤ 5140000 }
+{
+    net_words(counts.source) * counts.nets
+}
+
 /// How many words a phase takes.
 pub fn word_count(counts: WordCounts) -> u32
     requires few { AreFew counts }
-    ensures { result ≡ word_count counts }
+    ensures words { result ≡ word_count counts }
+    ensures few { result ≤ 6421003 }
 {
-    (net_words() + 4) * counts.nets
+    part_words(counts)
+        + 4 * counts.nets
         + counts.pins
         + counts.models
         + (2 * counts.signals + 1)
@@ -103,7 +115,7 @@ pub fn take_words(store: &mut Store, counts: WordCounts) -> PhaseWords
     let gates = behind(roots, counts.nets);
     let zeros = behind(gates, counts.nets);
     let ones = behind(zeros, counts.nets);
-    let out = behind(ones, net_words() * counts.nets + counts.models);
+    let out = behind(ones, part_words(counts) + counts.models);
     let inputs = behind(out, counts.signals + 1);
     let held = behind(inputs, counts.elements);
     let values = behind(held, counts.signals + counts.elements);

@@ -9,4 +9,4 @@ mod plan;
 mod wishes;
 
 pub use fault::PlanFault;
-pub use plan::plan_phase;
+pub use plan::{plan_by_parts, plan_phase};

@@ -68,6 +68,29 @@ fn plan_with(
     })
 }
 
+/// The plan of a phase by the parts of its circuit without keepers, which were made before, so that the circuit has no cycle. Where there is one,
+/// the model has none either; else the first cycle of the model is told.
+pub fn plan_by_parts(
+    alloc: Global,
+    index: &RuleIndex,
+    compared: Comparison<'_>,
+    phase: u32,
+    parts: Parts,
+) -> Result<PhasePlan, PlanFault>
+    requires ready { IsReady (comparison_in compared) }
+    requires tables { AreRuleTables compared.rules.now index.now }
+    requires phase { phase < length compared.rules.now.phases }
+    requires parts { IsPartList compared.circuit.now (phase_at compared.rules.now phase) true parts }
+    ensures gives { PlanGives (comparison_in compared.entry) phase result }
+    ensures acyclic { IfOk result (λ _. IsAcyclic (CircuitArc (comparison_in compared.entry) phase) × IsAcyclic (ModelArc (comparison_in compared.entry) phase)) }
+{
+    let model = model_order(alloc, compared, phase)?;
+    match plan_with(alloc, index, compared, phase, parts, model) {
+        Ok(plan) => Ok(plan),
+        Err(_) => Err(PlanFault::NoMemory),
+    }
+}
+
 /// The plan of a phase: the parts of the circuit without its keepers and with them, the steps in which it is looked through, the
 /// order of the model under the bits of its clocks, the observed nets, and what is wanted of nets. Where there is one, neither
 /// the circuit nor the model has a cycle. Else the first cycle is told, that of the circuit before that of the model.
@@ -84,9 +107,5 @@ pub fn plan_phase(
     ensures acyclic { IfOk result (λ _. IsAcyclic (CircuitArc (comparison_in compared.entry) phase) × IsAcyclic (ModelArc (comparison_in compared.entry) phase)) }
 {
     let parts = bare_parts(alloc, compared, phase)?;
-    let model = model_order(alloc, compared, phase)?;
-    match plan_with(alloc, index, compared, phase, parts, model) {
-        Ok(plan) => Ok(plan),
-        Err(_) => Err(PlanFault::NoMemory),
-    }
+    plan_by_parts(alloc, index, compared, phase, parts)
 }

@@ -13,6 +13,8 @@ use Rattle.phase_rows.specs.Spans.{HasSpans, spans_of}
 use Rattle.vrt_model.proofs.Members.{all_among}
 use Rattle.vrt_model.specs.Lists.{Among}
 use Rattle.vrt_model.specs.declared.circuit.Circuit.{Circuit}
+use Rattle.vrt_model.specs.Levels.{source_level}
+use Rattle.std.proofs.Math.Nat.{mul-le-mul_left}
 use Rattle.vrt_model.specs.declared.whole.WholePin.{WholePin}
 
 -- words of a span are one
@@ -32,7 +34,7 @@ inner_live d whole start len live low high k lt =
     let inside : (start - whole.start) + k < whole.len = omega (arith, low, high, below) in
     subst (λ (j : ℕ). slice_index d.words j < length d.nodes) here (live ((start - whole.start) + k) inside)
 
-module _ (c : Circuit) (parts : List Part) (whole : Span) (d : Diagrams) (enough : (4 + net_words) * length c.nets ≤ whole.len) (span : IsSpan d whole) (live : IsFilled d whole)
+module _ (c : Circuit) (parts : List Part) (whole : Span) (d : Diagrams) (enough : 4 * length c.nets + net_words (source_level c) * length c.nets ≤ whole.len) (span : IsSpan d whole) (live : IsFilled d whole)
     (few : All (λ (part : Part). length part.nets ≤ length c.nets) parts) (none : c.wholes ≡ []) where
   roots_span : IsSpan d (record { start = whole.start; len = length c.nets })
   roots_span = inner_span d whole whole.start (length c.nets) span (omega arith) (omega (arith, enough))
@@ -52,13 +54,13 @@ module _ (c : Circuit) (parts : List Part) (whole : Span) (d : Diagrams) (enough
   ones_span : IsSpan d (record { start = whole.start + 3 * length c.nets; len = length c.nets })
   ones_span = inner_span d whole (whole.start + 3 * length c.nets) (length c.nets) span (omega arith) (omega (arith, enough))
 
-  out_span : IsSpan d (record { start = whole.start + 4 * length c.nets; len = net_words * length c.nets })
-  out_span = inner_span d whole (whole.start + 4 * length c.nets) (net_words * length c.nets) span (omega arith) (omega (arith, enough))
+  out_span : IsSpan d (record { start = whole.start + 4 * length c.nets; len = net_words (source_level c) * length c.nets })
+  out_span = inner_span d whole (whole.start + 4 * length c.nets) (net_words (source_level c) * length c.nets) span (omega arith) (omega (arith, enough))
 
-  room : (part : Part) → Among parts part → net_words * length part.nets ≤ net_words * length c.nets
-  room part m = (let le = all_among (λ (p : Part). length p.nets ≤ length c.nets) parts part few m in omega (arith, le))
+  room : (part : Part) → Among parts part → net_words (source_level c) * length part.nets ≤ net_words (source_level c) * length c.nets
+  room part m = mul-le-mul_left (net_words (source_level c)) (all_among (λ (p : Part). length p.nets ≤ length c.nets) parts part few m)
 
-  kept_spans : HasKeptSpans c parts (spans_of whole.start (length c.nets)) d
+  kept_spans : HasKeptSpans c parts (spans_of c whole.start) d
   kept_spans = record {
     roots_span = roots_span;
     roots_len = omega (arith, ap (λ (ps : List WholePin). length ps) (pins_none c none));
@@ -83,7 +85,7 @@ module _ (c : Circuit) (parts : List Part) (whole : Span) (d : Diagrams) (enough
     ones_out = inl (omega arith);
   }
 
-  made : HasSpans c parts (spans_of whole.start (length c.nets)) d
+  made : HasSpans c parts (spans_of c whole.start) d
   made = record {
     bare = record {
       roots_span = roots_span;
@@ -100,6 +102,6 @@ module _ (c : Circuit) (parts : List Part) (whole : Span) (d : Diagrams) (enough
     kept = kept_spans;
   }
 
-pub spans_are : (c : Circuit) (parts : List Part) (whole : Span) (spans : KeptSpans) (d : Diagrams) → spans ≡ spans_of whole.start (length c.nets) → (4 + net_words) * length c.nets ≤ whole.len
+pub spans_are : (c : Circuit) (parts : List Part) (whole : Span) (spans : KeptSpans) (d : Diagrams) → spans ≡ spans_of c whole.start → 4 * length c.nets + net_words (source_level c) * length c.nets ≤ whole.len
     → IsSpan d whole → IsFilled d whole → All (λ (part : Part). length part.nets ≤ length c.nets) parts → c.wholes ≡ [] → HasSpans c parts spans d
 spans_are c parts whole spans d is enough span live few none = subst (λ (s : KeptSpans). HasSpans c parts s d) (sym is) (made c parts whole d enough span live few none)

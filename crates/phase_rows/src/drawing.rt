@@ -94,7 +94,7 @@ fn add_device(alloc: Global, circuit: &mut Circuit, keeper: bool, rest: &str) ->
         "p" => Kind::P,
         _ => return Err(Stop::NotRead),
     };
-    let level = number(level)?.min(9) as u8;
+    let level = number(level)?.min(255) as u8;
     let (gate, left, right) = (
         net_of(circuit, gate)?,
         net_of(circuit, left)?,

@@ -59,7 +59,7 @@ fn board_of(
     if nets > MOST_NETS || ports > MOST_PORTS {
         return Err(Stop::Unfit);
     }
-    let words = word_count(nets as u32);
+    let words = word_count(circuit);
     let mut board = Board::open(alloc, words as usize + ports, ports)?;
     let variables = Span {
         start: board.values.start.saturating_add(words),

@@ -4,6 +4,7 @@ ghost use Rattle.std.specs.Prelude.{◌≡◌, ◌*◌, ◌+◌, ◌<◌, ◌≤
 ghost use Rattle.channel_parts.specs.declared.part.Part.{Part as PartValue};
 ghost use Rattle.path_fixpoint.specs.Strengths.{net_words};
 ghost use Rattle.phase_rows.specs.Spans.{HasSpans, spans_of};
+ghost use Rattle.vrt_model.specs.Levels.{source_level};
 
 use crate::checks::{are_live, is_live};
 use crate::stop::Stop;
@@ -11,7 +12,7 @@ use bdd_core::Store;
 use channel_parts::Parts;
 use circuit_faults::KeptSpans;
 use node_pool::Span;
-use path_fixpoint::net_words;
+use path_fixpoint::{net_words, source_level};
 use vrt_model::Circuit;
 
 /// The most nets of a circuit whose faults are told.
@@ -20,18 +21,28 @@ pub(crate) const MOST_NETS: usize = 50;
 /// The last word at which its spans may begin.
 const MOST_WORDS: u32 = 100_000;
 
-/// How many words so many nets take.
-pub(crate) fn word_count(nets: u32) -> u32
-    requires { nets ≤ 50 }
-    ensures { result ≡ (4 + net_words) * nets }
+/// The words in which the parts of a circuit are solved.
+fn part_words(circuit: &Circuit) -> u32
+    requires { length circuit.now.nets ≤ 50 }
+    ensures words { result ≡ net_words (source_level circuit.now) * length circuit.now.nets }
+    ensures few { result ≤ 12850 }
 {
-    (4 + net_words()) * nets
+    net_words(source_level(circuit)) * circuit.nets.len() as u32
+}
+
+/// How many words the nets of a circuit take.
+pub(crate) fn word_count(circuit: &Circuit) -> u32
+    requires { length circuit.now.nets ≤ 50 }
+    ensures { result ≡ 4 * length circuit.now.nets + net_words (source_level circuit.now) * length circuit.now.nets }
+{
+    4 * circuit.nets.len() as u32 + part_words(circuit)
 }
 
 /// The spans of the nets of a circuit, one behind the other from a word on.
 fn spans_of(circuit: &Circuit, start: u32) -> KeptSpans
-    requires { start + (4 + net_words) * length circuit.now.nets < 2 ^ 32 }
-    ensures { result ≡ spans_of start (length circuit.now.nets) }
+    requires few { length circuit.now.nets ≤ 50 }
+    requires room { start + 4 * length circuit.now.nets + net_words (source_level circuit.now) * length circuit.now.nets < 2 ^ 32 }
+    ensures { result ≡ spans_of circuit.now start }
 {
     let nets = circuit.nets.len() as u32;
     KeptSpans {
@@ -50,7 +61,7 @@ fn spans_of(circuit: &Circuit, start: u32) -> KeptSpans
         },
         out: Span {
             start: start + 4 * nets,
-            len: net_words() * nets,
+            len: part_words(circuit),
         },
     }
 }
@@ -80,7 +91,7 @@ pub(crate) fn spans_in(
     if whole.start > MOST_WORDS || nets > MOST_NETS {
         return Err(Stop::Unfit);
     }
-    if whole.len < word_count(nets as u32) {
+    if whole.len < word_count(circuit) {
         return Err(Stop::Unfit);
     }
     if !is_live(store, whole) || !are_live(store, whole) || !are_within(circuit, parts) {

@@ -9,6 +9,7 @@ use Rattle.phase_terms.specs.declared.words.WordCounts.{WordCounts}
 use Rattle.vrt_model.specs.Comparison.{Comparison}
 use Rattle.vrt_model.specs.Elements.{element_names}
 use Rattle.vrt_model.specs.Held.{sources_of}
+use Rattle.vrt_model.specs.Levels.{source_level}
 use Rattle.vrt_model.specs.declared.whole.Whole.{Whole}
 use Rattle.whole_steps.specs.Words.{model_words}
 
@@ -19,12 +20,13 @@ most_model_words (w ∷ ws) = max (model_words w.model) (most_model_words ws)
 
 -- how many words a phase takes
 abbrev pub word_count : WordCounts → ℕ
-word_count c = (net_words + 4) * c.nets + c.pins + c.models + (2 * c.signals + 1) + 2 * c.elements + c.variables
+word_count c = net_words c.source * c.nets + 4 * c.nets + c.pins + c.models + (2 * c.signals + 1) + 2 * c.elements + c.variables
 
 -- the words of a comparison in a store of so many variables
 abbrev pub counts_of : Comparison → ℕ → WordCounts
 counts_of k variables = record {
   nets = length k.circuit.nets;
+  source = source_level k.circuit;
   pins = length (pins_of k.circuit);
   models = most_model_words k.circuit.wholes;
   signals = length k.model.signals;
@@ -48,7 +50,7 @@ pub record HasPhaseWords (c : WordCounts) (w : PhaseWords) (d : Diagrams) : Type
   pub gates_len : w.gates.len ≡ c.nets
   pub zeros_len : w.zeros.len ≡ c.nets
   pub ones_len : w.ones.len ≡ c.nets
-  pub out_len : w.out.len ≡ net_words * c.nets + c.models
+  pub out_len : w.out.len ≡ net_words c.source * c.nets + c.models
   pub inputs_len : w.inputs.len ≡ c.signals + 1
   pub held_len : w.held.len ≡ c.elements
   pub values_len : w.values.len ≡ c.signals + c.elements

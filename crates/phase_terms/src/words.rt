@@ -28,12 +28,14 @@ pub struct PhaseWords {
     pub least: Span,
 }
 
-/// How many nets, outputs of whole instances, signals, latch elements and variables a phase has words for, and how many for the
-/// models of whole instances.
+/// How many nets, outputs of whole instances, signals, latch elements and variables a phase has words for, how many each net has by the
+/// source level, and how many there are for the models of whole instances.
 #[derive(Clone, Copy)]
 pub struct WordCounts {
     /// The nets of the circuit.
     pub nets: u32,
+    /// The source level of the circuit.
+    pub source: u8,
     /// The outputs of the whole instances.
     pub pins: u32,
     /// The words in which the greatest model of a whole instance is evaluated.

@@ -1,3 +1,4 @@
+pub mod BareLaws
 pub mod ChosenLaws
 pub mod InsideLaws
 pub mod RightLaws

@@ -46,6 +46,7 @@ use Rattle.substitute.specs.Chosen.{cut_of}
 use Rattle.substitute.specs.Cycles.{IsTriedBy}
 use Rattle.substitute.specs.Underway.{AreChosen, AreChosenBelow, AreTables}
 use Rattle.substitute.specs.Whole.{AreEntriesOf, IsCellGround, IsWholeGround, WholeGives}
+use Rattle.substitute.specs.declared.checked_circuit.CheckedCircuit.{CheckedCircuit}
 use Rattle.substitute.specs.declared.choice.Chosen.{Chosen}
 use Rattle.substitute.specs.declared.tables.Tables.{Tables}
 
@@ -202,7 +203,7 @@ kept_entries design blif rules facts places kept are made = record {
 -- ---- a slice of facts
 
 -- what is found by the slice is found by the list that it shows
-pub found_of_cell : (t : Top) (blif : Blif) (shown facts : List CellFacts) (flat : Circuit) (found : Option Circuit) → shown ≡ facts → IsCellGround t blif facts flat
+pub found_of_cell : (t : Top) (blif : Blif) (shown facts : List CellFacts) (flat : Circuit) (found : Option CheckedCircuit) → shown ≡ facts → IsCellGround t blif facts flat
     → (IsCellGround t blif shown flat → WholeGives t blif shown flat found) → WholeGives t blif facts flat found
 found_of_cell t blif shown facts flat found same ground gives =
     subst (λ (fs : List CellFacts). WholeGives t blif fs flat found) same (gives (subst (λ (fs : List CellFacts). IsCellGround t blif fs flat) (sym same) ground))

@@ -1,3 +1,4 @@
+pub mod BareParts
 pub mod Candidates
 pub mod Chosen
 pub mod Clocked

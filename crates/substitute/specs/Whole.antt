@@ -23,7 +23,9 @@ use Rattle.vrt_model.specs.declared.pairing.PortRole.{PortRole}
 use Rattle.vrt_model.specs.declared.rules.Rules.{Rules}
 use Rattle.vrt_model.specs.declared.whole.CellFacts.{CellFacts}
 use Rattle.whole_cells.specs.Entries.{IsEntry}
+use Rattle.substitute.specs.BareParts.{HasParts}
 use Rattle.substitute.specs.Candidates.{IsGround}
+use Rattle.substitute.specs.declared.checked_circuit.CheckedCircuit.{CheckedCircuit}
 
 -- a table with an entry for each cell of the netlist, that of each cell of the places what its instances have in common
 pub record AreEntriesOf (design : Design) (blif : Blif) (rules : Rules) (facts : List CellFacts) (places : List Place) (cells : List (Option WholeCell)) : Type 0 where
@@ -36,10 +38,10 @@ pub record IsWholeGround (design : Design) (blif : Blif) (rules : Rules) (cell :
   pub ground : IsGround (whole_of design rules cell roles) blif facts flat
   pub flat_is : flat ≡ flat_circuit_of (whole_of design rules cell roles)
 
--- the checked circuit of a cell, none where it is the flat one
-abbrev pub WholeGives : Top → Blif → List CellFacts → Circuit → Option Circuit → Type 0
+-- the checked circuit of a cell, none where it is the flat one; with its parts, where they are kept
+abbrev pub WholeGives : Top → Blif → List CellFacts → Circuit → Option CheckedCircuit → Type 0
 WholeGives t blif facts flat None = (cut : Cut) × (cut.top ≡ t) × IsChecked cut blif facts flat
-WholeGives t blif facts flat (Some c) = (cut : Cut) × (cut.top ≡ t) × IsChecked cut blif facts c
+WholeGives t blif facts flat (Some x) = ((cut : Cut) × (cut.top ≡ t) × IsChecked cut blif facts x.circuit) × HasParts t.rules.phases x
 
 -- the same ground, but that the flat circuit may have cycles
 pub record IsCellGround (t : Top) (blif : Blif) (facts : List CellFacts) (flat : Circuit) : Type 0 where

@@ -8,6 +8,7 @@ ghost use Rattle.vrt_model.specs.declared.pairing.PortRole.{PortRole as RoleValu
 ghost use Rattle.whole_cells.specs.Own.{AreFiles, AreItsPlaces};
 ghost use Rattle.substitute.specs.Whole.{IsCellGround, WholeAnswers, WholeGives};
 
+use crate::checked_circuit::CheckedCircuit;
 use crate::with_tables::whole_with;
 use flatten::{FlatFault, structure_with, unroll_cell, unrolled_circuit};
 use net_places::Unrolled;
@@ -28,7 +29,7 @@ fn checked_of(
     unrolled: &Unrolled,
     flat: &Circuit,
     facts: &[CellFacts],
-) -> Result<Option<Circuit>, NoMemory>
+) -> Result<Option<CheckedCircuit>, NoMemory>
     requires prepared { ArePrepared design.now blif.now rules.now prepared.now }
     requires files { AreFiles design.now blif.now rules.now }
     requires there { cell < length design.now.cells }
@@ -82,7 +83,7 @@ pub fn whole(
         facts.as_slice(),
     )?;
     match found {
-        Some(circuit) => Ok(circuit),
+        Some(checked) => Ok(checked.into_circuit()),
         None => Ok(flat),
     }
 }

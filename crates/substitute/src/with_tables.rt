@@ -20,6 +20,8 @@ ghost use Rattle.substitute.specs.Clocked.{is_clocked_at};
 ghost use Rattle.substitute.specs.Underway.{AreChosenBelow, AreTables};
 ghost use Rattle.substitute.specs.Whole.{AreEntriesOf, IsWholeGround, WholeGives};
 
+use crate::bare_parts::all_bare_parts;
+use crate::checked_circuit::CheckedCircuit;
 use crate::choice::{Chosen, choose_all};
 use crate::clocked::has_clocked_cell;
 use crate::cycles::circuit_by;
@@ -30,7 +32,7 @@ use prepared_tables::Prepared;
 use std::alloc::Global;
 use vrt_model::{Blif, CellFacts, Circuit, Design, NoMemory, Rules};
 use whole_cells::{KeptCells, make_used};
-use whole_circuits::{are_acyclic, device_places};
+use whole_circuits::device_places;
 
 /// Whether some mark is set.
 fn has_mark(marks: &[bool]) -> bool
@@ -58,7 +60,7 @@ fn circuit_of(alloc: Global, tables: Tables<'_>, chosen: &Chosen) -> Result<Circ
 
 /// The checked circuit where cycles are asked for at each instance, none where no instance is chosen. It takes time in proportion to the flat circuit
 /// for each instance.
-fn one_by_one(alloc: Global, tables: Tables<'_>) -> Result<Option<Circuit>, NoMemory>
+fn one_by_one(alloc: Global, tables: Tables<'_>) -> Result<Option<CheckedCircuit>, NoMemory>
     requires holds { All (IsHold tables.flat.now) tables.flat.now.holds }
     requires wired { IsWired tables.flat.now }
     requires small { AreSmall tables.unrolled.now.places }
@@ -70,12 +72,15 @@ fn one_by_one(alloc: Global, tables: Tables<'_>) -> Result<Option<Circuit>, NoMe
         return Ok(None);
     }
     let circuit = circuit_of(alloc, tables, &chosen)?;
-    Ok(Some(circuit))
+    Ok(Some(CheckedCircuit {
+        circuit,
+        parts: None,
+    }))
 }
 
 /// The checked circuit of instances that are chosen without a look at cycles, if then no arc leads around: so no arc leads around
 /// with fewer of them whole either. None where no instance is chosen.
-fn all_at_once(alloc: Global, tables: Tables<'_>) -> Result<Option<Circuit>, NoMemory>
+fn all_at_once(alloc: Global, tables: Tables<'_>) -> Result<Option<CheckedCircuit>, NoMemory>
     requires holds { All (IsHold tables.flat.now) tables.flat.now.holds }
     requires wired { IsWired tables.flat.now }
     requires small { AreSmall tables.unrolled.now.places }
@@ -88,16 +93,19 @@ fn all_at_once(alloc: Global, tables: Tables<'_>) -> Result<Option<Circuit>, NoM
         return Ok(None);
     }
     let circuit = circuit_of(alloc, tables, &tried)?;
-    let free = are_acyclic(alloc, &circuit, tables.phases)?;
-    if !free {
-        return one_by_one(alloc, tables);
+    let bare = all_bare_parts(alloc, &circuit, tables.phases)?;
+    match bare {
+        Some(parts) => Ok(Some(CheckedCircuit {
+            circuit,
+            parts: Some(parts),
+        })),
+        None => one_by_one(alloc, tables),
     }
-    Ok(Some(circuit))
 }
 
 /// The checked circuit, none where no instance is chosen. A port that carries a clock has its bit in a cell alone, and so may
 /// be known there and not around an instance: with such ports cycles are asked for at each instance.
-fn checked_by(alloc: Global, tables: Tables<'_>) -> Result<Option<Circuit>, NoMemory>
+fn checked_by(alloc: Global, tables: Tables<'_>) -> Result<Option<CheckedCircuit>, NoMemory>
     requires holds { All (IsHold tables.flat.now) tables.flat.now.holds }
     requires wired { IsWired tables.flat.now }
     requires small { AreSmall tables.unrolled.now.places }
@@ -147,7 +155,7 @@ pub fn whole_with(
     flat: &Circuit,
     facts: &[CellFacts],
     kept: &mut KeptCells,
-) -> Result<Option<Circuit>, NoMemory>
+) -> Result<Option<CheckedCircuit>, NoMemory>
     requires prepared { ArePrepared design.now blif.now rules.now prepared.now }
     requires files { AreFiles design.now blif.now rules.now }
     requires there { cell < length design.now.cells }

@@ -1,8 +1,10 @@
+pub mod ArrivalLaws
 pub mod KnownLaws
 pub mod CellLaws
 pub mod ClassLaws
 pub mod EnterShown
 pub mod KeptFightShown
+pub mod ModelLaws
 pub mod NextShown
 pub mod PutLaws
 pub mod RefusalLaws

@@ -4,18 +4,18 @@ use Rattle.std.specs.Prelude.{[], codes, IfOk, MatchResult}
 use Rattle.blif_checks.specs.Checked.{IsModelFault}
 use Rattle.blif_checks.specs.declared.faults.ModelFault.{ModelFault}
 use Rattle.blif_checks.specs.declared.faults.ModelFault.TheVariants.{NoMemory as ModelsMemory}
-use Rattle.blif_reader.specs.Models.{blif_of}
-use Rattle.blif_reader.specs.Refused.{fault_of as models_fault_of}
 use Rattle.hierarchy.specs.Order.{IsHierFault}
 use Rattle.hierarchy.specs.declared.faults.HierFault.{HierFault}
 use Rattle.hierarchy.specs.declared.faults.HierFault.TheVariants.{NoMemory as CellsMemory}
+use Rattle.refusal_lines.specs.Lines.{models_line, refusal_line}
 use Rattle.rules_reader.specs.Refused.{fault_of as rules_fault_of}
 use Rattle.spice_reader.specs.Refused.{IsNetlist}
 use Rattle.text_lines.specs.Faults.{IsClean}
-use Rattle.verity_run.specs.Given.{ByFile, Given, models_cards, netlist_cards, rules_cards}
-use Rattle.verity_run.specs.Messages.{cells_line, models_line, refusal_line}
+use Rattle.verity_run.specs.Given.{ByFile, Given, netlist_cards, rules_cards}
+use Rattle.verity_run.specs.Messages.{cells_line}
+use Rattle.verity_run.specs.Models.{AreModelsOf}
 use Rattle.verity_run.specs.Reads.{Source, StopsBy}
-use Rattle.verity_run.specs.Refusals.{IsRefusal, OfOrder, OfUnrolling, Tells, TellsFiles, TellsStop}
+use Rattle.verity_run.specs.Refusals.{IsRefusal, OfOrder, OfRules, OfUnrolling, Tells, TellsFiles, TellsStop}
 use Rattle.verity_run.specs.declared.reads.Stop.{Stop}
 use Rattle.verity_run.specs.declared.refusals.Refusal.{Refusal}
 use Rattle.verity_run.specs.declared.refusals.Refusal.TheVariants.{Unread, Told, NoMemory}
@@ -36,13 +36,19 @@ unrolling_told word blif fault (Ok text) r other stands told is =
     subst (Tells (OfUnrolling word blif)) (sym is) (record { fault = fault; first = fault_stands blif fault other stands; told = told })
 unrolling_told word blif fault (Err e) r other stands told is = subst (Tells (OfUnrolling word blif)) (sym is) tt
 
+-- the rules, where the models are read
+pub rules_told : (g : Given) (blif : Blif) (r : Refusal) → IsNetlist (netlist_cards g) → AreModelsOf g.words.blif g.bytes.blif blif → Tells (OfRules g.words.rules g.bytes.rules) r
+    → Tells (IsRefusal g) r
+rules_told g blif (Unread line) netlist models told = absurd told
+rules_told g blif (Told line) netlist models told = inr (netlist, inr (blif, models, inl told))
+rules_told g blif NoMemory netlist models told = tt
+
 -- the last of the refusals
-pub last_told : (g : Given) (blif : Blif) (r : Refusal) → IsNetlist (netlist_cards g) → IsClean models_fault_of (models_cards g) → IsClean rules_fault_of (rules_cards g)
-    → blif ≡ blif_of (models_cards g) → Tells (OfUnrolling g.words.blif blif) r → Tells (IsRefusal g) r
-last_told g blif (Unread line) netlist models lines is told = absurd told
-last_told g blif (Told line) netlist models lines is told =
-    inr (netlist, inr (models, inr (lines, subst (λ (b : Blif). OfUnrolling g.words.blif b line) is told)))
-last_told g blif NoMemory netlist models lines is told = tt
+pub last_told : (g : Given) (blif : Blif) (r : Refusal) → IsNetlist (netlist_cards g) → AreModelsOf g.words.blif g.bytes.blif blif → IsClean rules_fault_of (rules_cards g)
+    → Tells (OfUnrolling g.words.blif blif) r → Tells (IsRefusal g) r
+last_told g blif (Unread line) netlist models lines told = absurd told
+last_told g blif (Told line) netlist models lines told = inr (netlist, inr (blif, models, inr (lines, told)))
+last_told g blif NoMemory netlist models lines told = tt
 
 -- ---- the order of the cells
 

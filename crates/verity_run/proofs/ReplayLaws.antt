@@ -63,7 +63,7 @@ comparison_is design blif rules n m f made =
     (groups_of (flat_circuit design rules n (pairing_of design n m x rules)) x)) made.model_is
 
 -- what holds of it holds of the comparison of a supported cell
-supported_with : (P : Comparison → Type 0) (design : Design) (blif : Blif) (rules : Rules) (n m k : ℕ) (f : Flattened) → IsSupported design blif rules n m → IsFlattened design blif rules n k f
+pub supported_with : (P : Comparison → Type 0) (design : Design) (blif : Blif) (rules : Rules) (n m k : ℕ) (f : Flattened) → IsSupported design blif rules n m → IsFlattened design blif rules n k f
     → P (comparison design rules n f) → IsSupportedWith design blif rules n P
 supported_with P design blif rules n m k f supported made holds =
     let same : k ≡ m = same_model 0 0 k m (sym made.paired ∙ supported.paired) in

@@ -11,19 +11,20 @@ use Rattle.command_line.specs.Manual.{help_text, version_line}
 use Rattle.command_line.specs.declared.request.Asked.TheVariants.{Help, Version}
 use Rattle.command_line.specs.declared.request.FileWords.{FileWords}
 use Rattle.command_line.specs.declared.request.Request.{Request}
-use Rattle.command_line.specs.declared.request.Request.TheVariants.{Check, Replay, Classes, Generate}
+use Rattle.command_line.specs.declared.request.Request.TheVariants.{Check, Replay, Classes, Generate, Arrive}
 use Rattle.generator.specs.Texts.{IsSize}
 use Rattle.vrt_io.specs.Causes.{Rose}
+use Rattle.verity_run.specs.Arrivals.{IsArrivalAnswer, OfArrival}
 use Rattle.verity_run.specs.Asked.{AreReady, IsAnswer, IsBarred, IsBegun, IsFitting, OfCellWord, OfMode, ReportsGenerated, cell_word, nodes_of}
 use Rattle.verity_run.specs.Classes.{IsBudget, IsClassed}
 use Rattle.verity_run.specs.Given.{AreRead, ByFile, Given, generated, given}
 use Rattle.verity_run.specs.Messages.{usage_line}
-use Rattle.verity_run.specs.Reads.{AreLoaded, Source}
+use Rattle.verity_run.specs.Reads.{Source}
 use Rattle.verity_run.specs.Refusals.{IsRefusal, OfLength, OfOrder, Tells, TellsFiles}
 use Rattle.verity_run.specs.Ready.{IsGiven, IsMade, IsReadyBy, IsReadyFor}
 use Rattle.verity_run.specs.Replays.{BeginsReplay}
 use Rattle.verity_run.specs.Reports.{Begins as BeginsReport, IsEnded, Reports, ReportsCells}
-use Rattle.verity_run.specs.Runs.{AnswersFiles, AnswersGenerated, AnswersInputs, AnswersReplay, AnswersTexts, Begins, BeginsFiles, BeginsGenerated, BeginsInputs, BeginsRequest, BeginsTexts, Ends, PutsLine, RefusalEnds, Refuses, Serves, TellsAnswer, Wants, names_by}
+use Rattle.verity_run.specs.Runs.{AnswersArrival, AnswersGenerated, AnswersInputs, AnswersReplay, AnswersTexts, Begins, BeginsGenerated, BeginsInputs, BeginsRequest, BeginsTexts, Ends, PutsLine, RefusalEnds, Refuses, Serves, TellsAnswer, Wants, names_by}
 use Rattle.verity_run.specs.declared.ready.Ready.{Ready}
 use Rattle.verity_run.specs.declared.refusals.Refusal.{Refusal}
 use Rattle.verity_run.specs.declared.refusals.Refusal.TheVariants.{Unread, Told, NoMemory as OutOfMemory}
@@ -109,6 +110,38 @@ replay_answered request cell phase at files words design blif rules cells status
           })
       answers s lines (inr a) = inr (cells, ready, subst (λ (r : Request). IsAnswer r design blif rules cells s lines) (sym is) a)
 
+-- arrival orders
+pub arrival_answered : (request : Request) (cell phase rise : Bor (List ℕ)) (budget : Option ℕ) (files : FileWords) (words : ByFile) (design : Design) (blif : Blif) (rules : Rules) (nodes : ℕ) (cells : List ℕ)
+    (status : Status) (old new : Option (List ℕ)) (before now : ℕ) → request ≡ Arrive cell phase rise budget files → nodes ≡ nodes_of budget → AreReady request design rules cells
+    → Ends (AnswersArrival design blif rules nodes cell.now phase.now rise.now) (λ lines. ⊥) status old new before now
+    → Ends (AnswersInputs request words design blif rules) (BeginsInputs request design blif rules) status old new before now
+arrival_answered request cell phase rise budget files words design blif rules nodes cells status old new before now is counted ready ends =
+    ends_by (AnswersArrival design blif rules nodes cell.now phase.now rise.now) (AnswersInputs request words design blif rules) (λ lines. ⊥) (BeginsInputs request design blif rules)
+    status old new before now answers (λ lines none. absurd none) ends where
+      answers : (s : Status) (lines : List (List ℕ)) → AnswersArrival design blif rules nodes cell.now phase.now rise.now s lines → AnswersInputs request words design blif rules s lines
+      answers s lines (inl refuses) =
+          inl (record {
+            line = refuses.line;
+            cause =
+                inr (
+                  ready.ordered,
+                  inr (
+                    (cells, ready.asked),
+                    subst (λ (r : Request). OfMode r design blif rules refuses.line) (sym is)
+                        (subst (λ (n : ℕ). OfArrival design blif rules n cell.now phase.now rise.now refuses.line) counted refuses.cause),
+                  ),
+                );
+            answer = refuses.answer;
+            told_is = refuses.told_is;
+          })
+      answers s lines (inr a) =
+          inr (
+            cells,
+            ready,
+            subst (λ (r : Request). IsAnswer r design blif rules cells s lines) (sym is)
+                (subst (λ (n : ℕ). IsArrivalAnswer design blif rules n cell.now phase.now rise.now s lines) counted a),
+          )
+
 -- those of a size that was generated
 pub generated_answered : (request : Request) (size : ℕ) (budget : Option ℕ) (words : ByFile) (design : Design) (blif : Blif) (rules : Rules) (nodes : ℕ) (cells : List ℕ)
     (status : Status) (old new : Option (List ℕ)) (before now : ℕ) → request ≡ Generate size budget → nodes ≡ nodes_of budget → AreReady request design rules cells
@@ -156,12 +189,14 @@ made_answered : (request : Request) (g : Given) (s : Status) (lines : List (List
 made_answered (Check cell budget files) g s lines made a = absurd made
 made_answered (Replay cell phase at files) g s lines made a = absurd made
 made_answered (Classes cell files) g s lines made a = absurd made
+made_answered (Arrive cell phase rise budget files) g s lines made a = absurd made
 made_answered (Generate size budget) g s lines made a = subst (λ (x : Given). AnswersTexts (Generate size budget) x s lines) made a
 
 made_begun : (request : Request) (g : Given) (lines : List (List ℕ)) → IsMade request g → BeginsTexts request g lines → BeginsGenerated request lines
 made_begun (Check cell budget files) g lines made b = absurd made
 made_begun (Replay cell phase at files) g lines made b = absurd made
 made_begun (Classes cell files) g lines made b = absurd made
+made_begun (Arrive cell phase rise budget files) g lines made b = absurd made
 made_begun (Generate size budget) g lines made b = subst (λ (x : Given). BeginsTexts (Generate size budget) x lines) made b
 
 module _ (request : Request) (source : Source) (words bytes : ByFile) where
@@ -242,6 +277,7 @@ module _ (status : Status) (lines : List (List ℕ)) where
   answer_calm (Check cell budget files) design blif rules cells a = ended_calm (checked_ends design blif rules (nodes_of budget) cells status lines a)
   answer_calm (Replay cell phase at files) design blif rules cells a = ended_calm (subst IsEnded (sym a.ended) (counted_ends AllEqual a.count all_equal))
   answer_calm (Classes cell files) design blif rules cells a = ended_calm (reports_end (IsClassed design blif rules) cells status lines a)
+  answer_calm (Arrive cell phase rise budget files) design blif rules cells a = ended_calm (subst IsEnded (sym a.ended) (counted_ends AllEqual a.count all_equal))
   answer_calm (Generate size budget) design blif rules cells a = ended_calm (checked_ends design blif rules (nodes_of budget) cells status a.report a.reported)
 
   inputs_calm : (request : Request) (words : ByFile) (design : Design) (blif : Blif) (rules : Rules) → AnswersInputs request words design blif rules status lines → IsCalm status
@@ -256,6 +292,7 @@ module _ (status : Status) (lines : List (List ℕ)) where
   generated_calm (Check cell budget files) a = absurd a
   generated_calm (Replay cell phase at files) a = absurd a
   generated_calm (Classes cell files) a = absurd a
+  generated_calm (Arrive cell phase rise budget files) a = absurd a
   generated_calm (Generate size budget) a = texts_calm (Generate size budget) (generated size) a
 
 -- a read fault comes only where the count of faults rose, and words that are understood are no cause of Usage
@@ -350,4 +387,5 @@ pub request_fits : (words : List (List ℕ)) (request : Request) → AsksFor wor
 request_fits words (Check cell budget files) asks = budget_read _ budget asks.1.budget
 request_fits words (Replay cell phase at files) asks = tt
 request_fits words (Classes cell files) asks = tt
+request_fits words (Arrive cell phase rise budget files) asks = budget_read _ budget asks.1.budget
 request_fits words (Generate size budget) asks = (budget_read _ budget asks.1.budget, size_asked _ size asks.1.size)

@@ -4,8 +4,9 @@ use Rattle.std.specs.Str.{str_to_ascii_lowercase}
 use Rattle.cells_below.specs.Below.{AreBelow}
 use Rattle.command_line.specs.Requests.{value_of}
 use Rattle.command_line.specs.declared.request.Request.{Request}
-use Rattle.command_line.specs.declared.request.Request.TheVariants.{Check, Replay, Classes, Generate}
+use Rattle.command_line.specs.declared.request.Request.TheVariants.{Check, Replay, Classes, Generate, Arrive}
 use Rattle.generator.specs.Texts.{IsSize}
+use Rattle.verity_run.specs.Arrivals.{IsArrivalAnswer, OfArrival}
 use Rattle.verity_run.specs.Classes.{IsBudget, IsClassed}
 use Rattle.verity_run.specs.Given.{ByFile}
 use Rattle.verity_run.specs.Messages.{last_line, no_name_line}
@@ -30,6 +31,7 @@ abbrev pub IsFitting : Request → Type 0
 IsFitting (Check cell budget files) = IsBudget (nodes_of budget)
 IsFitting (Replay cell phase at files) = Unit {0}
 IsFitting (Classes cell files) = Unit {0}
+IsFitting (Arrive cell phase rise budget files) = IsBudget (nodes_of budget)
 IsFitting (Generate size budget) = IsBudget (nodes_of budget) × IsSize size
 
 -- ---- cells
@@ -40,6 +42,7 @@ cell_word (Check cell budget files) = value_of cell
 cell_word (Replay cell phase at files) = Some cell.now
 cell_word (Classes cell files) = value_of cell
 cell_word (Generate size budget) = None
+cell_word (Arrive cell phase rise budget files) = Some cell.now
 
 -- the cells that are asked for, in their order: all, or one and those below it
 abbrev pub AreAsked : Design → Option (List ℕ) → List ℕ → Type 0
@@ -59,6 +62,7 @@ OfMode (Check cell budget files) design blif rules line = ⊥
 OfMode (Replay cell phase at files) design blif rules line = OfReplay design blif rules cell.now phase.now at line
 OfMode (Classes cell files) design blif rules line = ⊥
 OfMode (Generate size budget) design blif rules line = ⊥
+OfMode (Arrive cell phase rise budget files) design blif rules line = OfArrival design blif rules (nodes_of budget) cell.now phase.now rise.now line
 
 -- the cell that is asked for is there, where one is
 abbrev pub IsThere : Design → Option (List ℕ) → Type 0
@@ -90,6 +94,7 @@ IsAnswer (Check cell budget files) design blif rules cells status lines = Report
 IsAnswer (Replay cell phase at files) design blif rules cells status lines = IsReplay design blif rules cell.now phase.now at status lines
 IsAnswer (Classes cell files) design blif rules cells status lines = Reports (IsClassed design blif rules) cells status lines
 IsAnswer (Generate size budget) design blif rules cells status lines = ReportsGenerated design blif rules (nodes_of budget) size cells status lines
+IsAnswer (Arrive cell phase rise budget files) design blif rules cells status lines = IsArrivalAnswer design blif rules (nodes_of budget) cell.now phase.now rise.now status lines
 
 -- lines with which that begins
 abbrev pub IsBegun : Request → Design → Blif → Rules → List ℕ → List (List ℕ) → Type 0
@@ -97,3 +102,4 @@ IsBegun (Check cell budget files) design blif rules cells lines = Begins (Report
 IsBegun (Replay cell phase at files) design blif rules cells lines = BeginsReplay design blif rules cell.now phase.now at lines
 IsBegun (Classes cell files) design blif rules cells lines = Begins (Reports (IsClassed design blif rules)) cells lines
 IsBegun (Generate size budget) design blif rules cells lines = Begins (ReportsCells design blif rules (nodes_of budget)) cells lines
+IsBegun (Arrive cell phase rise budget files) design blif rules cells lines = ⊥

@@ -1,9 +1,5 @@
 -- The three files as they are given, and what is read from them.
 use Rattle.std.specs.Prelude.{◌≡◌, ℕ, List, codes}
-use Rattle.blif_reader.specs.Cards.{cards_of as models_cards_of}
-use Rattle.blif_reader.specs.Models.{blif_of}
-use Rattle.blif_reader.specs.Refused.{fault_of as models_fault_of}
-use Rattle.blif_reader.specs.declared.cards.Card.{Card as ModelsCard}
 use Rattle.command_line.specs.declared.request.FileWords.{FileWords}
 use Rattle.generator.specs.Texts.{blif_text, rules_text, spice_text}
 use Rattle.rules_reader.specs.Entries.{cards_of as rules_cards_of}
@@ -15,6 +11,7 @@ use Rattle.spice_reader.specs.Netlist.{design_of}
 use Rattle.spice_reader.specs.Refused.{IsNetlist}
 use Rattle.spice_reader.specs.declared.card.Card.{Card as NetlistCard}
 use Rattle.text_lines.specs.Faults.{IsClean}
+use Rattle.verity_run.specs.Models.{AreModelsOf, DoAsSaid}
 use Rattle.verity_run.specs.declared.reads.Texts.{Texts}
 use Rattle.verity_run.specs.declared.refusals.Bytes.{Bytes}
 use Rattle.vrt_model.specs.Inputs.{AreRules, IsBlif, IsDesign}
@@ -23,7 +20,7 @@ use Rattle.vrt_model.specs.declared.blif.Blif.{Blif}
 use Rattle.vrt_model.specs.declared.design.Design.{Design}
 use Rattle.vrt_model.specs.declared.rules.Rules.{Rules}
 
--- a text for each of the SPICE, the BLIF and the rules file
+-- a text for each of the SPICE file, the file of models and the rules file
 pub record ByFile : Type 0 where
   pub spice : List ℕ
   pub blif : List ℕ
@@ -59,21 +56,19 @@ generated size = given (by_file (codes "SPICE") (codes "BLIF") (codes "RULES")) 
 abbrev pub netlist_cards : Given → List NetlistCard
 netlist_cards g = netlist_cards_of g.bytes.spice
 
-abbrev pub models_cards : Given → List ModelsCard
-models_cards g = models_cards_of g.bytes.blif
-
 abbrev pub rules_cards : Given → List RulesCard
 rules_cards g = rules_cards_of g.bytes.rules
 
--- no reader refuses a file, the models can be unrolled, and these are the cells, models and rules of the files
+-- No reader refuses a file, the models can be unrolled, and these are the cells, models and rules of the files. Where the models are written
+-- as modules, cells that are equal to them do what the modules mean.
 pub record AreRead (g : Given) (design : Design) (blif : Blif) (rules : Rules) : Type 0 where
   pub netlist : IsNetlist (netlist_cards g)
-  pub models : IsClean models_fault_of (models_cards g)
+  pub models : AreModelsOf g.words.blif g.bytes.blif blif
   pub lines : IsClean rules_fault_of (rules_cards g)
   pub design_is : design ≡ design_of (netlist_cards g)
-  pub blif_is : blif ≡ blif_of (models_cards g)
   pub rules_are : AreRulesOf (rules_cards g) rules
   pub unrolled : AreModels blif
+  pub said : DoAsSaid g.words.blif g.bytes.blif design blif rules
 
 -- cells, models and rules such as the readers give
 pub record AreFit (design : Design) (blif : Blif) (rules : Rules) : Type 0 where

@@ -1,8 +1,10 @@
+pub mod Arrivals
 pub mod Asked
 pub mod Classes
 pub mod Given
 pub mod Known
 pub mod Messages
+pub mod Models
 pub mod Named
 pub mod Reads
 pub mod Ready

@@ -2,12 +2,9 @@
 use Rattle.std.specs.Prelude.{◌≡◌, ◌⊎◌, ℕ, List}
 use Rattle.blif_checks.specs.Checked.{IsModelFault}
 use Rattle.blif_checks.specs.declared.faults.ModelFault.{ModelFault}
-use Rattle.blif_reader.specs.Cards.{cards_of as models_cards_of}
-use Rattle.blif_reader.specs.Models.{blif_of}
-use Rattle.blif_reader.specs.Refused.{fault_of as models_fault_of}
-use Rattle.blif_reader.specs.declared.faults.BlifFault.{BlifFault}
 use Rattle.hierarchy.specs.Order.{IsHierFault}
 use Rattle.hierarchy.specs.declared.faults.HierFault.{HierFault}
+use Rattle.refusal_lines.specs.Lines.{models_line, rules_line, spice_line}
 use Rattle.rules_reader.specs.Entries.{cards_of as rules_cards_of}
 use Rattle.rules_reader.specs.Refused.{fault_of as rules_fault_of}
 use Rattle.rules_reader.specs.declared.faults.RulesFault.{RulesFault}
@@ -16,8 +13,9 @@ use Rattle.spice_reader.specs.Refused.{IsFaultOf, IsNetlist}
 use Rattle.spice_reader.specs.declared.faults.SpiceFault.{SpiceFault}
 use Rattle.text_lines.specs.Faults.{IsClean, IsFirst}
 use Rattle.vrt_io.specs.Causes.{Rose}
-use Rattle.verity_run.specs.Given.{ByFile, Given, models_cards, netlist_cards, rules_cards}
-use Rattle.verity_run.specs.Messages.{blif_line, cells_line, models_line, read_failed_line, rules_line, spice_line, too_long_line}
+use Rattle.verity_run.specs.Given.{ByFile, Given, netlist_cards, rules_cards}
+use Rattle.verity_run.specs.Messages.{cells_line, read_failed_line, too_long_line}
+use Rattle.verity_run.specs.Models.{AreModelsOf, OfModels}
 use Rattle.verity_run.specs.Reads.{IsFileWord, IsFirstLong, Source}
 use Rattle.verity_run.specs.declared.reads.Stop.{Stop}
 use Rattle.verity_run.specs.declared.reads.Stop.TheVariants.{Failed, TooLong}
@@ -34,12 +32,6 @@ pub record OfNetlist (word bytes line : List ℕ) : Type 0 where
   pub fault : SpiceFault
   pub first : IsFaultOf (netlist_cards_of bytes) fault
   pub told : line ≡ spice_line word fault
-
--- the line of the first fault of models
-pub record OfModels (word bytes line : List ℕ) : Type 0 where
-  pub fault : BlifFault
-  pub first : IsFirst models_fault_of (models_cards_of bytes) fault
-  pub told : line ≡ blif_line word fault
 
 -- the line of the first fault of rules
 pub record OfRules (word bytes line : List ℕ) : Type 0 where
@@ -59,8 +51,8 @@ abbrev pub IsRefusal : Given → List ℕ → Type 0
 IsRefusal g line =
     OfNetlist g.words.spice g.bytes.spice line
     ⊎ (IsNetlist (netlist_cards g) × (OfModels g.words.blif g.bytes.blif line
-    ⊎ (IsClean models_fault_of (models_cards g) × (OfRules g.words.rules g.bytes.rules line
-    ⊎ (IsClean rules_fault_of (rules_cards g) × OfUnrolling g.words.blif (blif_of (models_cards g)) line)))))
+    ⊎ ((blif : Blif) × AreModelsOf g.words.blif g.bytes.blif blif × (OfRules g.words.rules g.bytes.rules line
+    ⊎ (IsClean rules_fault_of (rules_cards g) × OfUnrolling g.words.blif blif line)))))
 
 -- ---- the order of the cells
 

@@ -7,8 +7,9 @@ use Rattle.command_line.specs.Manual.{help_text, version_line}
 use Rattle.command_line.specs.Requests.{Asks, AsksFor, IsUsage, file_names}
 use Rattle.command_line.specs.declared.request.Asked.TheVariants.{Help, Version}
 use Rattle.command_line.specs.declared.request.Request.{Request}
-use Rattle.command_line.specs.declared.request.Request.TheVariants.{Check, Replay, Classes, Generate}
+use Rattle.command_line.specs.declared.request.Request.TheVariants.{Check, Replay, Classes, Generate, Arrive}
 use Rattle.vrt_io.specs.Causes.{Rose}
+use Rattle.verity_run.specs.Arrivals.{IsArrivalAnswer, OfArrival}
 use Rattle.verity_run.specs.Asked.{AreReady, IsAnswer, IsBarred, IsBegun}
 use Rattle.verity_run.specs.Given.{AreRead, ByFile, Given, generated, given}
 use Rattle.verity_run.specs.Messages.{joined, usage_line}
@@ -74,6 +75,11 @@ AnswersInputs request words design blif rules status lines =
 abbrev pub AnswersReplay : Design → Blif → Rules → List ℕ → List ℕ → Option (Bor (List ℕ)) → Status → List (List ℕ) → Type 0
 AnswersReplay design blif rules cell phase at status lines = Refuses (OfReplay design blif rules cell phase at) status lines ⊎ IsReplay design blif rules cell phase at status lines
 
+-- for arrival orders: the one line of what stands in its way, or the one line of the answer
+abbrev pub AnswersArrival : Design → Blif → Rules → ℕ → List ℕ → List ℕ → List ℕ → Status → List (List ℕ) → Type 0
+AnswersArrival design blif rules budget cell phase rise status lines =
+    Refuses (OfArrival design blif rules budget cell phase rise) status lines ⊎ IsArrivalAnswer design blif rules budget cell phase rise status lines
+
 -- lines with which that begins
 abbrev pub BeginsInputs : Request → Design → Blif → Rules → List (List ℕ) → Type 0
 BeginsInputs request design blif rules lines = (cells : List ℕ) × AreReady request design rules cells × IsBegun request design blif rules cells lines
@@ -129,12 +135,14 @@ abbrev pub AnswersGenerated : Request → Status → List (List ℕ) → Type 0
 AnswersGenerated (Check cell budget files) status lines = ⊥
 AnswersGenerated (Replay cell phase at files) status lines = ⊥
 AnswersGenerated (Classes cell files) status lines = ⊥
+AnswersGenerated (Arrive cell phase rise budget files) status lines = ⊥
 AnswersGenerated (Generate size budget) status lines = AnswersTexts (Generate size budget) (generated size) status lines
 
 abbrev pub BeginsGenerated : Request → List (List ℕ) → Type 0
 BeginsGenerated (Check cell budget files) lines = ⊥
 BeginsGenerated (Replay cell phase at files) lines = ⊥
 BeginsGenerated (Classes cell files) lines = ⊥
+BeginsGenerated (Arrive cell phase rise budget files) lines = ⊥
 BeginsGenerated (Generate size budget) lines = BeginsTexts (Generate size budget) (generated size) lines
 
 -- what is to be answered and written for a request

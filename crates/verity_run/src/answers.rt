@@ -1,6 +1,6 @@
 //! What is written for a request on what was read.
 
-ghost use Rattle.std.specs.Prelude.{◌≡◌, ◌≢◌};
+ghost use Rattle.std.specs.Prelude.{◌≡◌, ◌≢◌, Some};
 ghost use Rattle.generator.specs.Texts.{IsSize};
 ghost use Rattle.verity_run.specs.Asked.{AreAsked, IsFitting, ReportsGenerated, cell_word, nodes_of};
 ghost use Rattle.verity_run.specs.Classes.{IsBudget, IsClassed};
@@ -8,15 +8,16 @@ ghost use Rattle.verity_run.specs.Given.{ByFile};
 ghost use Rattle.verity_run.specs.Messages.{last_line};
 ghost use Rattle.verity_run.specs.Ready.{IsReady};
 ghost use Rattle.verity_run.specs.Replays.{BeginsReplay};
-ghost use Rattle.verity_run.specs.Reports.{Begins, Reports, ReportsCells};
-ghost use Rattle.verity_run.specs.Runs.{AnswersInputs, AnswersReplay, BeginsInputs, Ends, PutsLine};
+ghost use Rattle.verity_run.specs.Reports.{Begins, Reports, ReportsCells, with_count};
+ghost use Rattle.verity_run.specs.Runs.{AnswersArrival, AnswersInputs, AnswersReplay, BeginsInputs, Ends, PutsLine};
 
+use crate::arrivals::{OneLine, arrival_for};
 use crate::messages;
 use crate::puts::{refuse, tell};
 use crate::ready::Ready;
 use crate::replays::replayed;
 use crate::report::{Task, put_cell, report_cells};
-use crate::status::Status;
+use crate::status::{Status, with_count};
 use command_line::Request;
 use std::alloc::Global;
 use vrt_io::Sink;
@@ -108,6 +109,39 @@ fn replay_cell<O: Sink>(
     }
 }
 
+/// Puts the one line of an answer.
+fn put_one<O: Sink>(told: &OneLine, out: &mut O) -> Status
+    ensures { PutsLine (with_count Status.AllEqual told.now.count) result told.now.line (O.written out.old) (O.written out.new) (O.faults out.old) (O.faults out.new) }
+{
+    tell(
+        out,
+        told.line.as_bytes(),
+        with_count(Status::AllEqual, told.count),
+    )
+}
+
+/// Says whether the order matters in which some inputs of a cell rise.
+fn arrive_cell<O: Sink>(
+    alloc: Global,
+    budget: u32,
+    ready: &Ready,
+    cell: &str,
+    phase: &str,
+    rise: &str,
+    out: &mut O,
+) -> Status
+    requires budget { IsBudget budget }
+    requires ready { IsReady ready.now }
+    requires asked { AreAsked ready.now.inputs.design (Some cell.now) ready.now.cells }
+    ensures { Ends (AnswersArrival ready.now.inputs.design ready.now.inputs.blif ready.now.inputs.rules budget cell.now phase.now rise.now) (λ lines. ⊥)
+        result (O.written out.old) (O.written out.new) (O.faults out.old) (O.faults out.new) }
+{
+    match arrival_for(alloc, budget, ready, cell, phase, rise) {
+        Ok(told) => put_one(&told, out),
+        Err(refusal) => refuse(out, &refusal),
+    }
+}
+
 /// Does what a request asks.
 pub fn answer<O: Sink>(alloc: Global, request: &Request<'_>, ready: &Ready, out: &mut O) -> Status
     requires fitting { IsFitting request.now }
@@ -128,5 +162,12 @@ pub fn answer<O: Sink>(alloc: Global, request: &Request<'_>, ready: &Ready, out:
             ..
         } => replay_cell(alloc, ready, *cell, *phase, *at, out),
         Request::Classes { .. } => class_cells(alloc, ready, out),
+        Request::Arrive {
+            cell,
+            phase,
+            rise,
+            budget,
+            ..
+        } => arrive_cell(alloc, nodes_of(*budget), ready, *cell, *phase, *rise, out),
     }
 }

@@ -69,7 +69,7 @@ pub fn cell_of(design: &Design, number: u32) -> &Cell
 }
 
 /// The line of a verdict on a cell, with its line feed. A cycle is named by the flat circuit and the flat model.
-fn line_of(
+pub fn line_of(
     alloc: Global,
     cell: &Cell,
     rules: &Rules,

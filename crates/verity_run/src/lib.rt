@@ -2,10 +2,12 @@
 #![tactic(auto)]
 
 mod answers;
+mod arrivals;
 mod cell_lines;
 mod checks;
 mod known;
 mod messages;
+mod models;
 mod puts;
 mod reads;
 mod ready;

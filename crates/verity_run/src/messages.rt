@@ -1,41 +1,25 @@
 //! The lines that a run writes beside the verdicts.
 
-ghost use Rattle.std.specs.Prelude.{◌≡◌, ◌∷◌, [], codes, map, IfOk};
+ghost use Rattle.std.specs.Prelude.{◌≡◌, [], codes, IfOk};
 ghost use Rattle.generator.specs.Texts.{IsSize};
-ghost use Rattle.verity_run.specs.Messages.{joined, last_line, no_name_line, read_failed_line, refusal_line, too_long_line, usage_line, words_line};
+ghost use Rattle.verity_run.specs.Messages.{last_line, no_name_line, read_failed_line, too_long_line, usage_line, words_line};
 
-mod blif;
 mod cells;
-mod models;
-mod rules;
-mod spice;
 
-pub use blif::blif_refusal;
 pub use cells::cells_refusal;
 use mode_lines::generated_line;
-pub use models::models_refusal;
-pub use rules::rules_refusal;
-pub use spice::spice_refusal;
+use refusal_lines::{join, refusal};
+pub use refusal_lines::{
+    blif_refusal, models_refusal, rules_refusal, spice_refusal, verilog_refusal,
+};
 use std::alloc::Global;
 use vrt_model::{NoMemory, Text};
-use witness::decimal_text;
 
 /// The line for words that are not understood.
 pub fn usage() -> &'static [u8]
     ensures { result.now ≡ usage_line }
 {
-    b"verity: usage: verity [--do MODE] [--cell C] [--phase P] [--at LIST] [--budget N] [--size N] [SPICE BLIF RULES]\n"
-}
-
-/// Pieces, one behind the other.
-pub fn join(alloc: Global, pieces: &[&[u8]]) -> Result<Text, NoMemory>
-    ensures { IfOk result (λ text. text ≡ joined (map (λ x. x.now) pieces.now)) }
-{
-    let mut text = Text::new(alloc);
-    for piece in pieces {
-        text.extend(piece)?;
-    }
-    Ok(text)
+    b"verity: usage: verity [--do MODE] [--cell C] [--phase P] [--at LIST] [--budget N] [--size N] [--rise LIST] [SPICE BLIF RULES]\n"
 }
 
 /// The line for a file that was not read.
@@ -46,63 +30,6 @@ pub fn read_failed(alloc: Global, file: &[u8]) -> Result<Text, NoMemory>
         alloc,
         &[b"verity: ".as_slice(), file, b": read failed\n".as_slice()],
     )
-}
-
-/// A refusal with its line number in decimal.
-fn refusal_with<'a>(
-    alloc: Global,
-    file: &'a [u8],
-    number: &'a [u8],
-    cause: &'a [u8],
-    name: &'a [u8],
-) -> Result<Text, NoMemory>
-    ensures { IfOk result (λ text. text ≡ joined (codes "verity: " ∷ file.entry.now ∷ codes " line " ∷ number.entry.now ∷ codes ": " ∷ cause.entry.now ∷ name.entry.now ∷ codes "\n" ∷ [])) }
-{
-    let pieces = [
-        b"verity: ".as_slice(),
-        file,
-        b" line ".as_slice(),
-        number,
-        b": ".as_slice(),
-        cause,
-        name,
-        b"\n".as_slice(),
-    ];
-    join(alloc, &pieces)
-}
-
-/// The line for a refusal: the file, the line, and the text of the cause in two pieces.
-pub fn refusal(
-    alloc: Global,
-    file: &[u8],
-    line: u32,
-    cause: &[u8],
-    name: &[u8],
-) -> Result<Text, NoMemory>
-    ensures { IfOk result (λ text. text ≡ refusal_line file.now line cause.now name.now) }
-{
-    let number = decimal_text(alloc, u64::from(line))?;
-    refusal_with(alloc, file, number.as_bytes(), cause, name)
-}
-
-/// The line for a refusal whose cause has no name.
-pub fn plain(alloc: Global, file: &[u8], line: u32, cause: &[u8]) -> Result<Text, NoMemory>
-    ensures { IfOk result (λ text. text ≡ refusal_line file.now line cause.now []) }
-{
-    refusal(alloc, file, line, cause, b"")
-}
-
-/// The line for a refusal whose cause ends with a name.
-pub fn named(
-    alloc: Global,
-    file: &[u8],
-    line: u32,
-    cause: &[u8],
-    name: &Text,
-) -> Result<Text, NoMemory>
-    ensures { IfOk result (λ text. text ≡ refusal_line file.now line cause.now name.now) }
-{
-    refusal(alloc, file, line, cause, name.as_bytes())
 }
 
 /// The line for a file that has too many bytes.

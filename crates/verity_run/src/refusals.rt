@@ -1,10 +1,6 @@
 //! What the three files say, or why no cell is compared.
 
-ghost use Rattle.std.specs.Prelude.{◌≡◌, ◌≤◌, ◌⊎◌, length, IfOk, IfErr, MatchResult};
-ghost use Rattle.blif_checks.specs.Checked.{IsModelFault};
-ghost use Rattle.blif_reader.specs.Cards.{cards_of as models_cards_of};
-ghost use Rattle.blif_reader.specs.Models.{blif_of};
-ghost use Rattle.blif_reader.specs.Refused.{fault_of as models_fault_of};
+ghost use Rattle.std.specs.Prelude.{◌≡◌, ◌≤◌, length, IfOk, IfErr, MatchResult};
 ghost use Rattle.rules_reader.specs.Entries.{cards_of as rules_cards_of};
 ghost use Rattle.rules_reader.specs.Refused.{fault_of as rules_fault_of};
 ghost use Rattle.rules_reader.specs.Tables.{AreRulesOf};
@@ -13,15 +9,12 @@ ghost use Rattle.spice_reader.specs.Netlist.{design_of};
 ghost use Rattle.spice_reader.specs.Refused.{IsNetlist};
 ghost use Rattle.text_lines.specs.Faults.{IsClean};
 ghost use Rattle.verity_run.specs.Given.{AreFit, AreRead, bytes_of, given, names_in};
-ghost use Rattle.verity_run.specs.Refusals.{IsRefusal, OfModels, OfNetlist, OfRules, OfUnrolling, Tells, TellsStop};
-ghost use Rattle.vrt_model.specs.Inputs.{AreRules, IsBlif, IsDesign};
-ghost use Rattle.vrt_model.specs.Models.{AreModels};
-ghost use Rattle.vrt_model.specs.declared.blif.Blif.{Blif as BlifValue};
+ghost use Rattle.verity_run.specs.Refusals.{IsRefusal, OfNetlist, OfRules, Tells, TellsStop};
+ghost use Rattle.vrt_model.specs.Inputs.{AreRules, IsDesign};
 
 use crate::messages;
+use crate::models::{read_models, unroll};
 use crate::reads::{Stop, Stopped};
-use blif_flat::{ModelFault, check_models};
-use blif_reader::{BlifFault, read_blif};
 use command_line::FileWords;
 use rules_reader::{RulesFault, read_rules};
 use spice_reader::{SpiceFault, read_spice};
@@ -105,20 +98,6 @@ fn read_netlist(alloc: Global, word: &str, bytes: &[u8]) -> Result<Design, Refus
     }
 }
 
-/// The models of a text.
-fn read_models(alloc: Global, word: &str, bytes: &[u8]) -> Result<Blif, Refusal>
-    requires { length bytes.now ≤ 16777216 }
-    ensures ok { IfOk result (λ b. IsClean models_fault_of (models_cards_of bytes.now) × (b ≡ blif_of (models_cards_of bytes.now))) }
-    ensures fit { IfOk result IsBlif }
-    ensures err { IfErr result (Tells (OfModels word.now bytes.now)) }
-{
-    match read_blif(alloc, bytes) {
-        Ok(blif) => Ok(blif),
-        Err(BlifFault::NoMemory) => Err(Refusal::NoMemory),
-        Err(fault) => Err(told(messages::blif_refusal(alloc, word.as_bytes(), &fault))),
-    }
-}
-
 /// The rules of a text.
 fn read_lines(alloc: Global, word: &str, bytes: &[u8]) -> Result<Rules, Refusal>
     requires { length bytes.now ≤ 16777216 }
@@ -130,28 +109,6 @@ fn read_lines(alloc: Global, word: &str, bytes: &[u8]) -> Result<Rules, Refusal>
         Ok(rules) => Ok(rules),
         Err(RulesFault::NoMemory) => Err(Refusal::NoMemory),
         Err(fault) => Err(told(messages::rules_refusal(alloc, word.as_bytes(), &fault))),
-    }
-}
-
-/// The refusal of models with a fault.
-fn unrolling_refusal(alloc: Global, word: &str, fault: &ModelFault) -> Refusal
-    ensures { (blif : BlifValue) → (fault.now ≡ ModelFault.NoMemory) ⊎ IsModelFault blif fault.now → Tells (OfUnrolling word.now blif) result }
-{
-    match fault {
-        ModelFault::NoMemory => Refusal::NoMemory,
-        _ => told(messages::models_refusal(alloc, word.as_bytes(), fault)),
-    }
-}
-
-/// Refuses models that cannot be unrolled.
-fn unroll(alloc: Global, word: &str, blif: &Blif) -> Result<(), Refusal>
-    requires { IsBlif blif.now }
-    ensures ok { IfOk result (λ _. AreModels blif.now) }
-    ensures err { IfErr result (Tells (OfUnrolling word.now blif.now)) }
-{
-    match check_models(alloc, blif) {
-        Ok(()) => Ok(()),
-        Err(fault) => Err(unrolling_refusal(alloc, word, &fault)),
     }
 }
 

@@ -28,7 +28,7 @@ use std::alloc::Global;
 use vrt_model::{NoMemory, Phase, Rules, Seq, Text, Vars};
 
 /// The number of the cell of a name on the command line, which was found before.
-fn cell_number(alloc: Global, ready: &Ready, word: &str) -> Result<u32, NoMemory>
+pub fn cell_number(alloc: Global, ready: &Ready, word: &str) -> Result<u32, NoMemory>
     requires { IsReady ready.now }
     ensures { IfOk result (λ n. cell_asked ready.now.inputs.design word.now ≡ Some n) }
 {
@@ -52,7 +52,7 @@ fn place_of(phases: &[Phase], name: &[u8]) -> Option<usize>
 }
 
 /// The number of the phase of a name on the command line, or the refusal where it is not there.
-fn phase_number(alloc: Global, rules: &Rules, word: &str) -> Result<u32, Refusal>
+pub fn phase_number(alloc: Global, rules: &Rules, word: &str) -> Result<u32, Refusal>
     ensures ok { IfOk result (λ p. phase_asked rules.now word.now ≡ Some p) }
     ensures err { IfErr result (Tells (IsNoPhase rules.now word.now)) }
 {
@@ -144,8 +144,8 @@ fn lines_at(
     }
 }
 
-/// The refusal of names with bits that give no valuation.
-fn at_refusal(alloc: Global, fault: &AtFault) -> Refusal
+/// The refusal of names that do not stand for what is asked.
+pub fn at_refusal(alloc: Global, fault: &AtFault) -> Refusal
     ensures { RefusesFault fault.now result }
 {
     match fault {

@@ -1,8 +1,8 @@
 //! The report of cells: the lines of each, its verdict or its classes, are put before the next is looked at.
 
-ghost use Rattle.std.specs.Prelude.{◌≡◌, ◌<◌, ◌≤◌, List, IfOk, IfErr, OnOk, length};
+ghost use Rattle.std.specs.Prelude.{◌≡◌, ◌<◌, ◌≤◌, List, Some, IfOk, IfErr, OnOk, length};
 ghost use Rattle.std.specs.Io.KnownBytes.{Appends};
-ghost use Rattle.cell_compare.specs.Cells.{HasLine};
+ghost use Rattle.cell_compare.specs.Cells.{HasLine, IsFlattenedTo};
 ghost use Rattle.verity_run.specs.Classes.{IsBudget, IsClassed, IsOfTask, IsTask};
 ghost use Rattle.verity_run.specs.Known.{IsKnown};
 ghost use Rattle.verity_run.specs.Messages.{joined};
@@ -50,7 +50,7 @@ impl Drop for Judged {
 }
 
 /// Compares the cell of a number, by what is known of the cells before; what is known of it then is noted.
-fn compare_cell(
+pub fn compare_cell(
     alloc: Global,
     budget: u32,
     ready: &Ready,
@@ -64,6 +64,7 @@ fn compare_cell(
     requires kept { AreKept ready.now.inputs.design ready.now.inputs.blif ready.now.inputs.rules known.old.facts.items known.old.kept }
     ensures judged { IfOk result (λ j. IsJudged ready.now.inputs.design ready.now.inputs.blif ready.now.inputs.rules budget known.old.facts.items number j.verdict known.new.facts.items) }
     ensures line { IfOk result (λ j. HasLine ready.now.inputs.design ready.now.inputs.blif ready.now.inputs.rules number j.verdict j.flattened) }
+    ensures made { IfOk result (λ j. IsFlattenedTo ready.now.inputs.design ready.now.inputs.blif ready.now.inputs.rules number (Some j.verdict) j.flattened) }
     ensures known { IsKnown ready.now.inputs.design ready.now.inputs.blif ready.now.inputs.rules known.new.facts.items }
     ensures kept { IfOk result (λ _. AreKept ready.now.inputs.design ready.now.inputs.blif ready.now.inputs.rules known.new.facts.items known.new.kept) }
 {

@@ -41,6 +41,15 @@ fn tell_phase(page: &mut Page, phase: &str, at: Option<&str>) {
     page.word(", ");
 }
 
+/// Tells the phase and the inputs that rise.
+fn tell_rising(page: &mut Page, phase: &str, rise: &str) {
+    page.word("phase ");
+    page.word(phase);
+    page.word(", rise ");
+    page.word(rise);
+    page.word(", ");
+}
+
 /// Tells the values of a request.
 fn tell_request(page: &mut Page, request: &Request<'_>) {
     match request {
@@ -73,6 +82,19 @@ fn tell_request(page: &mut Page, request: &Request<'_>) {
             page.behind_blank(*size);
             page.word(", ");
             tell_budget(page, *budget);
+        }
+        Request::Arrive {
+            cell,
+            phase,
+            rise,
+            budget,
+            files,
+        } => {
+            tell_cell(page, "arrive, cell ", Some(*cell));
+            tell_rising(page, phase, rise);
+            tell_budget(page, *budget);
+            page.word(", ");
+            tell_files(page, files);
         }
     }
 }

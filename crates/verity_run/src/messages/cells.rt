@@ -4,9 +4,9 @@ ghost use Rattle.std.specs.Prelude.{◌≡◌, ◌≢◌, [], ◌∷◌, codes, 
 ghost use Rattle.verity_run.specs.Messages.{cells_line, joined, nets_for_ports, refusal_line};
 ghost use Rattle.vrt_model.specs.Comparison.{cell_at};
 
-use crate::messages::{join, named, plain, refusal};
 use command_line::FileWords;
 use hierarchy::HierFault;
+use refusal_lines::{join, named, plain, refusal};
 use std::alloc::Global;
 use vrt_model::{Design, NoMemory, Text};
 use witness::decimal_text;

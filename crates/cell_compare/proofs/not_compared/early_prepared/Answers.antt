@@ -2,16 +2,6 @@
 use Rattle.cell_room.proofs.SupportedLaws.{supported}
 use Rattle.cell_compare.proofs.not_compared.early_prepared.Goals as goal
 
-pub planned_cell-requires-clause-inputs : goal.planned_cell-requires-clause-inputs
-planned_cell-requires-clause-inputs c = record {
-  netlist = c.requires.design;
-  names = c.requires.blif;
-  models = c.requires.models;
-  valid = c.requires.rules;
-  there = c.requires.cell;
-  ordered = c.requires.ordered;
-}
-
 pub returns-in-Ok-clause-early : goal.returns-in-Ok-clause-early
 returns-in-Ok-clause-early c =
     let is = c.in-Ok.ensures.1 in

@@ -8,26 +8,6 @@ use Rattle.cell_compare.specs.declared.not_compared.Stop.{Stop}
 use Rattle.vrt_model.specs.declared.verdict.Verdict.TheVariants.{Unsupported}
 use Rattle.cell_compare.proofs.verdict.compare_prepared.Goals as goal
 
-pub planned_cell-requires-clause-inputs : goal.planned_cell-requires-clause-inputs
-planned_cell-requires-clause-inputs c = record {
-  netlist = c.requires.design;
-  names = c.requires.blif;
-  models = c.requires.models;
-  valid = c.requires.rules;
-  there = c.requires.cell;
-  ordered = c.requires.ordered;
-}
-
-pub compare_planned-requires-clause-inputs : goal.compare_planned-requires-clause-inputs
-compare_planned-requires-clause-inputs c = record {
-  netlist = c.requires.design;
-  names = c.requires.blif;
-  models = c.requires.models;
-  valid = c.requires.rules;
-  there = c.requires.cell;
-  ordered = c.requires.ordered;
-}
-
 pub returns-in-Err-Unsupported-clause-complete : goal.returns-in-Err-Unsupported-clause-complete
 returns-in-Err-Unsupported-clause-complete c =
     let a = c.args in

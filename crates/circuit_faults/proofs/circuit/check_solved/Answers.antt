@@ -60,6 +60,6 @@ check_part-requires-clause-spans c =
 
 pub returns-clause-writes : goal.returns-clause-writes
 returns-clause-writes c =
-    two_wider c.args.spans.gates c.words_of-words.result c.args.spans.out c.args.store.now c.check_part.new.store
+    two_wider c.args.spans.gates c.words_of-words.result.span c.args.spans.out c.args.store.now c.check_part.new.store
     (words_within c.args.phased.circuit.now c.args.phased.parts.now.list c.args.spans.roots c.args.spans.gates c.args.spans.out c.args.store.now c.requires.spans c.args.part.now
     c.requires.part.0 c.words_of-words.result c.words_of-words.ensures) c.check_part.ensures.writes

@@ -6,6 +6,7 @@ use Rattle.vrt_model.proofs.Members.{all_among}
 use Rattle.vrt_model.specs.Lists.{At}
 use Rattle.vrt_model.specs.declared.ids.Net.{Net}
 use Rattle.circuit_faults.proofs.kept_parts.copy_reach.Goals as goal
+use Rattle.path_fixpoint.proofs.Places.{place_words}
 
 pub loop-i-init : goal.loop-i-init
 loop-i-init c = record { copied = copied_none c.args.part.now c.args.value c.args.out c.args.to c.args.store.now }
@@ -13,14 +14,14 @@ loop-i-init c = record { copied = copied_none c.args.part.now c.args.value c.arg
 pub copy_word-requires-clause-out : goal.copy_word-requires-clause-out
 copy_word-requires-clause-out c =
     let copied = c.loop-i.invariant.copied in (
-      span_rewritten c.args.out c.args.store.now c.loop-i.store copied.rest copied.len c.requires.out.0,
+      span_rewritten c.args.out.span c.args.store.now c.loop-i.store copied.rest copied.len c.requires.out.0,
       copied_filled c.args.part.now c.args.value c.args.out c.args.to c.loop-i.i c.args.store.now c.loop-i.store c.requires.apart c.requires.out.1 copied,
     )
 
 pub copy_word-requires-clause-place : goal.copy_word-requires-clause-place
 copy_word-requires-clause-place c =
     let shown : length c.as_slice-nets.result.now ≡ length c.args.part.now.nets = ap (λ (xs : List Net). length xs) c.as_slice-nets.ensures in
-    (omega (arith, shown, c.loop-i-test.true, c.requires.out.2), c.requires.out.3)
+    (place_words c.args.out (length c.args.part.now.nets) c.loop-i.i c.requires.out.2 (omega (arith, shown, c.loop-i-test.true)), c.requires.out.3)
 
 pub copy_word-requires-clause-to : goal.copy_word-requires-clause-to
 copy_word-requires-clause-to c =

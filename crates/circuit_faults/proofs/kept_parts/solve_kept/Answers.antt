@@ -5,6 +5,11 @@ use Rattle.circuit_faults.proofs.KeptWords.{copied_filled, copied_within, counte
 use Rattle.path_fixpoint.specs.Spending.{solving_operations}
 use Rattle.circuit_faults.proofs.UndrivenKept.{undriven_reached, undriven_spends, undriven_writes}
 use Rattle.circuit_faults.proofs.kept_parts.solve_kept.Goals as goal
+use Rattle.path_fixpoint.specs.declared.words.NetWords.{NetWords}
+use Rattle.path_fixpoint.proofs.SourceLevels.{words_back}
+use Rattle.path_fixpoint.specs.Solved.{HasRootSpans, TellsReach, network_at}
+use Rattle.bdd_core.specs.Diagram.{Valuation}
+use Rattle.std.proofs.Common.{subst, sym}
 
 -- ---- a net that nothing drives
 
@@ -28,11 +33,13 @@ words_of-out-requires c = c.requires.spans.room c.args.part.now (0, refl)
 
 pub solve_part-requires-clause-spans : goal.solve_part-requires-clause-spans
 solve_part-requires-clause-spans c =
-    kept_root_spans c.args.circuit.now (c.args.part.now ∷ []) c.args.spans c.args.store.now c.requires.spans c.args.part.now (0, refl) c.words_of-out.result c.words_of-out.ensures
+    let spans = kept_root_spans c.args.circuit.now (c.args.part.now ∷ []) c.args.spans c.args.store.now c.requires.spans c.args.part.now (0, refl) c.words_of-out.result c.words_of-out.ensures in
+    subst (λ (w : NetWords). HasRootSpans c.args.circuit.now c.args.part.now c.args.spans.gates c.args.spans.roots w c.args.store.now)
+    (sym (words_back c.args.circuit.now c.words_of-out.result spans.spans.source)) spans
 
 pub returns-in-Err-clause-writes : goal.returns-in-Err-clause-writes
 returns-in-Err-clause-writes c =
-    kept_solved c.args.spans c.args.part.now c.words_of-out.result c.args.store.now c.solve_part.new.store c.words_of-out.ensures (c.requires.spans.room c.args.part.now (0, refl)) c.solve_part.ensures.writes
+    kept_solved c.args.circuit.now c.args.spans c.args.part.now c.words_of-out.result c.args.store.now c.solve_part.new.store c.words_of-out.ensures (c.requires.spans.room c.args.part.now (0, refl)) c.solve_part.ensures.writes
 
 pub returns-in-Err-clause-few : goal.returns-in-Err-clause-few
 returns-in-Err-clause-few c one u gates roots = record { counts = (c.in-Err.ensures.few one u gates roots).counts; within = tt }
@@ -45,11 +52,11 @@ copy_reach-requires-clause-nets c k d lt = omega (arith, c.requires.part.nets k 
 pub copy_reach-requires-clause-out : goal.copy_reach-requires-clause-out
 copy_reach-requires-clause-out c =
     let spans = kept_root_spans c.args.circuit.now (c.args.part.now ∷ []) c.args.spans c.args.store.now c.requires.spans c.args.part.now (0, refl) c.words_of-out.result c.words_of-out.ensures in
-    (span_written c.words_of-out.result c.words_of-out.result c.args.store.now c.solve_part.new.store c.in-Ok.ensures.writes spans.spans.out_span, c.in-Ok.ensures.writes.live, spans.spans.out_len, search)
+    (span_written c.words_of-out.result.span c.words_of-out.result.span c.args.store.now c.solve_part.new.store c.in-Ok.ensures.writes spans.spans.out_span, c.in-Ok.ensures.writes.live, spans.spans.out_len, search)
 
 pub copy_reach-requires-clause-to : goal.copy_reach-requires-clause-to
 copy_reach-requires-clause-to c =
-    span_written c.words_of-out.result c.args.spans.zeros c.args.store.now c.solve_part.new.store c.in-Ok.ensures.writes c.requires.spans.zeros_span
+    span_written c.words_of-out.result.span c.args.spans.zeros c.args.store.now c.solve_part.new.store c.in-Ok.ensures.writes c.requires.spans.zeros_span
 
 pub copy_reach-requires-clause-apart : goal.copy_reach-requires-clause-apart
 copy_reach-requires-clause-apart c =
@@ -62,8 +69,8 @@ pub copy_reach-requires-2-clause-out : goal.copy_reach-requires-2-clause-out
 copy_reach-requires-2-clause-out c =
     let spans = kept_root_spans c.args.circuit.now (c.args.part.now ∷ []) c.args.spans c.args.store.now c.requires.spans c.args.part.now (0, refl) c.words_of-out.result c.words_of-out.ensures in
     let zeros = c.copy_reach.ensures in (
-      span_rewritten c.words_of-out.result c.solve_part.new.store c.copy_reach.new.store zeros.rest zeros.len
-          (span_written c.words_of-out.result c.words_of-out.result c.args.store.now c.solve_part.new.store c.in-Ok.ensures.writes spans.spans.out_span),
+      span_rewritten c.words_of-out.result.span c.solve_part.new.store c.copy_reach.new.store zeros.rest zeros.len
+          (span_written c.words_of-out.result.span c.words_of-out.result.span c.args.store.now c.solve_part.new.store c.in-Ok.ensures.writes spans.spans.out_span),
       copied_filled c.args.part.now false c.words_of-out.result c.args.spans.zeros (length c.args.part.now.nets) c.solve_part.new.store c.copy_reach.new.store (reach_apart c.args.circuit.now (c.args.part.now ∷ []) c.args.spans c.args.store.now c.requires.spans c.args.part.now (0, refl) false c.words_of-out.result c.words_of-out.ensures) c.in-Ok.ensures.writes.live zeros,
       spans.spans.out_len,
       search,
@@ -73,7 +80,7 @@ pub copy_reach-requires-2-clause-to : goal.copy_reach-requires-2-clause-to
 copy_reach-requires-2-clause-to c =
     let zeros = c.copy_reach.ensures in
     span_rewritten c.args.spans.ones c.solve_part.new.store c.copy_reach.new.store zeros.rest zeros.len
-    (span_written c.words_of-out.result c.args.spans.ones c.args.store.now c.solve_part.new.store c.in-Ok.ensures.writes c.requires.spans.ones_span)
+    (span_written c.words_of-out.result.span c.args.spans.ones c.args.store.now c.solve_part.new.store c.in-Ok.ensures.writes c.requires.spans.ones_span)
 
 pub copy_reach-requires-2-clause-apart : goal.copy_reach-requires-2-clause-apart
 copy_reach-requires-2-clause-apart c =
@@ -90,7 +97,7 @@ returns-clause-writes c =
     let mid = c.solve_part.new.store in
     let next = c.copy_reach.new.store in
     let new = c.copy_reach-2.new.store in
-    let solved = kept_solved spans part out old mid c.words_of-out.ensures (c.requires.spans.room part (0, refl)) c.in-Ok.ensures.writes in
+    let solved = kept_solved c.args.circuit.now spans part out old mid c.words_of-out.ensures (c.requires.spans.room part (0, refl)) c.in-Ok.ensures.writes in
     let zeros = kept_copied spans part false out (length part.nets) mid next solved.adds.sound solved.adds.within c.copy_reach.ensures in
     kept_then spans old next new (kept_then spans old mid next solved zeros) (kept_copied spans part true out (length part.nets) next new zeros.adds.sound zeros.adds.within c.copy_reach-2.ensures)
 
@@ -104,7 +111,9 @@ returns-clause-gives c =
     let has = c.requires.spans in
     part_reached circuit part spans out old c.solve_part.new.store c.copy_reach.new.store c.copy_reach-2.new.store has (kept_root_spans c.args.circuit.now (c.args.part.now ∷ []) c.args.spans c.args.store.now c.requires.spans c.args.part.now (0, refl) c.words_of-out.result c.words_of-out.ensures).spans.out_len (reach_apart c.args.circuit.now (c.args.part.now ∷ []) c.args.spans c.args.store.now c.requires.spans c.args.part.now (0, refl) false c.words_of-out.result c.words_of-out.ensures)
     (inside_range circuit part c.requires.part)
-    c.in-Ok.ensures.writes c.copy_reach.ensures c.copy_reach-2.ensures (c.in-Ok.ensures.reaches c.requires.soft)
+    c.in-Ok.ensures.writes c.copy_reach.ensures c.copy_reach-2.ensures
+    (subst (λ (w : NetWords). (v : Valuation) → TellsReach part w c.solve_part.new.store v (network_at old circuit part spans.gates spans.roots v))
+    (words_back circuit out (kept_root_spans circuit (part ∷ []) spans old has part (0, refl) out c.words_of-out.ensures).spans.source) (c.in-Ok.ensures.reaches c.requires.soft))
     (λ value. reach_apart circuit (part ∷ []) spans old has part (0, refl) value out c.words_of-out.ensures)
     (λ value. reach_len circuit (part ∷ []) spans old has value)
 

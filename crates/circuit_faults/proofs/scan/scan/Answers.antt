@@ -1,9 +1,9 @@
-use Rattle.std.proofs.Common.{◌≡◌, ℕ, ◌+◌, ◌*◌, ◌≤◌, Bool, List, Option, Err, Ok, get_or, length, true, false, arith, ap, refl, subst}
+use Rattle.std.proofs.Common.{◌≡◌, ℕ, ◌+◌, ◌*◌, ◌≤◌, Bool, List, Option, Err, Ok, get_or, length, true, false, arith, ap, refl, subst, ◌<◌}
 use Rattle.bdd_core.specs.Store.{function_of}
 use Rattle.bdd_ops.proofs.CountingLaws.{counted_more, counted_then, counts_ok}
 use Rattle.bdd_ops.proofs.WithinLaws.{within_same}
-use Rattle.circuit_faults.proofs.ScanLaws.{net_at, scanned_more}
-use Rattle.circuit_faults.specs.Scans.{IsClearNet, IsScannedTo, NetGives, reached}
+use Rattle.circuit_faults.proofs.ScanLaws.{net_at, scanned_more, found_at}
+use Rattle.circuit_faults.specs.Scans.{IsClearNet, IsScannedTo, NetGives, reached, IsFaultyNet}
 use Rattle.circuit_faults.specs.declared.net.CircuitFault.{CircuitFault}
 use Rattle.bdd_core.proofs.Frames.{filled_beside, writes_then, span_written}
 use Rattle.path_fixpoint.proofs.SpendingLaws.{span_beside, spends_behind, spends_more, spends_value}
@@ -11,6 +11,8 @@ use Rattle.path_fixpoint.specs.Parts.{IsPlace}
 use Rattle.vrt_model.specs.Lists.{At, mark_at}
 use Rattle.vrt_model.specs.declared.ids.Net.{Net}
 use Rattle.circuit_faults.proofs.scan.scan.Goals as goal
+use Rattle.path_fixpoint.proofs.Places.{place_words}
+use Rattle.vrt_model.proofs.Members.{all_among}
 
 pub check_net-requires-clause-care : goal.check_net-requires-clause-care
 check_net-requires-clause-care c = omega (arith, c.requires.care, c.loop-i.invariant.writes.adds.longer)
@@ -23,9 +25,21 @@ check_net-requires-clause-gates c = (
 
 pub check_net-requires-clause-out : goal.check_net-requires-clause-out
 check_net-requires-clause-out c = (
-  span_written c.args.gates c.args.out c.args.store.now c.loop-i.store c.loop-i.invariant.writes c.requires.out.0,
-  filled_beside c.args.gates c.args.out c.args.store.now c.loop-i.store c.loop-i.invariant.writes c.requires.apart c.requires.out.1,
+  span_written c.args.gates c.args.out.span c.args.store.now c.loop-i.store c.loop-i.invariant.writes c.requires.out.0,
+  filled_beside c.args.gates c.args.out.span c.args.store.now c.loop-i.store c.loop-i.invariant.writes c.requires.apart c.requires.out.1,
 )
+
+pub check_net-requires-clause-place : goal.check_net-requires-clause-place
+check_net-requires-clause-place c =
+    let part = c.args.part.now in
+    let i = c.loop-i.i in
+    let net : Net = get_or c.as_slice-nets.result.now i (record { 0 = 0 }) in
+    let there : At part.nets i net = net_at part.nets c.as_slice-nets.result.now i (record { 0 = 0 }) c.as_slice-nets.ensures c.loop-i-test.true in
+    let shown : length c.as_slice-nets.result.now ≡ length part.nets = ap (λ (xs : List Net). length xs) c.as_slice-nets.ensures in (
+      (all_among (λ (n : Net). (n.0 < c.args.gates.len) × (n.0 < length c.args.observed.now)) part.nets net c.requires.nets (i, there)).0,
+      place_words c.args.out (length part.nets) i c.requires.out.2 (omega (arith, shown, c.loop-i-test.true)),
+      c.requires.out.3,
+    )
 
 pub loop-i-preserved : goal.loop-i-preserved
 loop-i-preserved c =
@@ -52,7 +66,7 @@ loop-i-preserved c =
       counted = λ u care_in gates_in out_in.
           let before = c.loop-i.invariant.counted u care_in gates_in out_in in
           let one = c.in-Ok.ensures.few u (within_same u (function_of first care) (function_of old care) (c.loop-i.invariant.writes.adds.kept care.0 c.requires.care) care_in) before.1
-          (span_beside u gates out first old c.loop-i.invariant.writes c.requires.apart c.requires.out.1 out_in) in
+          (span_beside u gates out.span first old c.loop-i.invariant.writes c.requires.apart c.requires.out.1 out_in) in
           (counted_more u (4 * i + 4) (4 * (i + 1)) first new (omega arith) (counted_then u (4 * i) 4 first old new before.0 one.counts.added), one.within);
     }
 
@@ -64,6 +78,23 @@ returns-clause-gives c =
     let low : c.loop-i.i ≤ length c.as_slice-nets.result.now = c.loop-i.auto.i-end in
     let end : c.loop-i.i ≡ length part.nets = omega (arith, shown, high, low) in
     subst (λ (k : ℕ). IsScannedTo part (mark_at c.args.observed.now) c.args.care c.args.gates c.args.out k c.args.store.now c.loop-i.store) end c.loop-i.invariant.scanned
+
+pub returns-in-Some-clause-gives : goal.returns-in-Some-clause-gives
+returns-in-Some-clause-gives c =
+    let part = c.args.part.now in
+    let care = c.args.care in
+    let out = c.args.out in
+    let old = c.loop-i.store in
+    let new = c.check_net.new.store in
+    let i = c.loop-i.i in
+    let net : Net = get_or c.as_slice-nets.result.now i (record { 0 = 0 }) in
+    let there : At part.nets i net = net_at part.nets c.as_slice-nets.result.now i (record { 0 = 0 }) c.as_slice-nets.ensures c.loop-i-test.true in
+    let zero = reached old out false i in
+    let one = reached old out true i in
+    let gives = subst (λ (o : Option CircuitFault). NetGives (function_of old care) zero one c.is_seen-seen.result net new o) c.in-Some.is c.in-Ok.ensures.gives in
+    found_at part (mark_at c.args.observed.now) care c.args.gates out c.requires.once c.requires.out.2 c.requires.apart c.args.store.now old c.loop-i.invariant.writes c.requires.care c.requires.out.1
+    new i net c.in-Some.fault (net, there, refl) c.loop-i.invariant.scanned gives.0
+    (subst (λ (b : Bool). IsFaultyNet (function_of old care) zero one b c.in-Some.fault.kind c.in-Some.fault.at new) c.is_seen-seen.ensures gives.1)
 
 pub returns-in-Err-clause-few : goal.returns-in-Err-clause-few
 returns-in-Err-clause-few c u care_in gates_in out_in =
@@ -78,7 +109,7 @@ returns-in-Err-clause-few c u care_in gates_in out_in =
     let shown : length c.as_slice-nets.result.now ≡ length part.nets = ap (λ (xs : List Net). length xs) c.as_slice-nets.ensures in
     let before = c.loop-i.invariant.counted u care_in gates_in out_in in
     let one = c.in-Err.ensures.few u (within_same u (function_of first care) (function_of old care) (c.loop-i.invariant.writes.adds.kept care.0 c.requires.care) care_in) before.1
-    (span_beside u gates out first old c.loop-i.invariant.writes c.requires.apart c.requires.out.1 out_in) in
+    (span_beside u gates out.span first old c.loop-i.invariant.writes c.requires.apart c.requires.out.1 out_in) in
     spends_more u gates (4 * i + 4) (4 * length part.nets) first new (Err c.in-Err.spent) (omega (arith, shown, c.loop-i-test.true))
     (spends_behind u gates (4 * i) 4 first old new (Err c.in-Err.spent) before.0 one)
 
@@ -95,7 +126,7 @@ returns-in-Some-clause-few c u care_in gates_in out_in =
     let shown : length c.as_slice-nets.result.now ≡ length part.nets = ap (λ (xs : List Net). length xs) c.as_slice-nets.ensures in
     let before = c.loop-i.invariant.counted u care_in gates_in out_in in
     let one = c.in-Ok.ensures.few u (within_same u (function_of first care) (function_of old care) (c.loop-i.invariant.writes.adds.kept care.0 c.requires.care) care_in) before.1
-    (span_beside u gates out first old c.loop-i.invariant.writes c.requires.apart c.requires.out.1 out_in) in
+    (span_beside u gates out.span first old c.loop-i.invariant.writes c.requires.apart c.requires.out.1 out_in) in
     spends_value u gates (4 * length part.nets) first new c.in-Ok.found _
     (spends_more u gates (4 * i + 4) (4 * length part.nets) first new (Ok c.in-Ok.found) (omega (arith, shown, c.loop-i-test.true))
     (spends_behind u gates (4 * i) 4 first old new (Ok c.in-Ok.found) before.0 one))

@@ -11,6 +11,6 @@ abbrev pub invariant-loop-i : goal.invariant-loop-i
 invariant-loop-i l = record {
   writes : Writes l.fn.gates l.fn.store l.store;
   scanned : IsScannedTo l.part (mark_at l.observed) l.fn.care l.fn.gates l.fn.out l.i l.fn.store l.store;
-  counted : (u : ℕ) → IsWithin u (function_of l.fn.store l.fn.care) → IsSpanWithin u l.fn.store l.fn.gates → IsSpanWithin u l.fn.store l.fn.out
+  counted : (u : ℕ) → IsWithin u (function_of l.fn.store l.fn.care) → IsSpanWithin u l.fn.store l.fn.gates → IsSpanWithin u l.fn.store l.fn.out.span
       → IsCounted u (4 * l.i) l.fn.store l.store × IsSpanWithin u l.store l.fn.gates;
 }

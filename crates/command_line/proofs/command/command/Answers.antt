@@ -14,4 +14,5 @@ returns c =
     let a4 = c.in_ok-arg-4.ensures.shape c.value_option-4.ensures.local ∙ ap₂ with_rule a3 c.value_option-4.ensures.rule in
     let a5 = c.in_ok-arg-5.ensures.shape c.value_option-5.ensures.local ∙ ap₂ with_rule a4 c.value_option-5.ensures.rule in
     let a6 = c.in_ok-arg-6.ensures.shape c.value_option-6.ensures.local ∙ ap₂ with_rule a5 c.value_option-6.ensures.rule in
-    IfOk-weaker c.arg-7.result _ _ (λ m h. h.shape c.files_argument.ensures.local ∙ ap₂ with_rule a6 c.files_argument.ensures.rule) c.arg-7.ensures
+    let a7 = c.in_ok-arg-7.ensures.shape c.value_option-7.ensures.local ∙ ap₂ with_rule a6 c.value_option-7.ensures.rule in
+    IfOk-weaker c.arg-8.result _ _ (λ m h. h.shape c.files_argument.ensures.local ∙ ap₂ with_rule a7 c.files_argument.ensures.rule) c.arg-8.ensures

@@ -15,7 +15,7 @@ step_care-requires-clause-given c =
     let h = c.requires.handles in
     let net = c.requires.rising.inputs c.args.net c.requires.net in
     let lt = slice_get_within circuit.nets c.args.net net.0 net.1 in
-    let len = h.words.given_len in (given_span (length circuit.nets) words c.args.store.now h.words, h.given, omega (arith, lt, len))
+    let len = h.words.given_len in (given_span circuit words c.args.store.now h.words, h.given, omega (arith, lt, len))
 
 pub step_care-requires-clause-setting : goal.step_care-requires-clause-setting
 step_care-requires-clause-setting c =
@@ -24,7 +24,7 @@ step_care-requires-clause-setting c =
     let h = c.requires.handles in
     let net = c.requires.rising.inputs c.args.net c.requires.net in
     let lt = slice_get_within circuit.nets c.args.net net.0 net.1 in
-    let len = h.words.setting_len in (setting_span (length circuit.nets) words c.args.store.now h.words, h.setting, omega (arith, lt, len))
+    let len = h.words.setting_len in (setting_span circuit words c.args.store.now h.words, h.setting, omega (arith, lt, len))
 
 pub step_care-requires-clause-nets : goal.step_care-requires-clause-nets
 step_care-requires-clause-nets c =

@@ -1,36 +1,32 @@
-use Rattle.std.proofs.Common.{ℕ, ◌*◌, subst}
-use Rattle.std.specs.Prelude.{replicate}
-use Rattle.domino_order.proofs.StartLaws.{given_there, open_passes, prepared, start_passes}
-use Rattle.domino_order.specs.StepWords.{HasStepWords}
+use Rattle.domino_order.proofs.StartLaws.{given_there, open_passes, phase_there, prepared, start_passes}
 use Rattle.domino_order.proofs.runs.prepare.Goals as goal
+
+pub open_phase-requires-clause-words : goal.open_phase-requires-clause-words
+open_phase-requires-clause-words c =
+    let words = c.run_words-words in
+    phase_there c.args.asked c.requires.asked c.args.store.now words.new.store words.new.store words.new.store c.requires.store words.ensures.rest words.result.phase words.result.steps words.ensures.phase words.ensures.given words.ensures.steps
 
 pub returns-in-Err-clause-spent : goal.returns-in-Err-clause-spent
 returns-in-Err-clause-spent c =
-    let steps = c.step_words-steps.ensures in
-    open_passes c.args.asked c.requires.asked c.args.store.now c.take_words-words.new.store c.step_words-steps.new.store c.open_phase.new.store c.open_phase.new.store c.requires.store c.take_words-words.ensures.rest
-    (replicate (2 * c.len-nets.result) 0) steps.taken c.take_words-words.result c.step_words-steps.result c.take_words-words.ensures.words steps.given
-    (subst (λ (x : ℕ). HasStepWords x c.step_words-steps.result c.step_words-steps.new.store) c.len-nets.ensures steps.words) c.in-Err.spent c.in-Err.ensures.counts
+    let words = c.run_words-words in
+    open_passes c.args.asked c.requires.asked c.args.store.now words.new.store c.open_phase.new.store c.open_phase.new.store c.requires.store words.ensures.rest words.result.phase words.result.steps words.ensures.phase
+    words.ensures.given words.ensures.steps c.in-Err.spent c.in-Err.ensures.counts
 
 pub start_roots-requires-clause-opened : goal.start_roots-requires-clause-opened
 start_roots-requires-clause-opened c =
-    let steps = c.step_words-steps.ensures in
-    given_there c.args.asked c.requires.asked c.args.store.now c.take_words-words.new.store c.step_words-steps.new.store c.open_phase.new.store c.open_phase.new.store c.requires.store c.take_words-words.ensures.rest
-    (replicate (2 * c.len-nets.result) 0) steps.taken c.take_words-words.result c.step_words-steps.result c.take_words-words.ensures.words steps.given
-    (subst (λ (x : ℕ). HasStepWords x c.step_words-steps.result c.step_words-steps.new.store) c.len-nets.ensures steps.words) c.in-Ok.care c.in-Ok.ensures.open
+    let words = c.run_words-words in
+    given_there c.args.asked c.requires.asked c.args.store.now words.new.store c.open_phase.new.store c.open_phase.new.store c.requires.store words.ensures.rest words.result.phase words.result.steps words.ensures.phase
+    words.ensures.given words.ensures.steps c.in-Ok.care c.in-Ok.ensures.open
 
 pub returns-in-Err-start_roots-clause-spent : goal.returns-in-Err-start_roots-clause-spent
 returns-in-Err-start_roots-clause-spent c =
-    let steps = c.step_words-steps.ensures in
-    start_passes c.args.asked c.requires.asked c.args.store.now c.take_words-words.new.store c.step_words-steps.new.store c.open_phase.new.store c.start_roots.new.store c.requires.store c.take_words-words.ensures.rest
-    (replicate (2 * c.len-nets.result) 0) steps.taken c.take_words-words.result c.step_words-steps.result c.take_words-words.ensures.words steps.given
-    (subst (λ (x : ℕ). HasStepWords x c.step_words-steps.result c.step_words-steps.new.store) c.len-nets.ensures steps.words) c.in-Ok.ensures.writes.adds c.in-Ok.ensures.writes.len
-    c.in-Ok.ensures.counts.added c.in-Err-start_roots.spent c.in-Err-start_roots.ensures.counts
+    let words = c.run_words-words in
+    start_passes c.args.asked c.requires.asked c.args.store.now words.new.store c.open_phase.new.store c.start_roots.new.store c.requires.store words.ensures.rest words.result.phase words.result.steps words.ensures.phase
+    words.ensures.given words.ensures.steps c.in-Ok.ensures.writes.adds c.in-Ok.ensures.writes.len c.in-Ok.ensures.counts.added c.in-Err-start_roots.spent c.in-Err-start_roots.ensures.counts
 
 pub returns-in-Ok-start_roots-clause-gives : goal.returns-in-Ok-start_roots-clause-gives
 returns-in-Ok-start_roots-clause-gives c =
-    let steps = c.step_words-steps.ensures in
-    prepared c.args.asked c.requires.asked c.args.store.now c.take_words-words.new.store c.step_words-steps.new.store c.open_phase.new.store c.start_roots.new.store c.requires.store c.take_words-words.ensures.rest
-    (replicate (2 * c.len-nets.result) 0) steps.taken c.take_words-words.result c.step_words-steps.result c.take_words-words.ensures.words steps.given
-    (subst (λ (x : ℕ). HasStepWords x c.step_words-steps.result c.step_words-steps.new.store) c.len-nets.ensures steps.words) c.in-Ok.ensures.writes.adds c.in-Ok.ensures.writes.len
-    c.in-Ok.ensures.counts.added c.in-Ok.care c.in-Ok.ensures.open c.start_roots.ensures.handles c.start_roots.ensures.keeps c.start_roots.ensures.given c.in-Ok-start_roots.ensures.arrive
-    c.in-Ok-start_roots.ensures.counts.added
+    let words = c.run_words-words in
+    prepared c.args.asked c.requires.asked c.args.store.now words.new.store c.open_phase.new.store c.start_roots.new.store c.requires.store words.ensures.rest words.result.phase words.result.steps words.ensures.phase
+    words.ensures.given words.ensures.steps c.in-Ok.ensures.writes.adds c.in-Ok.ensures.writes.len c.in-Ok.ensures.counts.added c.in-Ok.care c.in-Ok.ensures.open c.start_roots.ensures.handles
+    c.start_roots.ensures.keeps c.start_roots.ensures.given c.in-Ok-start_roots.ensures.arrive c.in-Ok-start_roots.ensures.counts.added

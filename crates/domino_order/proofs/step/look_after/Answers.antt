@@ -24,14 +24,14 @@ settle_at-requires-clause-bare c =
     let s = c.args.rising in
     let words = c.args.words in
     let mid = c.take_bits.new.store in
-    bare_rose s c.requires.rising words mid (handles_by_setting (length (of_rising s).circuit.nets) words c.args.store.now mid c.requires.words c.take_bits.ensures.writes)
+    bare_rose s c.requires.rising words mid (handles_by_setting (of_rising s).circuit words c.args.store.now mid c.requires.words c.take_bits.ensures.writes)
 
 pub settle_at-requires-clause-kept : goal.settle_at-requires-clause-kept
 settle_at-requires-clause-kept c =
     let s = c.args.rising in
     let words = c.args.words in
     let mid = c.take_bits.new.store in
-    kept_rose s c.requires.rising words mid (handles_by_setting (length (of_rising s).circuit.nets) words c.args.store.now mid c.requires.words c.take_bits.ensures.writes)
+    kept_rose s c.requires.rising words mid (handles_by_setting (of_rising s).circuit words c.args.store.now mid c.requires.words c.take_bits.ensures.writes)
 
 pub settle_at-requires-clause-fixed : goal.settle_at-requires-clause-fixed
 settle_at-requires-clause-fixed c =
@@ -108,10 +108,10 @@ first_difference-requires-clause-left c =
     let words = c.args.words in
     let mid = c.take_bits.new.store in
     let new = c.settle_at.new.store in
-    let first = handles_by_setting nets words c.args.store.now mid c.requires.words c.take_bits.ensures.writes in
-    let h = handles_by_rose nets words mid new first c.settle_at.ensures.writes c.settle_at.ensures.live in
+    let first = handles_by_setting (of_rising c.args.rising).circuit words c.args.store.now mid c.requires.words c.take_bits.ensures.writes in
+    let h = handles_by_rose (of_rising c.args.rising).circuit words mid new first c.settle_at.ensures.writes c.settle_at.ensures.live in
     let marks : length c.as_slice-marks.result.now ≡ nets = ap (λ (xs : List Bool). length xs) c.as_slice-marks.ensures.value ∙ c.requires.rising.planned.marks in
-    let len = h.words.rose_len in (rose_span nets words new h.words, h.rose, omega (arith, marks, len))
+    let len = h.words.rose_len in (rose_span (of_rising c.args.rising).circuit words new h.words, h.rose, omega (arith, marks, len))
 
 pub first_difference-requires-clause-right : goal.first_difference-requires-clause-right
 first_difference-requires-clause-right c =
@@ -119,10 +119,10 @@ first_difference-requires-clause-right c =
     let words = c.args.words in
     let mid = c.take_bits.new.store in
     let new = c.settle_at.new.store in
-    let first = handles_by_setting nets words c.args.store.now mid c.requires.words c.take_bits.ensures.writes in
-    let h = handles_by_rose nets words mid new first c.settle_at.ensures.writes c.settle_at.ensures.live in
+    let first = handles_by_setting (of_rising c.args.rising).circuit words c.args.store.now mid c.requires.words c.take_bits.ensures.writes in
+    let h = handles_by_rose (of_rising c.args.rising).circuit words mid new first c.settle_at.ensures.writes c.settle_at.ensures.live in
     let marks : length c.as_slice-marks.result.now ≡ nets = ap (λ (xs : List Bool). length xs) c.as_slice-marks.ensures.value ∙ c.requires.rising.planned.marks in
-    let len = h.words.together_len in (together_span nets words new h.words, h.together, omega (arith, marks, len))
+    let len = h.words.together_len in (together_span (of_rising c.args.rising).circuit words new h.words, h.together, omega (arith, marks, len))
 
 pub returns-clause-gives : goal.returns-clause-gives
 returns-clause-gives c =
@@ -141,11 +141,11 @@ returns-clause-gives c =
     c.requires.twice.gives in
     let settled = subst (λ (o : Option H). SettlesAt k s.phase s.nets.now c.args.net settings care words.rose mid later o) c.in-Ok-None.field-0-is (c.in-Ok-None.ensures.gives c.args.net settings gives) in
     let same = λ (v : Valuation). took.writes.adds.kept care.0 c.requires.care v in
-    let first = handles_by_setting nets words old mid h took.writes in
+    let first = handles_by_setting (of_rising c.args.rising).circuit words old mid h took.writes in
     let is = c.requires.rising in
     step_gives k s.phase s.nets.now c.args.net care (observed_nets k s.phase is.ready).0.nets words.setting words.rose words.together old mid later c.first_difference.new.store c.requires.twice same
     (λ v. c.settle_at.ensures.writes.adds.kept care.0 (let live = c.requires.care in let longer = took.writes.adds.longer in omega (arith, live, longer)) v ∙ same v)
-    h.words.together_len settled (together_by_rose nets words mid later first c.settle_at.ensures.writes) (together_by_setting nets words old mid h took.writes) (mark_at c.as_slice-marks.result.now)
+    h.words.together_len settled (together_by_rose (of_rising c.args.rising).circuit words mid later first c.settle_at.ensures.writes) (together_by_setting (of_rising c.args.rising).circuit words old mid h took.writes) (mark_at c.as_slice-marks.result.now)
     (seen_is k s.phase s.plan.now is.ready is.planned c.as_slice-marks.result.now c.as_slice-marks.ensures.value) c.first_difference.result c.first_difference.ensures.gives
 
 pub returns-clause-keeps : goal.returns-clause-keeps
@@ -172,8 +172,8 @@ returns-clause-counts c =
     let new = c.first_difference.new.store in
     let took = c.take_bits.ensures.writes in
     let settled = c.settle_at.ensures.writes in
-    let first = handles_by_setting nets words old mid c.requires.words took in
-    let h = handles_by_rose nets words mid later first settled c.settle_at.ensures.live in
+    let first = handles_by_setting (of_rising c.args.rising).circuit words old mid c.requires.words took in
+    let h = handles_by_rose (of_rising c.args.rising).circuit words mid later first settled c.settle_at.ensures.live in
     let marks : length c.as_slice-marks.result.now ≡ nets = ap (λ (xs : List Bool). length xs) c.as_slice-marks.ensures.value ∙ c.requires.rising.planned.marks in
     let sound = settled.adds.sound in
     let live : IsLive later c.args.care = (let live = c.requires.care in let a = took.adds.longer in let b = settled.adds.longer in omega (arith, live, a, b)) in

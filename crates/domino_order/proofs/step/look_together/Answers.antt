@@ -11,14 +11,14 @@ pub settle_at-requires-clause-bare : goal.settle_at-requires-clause-bare
 settle_at-requires-clause-bare c =
     let s = c.args.rising in
     let words = c.args.words in
-    let handles = handles_by_setting (length (of_rising s).circuit.nets) words c.args.store.now c.raise.new.store c.requires.words c.raise.ensures.writes in
+    let handles = handles_by_setting (of_rising s).circuit words c.args.store.now c.raise.new.store c.requires.words c.raise.ensures.writes in
     bare_together s c.requires.rising words c.raise.new.store handles
 
 pub settle_at-requires-clause-kept : goal.settle_at-requires-clause-kept
 settle_at-requires-clause-kept c =
     let s = c.args.rising in
     let words = c.args.words in
-    let handles = handles_by_setting (length (of_rising s).circuit.nets) words c.args.store.now c.raise.new.store c.requires.words c.raise.ensures.writes in
+    let handles = handles_by_setting (of_rising s).circuit words c.args.store.now c.raise.new.store c.requires.words c.raise.ensures.writes in
     kept_together s c.requires.rising words c.raise.new.store handles
 
 pub settle_at-requires-clause-fixed : goal.settle_at-requires-clause-fixed
@@ -52,11 +52,11 @@ returns-clause-setting c =
     let old = c.args.store.now in
     let mid = c.raise.new.store in
     let len = c.requires.words.words.setting_len in
-    let handles = handles_by_setting (length k.circuit.nets) words old mid c.requires.words c.raise.ensures.writes in
+    let handles = handles_by_setting k.circuit words old mid c.requires.words c.raise.ensures.writes in
     let gives = together_gives k s.phase s.nets.now c.args.net c.requires.rising.inputs c.requires.net words.setting old mid c.requires.start
     (λ m v lt. raised_shown words.setting c.args.net old mid c.raise.ensures.writes c.raise.ensures.here c.raise.ensures.apart c.requires.words.setting m v (omega (arith, lt, len))) in
     gives_stay k s.phase s.nets.now c.args.net (together_at k s.phase s.nets.now c.args.net) words.setting mid c.settle_at.new.store len
-    (setting_by_together (length k.circuit.nets) words mid c.settle_at.new.store handles c.settle_at.ensures.writes) gives
+    (setting_by_together k.circuit words mid c.settle_at.new.store handles c.settle_at.ensures.writes) gives
 
 pub returns-clause-rose : goal.returns-clause-rose
 returns-clause-rose c =
@@ -65,8 +65,8 @@ returns-clause-rose c =
     let old = c.args.store.now in
     let mid = c.raise.new.store in
     let new = c.settle_at.new.store in
-    let handles = handles_by_setting nets words old mid c.requires.words c.raise.ensures.writes in
-    stays_then words.rose old mid new (rose_by_setting nets words old mid c.requires.words c.raise.ensures.writes) (rose_by_together nets words mid new handles c.settle_at.ensures.writes)
+    let handles = handles_by_setting (of_rising c.args.rising).circuit words old mid c.requires.words c.raise.ensures.writes in
+    stays_then words.rose old mid new (rose_by_setting (of_rising c.args.rising).circuit words old mid c.requires.words c.raise.ensures.writes) (rose_by_together (of_rising c.args.rising).circuit words mid new handles c.settle_at.ensures.writes)
 
 pub returns-clause-handles : goal.returns-clause-handles
 returns-clause-handles c =
@@ -74,8 +74,8 @@ returns-clause-handles c =
     let words = c.args.words in
     let old = c.args.store.now in
     let mid = c.raise.new.store in
-    let handles = handles_by_setting nets words old mid c.requires.words c.raise.ensures.writes in
-    handles_by_together nets words mid c.settle_at.new.store handles c.settle_at.ensures.writes c.settle_at.ensures.live
+    let handles = handles_by_setting (of_rising c.args.rising).circuit words old mid c.requires.words c.raise.ensures.writes in
+    handles_by_together (of_rising c.args.rising).circuit words mid c.settle_at.new.store handles c.settle_at.ensures.writes c.settle_at.ensures.live
 
 pub returns-clause-keeps : goal.returns-clause-keeps
 returns-clause-keeps c =

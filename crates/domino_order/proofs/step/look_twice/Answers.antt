@@ -20,7 +20,7 @@ look_together-requires-clause-care c = (let live = c.requires.care in let longer
 
 pub look_together-requires-clause-words : goal.look_together-requires-clause-words
 look_together-requires-clause-words c =
-    handles_by_rose (length (of_rising c.args.rising).circuit.nets) c.args.words c.args.store.now c.settle_at.new.store c.requires.words c.settle_at.ensures.writes c.settle_at.ensures.live
+    handles_by_rose (of_rising c.args.rising).circuit c.args.words c.args.store.now c.settle_at.new.store c.requires.words c.settle_at.ensures.writes c.settle_at.ensures.live
 
 pub look_together-requires-clause-start : goal.look_together-requires-clause-start
 look_together-requires-clause-start c =
@@ -30,7 +30,7 @@ look_together-requires-clause-start c =
     let old = c.args.store.now in
     let mid = c.settle_at.new.store in
     gives_stay k s.phase s.nets.now c.args.net (start_at k s.phase s.nets.now) words.setting old mid c.requires.words.words.setting_len
-    (setting_by_rose (length k.circuit.nets) words old mid c.requires.words c.settle_at.ensures.writes) c.requires.start
+    (setting_by_rose k.circuit words old mid c.requires.words c.settle_at.ensures.writes) c.requires.start
 
 -- ---- where it does not settle at first
 
@@ -48,7 +48,7 @@ returns-in-Ok-Some-clause-gives c =
 
 pub returns-in-Ok-Some-clause-handles : goal.returns-in-Ok-Some-clause-handles
 returns-in-Ok-Some-clause-handles c =
-    handles_by_rose (length (of_rising c.args.rising).circuit.nets) c.args.words c.args.store.now c.settle_at.new.store c.requires.words c.settle_at.ensures.writes c.settle_at.ensures.live
+    handles_by_rose (of_rising c.args.rising).circuit c.args.words c.args.store.now c.settle_at.new.store c.requires.words c.settle_at.ensures.writes c.settle_at.ensures.live
 
 pub returns-in-Ok-Some-clause-counts : goal.returns-in-Ok-Some-clause-counts
 returns-in-Ok-Some-clause-counts c =
@@ -57,7 +57,7 @@ returns-in-Ok-Some-clause-counts c =
 
 pub returns-in-Err-clause-handles : goal.returns-in-Err-clause-handles
 returns-in-Err-clause-handles c =
-    handles_by_rose (length (of_rising c.args.rising).circuit.nets) c.args.words c.args.store.now c.settle_at.new.store c.requires.words c.settle_at.ensures.writes c.settle_at.ensures.live
+    handles_by_rose (of_rising c.args.rising).circuit c.args.words c.args.store.now c.settle_at.new.store c.requires.words c.settle_at.ensures.writes c.settle_at.ensures.live
 
 pub returns-in-Err-clause-counts : goal.returns-in-Err-clause-counts
 returns-in-Err-clause-counts c =

@@ -15,9 +15,9 @@ returns-in-Some-clause-gives c =
     let bare_levels = c.write_everywhere.new.levels.items in
     let kept_levels = c.write_everywhere-in-Some.new.levels.items in
     λ phase observed setting roots seen solved of_bare of_kept n inside mark.
-    one_level_gives circuit level (c.one_level.ensures level c.in-Some.is) phase observed setting c.args.care roots c.args.gates c.args.store.now solved bare_levels kept_levels
+    one_level_gives circuit level (c.one_level.ensures.one level c.in-Some.is) phase observed setting c.args.care roots c.args.gates c.args.store.now solved bare_levels kept_levels
     (c.write_everywhere.ensures.len ∙ c.requires.levels.bare) (c.write_everywhere-in-Some.ensures.len ∙ c.requires.levels.kept) c.write_everywhere.ensures.each c.write_everywhere-in-Some.ensures.each
-    n inside (seen n (c.are_observed.ensures c.if-are_observed.true n (ap (λ (marks : List Bool). mark_at marks n) c.as_slice.ensures.value ∙ mark)))
+    n inside (seen n (c.are_observed.ensures.seen c.if-are_observed.true n (ap (λ (marks : List Bool). mark_at marks n) c.as_slice.ensures.value ∙ mark)))
 
 pub returns-clause-gives : goal.returns-clause-gives
 returns-clause-gives c =

@@ -1,9 +1,10 @@
-use Rattle.std.proofs.Common.{◌≡◌, ℕ, ◌*◌, ◌<◌, false, All, List, [], ◌∷◌, Err, length, arith, ap, refl, sym, subst}
+use Rattle.std.proofs.Common.{◌≡◌, ℕ, ◌*◌, ◌<◌, false, All, List, [], ◌∷◌, Err, length, arith, ap, refl, sym, subst, ◌+◌}
 use Rattle.bdd_core.proofs.Frames.{span_written}
 use Rattle.bdd_core.specs.Store.{IsSpan}
 use Rattle.bdd_core.specs.Words.{Writes}
 use Rattle.bdd_ops.proofs.CountingLaws.{counted_more, counted_none, counts_more, counts_ok, counts_then}
-use Rattle.node_pool.specs.declared.region.Span.{Span}
+use Rattle.path_fixpoint.specs.declared.words.NetWords.{NetWords}
+use Rattle.bdd_ops.specs.Counting.{Counts}
 use Rattle.output_levels.proofs.AlwaysLaws.{written_care}
 use Rattle.output_levels.proofs.PartLevelLaws.{in_added, in_front, in_none, in_then, none_told, part_range, part_spans, part_told}
 use Rattle.output_levels.specs.PartLevels.{level_operations}
@@ -23,7 +24,7 @@ words_of-words-requires c = c.requires.spans.room c.args.part.now (0, refl)
 
 pub strengths-requires-clause-spans : goal.strengths-requires-clause-spans
 strengths-requires-clause-spans c =
-    subst (λ (w : Span). HasSpans c.args.circuit.now c.args.part.now c.args.gates w c.args.store.now) (sym c.words_of-words.ensures)
+    subst (λ (w : NetWords). HasSpans c.args.circuit.now c.args.part.now c.args.gates w c.args.store.now) (sym c.words_of-words.ensures)
     (part_spans c.args.circuit.now c.args.part.now (c.args.part.now ∷ []) c.args.gates c.args.out c.args.store.now c.requires.spans (0, refl))
 
 pub judge_part-requires-clause-nets : goal.judge_part-requires-clause-nets
@@ -35,10 +36,10 @@ judge_part-requires-clause-care c = (let live = c.requires.care in let longer = 
 pub judge_part-requires-clause-out : goal.judge_part-requires-clause-out
 judge_part-requires-clause-out c =
     let spans = part_spans c.args.circuit.now c.args.part.now (c.args.part.now ∷ []) c.args.gates c.args.out c.args.store.now c.requires.spans (0, refl) in (
-      span_written c.words_of-words.result c.words_of-words.result c.args.store.now c.strengths.new.store c.strengths.ensures.writes
-          (subst (λ (w : Span). IsSpan c.args.store.now w) (sym c.words_of-words.ensures) spans.out_span),
+      span_written c.words_of-words.result.span c.words_of-words.result.span c.args.store.now c.strengths.new.store c.strengths.ensures.writes
+          (subst (λ (w : NetWords). IsSpan c.args.store.now w.span) (sym c.words_of-words.ensures) spans.out_span),
       c.strengths.ensures.writes.live,
-      ap (λ (w : Span). w.len) c.words_of-words.ensures,
+      subst (λ (w : NetWords). w.span.len ≡ net_words w.source * length c.args.part.now.nets) (sym c.words_of-words.ensures) refl,
       search,
     )
 
@@ -57,8 +58,8 @@ returns-then-not-wanted-clause-few c u care gates =
 
 pub returns-in-Err-clause-writes : goal.returns-in-Err-clause-writes
 returns-in-Err-clause-writes c =
-    in_front c.args.out c.args.store.now c.strengths.new.store (net_words * length c.args.part.now.nets) (c.requires.spans.room c.args.part.now (0, refl))
-    (subst (λ (w : Span). Writes w c.args.store.now c.strengths.new.store) c.words_of-words.ensures c.strengths.ensures.writes)
+    in_front c.args.out c.args.store.now c.strengths.new.store (net_words (source_level c.args.circuit.now) * length c.args.part.now.nets) (c.requires.spans.room c.args.part.now (0, refl))
+    (subst (λ (w : NetWords). Writes w.span c.args.store.now c.strengths.new.store) c.words_of-words.ensures c.strengths.ensures.writes)
 
 pub returns-in-Err-clause-few : goal.returns-in-Err-clause-few
 returns-in-Err-clause-few c u care gates =
@@ -68,15 +69,15 @@ returns-in-Err-clause-few c u care gates =
 pub returns-clause-writes : goal.returns-clause-writes
 returns-clause-writes c =
     in_then c.args.out c.args.store.now c.strengths.new.store c.judge_part.new.store
-    (in_front c.args.out c.args.store.now c.strengths.new.store (net_words * length c.args.part.now.nets) (c.requires.spans.room c.args.part.now (0, refl))
-    (subst (λ (w : Span). Writes w c.args.store.now c.strengths.new.store) c.words_of-words.ensures c.strengths.ensures.writes))
+    (in_front c.args.out c.args.store.now c.strengths.new.store (net_words (source_level c.args.circuit.now) * length c.args.part.now.nets) (c.requires.spans.room c.args.part.now (0, refl))
+    (subst (λ (w : NetWords). Writes w.span c.args.store.now c.strengths.new.store) c.words_of-words.ensures c.strengths.ensures.writes))
     (in_added c.args.out c.strengths.new.store c.judge_part.new.store c.judge_part.ensures.adds)
 
 pub returns-clause-gives : goal.returns-clause-gives
 returns-clause-gives c =
     IfOk-weaker c.judge_part.result _ _
     (λ x judged.
-    part_told c.args.circuit.now c.args.part.now c.requires.circuit c.requires.part c.args.gates c.words_of-words.result c.args.care c.args.store.now c.strengths.new.store c.requires.care c.strengths.ensures.writes
+    part_told c.args.circuit.now c.args.part.now c.requires.circuit c.requires.part c.args.gates c.words_of-words.result (ap (λ (w : NetWords). w.source) c.words_of-words.ensures) c.args.care c.args.store.now c.strengths.new.store c.requires.care c.strengths.ensures.writes
     c.in-Ok.ensures.strengths c.args.asked.now c.args.levels.now.items c.judge_part.new.levels.items judged)
     c.judge_part.ensures.gives
 
@@ -84,5 +85,6 @@ pub returns-clause-few : goal.returns-clause-few
 returns-clause-few c u care gates =
     let size = source_level c.args.circuit.now * (length c.args.part.now.nets * (length c.args.part.now.devices * 4)) in
     let spends = c.in-Ok.ensures.few u gates in
-    counts_then u size (9 * length c.args.part.now.nets) c.args.store.now c.strengths.new.store c.judge_part.new.store c.judge_part.result spends.counts.added
-    (c.judge_part.ensures.few u (written_care u c.words_of-words.result c.args.store.now c.strengths.new.store c.args.care c.strengths.ensures.writes c.requires.care care) spends.within)
+    counts_then u size ((source_level c.args.circuit.now + 1) * length c.args.part.now.nets) c.args.store.now c.strengths.new.store c.judge_part.new.store c.judge_part.result spends.counts.added
+    (subst (λ (l : ℕ). Counts u ((l + 1) * length c.args.part.now.nets) c.strengths.new.store c.judge_part.new.store c.judge_part.result) (ap (λ (w : NetWords). w.source) c.words_of-words.ensures)
+    (c.judge_part.ensures.few u (written_care u c.words_of-words.result.span c.args.store.now c.strengths.new.store c.args.care c.strengths.ensures.writes c.requires.care care) spends.within))

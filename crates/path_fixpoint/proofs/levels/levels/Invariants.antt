@@ -8,7 +8,7 @@ use Rattle.path_fixpoint.proofs.levels.levels.Given as goal
 
 abbrev pub invariant-loop-done : goal.invariant-loop-done
 invariant-loop-done l = record {
-  writes : Writes l.fn.out l.fn.store l.store;
-  levels : (v : Valuation) (w : Network) → StandsAt l.circuit l.part l.fn.gates l.fn.store v w → (level : ℕ) → 8 < level + l.done → level ≤ 8 → HasLevel l.part l.fn.out level l.store v w;
-  few : (u : ℕ) → IsSpanWithin u l.fn.store l.fn.gates → IsSpanWithin u l.fn.store l.fn.out → IsCounted u (l.done * (length l.part.nets * (length l.part.devices * 4))) l.fn.store l.store × IsSpanWithin u l.store l.fn.out;
+  writes : Writes l.fn.out.span l.fn.store l.store;
+  levels : (v : Valuation) (w : Network) → StandsAt l.circuit l.part l.fn.gates l.fn.store v w → (level : ℕ) → l.fn.out.source < level + l.done → level ≤ l.fn.out.source → HasLevel l.part l.fn.out level l.store v w;
+  few : (u : ℕ) → IsSpanWithin u l.fn.store l.fn.gates → IsSpanWithin u l.fn.store l.fn.out.span → IsCounted u (l.done * (length l.part.nets * (length l.part.devices * 4))) l.fn.store l.store × IsSpanWithin u l.store l.fn.out.span;
 }

@@ -11,7 +11,7 @@ pub returns-then-is_unused-clause-level : goal.returns-then-is_unused-clause-lev
 returns-then-is_unused-clause-level c v w st upper =
     let unused = c.is_unused.ensures c.if-is_unused.true in
     level_above c.args.circuit.now c.args.part.now c.args.gates c.args.out c.args.level unused c.args.store.now c.take_above.new.store v w
-    c.requires.words c.take_above.ensures.writes c.take_above.ensures.taken st (upper unused.0)
+    c.requires.words c.take_above.ensures.writes c.take_above.ensures.taken st (upper (omega (arith, unused.0, c.requires.words.source)))
 
 pub returns-then-is_unused-clause-few : goal.returns-then-is_unused-clause-few
 returns-then-is_unused-clause-few c u gates all =
@@ -27,7 +27,7 @@ pub settle-requires-clause-words : goal.settle-requires-clause-words
 settle-requires-clause-words c = words_kept c.args.circuit.now c.args.part.now c.args.gates c.args.out c.args.store.now c.open.new.store c.requires.words c.open.ensures.writes
 
 pub returns-clause-writes : goal.returns-clause-writes
-returns-clause-writes c = writes_then c.args.out c.args.store.now c.open.new.store c.settle.new.store c.open.ensures.writes c.settle.ensures.writes
+returns-clause-writes c = writes_then c.args.out.span c.args.store.now c.open.new.store c.settle.new.store c.open.ensures.writes c.settle.ensures.writes
 
 pub returns-clause-apart : goal.returns-clause-apart
 returns-clause-apart c k away = c.settle.ensures.apart k away ∙ c.open.ensures.apart k away
@@ -47,6 +47,6 @@ returns-clause-few c u gates all =
     let first = c.args.store.now in
     let mid = c.open.new.store in
     let opened = c.open.ensures.few u all in
-    spends_more u out (0 + size) size first c.settle.new.store c.settle.result (omega arith)
-    (spends_behind u out 0 size first mid c.settle.new.store c.settle.result opened.counted
-    (c.settle.ensures.few u (span_beside u out c.args.gates first mid c.open.ensures.writes c.requires.words.apart c.requires.words.gates_live gates) opened.within))
+    spends_more u out.span (0 + size) size first c.settle.new.store c.settle.result (omega arith)
+    (spends_behind u out.span 0 size first mid c.settle.new.store c.settle.result opened.counted
+    (c.settle.ensures.few u (span_beside u out.span c.args.gates first mid c.open.ensures.writes c.requires.words.apart c.requires.words.gates_live gates) opened.within))

@@ -10,10 +10,10 @@ loop-at-preserved c =
     let outputs = c.args.outputs.now in
     let at = c.loop-at.at in
     let pin : WholePin = c.pin_at-pin.result.now in
-    let P : ℕ → Type 0 = λ k. (x : WholePin) → At outputs k x → level_of_drive 8 x.drive ≢ c.args.level in
+    let P : ℕ → Type 0 = λ k. (x : WholePin) → At outputs k x → level_of_drive c.args.source x.drive ≢ c.args.level in
     below_more P at c.loop-at.invariant
     (λ x e same.
-    let here : level_of_drive 8 x.drive ≡ level_of_drive 8 pin.drive = ap (λ (y : WholePin). level_of_drive 8 y.drive) (same_Some x pin (sym e ∙ c.pin_at-pin.ensures)) in
+    let here : level_of_drive c.args.source x.drive ≡ level_of_drive c.args.source pin.drive = ap (λ (y : WholePin). level_of_drive c.args.source y.drive) (same_Some x pin (sym e ∙ c.pin_at-pin.ensures)) in
     omega (arith, here, same, c.drive_level.ensures, c.if-drive_level-level.false))
 
 pub returns : goal.returns

@@ -7,6 +7,7 @@ use Rattle.vrt_model.specs.declared.whole.WholePin.{WholePin}
 use Rattle.path_fixpoint.specs.Openings.{NoPinHas}
 use Rattle.path_fixpoint.proofs.PinLaws.{whole_pin}
 use Rattle.path_fixpoint.proofs.levels.no_pin_has.Goals as goal
+use Rattle.vrt_model.specs.Levels.{source_level}
 
 pub loop-whole-preserved : goal.loop-whole-preserved
 loop-whole-preserved c =
@@ -14,10 +15,11 @@ loop-whole-preserved c =
     let at = c.loop-whole.whole-index in
     let w : Whole = c.whole-item.result in
     let there : At wholes at w = item_at wholes c.as_slice-whole-items.result.now at w c.as_slice-whole-items.ensures c.loop-whole-test.true c.whole-item.is in
-    let none : NoPinHas w.outputs c.args.level = subst (λ (ps : List WholePin). NoPinHas ps c.args.level) c.as_slice.ensures (c.no_output_has.ensures c.if-not-no_output_has.false) in
-    let P : ℕ → Type 0 = λ k. (x : Whole) → At wholes k x → NoPinHas x.outputs c.args.level in
+    let none : NoPinHas (source_level c.args.circuit.now) w.outputs c.args.level = subst (λ (ps : List WholePin). NoPinHas (source_level c.args.circuit.now) ps c.args.level) c.as_slice.ensures
+    (subst (λ (source : ℕ). NoPinHas source c.as_slice.result.now c.args.level) c.source_level-source.ensures (c.no_output_has.ensures c.if-not-no_output_has.false)) in
+    let P : ℕ → Type 0 = λ k. (x : Whole) → At wholes k x → NoPinHas (source_level c.args.circuit.now) x.outputs c.args.level in
     below_more P at c.loop-whole.invariant
-    (λ x e. subst (λ (y : Whole). NoPinHas y.outputs c.args.level) (same_Some w x (sym there ∙ e)) none)
+    (λ x e. subst (λ (y : Whole). NoPinHas (source_level c.args.circuit.now) y.outputs c.args.level) (same_Some w x (sym there ∙ e)) none)
 
 pub returns : goal.returns
 returns c e pin m =

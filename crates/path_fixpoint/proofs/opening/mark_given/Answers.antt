@@ -24,13 +24,13 @@ loop-net-preserved c =
     let there : At part.nets at net = subst (λ (xs : List Net). At xs at net) c.as_slice-net-items.ensures (slice_get-get_or c.as_slice-net-items.result.now at blank c.loop-net-test.true) in
     let P : ℕ → Type 0 = λ k. (x : Net) → At part.nets k x → IsGiven circuit x.0 → mark_of new out level k ≡ 1 in
     record {
-      writes = writes_then out c.args.store.now old new i.writes c.mark.ensures.writes;
+      writes = writes_then out.span c.args.store.now old new i.writes c.mark.ensures.writes;
       apart = λ k away. c.mark.ensures.apart k away ∙ i.apart k away;
       marked = below_more P at
           (λ k lt x e g. one_stays out level _ old new k c.mark.ensures.only (i.marked k lt x e g))
           (λ x e g. c.mark.ensures.marked (c.is_given-fits.ensures.1 (subst (λ (y : Net). IsGiven circuit y.0) (same_Some x net (sym e ∙ there)) g)) at (net, there, refl));
       only = only_then out level (IsGivenAt circuit part) _ c.args.store.now old new (λ k q. (net.0, q.1, c.is_given-fits.ensures.0 q.0)) i.only c.mark.ensures.only;
-      few = λ u all. let r = i.few u all in rewrites_then u out c.args.store.now old new r (c.mark.ensures.few u r.within);
+      few = λ u all. let r = i.few u all in rewrites_then u out.span c.args.store.now old new r (c.mark.ensures.few u r.within);
     }
 
 pub returns-clause-marked : goal.returns-clause-marked

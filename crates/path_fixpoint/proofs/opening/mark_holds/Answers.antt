@@ -24,7 +24,7 @@ loop-hold-preserved c =
     let there : At circuit.holds at hold = item_at circuit.holds c.as_slice-hold-items.result.now at hold c.as_slice-hold-items.ensures c.loop-hold-test.true c.hold-item.is in
     let P : ℕ → Type 0 = λ k. (h : Hold) → At circuit.holds k h → level ≤ h.size → (j : ℕ) → IsPlace part j h.net.0 → mark_of new out level j ≡ 1 in
     record {
-      writes = writes_then out c.args.store.now old new i.writes c.mark.ensures.writes;
+      writes = writes_then out.span c.args.store.now old new i.writes c.mark.ensures.writes;
       apart = λ k away. c.mark.ensures.apart k away ∙ i.apart k away;
       marked = below_more P at
           (λ k lt h e le j p. one_stays out level _ old new j c.mark.ensures.only (i.marked k lt h e le j p))
@@ -32,7 +32,7 @@ loop-hold-preserved c =
           let same : h ≡ hold = same_Some h hold (sym e ∙ there) in
           c.mark.ensures.marked (c.has_level-fits.ensures.1 (subst (λ (x : Hold). level ≤ x.size) same le)) j (subst (λ (x : Hold). IsPlace part j x.net.0) same p));
       only = only_then out level (IsHoldAt circuit part level) _ c.args.store.now old new (λ k q. (at, hold, there, c.has_level-fits.ensures.0 q.0, q.1)) i.only c.mark.ensures.only;
-      few = λ u all. let r = i.few u all in rewrites_then u out c.args.store.now old new r (c.mark.ensures.few u r.within);
+      few = λ u all. let r = i.few u all in rewrites_then u out.span c.args.store.now old new r (c.mark.ensures.few u r.within);
     }
 
 pub returns-clause-marked : goal.returns-clause-marked

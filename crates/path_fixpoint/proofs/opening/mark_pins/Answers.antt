@@ -25,18 +25,18 @@ loop-whole-preserved c =
     let w : Whole = c.whole-item.result in
     let there : At circuit.wholes at w = item_at circuit.wholes c.as_slice-whole-items.result.now at w c.as_slice-whole-items.ensures c.loop-whole-test.true c.whole-item.is in
     let shown : c.as_slice.result.now ≡ w.outputs = c.as_slice.ensures in
-    let P : ℕ → Type 0 = λ k. (x : Whole) → At circuit.wholes k x → (j : ℕ) → IsPinAt part x.outputs level j → mark_of new out level j ≡ 1 in
+    let P : ℕ → Type 0 = λ k. (x : Whole) → At circuit.wholes k x → (j : ℕ) → IsPinAt out.source part x.outputs level j → mark_of new out level j ≡ 1 in
     record {
-      writes = writes_then out c.args.store.now old new i.writes c.mark_outputs.ensures.writes;
+      writes = writes_then out.span c.args.store.now old new i.writes c.mark_outputs.ensures.writes;
       apart = λ k away. c.mark_outputs.ensures.apart k away ∙ i.apart k away;
       marked = below_more P at
           (λ k lt x e j q. one_stays out level _ old new j c.mark_outputs.ensures.only (i.marked k lt x e j q))
           (λ x e j q.
-          let here : IsPinAt part w.outputs level j = subst (λ (y : Whole). IsPinAt part y.outputs level j) (same_Some x w (sym e ∙ there)) q in
-          c.mark_outputs.ensures.marked j (subst (λ (ps : List WholePin). IsPinAt part ps level j) (sym shown) here));
-      only = only_then out level (IsPinAt part (pins_of circuit) level) _ c.args.store.now old new
+          let here : IsPinAt out.source part w.outputs level j = subst (λ (y : Whole). IsPinAt out.source part y.outputs level j) (same_Some x w (sym e ∙ there)) q in
+          c.mark_outputs.ensures.marked j (subst (λ (ps : List WholePin). IsPinAt out.source part ps level j) (sym shown) here));
+      only = only_then out level (IsPinAt out.source part (pins_of circuit) level) _ c.args.store.now old new
           (λ k q. (q.0, pin_whole circuit w q.0 (at, there) (subst (λ (ps : List WholePin). Among ps q.0) shown q.1), q.2, q.3)) i.only c.mark_outputs.ensures.only;
-      few = λ u all. let r = i.few u all in rewrites_then u out c.args.store.now old new r (c.mark_outputs.ensures.few u r.within);
+      few = λ u all. let r = i.few u all in rewrites_then u out.span c.args.store.now old new r (c.mark_outputs.ensures.few u r.within);
     }
 
 pub returns-clause-marked : goal.returns-clause-marked

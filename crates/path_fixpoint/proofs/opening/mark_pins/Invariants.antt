@@ -11,9 +11,9 @@ use Rattle.path_fixpoint.proofs.opening.mark_pins.Given as goal
 
 abbrev pub invariant-loop-whole : goal.invariant-loop-whole
 invariant-loop-whole l = record {
-  writes : Writes l.fn.out l.fn.store l.store;
+  writes : Writes l.fn.out.span l.fn.store l.store;
   apart : ChangesLevel l.fn.out l.fn.level l.fn.store l.store;
-  marked : (k : ℕ) → k < l.whole-index → (w : Whole) → At l.circuit.wholes k w → (i : ℕ) → IsPinAt l.part w.outputs l.fn.level i → mark_of l.store l.fn.out l.fn.level i ≡ 1;
-  only : OnlyBy l.fn.out l.fn.level (IsPinAt l.part (pins_of l.circuit) l.fn.level) l.fn.store l.store;
-  few : (u : ℕ) → IsSpanWithin u l.fn.store l.fn.out → Rewrites u l.fn.out l.fn.store l.store;
+  marked : (k : ℕ) → k < l.whole-index → (w : Whole) → At l.circuit.wholes k w → (i : ℕ) → IsPinAt l.fn.out.source l.part w.outputs l.fn.level i → mark_of l.store l.fn.out l.fn.level i ≡ 1;
+  only : OnlyBy l.fn.out l.fn.level (IsPinAt l.fn.out.source l.part (pins_of l.circuit) l.fn.level) l.fn.store l.store;
+  few : (u : ℕ) → IsSpanWithin u l.fn.store l.fn.out.span → Rewrites u l.fn.out.span l.fn.store l.store;
 }

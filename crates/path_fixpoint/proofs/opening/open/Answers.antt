@@ -6,17 +6,17 @@ use Rattle.path_fixpoint.proofs.opening.open.Goals as goal
 
 pub returns-clause-writes : goal.returns-clause-writes
 returns-clause-writes c =
-    writes_then c.args.out c.args.store.now c.mark_holds.new.store c.mark_pins.new.store
-    (writes_then c.args.out c.args.store.now c.mark_given.new.store c.mark_holds.new.store
-    (writes_then c.args.out c.args.store.now c.take_above.new.store c.mark_given.new.store c.take_above.ensures.writes c.mark_given.ensures.writes) c.mark_holds.ensures.writes)
+    writes_then c.args.out.span c.args.store.now c.mark_holds.new.store c.mark_pins.new.store
+    (writes_then c.args.out.span c.args.store.now c.mark_given.new.store c.mark_holds.new.store
+    (writes_then c.args.out.span c.args.store.now c.take_above.new.store c.mark_given.new.store c.take_above.ensures.writes c.mark_given.ensures.writes) c.mark_holds.ensures.writes)
     c.mark_pins.ensures.writes
 
 pub returns-clause-roots : goal.returns-clause-roots
 returns-clause-roots c =
-    let whole : Writes c.args.out c.args.store.now c.mark_pins.new.store =
-    writes_then c.args.out c.args.store.now c.mark_holds.new.store c.mark_pins.new.store
-    (writes_then c.args.out c.args.store.now c.mark_given.new.store c.mark_holds.new.store
-    (writes_then c.args.out c.args.store.now c.take_above.new.store c.mark_given.new.store c.take_above.ensures.writes c.mark_given.ensures.writes) c.mark_holds.ensures.writes)
+    let whole : Writes c.args.out.span c.args.store.now c.mark_pins.new.store =
+    writes_then c.args.out.span c.args.store.now c.mark_holds.new.store c.mark_pins.new.store
+    (writes_then c.args.out.span c.args.store.now c.mark_given.new.store c.mark_holds.new.store
+    (writes_then c.args.out.span c.args.store.now c.take_above.new.store c.mark_given.new.store c.take_above.ensures.writes c.mark_given.ensures.writes) c.mark_holds.ensures.writes)
     c.mark_pins.ensures.writes in
     open_roots c.args.circuit.now c.args.part.now c.args.gates c.args.out c.args.level c.requires.level.0 c.requires.level.1
     c.args.store.now c.take_above.new.store c.mark_given.new.store c.mark_holds.new.store c.mark_pins.new.store c.requires.words whole
@@ -25,10 +25,10 @@ returns-clause-roots c =
 
 pub returns-clause-paths : goal.returns-clause-paths
 returns-clause-paths c =
-    let whole : Writes c.args.out c.args.store.now c.mark_pins.new.store =
-    writes_then c.args.out c.args.store.now c.mark_holds.new.store c.mark_pins.new.store
-    (writes_then c.args.out c.args.store.now c.mark_given.new.store c.mark_holds.new.store
-    (writes_then c.args.out c.args.store.now c.take_above.new.store c.mark_given.new.store c.take_above.ensures.writes c.mark_given.ensures.writes) c.mark_holds.ensures.writes)
+    let whole : Writes c.args.out.span c.args.store.now c.mark_pins.new.store =
+    writes_then c.args.out.span c.args.store.now c.mark_holds.new.store c.mark_pins.new.store
+    (writes_then c.args.out.span c.args.store.now c.mark_given.new.store c.mark_holds.new.store
+    (writes_then c.args.out.span c.args.store.now c.take_above.new.store c.mark_given.new.store c.take_above.ensures.writes c.mark_given.ensures.writes) c.mark_holds.ensures.writes)
     c.mark_pins.ensures.writes in
     open_paths c.args.circuit.now c.args.part.now c.args.gates c.args.out c.args.level c.requires.level.0 c.requires.level.1
     c.args.store.now c.take_above.new.store c.mark_given.new.store c.mark_holds.new.store c.mark_pins.new.store c.requires.words whole
@@ -41,6 +41,6 @@ returns-clause-few c u all =
     let taken = c.take_above.ensures.few u all in
     let given = c.mark_given.ensures.few u taken.within in
     let held = c.mark_holds.ensures.few u given.within in
-    rewrites_then u out c.args.store.now c.mark_holds.new.store c.mark_pins.new.store
-    (rewrites_then u out c.args.store.now c.mark_given.new.store c.mark_holds.new.store
-    (rewrites_then u out c.args.store.now c.take_above.new.store c.mark_given.new.store taken given) held) (c.mark_pins.ensures.few u held.within)
+    rewrites_then u out.span c.args.store.now c.mark_holds.new.store c.mark_pins.new.store
+    (rewrites_then u out.span c.args.store.now c.mark_given.new.store c.mark_holds.new.store
+    (rewrites_then u out.span c.args.store.now c.take_above.new.store c.mark_given.new.store taken given) held) (c.mark_pins.ensures.few u held.within)

@@ -1,6 +1,6 @@
 use Rattle.std.proofs.Common.{◌≡◌, ◌+◌, ◌*◌, ◌≤◌, Ok, Err, length, arith, ◌∙◌}
 use Rattle.bdd_ops.proofs.CountingLaws.{counted_more, counted_then, counts_more, counts_ok}
-use Rattle.path_fixpoint.proofs.SpendingLaws.{span_beside, spends_behind, spends_err, spends_more}
+use Rattle.path_fixpoint.proofs.SpendingLaws.{span_beside, spends_behind, spends_err, spends_more, one_more, times_most}
 use Rattle.vrt_model.specs.Lists.{Among}
 use Rattle.vrt_model.specs.declared.circuit.Device.{Device}
 use Rattle.path_fixpoint.specs.Parts.{part_devices}
@@ -8,6 +8,7 @@ use Rattle.bdd_core.proofs.Frames.{writes_then}
 use Rattle.path_fixpoint.proofs.ReachLaws.{root_words_kept}
 use Rattle.path_fixpoint.proofs.ReachSpreading.{spreads_value_less, spreads_value_then}
 use Rattle.path_fixpoint.proofs.Spreading.{Visited, all_visited, visited_among, visited_more}
+use Rattle.std.proofs.Math.Nat.{mul-le-mul_right}
 use Rattle.path_fixpoint.proofs.reach.round.Goals as goal
 
 pub visit-requires-clause-device : goal.visit-requires-clause-device
@@ -18,7 +19,7 @@ visit-requires-clause-words c =
     root_words_kept c.args.circuit.now c.args.part.now c.requires.part.1 c.requires.part.0 c.args.gates c.args.roots c.args.out c.args.value c.args.store.now c.loop-step.store c.requires.words c.loop-step.invariant.writes
 
 pub returns-in-Err-clause-writes : goal.returns-in-Err-clause-writes
-returns-in-Err-clause-writes c = writes_then c.args.out c.args.store.now c.loop-step.store c.visit.new.store c.loop-step.invariant.writes c.in-Err.ensures.writes
+returns-in-Err-clause-writes c = writes_then c.args.out.span c.args.store.now c.loop-step.store c.visit.new.store c.loop-step.invariant.writes c.in-Err.ensures.writes
 
 pub returns-in-Err-clause-apart : goal.returns-in-Err-clause-apart
 returns-in-Err-clause-apart c k away = c.in-Err.ensures.apart k away ∙ c.loop-step.invariant.apart k away
@@ -35,14 +36,15 @@ loop-step-preserved c =
     let i = c.loop-step.invariant in
     let device : Device = c.visited-device.result.now in
     record {
-      writes = writes_then out first old new i.writes c.in-Ok.ensures.writes;
+      writes = writes_then out.span first old new i.writes c.in-Ok.ensures.writes;
       apart = λ k away. c.in-Ok.ensures.apart k away ∙ i.apart k away;
       spreads = spreads_value_then circuit part c.requires.part.1 c.requires.part.0 c.args.gates c.args.roots out c.args.value c.args.side (Visited circuit part c.args.direction at) (λ d. d ≡ device) (Visited circuit part c.args.direction (at + 1))
           c.loop-step.changed c.in-Ok.grew first old new c.requires.words i.writes i.apart (visited_more circuit part c.args.direction at device c.visited-device.ensures) i.spreads c.in-Ok.ensures.spreads;
       few = λ u gates roots all.
           let q = i.few u gates roots all in
-          let f = c.in-Ok.ensures.few u (span_beside u out c.args.gates first old i.writes c.requires.words.words.apart c.requires.words.words.gates_live gates) (span_beside u out c.args.roots first old i.writes c.requires.words.roots_apart c.requires.words.roots_live roots) q.1 in
-          (counted_more u (at * 38 + 38) ((at + 1) * 38) first new (omega arith) (counted_then u (at * 38) 38 first old new q.0 f.counts.added), f.within);
+          let f = c.in-Ok.ensures.few u (span_beside u out.span c.args.gates first old i.writes c.requires.words.words.apart c.requires.words.words.gates_live gates) (span_beside u out.span c.args.roots first old i.writes c.requires.words.roots_apart c.requires.words.roots_live roots) q.1 in
+          let each = 4 * out.source + 6 in
+          (counted_more u (at * each + each) ((at + 1) * each) first new (one_more at each) (counted_then u (at * each) each first old new q.0 f.counts.added), f.within);
     }
 
 pub returns-clause-spreads : goal.returns-clause-spreads
@@ -62,9 +64,11 @@ returns-in-Err-clause-few c u gates roots all =
     let new = c.visit.new.store in
     let i = c.loop-step.invariant in
     let q = i.few u gates roots all in
-    let f = c.in-Err.ensures.few u (span_beside u out c.args.gates first old i.writes c.requires.words.words.apart c.requires.words.words.gates_live gates) (span_beside u out c.args.roots first old i.writes c.requires.words.roots_apart c.requires.words.roots_live roots) q.1 in
-    spends_more u out (at * 38 + 38) (length part.devices * 38) first new (Err c.in-Err.spent) (omega (arith, c.len-step-end.ensures, c.loop-step-test.true))
-    (spends_err u out (at * 38 + 38) first new c.in-Err.spent (spends_behind u out (at * 38) 38 first old new (Err c.in-Err.spent) q.0 f))
+    let f = c.in-Err.ensures.few u (span_beside u out.span c.args.gates first old i.writes c.requires.words.words.apart c.requires.words.words.gates_live gates) (span_beside u out.span c.args.roots first old i.writes c.requires.words.roots_apart c.requires.words.roots_live roots) q.1 in
+    let each = 4 * out.source + 6 in
+    spends_more u out.span (at * each + each) (length part.devices * each) first new (Err c.in-Err.spent)
+    (times_most at (length part.devices) each (omega (arith, c.len-step-end.ensures, c.loop-step-test.true)))
+    (spends_err u out.span (at * each + each) first new c.in-Err.spent (spends_behind u out.span (at * each) each first old new (Err c.in-Err.spent) q.0 f))
 
 pub returns-clause-few : goal.returns-clause-few
 returns-clause-few c u gates roots all =
@@ -74,5 +78,6 @@ returns-clause-few c u gates roots all =
     let first = c.args.store.now in
     let new = c.loop-step.store in
     let q = c.loop-step.invariant.few u gates roots all in
-    let enough : at * 38 ≤ length part.devices * 38 = omega (arith, c.len-step-end.ensures, c.loop-step.auto.step-end) in
-    record { counts = counts_more u (at * 38) (length part.devices * 38) first new (Ok c.loop-step.changed) enough (counts_ok u (at * 38) first new c.loop-step.changed q.0); within = q.1 }
+    let each = 4 * out.source + 6 in
+    let enough : at * each ≤ length part.devices * each = mul-le-mul_right {m = at} {n = length part.devices} each (omega (arith, c.len-step-end.ensures, c.loop-step.auto.step-end)) in
+    record { counts = counts_more u (at * each) (length part.devices * each) first new (Ok c.loop-step.changed) enough (counts_ok u (at * each) first new c.loop-step.changed q.0); within = q.1 }

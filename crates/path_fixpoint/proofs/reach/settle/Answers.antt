@@ -33,7 +33,7 @@ returns-then-is_settled-clause-reach c v w s st roots paths =
     let old = c.rounds.store in
     let new = c.round.new.store in
     let i = c.rounds.invariant in
-    let done = c.is_settled.ensures c.if-is_settled.true in
+    let done = c.is_settled.ensures.settled c.if-is_settled.true in
     let spreads : SpreadsValue circuit part gates rs out value Inside (Among (part_devices circuit part)) c.in-Ok.changed old new =
     subst (λ (x : Side). SpreadsValue circuit part gates rs out value x (Among (part_devices circuit part)) c.in-Ok.changed old new) done.0 c.in-Ok.ensures.spreads in
     let words : HasRootWords circuit part gates rs out old = root_words_kept circuit part is_part in_range gates rs out value first old c.requires.words i.writes in
@@ -49,7 +49,7 @@ returns-then-is_settled-clause-reach c v w s st roots paths =
 
 pub rounds-init : goal.rounds-init
 rounds-init c = record {
-  writes = writes_none c.args.out c.args.store.now c.sound.ensures.sound c.sound.ensures.within c.requires.words.words.out_live;
+  writes = writes_none c.args.out.span c.args.store.now c.sound.ensures.sound c.sound.ensures.within c.requires.words.words.out_live;
   apart = λ k away. refl;
   roots = λ v w s st r. r;
   paths = λ v w s st p. p;
@@ -80,7 +80,7 @@ rounds-preserved c =
     let from_inside = from_side Inside in
     let from_outside = from_side Outside in
     record {
-      writes = writes_then out first old new i.writes c.in-Ok.ensures.writes;
+      writes = writes_then out.span first old new i.writes c.in-Ok.ensures.writes;
       apart = λ k away. c.in-Ok.ensures.apart k away ∙ i.apart k away;
       roots = λ v w s st r root is k. reached_grown circuit part is_part in_range gates rs out value old new v w root.net words spreads.grown (i.roots v w s st r root is k);
       paths = λ v w s st p. spreads.paths v w s (solved_kept circuit part is_part in_range gates rs out value first old v w s c.requires.words i.writes i.apart st) (i.paths v w s st p);
@@ -100,8 +100,8 @@ rounds-preserved c =
           ];
       few = λ u gates roots all.
           let q = i.few u gates roots all in
-          let size = length part.devices * 38 in
-          let f = c.in-Ok.ensures.few u (span_beside u out c.args.gates first old i.writes c.requires.words.words.apart c.requires.words.words.gates_live gates) (span_beside u out c.args.roots first old i.writes c.requires.words.roots_apart c.requires.words.roots_live roots) q.1 in
+          let size = length part.devices * (4 * c.args.out.source + 6) in
+          let f = c.in-Ok.ensures.few u (span_beside u out.span c.args.gates first old i.writes c.requires.words.words.apart c.requires.words.words.gates_live gates) (span_beside u out.span c.args.roots first old i.writes c.requires.words.roots_apart c.requires.words.roots_live roots) q.1 in
           (counted_more u (c.rounds.count * size + size) ((c.rounds.count + 1) * size) first new (one_more c.rounds.count size) (counted_then u (c.rounds.count * size) size first old new q.0 f.counts.added), f.within);
     }
 
@@ -122,12 +122,12 @@ returns-in-Err-clause-few c u gates roots all =
     let old = c.rounds.store in
     let new = c.round.new.store in
     let i = c.rounds.invariant in
-    let size = length part.devices * 38 in
+    let size = length part.devices * (4 * c.args.out.source + 6) in
     let q = i.few u gates roots all in
     let enough : c.rounds.count + 1 ≤ length part.nets = omega (arith, c.rounds-test.true, c.len-count-end.ensures) in
-    let f = c.in-Err.ensures.few u (span_beside u out c.args.gates first old i.writes c.requires.words.words.apart c.requires.words.words.gates_live gates) (span_beside u out c.args.roots first old i.writes c.requires.words.roots_apart c.requires.words.roots_live roots) q.1 in
-    spends_more u out (c.rounds.count * size + size) (length part.nets * size) first new (Err c.in-Err.spent) (times_most c.rounds.count (length part.nets) size enough)
-    (spends_err u out (c.rounds.count * size + size) first new c.in-Err.spent (spends_behind u out (c.rounds.count * size) size first old new (Err c.in-Err.spent) q.0 f))
+    let f = c.in-Err.ensures.few u (span_beside u out.span c.args.gates first old i.writes c.requires.words.words.apart c.requires.words.words.gates_live gates) (span_beside u out.span c.args.roots first old i.writes c.requires.words.roots_apart c.requires.words.roots_live roots) q.1 in
+    spends_more u out.span (c.rounds.count * size + size) (length part.nets * size) first new (Err c.in-Err.spent) (times_most c.rounds.count (length part.nets) size enough)
+    (spends_err u out.span (c.rounds.count * size + size) first new c.in-Err.spent (spends_behind u out.span (c.rounds.count * size) size first old new (Err c.in-Err.spent) q.0 f))
 
 pub returns-then-is_settled-clause-few : goal.returns-then-is_settled-clause-few
 returns-then-is_settled-clause-few c u gates roots all =
@@ -137,19 +137,19 @@ returns-then-is_settled-clause-few c u gates roots all =
     let old = c.rounds.store in
     let new = c.round.new.store in
     let i = c.rounds.invariant in
-    let size = length part.devices * 38 in
+    let size = length part.devices * (4 * c.args.out.source + 6) in
     let q = i.few u gates roots all in
     let enough : c.rounds.count + 1 ≤ length part.nets = omega (arith, c.rounds-test.true, c.len-count-end.ensures) in
-    let f = c.in-Ok.ensures.few u (span_beside u out c.args.gates first old i.writes c.requires.words.words.apart c.requires.words.words.gates_live gates) (span_beside u out c.args.roots first old i.writes c.requires.words.roots_apart c.requires.words.roots_live roots) q.1 in
-    spends_more u out (c.rounds.count * size + size) (length part.nets * size) first new (Ok tt) (times_most c.rounds.count (length part.nets) size enough)
-    (spends_value u out (c.rounds.count * size + size) first new c.in-Ok.changed tt (spends_behind u out (c.rounds.count * size) size first old new (Ok c.in-Ok.changed) q.0 f))
+    let f = c.in-Ok.ensures.few u (span_beside u out.span c.args.gates first old i.writes c.requires.words.words.apart c.requires.words.words.gates_live gates) (span_beside u out.span c.args.roots first old i.writes c.requires.words.roots_apart c.requires.words.roots_live roots) q.1 in
+    spends_more u out.span (c.rounds.count * size + size) (length part.nets * size) first new (Ok tt) (times_most c.rounds.count (length part.nets) size enough)
+    (spends_value u out.span (c.rounds.count * size + size) first new c.in-Ok.changed tt (spends_behind u out.span (c.rounds.count * size) size first old new (Ok c.in-Ok.changed) q.0 f))
 
 pub returns-clause-few : goal.returns-clause-few
 returns-clause-few c u gates roots all =
     let part = c.args.part.now in
     let first = c.args.store.now in
     let new = c.rounds.store in
-    let size = length part.devices * 38 in
+    let size = length part.devices * (4 * c.args.out.source + 6) in
     let q = c.rounds.invariant.few u gates roots all in
     let enough : c.rounds.count ≤ length part.nets = omega (arith, c.rounds.auto.count-end, c.len-count-end.ensures) in
     record {

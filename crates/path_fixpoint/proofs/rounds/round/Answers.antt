@@ -17,7 +17,7 @@ visit-requires-clause-words c =
     words_kept c.args.circuit.now c.args.part.now c.args.gates c.args.out c.args.store.now c.loop-step.store c.requires.words c.loop-step.invariant.writes
 
 pub returns-in-Err-clause-writes : goal.returns-in-Err-clause-writes
-returns-in-Err-clause-writes c = writes_then c.args.out c.args.store.now c.loop-step.store c.visit.new.store c.loop-step.invariant.writes c.in-Err.ensures.writes
+returns-in-Err-clause-writes c = writes_then c.args.out.span c.args.store.now c.loop-step.store c.visit.new.store c.loop-step.invariant.writes c.in-Err.ensures.writes
 
 pub returns-in-Err-clause-apart : goal.returns-in-Err-clause-apart
 returns-in-Err-clause-apart c k away = c.in-Err.ensures.apart k away ∙ c.loop-step.invariant.apart k away
@@ -34,13 +34,13 @@ loop-step-preserved c =
     let i = c.loop-step.invariant in
     let device : Device = c.visited-device.result.now in
     record {
-      writes = writes_then out first old new i.writes c.in-Ok.ensures.writes;
+      writes = writes_then out.span first old new i.writes c.in-Ok.ensures.writes;
       apart = λ k away. c.in-Ok.ensures.apart k away ∙ i.apart k away;
       spreads = spreads_then circuit part c.args.gates out c.args.level c.requires.level.0 c.requires.level.1 c.args.side (Visited circuit part c.args.direction at) (λ d. d ≡ device) (Visited circuit part c.args.direction (at + 1))
           c.loop-step.changed c.in-Ok.grew first old new c.requires.words i.writes (visited_more circuit part c.args.direction at device c.visited-device.ensures) i.spreads c.in-Ok.ensures.spreads;
       few = λ u gates all.
           let q = i.few u gates all in
-          let f = c.in-Ok.ensures.few u (span_beside u out c.args.gates first old i.writes c.requires.words.apart c.requires.words.gates_live gates) q.1 in
+          let f = c.in-Ok.ensures.few u (span_beside u out.span c.args.gates first old i.writes c.requires.words.apart c.requires.words.gates_live gates) q.1 in
           (counted_more u (at * 4 + 4) ((at + 1) * 4) first new (omega arith) (counted_then u (at * 4) 4 first old new q.0 f.counts.added), f.within);
     }
 
@@ -61,9 +61,9 @@ returns-in-Err-clause-few c u gates all =
     let new = c.visit.new.store in
     let i = c.loop-step.invariant in
     let q = i.few u gates all in
-    let f = c.in-Err.ensures.few u (span_beside u out c.args.gates first old i.writes c.requires.words.apart c.requires.words.gates_live gates) q.1 in
-    spends_more u out (at * 4 + 4) (length part.devices * 4) first new (Err c.in-Err.spent) (omega (arith, c.len-step-end.ensures, c.loop-step-test.true))
-    (spends_err u out (at * 4 + 4) first new c.in-Err.spent (spends_behind u out (at * 4) 4 first old new (Err c.in-Err.spent) q.0 f))
+    let f = c.in-Err.ensures.few u (span_beside u out.span c.args.gates first old i.writes c.requires.words.apart c.requires.words.gates_live gates) q.1 in
+    spends_more u out.span (at * 4 + 4) (length part.devices * 4) first new (Err c.in-Err.spent) (omega (arith, c.len-step-end.ensures, c.loop-step-test.true))
+    (spends_err u out.span (at * 4 + 4) first new c.in-Err.spent (spends_behind u out.span (at * 4) 4 first old new (Err c.in-Err.spent) q.0 f))
 
 pub returns-clause-few : goal.returns-clause-few
 returns-clause-few c u gates all =

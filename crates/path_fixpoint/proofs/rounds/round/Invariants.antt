@@ -7,8 +7,8 @@ use Rattle.path_fixpoint.proofs.rounds.round.Given as goal
 
 abbrev pub invariant-loop-step : goal.invariant-loop-step
 invariant-loop-step l = record {
-  writes : Writes l.fn.out l.fn.store l.store;
+  writes : Writes l.fn.out.span l.fn.store l.store;
   apart : ChangesLevel l.fn.out l.fn.level l.fn.store l.store;
   spreads : Spreads l.circuit l.part l.fn.gates l.fn.out l.fn.level l.fn.side (Visited l.circuit l.part l.fn.direction l.step) l.changed l.fn.store l.store;
-  few : (u : ℕ) → IsSpanWithin u l.fn.store l.fn.gates → IsSpanWithin u l.fn.store l.fn.out → IsCounted u (l.step * 4) l.fn.store l.store × IsSpanWithin u l.store l.fn.out;
+  few : (u : ℕ) → IsSpanWithin u l.fn.store l.fn.gates → IsSpanWithin u l.fn.store l.fn.out.span → IsCounted u (l.step * 4) l.fn.store l.store × IsSpanWithin u l.store l.fn.out.span;
 }

@@ -27,7 +27,7 @@ returns-then-is_settled-clause-level c v w st roots paths =
     let old = c.rounds.store in
     let new = c.round.new.store in
     let i = c.rounds.invariant in
-    let done = c.is_settled.ensures c.if-is_settled.true in
+    let done = c.is_settled.ensures.settled c.if-is_settled.true in
     let s : Spreads circuit part gates out level Inside (Among (part_devices circuit part)) c.in-Ok.changed old new =
     subst (λ (x : Side). Spreads circuit part gates out level x (Among (part_devices circuit part)) c.in-Ok.changed old new) done.0 c.in-Ok.ensures.spreads in
     let words : HasWords circuit part gates out old = words_kept circuit part gates out c.args.store.now old c.requires.words i.writes in
@@ -61,7 +61,7 @@ rounds-preserved c =
     let from_inside = from_side Inside in
     let from_outside = from_side Outside in
     record {
-      writes = writes_then out first old new i.writes c.in-Ok.ensures.writes;
+      writes = writes_then out.span first old new i.writes c.in-Ok.ensures.writes;
       apart = λ k away. c.in-Ok.ensures.apart k away ∙ i.apart k away;
       roots = λ v w st r. roots_grown circuit part gates out level low high old new v w words s.grown (i.roots v w st r);
       paths = λ v w st p. s.paths v w (stands_kept circuit part gates out first old v w c.requires.words i.writes st) (i.paths v w st p);
@@ -82,7 +82,7 @@ rounds-preserved c =
       few = λ u gates all.
           let q = i.few u gates all in
           let size = length part.devices * 4 in
-          let f = c.in-Ok.ensures.few u (span_beside u out c.args.gates first old i.writes c.requires.words.apart c.requires.words.gates_live gates) q.1 in
+          let f = c.in-Ok.ensures.few u (span_beside u out.span c.args.gates first old i.writes c.requires.words.apart c.requires.words.gates_live gates) q.1 in
           (counted_more u (c.rounds.count * size + size) ((c.rounds.count + 1) * size) first new (one_more c.rounds.count size) (counted_then u (c.rounds.count * size) size first old new q.0 f.counts.added), f.within);
     }
 
@@ -106,9 +106,9 @@ returns-in-Err-clause-few c u gates all =
     let size = length part.devices * 4 in
     let q = i.few u gates all in
     let enough : c.rounds.count + 1 ≤ length part.nets = omega (arith, c.rounds-test.true, c.len-count-end.ensures) in
-    let f = c.in-Err.ensures.few u (span_beside u out c.args.gates first old i.writes c.requires.words.apart c.requires.words.gates_live gates) q.1 in
-    spends_more u out (c.rounds.count * size + size) (length part.nets * size) first new (Err c.in-Err.spent) (times_most c.rounds.count (length part.nets) size enough)
-    (spends_err u out (c.rounds.count * size + size) first new c.in-Err.spent (spends_behind u out (c.rounds.count * size) size first old new (Err c.in-Err.spent) q.0 f))
+    let f = c.in-Err.ensures.few u (span_beside u out.span c.args.gates first old i.writes c.requires.words.apart c.requires.words.gates_live gates) q.1 in
+    spends_more u out.span (c.rounds.count * size + size) (length part.nets * size) first new (Err c.in-Err.spent) (times_most c.rounds.count (length part.nets) size enough)
+    (spends_err u out.span (c.rounds.count * size + size) first new c.in-Err.spent (spends_behind u out.span (c.rounds.count * size) size first old new (Err c.in-Err.spent) q.0 f))
 
 pub returns-then-is_settled-clause-few : goal.returns-then-is_settled-clause-few
 returns-then-is_settled-clause-few c u gates all =
@@ -121,9 +121,9 @@ returns-then-is_settled-clause-few c u gates all =
     let size = length part.devices * 4 in
     let q = i.few u gates all in
     let enough : c.rounds.count + 1 ≤ length part.nets = omega (arith, c.rounds-test.true, c.len-count-end.ensures) in
-    let f = c.in-Ok.ensures.few u (span_beside u out c.args.gates first old i.writes c.requires.words.apart c.requires.words.gates_live gates) q.1 in
-    spends_more u out (c.rounds.count * size + size) (length part.nets * size) first new (Ok tt) (times_most c.rounds.count (length part.nets) size enough)
-    (spends_value u out (c.rounds.count * size + size) first new c.in-Ok.changed tt (spends_behind u out (c.rounds.count * size) size first old new (Ok c.in-Ok.changed) q.0 f))
+    let f = c.in-Ok.ensures.few u (span_beside u out.span c.args.gates first old i.writes c.requires.words.apart c.requires.words.gates_live gates) q.1 in
+    spends_more u out.span (c.rounds.count * size + size) (length part.nets * size) first new (Ok tt) (times_most c.rounds.count (length part.nets) size enough)
+    (spends_value u out.span (c.rounds.count * size + size) first new c.in-Ok.changed tt (spends_behind u out.span (c.rounds.count * size) size first old new (Ok c.in-Ok.changed) q.0 f))
 
 pub returns-clause-few : goal.returns-clause-few
 returns-clause-few c u gates all =

@@ -9,11 +9,11 @@ use Rattle.path_fixpoint.proofs.rounds.settle.Given as goal
 
 abbrev pub invariant-rounds : goal.invariant-rounds
 invariant-rounds l = record {
-  writes : Writes l.fn.out l.fn.store l.store;
+  writes : Writes l.fn.out.span l.fn.store l.store;
   apart : ChangesLevel l.fn.out l.fn.level l.fn.store l.store;
   roots : (v : Valuation) (w : Network) → StandsAt l.circuit l.part l.fn.gates l.fn.store v w → HasRoots l.part l.fn.out l.fn.level l.fn.store v w → HasRoots l.part l.fn.out l.fn.level l.store v w;
   paths : (v : Valuation) (w : Network) → StandsAt l.circuit l.part l.fn.gates l.fn.store v w → HasPaths l.part l.fn.out l.fn.level l.fn.store v w → HasPaths l.part l.fn.out l.fn.level l.store v w;
   progress : (v : Valuation) (w : Network) → StandsAt l.circuit l.part l.fn.gates l.fn.store v w → HasRoots l.part l.fn.out l.fn.level l.fn.store v w → HasProgress l.part l.fn.out l.fn.level l.count l.store v w;
   entered : 1 ≤ l.count → (v : Valuation) (w : Network) → StandsAt l.circuit l.part l.fn.gates l.fn.store v w → IsEntered l.circuit l.part l.fn.out l.fn.level l.store v w;
-  few : (u : ℕ) → IsSpanWithin u l.fn.store l.fn.gates → IsSpanWithin u l.fn.store l.fn.out → IsCounted u (l.count * (length l.part.devices * 4)) l.fn.store l.store × IsSpanWithin u l.store l.fn.out;
+  few : (u : ℕ) → IsSpanWithin u l.fn.store l.fn.gates → IsSpanWithin u l.fn.store l.fn.out.span → IsCounted u (l.count * (length l.part.devices * 4)) l.fn.store l.store × IsSpanWithin u l.store l.fn.out.span;
 }

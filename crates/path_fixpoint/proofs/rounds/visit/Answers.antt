@@ -37,13 +37,13 @@ pub pass-requires-2-clause-to : goal.pass-requires-2-clause-to
 pass-requires-2-clause-to c = place_fits c.args.part.now c.args.out c.place-left.result c.args.device.now.left.0 c.requires.words.out_len c.place-left.ensures.some
 
 pub returns-in-Err-pass-clause-writes : goal.returns-in-Err-pass-clause-writes
-returns-in-Err-pass-clause-writes c = writes_then c.args.out c.args.store.now c.pass.new.store c.pass-2.new.store c.in-Ok.ensures.writes c.in-Err-pass.ensures.writes
+returns-in-Err-pass-clause-writes c = writes_then c.args.out.span c.args.store.now c.pass.new.store c.pass-2.new.store c.in-Ok.ensures.writes c.in-Err-pass.ensures.writes
 
 pub returns-in-Err-pass-clause-apart : goal.returns-in-Err-pass-clause-apart
 returns-in-Err-pass-clause-apart c k away = c.in-Err-pass.ensures.apart k away ∙ c.in-Ok.ensures.apart k away
 
 pub returns-clause-writes : goal.returns-clause-writes
-returns-clause-writes c = writes_then c.args.out c.args.store.now c.pass.new.store c.pass-2.new.store c.in-Ok.ensures.writes c.in-Ok-pass.ensures.writes
+returns-clause-writes c = writes_then c.args.out.span c.args.store.now c.pass.new.store c.pass-2.new.store c.in-Ok.ensures.writes c.in-Ok-pass.ensures.writes
 
 pub returns-clause-apart : goal.returns-clause-apart
 returns-clause-apart c k away = c.in-Ok-pass.ensures.apart k away ∙ c.in-Ok.ensures.apart k away
@@ -68,7 +68,7 @@ returns-in-Err-clause-few c u gates all =
     let gate : IsWithin u (meaning old.nodes c.read.result) =
     subst (λ (h : ℕ). IsWithin u (meaning old.nodes h)) (sym c.read.ensures) (gates c.args.device.now.gate.0 (omega (arith, lt, c.requires.words.gates_len))) in
     let there = offered_within u c.args.side c.place-left.result c.strength-left_mark.result.0 c.offered-there.result.0 old c.offered-there.ensures (c.strength-left_mark.ensures.few u all) in
-    spends_more u c.args.out 2 4 old c.pass.new.store (Err c.in-Err.spent) (omega arith) (c.in-Err.ensures.few u all gate there)
+    spends_more u c.args.out.span 2 4 old c.pass.new.store (Err c.in-Err.spent) (omega arith) (c.in-Err.ensures.few u all gate there)
 
 pub returns-in-Err-pass-clause-few : goal.returns-in-Err-pass-clause-few
 returns-in-Err-pass-clause-few c u gates all =
@@ -83,9 +83,9 @@ returns-in-Err-pass-clause-few c u gates all =
     let here = offered_within u c.args.side c.place-right.result c.strength-right_mark.result.0 c.offered-here.result.0 old c.offered-here.ensures (c.strength-right_mark.ensures.few u all) in
     let live_here = offered_live c.args.side c.place-right.result c.strength-right_mark.result.0 c.offered-here.result.0 (length old.nodes) c.offered-here.ensures c.strength-right_mark.ensures.live c.sound.ensures.sound.ends in
     let forth = c.in-Ok.ensures.few u all gate there in
-    spends_behind u out 2 2 old mid c.pass-2.new.store (Err c.in-Err-pass.spent) forth.counts.added
-    (c.in-Err-pass.ensures.few u forth.within (handle_kept u out old mid c.read.result c.in-Ok.ensures.writes live gate)
-    (handle_kept u out old mid c.offered-here.result.0 c.in-Ok.ensures.writes live_here here))
+    spends_behind u out.span 2 2 old mid c.pass-2.new.store (Err c.in-Err-pass.spent) forth.counts.added
+    (c.in-Err-pass.ensures.few u forth.within (handle_kept u out.span old mid c.read.result c.in-Ok.ensures.writes live gate)
+    (handle_kept u out.span old mid c.offered-here.result.0 c.in-Ok.ensures.writes live_here here))
 
 pub returns-clause-few : goal.returns-clause-few
 returns-clause-few c u gates all =
@@ -100,10 +100,10 @@ returns-clause-few c u gates all =
     let here = offered_within u c.args.side c.place-right.result c.strength-right_mark.result.0 c.offered-here.result.0 old c.offered-here.ensures (c.strength-right_mark.ensures.few u all) in
     let live_here = offered_live c.args.side c.place-right.result c.strength-right_mark.result.0 c.offered-here.result.0 (length old.nodes) c.offered-here.ensures c.strength-right_mark.ensures.live c.sound.ensures.sound.ends in
     let forth = c.in-Ok.ensures.few u all gate there in
-    spends_value u out 4 old c.pass-2.new.store c.in-Ok-pass.back (c.in-Ok.forth || c.in-Ok-pass.back)
-    (spends_behind u out 2 2 old mid c.pass-2.new.store (Ok c.in-Ok-pass.back) forth.counts.added
-    (c.in-Ok-pass.ensures.few u forth.within (handle_kept u out old mid c.read.result c.in-Ok.ensures.writes live gate)
-    (handle_kept u out old mid c.offered-here.result.0 c.in-Ok.ensures.writes live_here here)))
+    spends_value u out.span 4 old c.pass-2.new.store c.in-Ok-pass.back (c.in-Ok.forth || c.in-Ok-pass.back)
+    (spends_behind u out.span 2 2 old mid c.pass-2.new.store (Ok c.in-Ok-pass.back) forth.counts.added
+    (c.in-Ok-pass.ensures.few u forth.within (handle_kept u out.span old mid c.read.result c.in-Ok.ensures.writes live gate)
+    (handle_kept u out.span old mid c.offered-here.result.0 c.in-Ok.ensures.writes live_here here)))
 
 pub returns-then-blocks-clause-spreads : goal.returns-then-blocks-clause-spreads
 returns-then-blocks-clause-spreads c =

@@ -14,7 +14,7 @@ loop-below-preserved c =
     let new = c.limit.new.store in
     let i = c.loop-below.invariant in
     record {
-      writes = writes_then out first old new i.writes (c.in-Ok.ensures.writes out i.writes.live);
+      writes = writes_then out.span first old new i.writes (c.in-Ok.ensures.writes out.span i.writes.live);
       words = c.in-Ok.ensures.words ∙ i.words;
       live = c.in-Ok.ensures.live;
       is = λ v. fits_more first old out v i.writes i.words c.requires.out.1 c.args.from c.args.to c.args.device c.loop-below.below _ _ _
@@ -22,7 +22,7 @@ loop-below-preserved c =
           (i.is v) (c.strength-here.ensures.is v) (c.prefix-other.ensures.is v) (c.in-Ok.ensures.is v);
       few = λ u all within.
           let q = i.few u all within in
-          let span = span_still u out out first old i.writes i.words c.requires.out.1 all in
+          let span = span_still u out.span out.span first old i.writes i.words c.requires.out.1 all in
           let f = c.in-Ok.ensures.few u q.1 (c.prefix-other.ensures.few u span) (c.strength-here.ensures.few u span) in
           (counted_more u (c.loop-below.below * 2 + 2) ((c.loop-below.below + 1) * 2) first new (omega arith) (counted_then u (c.loop-below.below * 2) 2 first old new q.0 f.counts.added), f.within);
     }
@@ -41,15 +41,20 @@ returns-in-Err-clause-few c u all within =
     let old = c.loop-below.store in
     let i = c.loop-below.invariant in
     let q = i.few u all within in
-    let span = span_still u out out first old i.writes i.words c.requires.out.1 all in
-    finds_more u (c.loop-below.below * 2 + 2) 16 first c.limit.new.store (Err c.in-Err.spent) (omega (arith, c.loop-below-test.true))
+    let span = span_still u out.span out.span first old i.writes i.words c.requires.out.1 all in
+    finds_more u (c.loop-below.below * 2 + 2) (2 * out.source) first c.limit.new.store (Err c.in-Err.spent) (omega (arith, c.loop-below-test.true))
     (finds_then u (c.loop-below.below * 2) 2 first old c.limit.new.store (Err c.in-Err.spent) q.0 (c.in-Err.ensures.few u q.1 (c.prefix-other.ensures.few u span) (c.strength-here.ensures.few u span)))
 
 pub returns-clause-few : goal.returns-clause-few
 returns-clause-few c u all within =
     let q = c.loop-below.invariant.few u all within in
     record {
-      counts = counts_more u (c.loop-below.below * 2) 16 c.args.store.now c.loop-below.store (Ok c.loop-below.signal) (omega (arith, c.loop-below.auto.below-end))
+      counts = counts_more u (c.loop-below.below * 2) (2 * c.args.out.source) c.args.store.now c.loop-below.store (Ok c.loop-below.signal) (omega (arith, c.loop-below.auto.below-end))
           (counts_ok u (c.loop-below.below * 2) c.args.store.now c.loop-below.store c.loop-below.signal q.0);
       within = q.1;
     }
+
+pub returns-in-Err-clause-writes : goal.returns-in-Err-clause-writes
+returns-in-Err-clause-writes c =
+    writes_then c.args.out.span c.args.store.now c.loop-below.store c.limit.new.store c.loop-below.invariant.writes
+    (c.in-Err.ensures.writes c.args.out.span c.loop-below.invariant.writes.live)

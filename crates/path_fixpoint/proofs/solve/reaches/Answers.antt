@@ -11,7 +11,7 @@ settle-requires-clause-words c =
     root_words_kept c.args.circuit.now c.args.part.now c.requires.part.1 c.requires.part.0 c.args.gates c.args.roots c.args.out c.args.value c.args.store.now c.open.new.store c.requires.words c.in-Ok.ensures.writes
 
 pub returns-clause-writes : goal.returns-clause-writes
-returns-clause-writes c = writes_then c.args.out c.args.store.now c.open.new.store c.settle.new.store c.in-Ok.ensures.writes c.settle.ensures.writes
+returns-clause-writes c = writes_then c.args.out.span c.args.store.now c.open.new.store c.settle.new.store c.in-Ok.ensures.writes c.settle.ensures.writes
 
 pub returns-clause-reach : goal.returns-clause-reach
 returns-clause-reach c =
@@ -26,19 +26,19 @@ pub returns-in-Err-clause-few : goal.returns-in-Err-clause-few
 returns-in-Err-clause-few c one u gates roots all =
     let n = length c.args.part.now.nets in
     let r = pins_at c.args.part.now (pins_of c.args.circuit.now) in
-    let size = n * (length c.args.part.now.devices * 38) in
-    spends_more u c.args.out (n * 6 + r * 3) (n * 6 + r * 3 + size) c.args.store.now c.open.new.store (Err c.in-Err.spent) (omega arith) (c.in-Err.ensures.few one u roots all)
+    let size = n * (length c.args.part.now.devices * (4 * c.args.out.source + 6)) in
+    spends_more u c.args.out.span (n * 6 + r * 3) (n * 6 + r * 3 + size) c.args.store.now c.open.new.store (Err c.in-Err.spent) (omega arith) (c.in-Err.ensures.few one u roots all)
 
 pub returns-clause-few : goal.returns-clause-few
 returns-clause-few c one u gates roots all =
     let out = c.args.out in
     let n = length c.args.part.now.nets in
     let r = pins_at c.args.part.now (pins_of c.args.circuit.now) in
-    let size = n * (length c.args.part.now.devices * 38) in
+    let size = n * (length c.args.part.now.devices * (4 * c.args.out.source + 6)) in
     let words = c.requires.words in
     let old = c.args.store.now in
     let mid = c.open.new.store in
     let wrote = c.in-Ok.ensures.writes in
     let opened = c.in-Ok.ensures.few one u roots all in
-    spends_behind u out (n * 6 + r * 3) size old mid c.settle.new.store c.settle.result opened.counts.added
-    (c.settle.ensures.few u (span_beside u out c.args.gates old mid wrote words.words.apart words.words.gates_live gates) (span_beside u out c.args.roots old mid wrote words.roots_apart words.roots_live roots) opened.within)
+    spends_behind u out.span (n * 6 + r * 3) size old mid c.settle.new.store c.settle.result opened.counts.added
+    (c.settle.ensures.few u (span_beside u out.span c.args.gates old mid wrote words.words.apart words.words.gates_live gates) (span_beside u out.span c.args.roots old mid wrote words.roots_apart words.roots_live roots) opened.within)

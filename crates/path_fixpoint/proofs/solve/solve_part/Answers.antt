@@ -1,140 +1,38 @@
-use Rattle.std.proofs.Common.{ℕ, ◌+◌, ◌*◌, length, Err, true, false}
-use Rattle.bdd_core.proofs.Results.{if_ok_more}
-use Rattle.vrt_model.specs.Path.{Network}
-use Rattle.path_fixpoint.specs.Parts.{pins_at, pins_of}
-use Rattle.path_fixpoint.specs.Reaching.{HasRootWords, SolvedAt}
-use Rattle.path_fixpoint.specs.Solved.{network_at}
-use Rattle.bdd_ops.proofs.CountingLaws.{counted_then}
-use Rattle.bdd_core.proofs.Frames.{filled_beside, writes_then}
-use Rattle.path_fixpoint.proofs.SpendingLaws.{part_most, part_most_levels, part_most_one, span_beside, spends_behind, spends_more}
-use Rattle.path_fixpoint.proofs.ReachLaws.{root_words_kept, solved_kept}
-use Rattle.path_fixpoint.proofs.SolveLaws.{both_reach, root_words_from, solved_from, stands_here, strength_here, tells_stay, zeros_stay}
+use Rattle.std.proofs.Common.{subst, sym}
+use Rattle.std.specs.Prelude.{IfOk, ℕ}
+use Rattle.bdd_core.specs.Diagram.{Valuation}
+use Rattle.bdd_core.specs.Words.{Writes}
+use Rattle.bdd_ops.specs.Counting.{IsSpanWithin}
+use Rattle.path_fixpoint.specs.Parts.{AreSoftInside}
+use Rattle.path_fixpoint.specs.Solved.{HasRootSpans, TellsReach, network_at}
+use Rattle.path_fixpoint.specs.Spending.{HasOneHold, Spends, solving_operations}
+use Rattle.path_fixpoint.specs.Strengths.{TellsStrengths}
+use Rattle.path_fixpoint.specs.declared.words.NetWords.{NetWords}
 use Rattle.path_fixpoint.proofs.solve.solve_part.Goals as goal
 
-pub reaches-requires-clause-words : goal.reaches-requires-clause-words
-reaches-requires-clause-words c =
-    root_words_from c.args.circuit.now c.args.part.now c.requires.part c.requires.circuit c.args.gates c.args.roots c.args.out c.args.store.now c.strengths.new.store c.requires.spans c.in-Ok.ensures.writes
-
-pub reaches-requires-2-clause-words : goal.reaches-requires-2-clause-words
-reaches-requires-2-clause-words c =
-    root_words_kept c.args.circuit.now c.args.part.now c.requires.part c.requires.circuit c.args.gates c.args.roots c.args.out false c.strengths.new.store c.reaches.new.store
-    (root_words_from c.args.circuit.now c.args.part.now c.requires.part c.requires.circuit c.args.gates c.args.roots c.args.out c.args.store.now c.strengths.new.store c.requires.spans c.in-Ok.ensures.writes)
-    c.in-Ok-reaches.ensures.writes
-
-pub returns-in-Err-reaches-clause-writes : goal.returns-in-Err-reaches-clause-writes
-returns-in-Err-reaches-clause-writes c = writes_then c.args.out c.args.store.now c.strengths.new.store c.reaches.new.store c.in-Ok.ensures.writes c.in-Err-reaches.ensures.writes
+pub solve_words-requires-clause-spans : goal.solve_words-requires-clause-spans
+solve_words-requires-clause-spans c =
+    subst (λ (w : NetWords). HasRootSpans c.args.circuit.now c.args.part.now c.args.gates c.args.roots w c.args.store.now) (sym c.new-words.ensures) c.requires.spans
 
 pub returns-clause-writes : goal.returns-clause-writes
-returns-clause-writes c =
-    writes_then c.args.out c.args.store.now c.reaches.new.store c.reaches-2.new.store
-    (writes_then c.args.out c.args.store.now c.strengths.new.store c.reaches.new.store c.in-Ok.ensures.writes c.in-Ok-reaches.ensures.writes) c.reaches-2.ensures.writes
+returns-clause-writes c = subst (λ (w : NetWords). Writes w.span c.args.store.now c.solve_words.new.store) c.new-words.ensures c.solve_words.ensures.writes
 
 pub returns-clause-strengths : goal.returns-clause-strengths
 returns-clause-strengths c =
     let circuit = c.args.circuit.now in
     let part = c.args.part.now in
-    let is_part = c.requires.part in
-    let in_range = c.requires.circuit in
-    let gates = c.args.gates in
-    let roots = c.args.roots in
-    let out = c.args.out in
-    let old = c.args.store.now in
-    let a = c.strengths.new.store in
-    let b = c.reaches.new.store in
-    let d = c.reaches-2.new.store in
-    let words_a : HasRootWords circuit part gates roots out a = root_words_from circuit part is_part in_range gates roots out old a c.requires.spans c.in-Ok.ensures.writes in
-    let words_b : HasRootWords circuit part gates roots out b = root_words_kept circuit part is_part in_range gates roots out false a b words_a c.in-Ok-reaches.ensures.writes in
-    if_ok_more _ _ c.reaches-2.result
-    (λ u h v.
-    let w : Network = network_at old circuit part gates roots v in
-    tells_stay circuit part is_part in_range gates roots out true b d v w words_b c.reaches-2.ensures.writes c.reaches-2.ensures.apart
-    (tells_stay circuit part is_part in_range gates roots out false a b v w words_a c.in-Ok-reaches.ensures.writes c.in-Ok-reaches.ensures.apart
-    (c.in-Ok.ensures.strengths v w (stands_here circuit part is_part in_range gates roots out old v))))
-    c.reaches-2.ensures.reach
+    subst (λ (w : NetWords). IfOk c.solve_words.result (λ _. (v : Valuation) → TellsStrengths circuit part w c.solve_words.new.store v (network_at c.args.store.now circuit part c.args.gates c.args.roots v)))
+    c.new-words.ensures c.solve_words.ensures.strengths
 
 pub returns-clause-reaches : goal.returns-clause-reaches
 returns-clause-reaches c =
     let circuit = c.args.circuit.now in
     let part = c.args.part.now in
-    let is_part = c.requires.part in
-    let in_range = c.requires.circuit in
-    let gates = c.args.gates in
-    let roots = c.args.roots in
-    let out = c.args.out in
-    let old = c.args.store.now in
-    let a = c.strengths.new.store in
-    let b = c.reaches.new.store in
-    let d = c.reaches-2.new.store in
-    let words_a : HasRootWords circuit part gates roots out a = root_words_from circuit part is_part in_range gates roots out old a c.requires.spans c.in-Ok.ensures.writes in
-    let words_b : HasRootWords circuit part gates roots out b = root_words_kept circuit part is_part in_range gates roots out false a b words_a c.in-Ok-reaches.ensures.writes in
-    if_ok_more _ _ c.reaches-2.result
-    (λ u h soft v.
-    let w : Network = network_at old circuit part gates roots v in
-    let s : ℕ → ℕ = λ n. (strength_here circuit part is_part in_range gates roots out old v n).0 in
-    let tells = c.in-Ok.ensures.strengths v w (stands_here circuit part is_part in_range gates roots out old v) in
-    let solved : SolvedAt circuit part gates roots out a v w s = solved_from circuit part is_part in_range gates roots out old a v soft c.requires.spans c.in-Ok.ensures.writes tells in
-    let later : SolvedAt circuit part gates roots out b v w s = solved_kept circuit part is_part in_range gates roots out false a b v w s words_a c.in-Ok-reaches.ensures.writes c.in-Ok-reaches.ensures.apart solved in
-    both_reach circuit part is_part in_range gates roots out d v w
-    (zeros_stay circuit part is_part in_range gates roots out b d v w words_b c.reaches-2.ensures.writes c.reaches-2.ensures.apart (c.in-Ok-reaches.ensures.reach v w s solved))
-    (h v w s later))
-    c.reaches-2.ensures.reach
-
-pub returns-in-Err-clause-few : goal.returns-in-Err-clause-few
-returns-in-Err-clause-few c one u gates roots =
-    let out = c.args.out in
-    let n = length c.args.part.now.nets in
-    let m = length c.args.part.now.devices in
-    let r = pins_at c.args.part.now (pins_of c.args.circuit.now) in
-    let old = c.args.store.now in
-    let a = c.strengths.new.store in
-    let spans = c.requires.spans in
-    let first = 8 * (n * (m * 4)) in
-    let each = n * 6 + r * 3 + n * (m * 38) in
-    let most = 108 * (n * m) + 12 * n + 6 * r in
-    spends_more u out first most old a (Err c.in-Err.spent) (part_most_levels n m r) (c.in-Err.ensures.few u gates)
-
-pub returns-in-Err-reaches-clause-few : goal.returns-in-Err-reaches-clause-few
-returns-in-Err-reaches-clause-few c one u gates roots =
-    let out = c.args.out in
-    let n = length c.args.part.now.nets in
-    let m = length c.args.part.now.devices in
-    let r = pins_at c.args.part.now (pins_of c.args.circuit.now) in
-    let old = c.args.store.now in
-    let a = c.strengths.new.store in
-    let spans = c.requires.spans in
-    let first = 8 * (n * (m * 4)) in
-    let each = n * 6 + r * 3 + n * (m * 38) in
-    let most = 108 * (n * m) + 12 * n + 6 * r in
-    let wa = c.in-Ok.ensures.writes in
-    let found = c.in-Ok.ensures.few u gates in
-    let gates_a = span_beside u out c.args.gates old a wa spans.spans.apart spans.spans.gates_live gates in
-    let roots_a = span_beside u out c.args.roots old a wa spans.roots_apart spans.roots_live roots in
-    let new = c.reaches.new.store in
-    spends_more u out (first + each) most old new (Err c.in-Err-reaches.spent) (part_most_one n m r)
-    (spends_behind u out first each old a new (Err c.in-Err-reaches.spent) found.counts.added (c.in-Err-reaches.ensures.few one u gates_a roots_a found.within))
+    subst (λ (w : NetWords). IfOk c.solve_words.result (λ _. AreSoftInside circuit part → (v : Valuation) → TellsReach part w c.solve_words.new.store v (network_at c.args.store.now circuit part c.args.gates c.args.roots v)))
+    c.new-words.ensures c.solve_words.ensures.reaches
 
 pub returns-clause-few : goal.returns-clause-few
-returns-clause-few c one u gates roots =
-    let out = c.args.out in
-    let n = length c.args.part.now.nets in
-    let m = length c.args.part.now.devices in
-    let r = pins_at c.args.part.now (pins_of c.args.circuit.now) in
-    let old = c.args.store.now in
-    let a = c.strengths.new.store in
-    let spans = c.requires.spans in
-    let first = 8 * (n * (m * 4)) in
-    let each = n * 6 + r * 3 + n * (m * 38) in
-    let most = 108 * (n * m) + 12 * n + 6 * r in
-    let wa = c.in-Ok.ensures.writes in
-    let found = c.in-Ok.ensures.few u gates in
-    let gates_a = span_beside u out c.args.gates old a wa spans.spans.apart spans.spans.gates_live gates in
-    let roots_a = span_beside u out c.args.roots old a wa spans.roots_apart spans.roots_live roots in
-    let b = c.reaches.new.store in
-    let wb = c.in-Ok-reaches.ensures.writes in
-    let zeros = c.in-Ok-reaches.ensures.few one u gates_a roots_a found.within in
-    let gates_b = span_beside u out c.args.gates a b wb spans.spans.apart (filled_beside out c.args.gates old a wa spans.spans.apart spans.spans.gates_live) gates_a in
-    let roots_b = span_beside u out c.args.roots a b wb spans.roots_apart (filled_beside out c.args.roots old a wa spans.roots_apart spans.roots_live) roots_a in
-    let count = counted_then u first each old a b found.counts.added zeros.counts.added in
-    let new = c.reaches-2.new.store in
-    spends_more u out (first + each + each) most old new c.reaches-2.result (part_most n m r)
-    (spends_behind u out (first + each) each old b new c.reaches-2.result count (c.reaches-2.ensures.few one u gates_b roots_b zeros.within))
+returns-clause-few c =
+    subst (λ (w : NetWords). HasOneHold c.args.circuit.now → (u : ℕ) → IsSpanWithin u c.args.store.now c.args.gates → IsSpanWithin u c.args.store.now c.args.roots
+    → Spends u (solving_operations c.args.circuit.now c.args.part.now) w.span c.args.store.now c.solve_words.new.store c.solve_words.result)
+    c.new-words.ensures c.solve_words.ensures.few

@@ -16,7 +16,7 @@ use Rattle.path_fixpoint.proofs.sources.add_holds.Goals as goal
 
 pub loop-hold-init : goal.loop-hold-init
 loop-hold-init c = record {
-  writes = writes_none c.args.out c.args.store.now c.sound.ensures.sound c.sound.ensures.within c.requires.words.words.out_live;
+  writes = writes_none c.args.out.span c.args.store.now c.sound.ensures.sound c.sound.ensures.within c.requires.words.words.out_live;
   apart = λ k away. refl;
   adds = adds_none c.args.part.now c.args.roots c.args.out c.args.value
       (λ n handle size. (k : ℕ) × (k < 0) × (h : Hold) × At c.args.circuit.now.holds k h × (h.net.0 ≡ n) × (handle ≡ n) × (h.size ≡ size)) c.args.store.now (λ n handle k q i p. absurd (omega (arith, q.1)));
@@ -40,7 +40,7 @@ loop-hold-preserved c =
     let Q : ℕ → ℕ → ℕ → Type 0 = λ n handle size. (n ≡ hold.net.0) × (handle ≡ hold.net.0) × (size ≡ hold.size) in
     let R : ℕ → ℕ → ℕ → Type 0 = λ n handle size. (k : ℕ) × (k < at + 1) × (h : Hold) × At circuit.holds k h × (h.net.0 ≡ n) × (handle ≡ n) × (h.size ≡ size) in
     record {
-      writes = writes_then out first old new i.writes c.in-Ok.ensures.writes;
+      writes = writes_then out.span first old new i.writes c.in-Ok.ensures.writes;
       apart = λ k away. c.in-Ok.ensures.apart k away ∙ i.apart k away;
       adds = adds_then part c.args.roots out c.args.value P Q R first old new words.words.out_len i.writes i.apart words.roots_apart words.roots_live words.words.out_live
           (λ n handle size r. elim (cases_lt r.0 at) [
@@ -60,7 +60,7 @@ loop-hold-preserved c =
       few = λ one u roots all.
           let q = i.few one u roots all in
           let k = q.0 in
-          elim (c.in-Ok.ensures.few u (span_beside u out c.args.roots first old i.writes words.roots_apart words.roots_live roots) q.3) [
+          elim (c.in-Ok.ensures.few u (span_beside u out.span c.args.roots first old i.writes words.roots_apart words.roots_live roots) q.3) [
             | inl none ↦ (k, places_less circuit part at (at + 1) k (omega arith) q.1, counted_more u (k * 3 + 0) (k * 3) first new (omega arith) (counted_then u (k * 3) 0 first old new q.2 none.counts.added), none.within)
             | inr some ↦ (
               k + 1,
@@ -94,12 +94,12 @@ returns-in-Err-clause-few c one u roots all =
     let there : At circuit.holds at hold = item_at circuit.holds c.as_slice-hold-items.result.now at hold c.as_slice-hold-items.ensures c.loop-hold-test.true c.hold-item.is in
     let q = i.few one u roots all in
     let k = q.0 in
-    elim (c.in-Err.ensures.few u (span_beside u out c.args.roots first old i.writes c.requires.words.roots_apart c.requires.words.roots_live roots) q.3) [
-      | inl none ↦ spends_more u out (k * 3 + 0) (length part.nets * 3) first new (Err c.in-Err.spent) (omega (arith, places_few circuit part at k q.1))
-          (spends_behind u out (k * 3) 0 first old new (Err c.in-Err.spent) q.2 none)
-      | inr some ↦ spends_more u out (k * 3 + 3) (length part.nets * 3) first new (Err c.in-Err.spent)
+    elim (c.in-Err.ensures.few u (span_beside u out.span c.args.roots first old i.writes c.requires.words.roots_apart c.requires.words.roots_live roots) q.3) [
+      | inl none ↦ spends_more u out.span (k * 3 + 0) (length part.nets * 3) first new (Err c.in-Err.spent) (omega (arith, places_few circuit part at k q.1))
+          (spends_behind u out.span (k * 3) 0 first old new (Err c.in-Err.spent) q.2 none)
+      | inr some ↦ spends_more u out.span (k * 3 + 3) (length part.nets * 3) first new (Err c.in-Err.spent)
           (omega (arith, places_few circuit part (at + 1) (k + 1) (places_more circuit part one at k some.0 hold there some.1 q.1)))
-          (spends_behind u out (k * 3) 3 first old new (Err c.in-Err.spent) q.2 some.2)
+          (spends_behind u out.span (k * 3) 3 first old new (Err c.in-Err.spent) q.2 some.2)
     ]
 
 pub returns-clause-few : goal.returns-clause-few

@@ -16,9 +16,9 @@ use Rattle.path_fixpoint.proofs.sources.add_outputs.Goals as goal
 
 pub loop-at-init : goal.loop-at-init
 loop-at-init c = record {
-  writes = writes_none c.args.out c.args.store.now c.sound.ensures.sound c.sound.ensures.within c.requires.out.1;
+  writes = writes_none c.args.out.span c.args.store.now c.sound.ensures.sound c.sound.ensures.within c.requires.out.1;
   apart = λ k away. refl;
-  adds = adds_none c.args.part.now c.args.roots c.args.out c.args.value (IsPinSource (take 0 c.args.outputs.now) c.args.first) c.args.store.now
+  adds = adds_none c.args.part.now c.args.roots c.args.out c.args.value (IsPinSource c.args.out.source (take 0 c.args.outputs.now) c.args.first) c.args.store.now
       (λ n at size q i p. absurd (at_none q.0 q.1 q.2));
   few = λ u roots all. (counted_same u c.args.store.now c.args.store.now refl refl, all);
 }
@@ -36,22 +36,22 @@ loop-at-preserved c =
     let pin : WholePin = c.pin_at-pin.result.now in
     let there : At outputs at pin = c.pin_at-pin.ensures in
     let next : take (at + 1) outputs ≡ take at outputs ++ pin ∷ [] = take_one outputs at pin there in
-    let P : ℕ → ℕ → ℕ → Type 0 = IsPinSource (take at outputs) c.args.first in
+    let P : ℕ → ℕ → ℕ → Type 0 = IsPinSource out.source (take at outputs) c.args.first in
     let Q : ℕ → ℕ → ℕ → Type 0 = λ n handle size. (n ≡ pin.net.0) × (handle ≡ c.args.first + at) × (size ≡ c.drive_level.result) in
-    let R : ℕ → ℕ → ℕ → Type 0 = IsPinSource (take (at + 1) outputs) c.args.first in
+    let R : ℕ → ℕ → ℕ → Type 0 = IsPinSource out.source (take (at + 1) outputs) c.args.first in
     record {
-      writes = writes_then out first old new i.writes c.in-Ok.ensures.writes;
+      writes = writes_then out.span first old new i.writes c.in-Ok.ensures.writes;
       apart = λ k away. c.in-Ok.ensures.apart k away ∙ i.apart k away;
       adds = adds_then part c.args.roots out c.args.value P Q R first old new c.requires.out.2 i.writes i.apart c.requires.roots.2 c.requires.roots.1 c.requires.out.1
-          (λ n handle size r. elim (source_split outputs at pin c.args.first n handle size there (subst (λ (ps : List WholePin). IsPinSource ps c.args.first n handle size) next r)) [
+          (λ n handle size r. elim (source_split out.source outputs at pin c.args.first n handle size there (subst (λ (ps : List WholePin). IsPinSource out.source ps c.args.first n handle size) next r)) [
             | inl before ↦ inl before
             | inr last ↦ inr (last.0, last.1, last.2 ∙ sym c.drive_level.ensures)
           ])
-          (λ n handle size p. subst (λ (ps : List WholePin). IsPinSource ps c.args.first n handle size) (sym next) (source_front (take at outputs) (pin ∷ []) c.args.first n handle size p))
-          (λ n handle size q. subst (λ (ps : List WholePin). IsPinSource ps c.args.first n handle size) (sym next)
-          (source_last outputs at pin c.args.first n handle size there q.0 q.1 (q.2 ∙ c.drive_level.ensures)))
+          (λ n handle size p. subst (λ (ps : List WholePin). IsPinSource out.source ps c.args.first n handle size) (sym next) (source_front out.source (take at outputs) (pin ∷ []) c.args.first n handle size p))
+          (λ n handle size q. subst (λ (ps : List WholePin). IsPinSource out.source ps c.args.first n handle size) (sym next)
+          (source_last out.source outputs at pin c.args.first n handle size there q.0 q.1 (q.2 ∙ c.drive_level.ensures)))
           (λ n handle size r.
-          let whole = taken_source outputs (at + 1) c.args.first n handle size r in
+          let whole = taken_source out.source outputs (at + 1) c.args.first n handle size r in
           let inside = slice_get_within outputs whole.0 whole.1 whole.2 in
           let low = (c.requires.levels whole.1 (whole.0, whole.2)).0 in
           let is = whole.4 in
@@ -63,7 +63,7 @@ loop-at-preserved c =
           let k = pins_at part (take at outputs) in
           let k' = pins_at part (take (at + 1) outputs) in
           let grows : k ≤ k' = (let more = at_grows part (take at outputs) pin in omega (arith, more, ap (λ (ps : List WholePin). pins_at part ps) next)) in
-          elim (c.in-Ok.ensures.few u (span_beside u out c.args.roots first old i.writes c.requires.roots.2 c.requires.roots.1 roots) q.1) [
+          elim (c.in-Ok.ensures.few u (span_beside u out.span c.args.roots first old i.writes c.requires.roots.2 c.requires.roots.1 roots) q.1) [
             | inl none ↦ (counted_more u (k * 3 + 0) (k' * 3) first new (omega (arith, grows)) (counted_then u (k * 3) 0 first old new q.0 none.counts.added), none.within)
             | inr some ↦
                 let one : k' ≡ k + 1 = ap (λ (ps : List WholePin). pins_at part ps) next ∙ at_more part (take at outputs) pin some.0 some.1 in
@@ -75,7 +75,7 @@ pub returns-clause-adds : goal.returns-clause-adds
 returns-clause-adds c =
     let outputs = c.args.outputs.now in
     let at = c.loop-at.at in
-    subst (λ (ps : List WholePin). AddsRoots c.args.part.now c.args.roots c.args.out c.args.value (IsPinSource ps c.args.first) c.args.store.now c.loop-at.store)
+    subst (λ (ps : List WholePin). AddsRoots c.args.part.now c.args.roots c.args.out c.args.value (IsPinSource c.args.out.source ps c.args.first) c.args.store.now c.loop-at.store)
     (take_all at outputs (omega (arith, c.loop-at-test.false))) c.loop-at.invariant.adds
 
 pub returns-in-Err-clause-few : goal.returns-in-Err-clause-few
@@ -93,13 +93,13 @@ returns-in-Err-clause-few c u roots all =
     let next : take (at + 1) outputs ≡ take at outputs ++ pin ∷ [] = take_one outputs at pin there in
     let k = pins_at part (take at outputs) in
     let q = i.few u roots all in
-    elim (c.in-Err.ensures.few u (span_beside u out c.args.roots first old i.writes c.requires.roots.2 c.requires.roots.1 roots) q.1) [
-      | inl none ↦ spends_more u out (k * 3 + 0) (pins_at part outputs * 3) first new (Err c.in-Err.spent) (omega (arith, taken_at part outputs at))
-          (spends_behind u out (k * 3) 0 first old new (Err c.in-Err.spent) q.0 none)
+    elim (c.in-Err.ensures.few u (span_beside u out.span c.args.roots first old i.writes c.requires.roots.2 c.requires.roots.1 roots) q.1) [
+      | inl none ↦ spends_more u out.span (k * 3 + 0) (pins_at part outputs * 3) first new (Err c.in-Err.spent) (omega (arith, taken_at part outputs at))
+          (spends_behind u out.span (k * 3) 0 first old new (Err c.in-Err.spent) q.0 none)
       | inr some ↦
           let one : pins_at part (take (at + 1) outputs) ≡ k + 1 = ap (λ (ps : List WholePin). pins_at part ps) next ∙ at_more part (take at outputs) pin some.0 some.1 in
-          spends_more u out (k * 3 + 3) (pins_at part outputs * 3) first new (Err c.in-Err.spent) (omega (arith, taken_at part outputs (at + 1), one))
-          (spends_behind u out (k * 3) 3 first old new (Err c.in-Err.spent) q.0 some.2)
+          spends_more u out.span (k * 3 + 3) (pins_at part outputs * 3) first new (Err c.in-Err.spent) (omega (arith, taken_at part outputs (at + 1), one))
+          (spends_behind u out.span (k * 3) 3 first old new (Err c.in-Err.spent) q.0 some.2)
     ]
 
 pub returns-clause-few : goal.returns-clause-few

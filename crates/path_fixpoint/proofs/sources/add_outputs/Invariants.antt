@@ -9,9 +9,9 @@ use Rattle.path_fixpoint.proofs.sources.add_outputs.Given as goal
 
 abbrev pub invariant-loop-at : goal.invariant-loop-at
 invariant-loop-at l = record {
-  writes : Writes l.fn.out l.fn.store l.store;
-  apart : ChangesLevel l.fn.out (slot_of l.fn.value) l.fn.store l.store;
-  adds : AddsRoots l.part l.fn.roots l.fn.out l.fn.value (IsPinSource (take l.at l.outputs) l.fn.first) l.fn.store l.store;
-  few : (u : ℕ) → IsSpanWithin u l.fn.store l.fn.roots → IsSpanWithin u l.fn.store l.fn.out
-      → IsCounted u (pins_at l.part (take l.at l.outputs) * 3) l.fn.store l.store × IsSpanWithin u l.store l.fn.out;
+  writes : Writes l.fn.out.span l.fn.store l.store;
+  apart : ChangesLevel l.fn.out (slot_of l.fn.out l.fn.value) l.fn.store l.store;
+  adds : AddsRoots l.part l.fn.roots l.fn.out l.fn.value (IsPinSource l.fn.out.source (take l.at l.outputs) l.fn.first) l.fn.store l.store;
+  few : (u : ℕ) → IsSpanWithin u l.fn.store l.fn.roots → IsSpanWithin u l.fn.store l.fn.out.span
+      → IsCounted u (pins_at l.part (take l.at l.outputs) * 3) l.fn.store l.store × IsSpanWithin u l.store l.fn.out.span;
 }

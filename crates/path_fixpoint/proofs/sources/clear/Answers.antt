@@ -15,12 +15,12 @@ loop-i-preserved c =
     let at = c.loop-i.i in
     let new = c.set.new.store in
     let i = c.loop-i.invariant in
-    let place : c.word.result ≡ word_of (slot_of value) at = c.word.ensures ∙ ap (λ (l : ℕ). word_of l at) c.slot.ensures in
+    let place : c.word.result ≡ word_of out (slot_of out value) at = c.word.ensures ∙ ap (λ (l : ℕ). word_of out l at) c.slot.ensures in
     record {
-      writes = writes_then out c.args.store.now c.loop-i.store new i.writes c.set.ensures.writes;
+      writes = writes_then out.span c.args.store.now c.loop-i.store new i.writes c.set.ensures.writes;
       apart = λ k away. c.set.ensures.apart k (λ e. away at (e ∙ place)) ∙ i.apart k away;
-      zero = below_more (λ k. word_at new out (word_of (slot_of value) k) ≡ 0) at
-          (λ k lt. c.set.ensures.apart (word_of (slot_of value) k) (λ e. omega (arith, lt, words_differ (slot_of value) k at (e ∙ place))) ∙ i.zero k lt)
-          (ap (λ (x : ℕ). word_at new out x) (sym place) ∙ c.set.ensures.here);
-      few = λ u all. let r = i.few u all in rewrites_then u out c.args.store.now c.loop-i.store new r (c.set.ensures.few u r.within (within_zero u c.loop-i.store));
+      zero = below_more (λ k. word_at new out.span (word_of out (slot_of out value) k) ≡ 0) at
+          (λ k lt. c.set.ensures.apart (word_of out (slot_of out value) k) (λ e. omega (arith, lt, words_differ out (slot_of out value) k at (e ∙ place))) ∙ i.zero k lt)
+          (ap (λ (x : ℕ). word_at new out.span x) (sym place) ∙ c.set.ensures.here);
+      few = λ u all. let r = i.few u all in rewrites_then u out.span c.args.store.now c.loop-i.store new r (c.set.ensures.few u r.within (within_zero u c.loop-i.store));
     }

@@ -8,8 +8,8 @@ use Rattle.path_fixpoint.proofs.sources.clear.Given as goal
 
 abbrev pub invariant-loop-i : goal.invariant-loop-i
 invariant-loop-i l = record {
-  writes : Writes l.fn.out l.fn.store l.store;
-  apart : ChangesLevel l.fn.out (slot_of l.fn.value) l.fn.store l.store;
-  zero : (i : ℕ) → i < l.i → word_at l.store l.fn.out (word_of (slot_of l.fn.value) i) ≡ 0;
-  few : (u : ℕ) → IsSpanWithin u l.fn.store l.fn.out → Rewrites u l.fn.out l.fn.store l.store;
+  writes : Writes l.fn.out.span l.fn.store l.store;
+  apart : ChangesLevel l.fn.out (slot_of l.fn.out l.fn.value) l.fn.store l.store;
+  zero : (i : ℕ) → i < l.i → word_at l.store l.fn.out.span (word_of l.fn.out (slot_of l.fn.out l.fn.value) i) ≡ 0;
+  few : (u : ℕ) → IsSpanWithin u l.fn.store l.fn.out.span → Rewrites u l.fn.out.span l.fn.store l.store;
 }

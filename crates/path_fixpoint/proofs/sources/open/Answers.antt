@@ -31,9 +31,9 @@ returns-in-Err-clause-few c one u roots all =
     let old = c.args.store.now in
     let mid = c.clear.new.store in
     let cleared = c.clear.ensures.few u all in
-    let held = span_beside u out c.args.roots old mid c.clear.ensures.writes c.requires.words.roots_apart c.requires.words.roots_live roots in
-    spends_more u out (0 + n * 3) (n * 6 + r * 3) old c.add_given.new.store (Err c.in-Err.spent) (omega arith)
-    (spends_behind u out 0 (n * 3) old mid c.add_given.new.store (Err c.in-Err.spent) cleared.counted (c.in-Err.ensures.few u held cleared.within))
+    let held = span_beside u out.span c.args.roots old mid c.clear.ensures.writes c.requires.words.roots_apart c.requires.words.roots_live roots in
+    spends_more u out.span (0 + n * 3) (n * 6 + r * 3) old c.add_given.new.store (Err c.in-Err.spent) (omega arith)
+    (spends_behind u out.span 0 (n * 3) old mid c.add_given.new.store (Err c.in-Err.spent) cleared.counted (c.in-Err.ensures.few u held cleared.within))
 
 pub returns-in-Err-add_holds-clause-few : goal.returns-in-Err-add_holds-clause-few
 returns-in-Err-add_holds-clause-few c one u roots all =
@@ -45,12 +45,12 @@ returns-in-Err-add_holds-clause-few c one u roots all =
     let late = c.add_given.new.store in
     let cleared = c.clear.ensures.few u all in
     let wrote = c.clear.ensures.writes in
-    let held = span_beside u out c.args.roots old mid wrote c.requires.words.roots_apart c.requires.words.roots_live roots in
-    let live = filled_beside out c.args.roots old mid wrote c.requires.words.roots_apart c.requires.words.roots_live in
+    let held = span_beside u out.span c.args.roots old mid wrote c.requires.words.roots_apart c.requires.words.roots_live roots in
+    let live = filled_beside out.span c.args.roots old mid wrote c.requires.words.roots_apart c.requires.words.roots_live in
     let given = c.in-Ok.ensures.few u held cleared.within in
-    let held' = span_beside u out c.args.roots mid late c.in-Ok.ensures.writes c.requires.words.roots_apart live held in
-    spends_more u out (0 + n * 3 + n * 3) (n * 6 + r * 3) old c.add_holds.new.store (Err c.in-Err-add_holds.spent) (omega arith)
-    (spends_behind u out (0 + n * 3) (n * 3) old late c.add_holds.new.store (Err c.in-Err-add_holds.spent) (counted_then u 0 (n * 3) old mid late cleared.counted given.counts.added)
+    let held' = span_beside u out.span c.args.roots mid late c.in-Ok.ensures.writes c.requires.words.roots_apart live held in
+    spends_more u out.span (0 + n * 3 + n * 3) (n * 6 + r * 3) old c.add_holds.new.store (Err c.in-Err-add_holds.spent) (omega arith)
+    (spends_behind u out.span (0 + n * 3) (n * 3) old late c.add_holds.new.store (Err c.in-Err-add_holds.spent) (counted_then u 0 (n * 3) old mid late cleared.counted given.counts.added)
     (c.in-Err-add_holds.ensures.few one u held' given.within))
 
 pub returns-clause-few : goal.returns-clause-few
@@ -64,13 +64,13 @@ returns-clause-few c one u roots all =
     let last = c.add_holds.new.store in
     let cleared = c.clear.ensures.few u all in
     let wrote = c.clear.ensures.writes in
-    let held = span_beside u out c.args.roots old mid wrote c.requires.words.roots_apart c.requires.words.roots_live roots in
-    let live = filled_beside out c.args.roots old mid wrote c.requires.words.roots_apart c.requires.words.roots_live in
+    let held = span_beside u out.span c.args.roots old mid wrote c.requires.words.roots_apart c.requires.words.roots_live roots in
+    let live = filled_beside out.span c.args.roots old mid wrote c.requires.words.roots_apart c.requires.words.roots_live in
     let given = c.in-Ok.ensures.few u held cleared.within in
-    let held' = span_beside u out c.args.roots mid late c.in-Ok.ensures.writes c.requires.words.roots_apart live held in
-    let live' = filled_beside out c.args.roots mid late c.in-Ok.ensures.writes c.requires.words.roots_apart live in
+    let held' = span_beside u out.span c.args.roots mid late c.in-Ok.ensures.writes c.requires.words.roots_apart live held in
+    let live' = filled_beside out.span c.args.roots mid late c.in-Ok.ensures.writes c.requires.words.roots_apart live in
     let kept = c.in-Ok-add_holds.ensures.few one u held' given.within in
-    let held'' = span_beside u out c.args.roots late last c.in-Ok-add_holds.ensures.writes c.requires.words.roots_apart live' held' in
+    let held'' = span_beside u out.span c.args.roots late last c.in-Ok-add_holds.ensures.writes c.requires.words.roots_apart live' held' in
     let count = counted_then u (0 + n * 3) (n * 3) old late last (counted_then u 0 (n * 3) old mid late cleared.counted given.counts.added) kept.counts.added in
-    spends_more u out (0 + n * 3 + n * 3 + r * 3) (n * 6 + r * 3) old c.add_pins.new.store c.add_pins.result (omega arith)
-    (spends_behind u out (0 + n * 3 + n * 3) (r * 3) old last c.add_pins.new.store c.add_pins.result count (c.add_pins.ensures.few u held'' kept.within))
+    spends_more u out.span (0 + n * 3 + n * 3 + r * 3) (n * 6 + r * 3) old c.add_pins.new.store c.add_pins.result (omega arith)
+    (spends_behind u out.span (0 + n * 3 + n * 3) (r * 3) old last c.add_pins.new.store c.add_pins.result count (c.add_pins.ensures.few u held'' kept.within))

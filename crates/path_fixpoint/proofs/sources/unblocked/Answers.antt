@@ -12,16 +12,16 @@ use Rattle.path_fixpoint.proofs.SpendingLaws.{finds_made}
 use Rattle.path_fixpoint.proofs.sources.unblocked.Goals as goal
 
 pub returns-clause-writes : goal.returns-clause-writes
-returns-clause-writes c = writes_added c.args.out c.args.store.now c.ite.new.self c.requires.out.1 c.ite.ensures.makes.adds
+returns-clause-writes c = writes_added c.args.out.span c.args.store.now c.ite.new.self c.requires.out.1 c.ite.ensures.makes.adds
 
 pub returns-clause-is : goal.returns-clause-is
 returns-clause-is c =
     let old = c.args.store.now in
     let new = c.ite.new.self in
     let f : Function = choice (meaning old.nodes c.strength-above.result.0) (meaning old.nodes 0) (meaning old.nodes c.args.bit.0) in
-    let lt : c.args.size < 8 = omega (arith, c.requires.size.1, c.if-size-eq8.false) in
+    let lt : c.args.size < c.args.out.source = omega (arith, c.requires.size.1, c.if-size-out.false) in
     if_ok_more (λ r. Means new r f)
-    (λ r. (v : Valuation) → (function_of new r v ≡ true) ↔ ((function_of old c.args.bit v ≡ true) × (c.args.size < 8 → strong old c.args.out (c.args.size + 1) c.args.place v ≡ false))) c.ite.result
+    (λ r. (v : Valuation) → (function_of new r v ≡ true) ↔ ((function_of old c.args.bit v ≡ true) × (c.args.size < c.args.out.source → strong old c.args.out (c.args.size + 1) c.args.place v ≡ false))) c.ite.result
     (λ r m v.
     let s = strong old c.args.out (c.args.size + 1) c.args.place v in
     let b = function_of old c.args.bit v in

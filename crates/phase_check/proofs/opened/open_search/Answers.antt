@@ -1,6 +1,6 @@
 use Rattle.std.proofs.Common.{◌≡◌, ℕ, ◌+◌, ap, arith, length, refl}
 use Rattle.bdd_core.specs.Store.{Diagrams}
-use Rattle.phase_check.proofs.Opening.{taken_store}
+use Rattle.phase_check.proofs.Opening.{taken_adds, taken_store}
 use Rattle.phase_check.proofs.Stays.{store_next}
 use Rattle.phase_laws.proofs.Work.{may_spend, used_words}
 use Rattle.phase_terms.specs.Opened.{opened_operations}
@@ -48,3 +48,14 @@ returns-in-Err-clause-gives c made used =
     let u : ℕ = length (sources_of k c.args.phase) in
     let more : ℕ = opened_operations k c.args.phase in
     may_spend k c.args.phase d.budget u made more (made + more) mid c.open_phase.new.store c.in-Err.spent (used_words d.budget u made d mid rest used) refl c.requires.budget (omega arith) c.in-Err.ensures.counts
+
+-- the words were taken, and then the phase was opened
+pub returns-in-Ok-clause-adds : goal.returns-in-Ok-clause-adds
+returns-in-Ok-clause-adds c =
+    let sound = c.sound.ensures in
+    taken_adds c.args.store.now c.take_words-words.new.store c.open_phase.new.store c.take_words-words.ensures.rest sound.sound sound.within c.in-Ok.ensures.writes.adds
+
+pub returns-in-Err-clause-adds : goal.returns-in-Err-clause-adds
+returns-in-Err-clause-adds c =
+    let sound = c.sound.ensures in
+    taken_adds c.args.store.now c.take_words-words.new.store c.open_phase.new.store c.take_words-words.ensures.rest sound.sound sound.within c.in-Err.ensures.writes.adds

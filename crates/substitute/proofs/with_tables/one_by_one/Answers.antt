@@ -10,6 +10,8 @@ returns-then-not-has_mark c t blif facts are =
     (sym (c.if-not-has_mark.ensures ∙ ap (λ (l : List Bool). list_any (λ (mark : Bool). mark) l) c.as_slice.ensures.value)))
 
 pub returns : goal.returns
-returns c t blif facts are =
-    checked_some t blif facts c.args.tables are c.in_ok-chosen.chosen (c.in_ok-chosen.ensures t blif facts are) c.in_ok-circuit.circuit
-    (c.in_ok-circuit.ensures true t blif facts are (c.in_ok-chosen.ensures t blif facts are))
+returns c t blif facts are = (
+  checked_some t blif facts c.args.tables are c.in_ok-chosen.chosen (c.in_ok-chosen.ensures t blif facts are) c.in_ok-circuit.circuit
+      (c.in_ok-circuit.ensures true t blif facts are (c.in_ok-chosen.ensures t blif facts are)),
+  tt,
+)

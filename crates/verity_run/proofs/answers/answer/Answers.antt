@@ -1,4 +1,4 @@
-use Rattle.verity_run.proofs.Written.{check_answered, classes_answered, generated_answered, replay_answered}
+use Rattle.verity_run.proofs.Written.{arrival_answered, check_answered, classes_answered, generated_answered, replay_answered}
 use Rattle.verity_run.proofs.answers.answer.Goals as goal
 
 pub returns-in-Check : goal.returns-in-Check
@@ -24,3 +24,9 @@ returns-in-Classes g c =
     λ words.
     classes_answered c.args.request.now _ _ words c.args.ready.now.inputs.design c.args.ready.now.inputs.blif c.args.ready.now.inputs.rules c.args.ready.now.cells _ _ _ _ _ c.in-Classes.is
     (record { ordered = c.requires.ready.ordered; asked = c.requires.asked }) c.class_cells.ensures
+
+pub returns-in-Arrive : goal.returns-in-Arrive
+returns-in-Arrive g c =
+    λ words.
+    arrival_answered c.args.request.now c.in-Arrive.cell c.in-Arrive.phase c.in-Arrive.rise c.in-Arrive.budget _ words c.args.ready.now.inputs.design c.args.ready.now.inputs.blif c.args.ready.now.inputs.rules
+    c.nodes_of-in-Arrive.result c.args.ready.now.cells _ _ _ _ _ c.in-Arrive.is c.nodes_of-in-Arrive.ensures (record { ordered = c.requires.ready.ordered; asked = c.requires.asked }) c.arrive_cell.ensures

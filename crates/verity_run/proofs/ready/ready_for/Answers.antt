@@ -13,6 +13,9 @@ of_files-requires-in-Replay g c = ap file_names c.in-Replay.is
 pub of_files-requires-in-Classes : goal.of_files-requires-in-Classes
 of_files-requires-in-Classes g c = ap file_names c.in-Classes.is
 
+pub of_files-requires-in-Arrive : goal.of_files-requires-in-Arrive
+of_files-requires-in-Arrive g c = ap file_names c.in-Arrive.is
+
 pub returns-in-Generate-clause-says : goal.returns-in-Generate-clause-says
 returns-in-Generate-clause-says g c =
     let made = generated c.in-Generate.size in

@@ -1,0 +1,4 @@
+pub mod ArrivalLines
+pub mod LineTexts
+pub mod RisingNames
+pub mod Settings

@@ -1,0 +1,10 @@
+pub mod BudgetLaws
+pub mod CellLaws
+pub mod FunctionLaws
+pub mod RefusedLaws
+pub mod StandingLaws
+pub mod TestLaws
+pub mod TextLaws
+pub mod VariableLaws
+pub mod WriteLaws
+pub mod WritingLaws

@@ -1,0 +1,5 @@
+use Rattle.checked_cells.proofs.WholeLaws.{checked_models_are_acyclic}
+use Rattle.checked_cells.proofs.outputs.checked_models_are_acyclic.Goals as goal
+
+pub returns : goal.returns
+returns c all_soft = checked_models_are_acyclic

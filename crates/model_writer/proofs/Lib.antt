@@ -1,0 +1,3 @@
+pub mod Backslash
+pub mod LengthLaws
+pub mod TextLaws

@@ -1,0 +1,4 @@
+pub mod Between
+pub mod Meaning
+pub mod PhaseLaws
+pub mod Start

@@ -1,0 +1,55 @@
+//! The lines for faults of models that cannot be unrolled.
+
+ghost use Rattle.std.specs.Prelude.{◌≡◌, ◌≢◌, IfOk};
+ghost use Rattle.refusal_lines.specs.Lines.{models_line};
+
+use crate::lines::refusal;
+use blif_checks::ModelFault;
+use std::alloc::Global;
+use vrt_model::{NoMemory, Text};
+
+/// The line for a fault of models that cannot be unrolled that is not want of memory.
+pub fn models_refusal(alloc: Global, file: &[u8], fault: &ModelFault) -> Result<Text, NoMemory>
+    requires { fault.now ≢ ModelFault.NoMemory }
+    ensures { IfOk result (λ text. text ≡ models_line file.now fault.now) }
+{
+    match fault {
+        ModelFault::UnknownModel { line, name } => refusal(
+            alloc,
+            file,
+            *line,
+            b"no model ",
+            name.as_bytes(),
+        ),
+        ModelFault::Formals { line, name } => refusal(
+            alloc,
+            file,
+            *line,
+            b"tie does not fit: ",
+            name.as_bytes(),
+        ),
+        ModelFault::Recursion { line, name } => refusal(
+            alloc,
+            file,
+            *line,
+            b"model contains itself: ",
+            name.as_bytes(),
+        ),
+        ModelFault::Depth { line, .. } => refusal(alloc, file, *line, b"deeper than 32", b""),
+        ModelFault::DrivenTwice { line, name } => refusal(
+            alloc,
+            file,
+            *line,
+            b"two drivers: ",
+            name.as_bytes(),
+        ),
+        ModelFault::Undriven { line, name } => refusal(
+            alloc,
+            file,
+            *line,
+            b"no driver: ",
+            name.as_bytes(),
+        ),
+        ModelFault::NoMemory => Err(NoMemory),
+    }
+}

@@ -1,0 +1,2 @@
+pub mod Logics
+pub mod Standing

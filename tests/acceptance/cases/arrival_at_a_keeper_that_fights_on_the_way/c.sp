@@ -1,0 +1,11 @@
+* a weak path and a strong one against a keeper that is always on
+.subckt dom a b clk out
+m1 d clk vdd vdd p
+m2 d a x gnd n
+m3 x b z gnd n
+m4 z clk gnd gnd n
+m5 out d vdd vdd p
+m6 out d gnd gnd n
+m7 d gnd vdd vdd p
+m8 d a z gnd n
+.ends
