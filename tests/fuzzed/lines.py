@@ -92,6 +92,7 @@ MODES = {
     "replay": {"--cell", "--phase", "--at"},
     "gen": {"--budget", "--size"},
     "arrive": {"--cell", "--phase", "--rise", "--budget"},
+    "blif": {"--cell", "--budget"},
 }
 VALUED = {"--do", "--cell", "--phase", "--at", "--budget", "--size", "--rise"}
 TEXTS = {"--help", "-h", "--version", "-V"}
@@ -135,6 +136,7 @@ def asked(words):
         and len(files) == (0 if mode == "gen" else 3)
         and (mode != "replay" or {"--cell", "--phase"} <= set(values))
         and (mode != "arrive" or {"--cell", "--phase", "--rise"} <= set(values))
+        and (mode != "blif" or "--cell" in values)
         and (mode != "gen" or number_of(values.get("--size", ""), 1, 32, 2) is not None)
         and ("--budget" not in values or number_of(values["--budget"], 65536, 64000000, 8) is not None)
     )
@@ -220,6 +222,23 @@ def judged_arrival(line, status, ask, wrong):
     return []
 
 
+def judged_written(lines, status, ask, wrong):
+    """The kind of the lines of an equal cell that is to be written, and what is wrong with them."""
+    cell = re.escape(lowered(ask.values["--cell"]))
+    found = re.fullmatch(f"blif {cell} (?:(hold|clock|name) .*|(budget|large|long) [0-9]+)", lines[0]) if len(lines) == 1 else None
+    if found:
+        wrong += [f"status {status} of a cell that is not written"] if status != 4 else []
+        return [f"blif {found[1] or found[2]}"]
+    forms = r"\.(?:model|inputs|clock|outputs)(?: .*)?|\.names .+|1|01- 1|1-1 1|1 1|\.end"
+    if lines[:1] == [] or not lines[0].startswith(".model ") or lines[-1] != ".end":
+        wrong.append(f"no form of a written model: {lines[:1]}")
+    if not all(re.fullmatch(forms, line) for line in lines):
+        wrong.append("a line that is none of a written model")
+    if status != 0:
+        wrong.append(f"status {status} of a written model")
+    return ["blif written"]
+
+
 def judged_lines(lines, status, ask, wrong):
     """The kinds of the lines of a mode that ended with a status of verdicts, and what is wrong with them."""
     told = verdict(lines[0]) if len(lines) == 1 else None
@@ -234,6 +253,10 @@ def judged_lines(lines, status, ask, wrong):
         if told and told[0] != "equal":
             return judged_verdicts(lines, status, ask, wrong)
         return judged_arrival(lines[0] if len(lines) == 1 else "", status, ask, wrong)
+    if ask.mode == "blif":
+        if told and told[0] != "equal":
+            return judged_verdicts(lines, status, ask, wrong)
+        return judged_written(lines, status, ask, wrong)
     if ask.mode == "replay":
         cell, phase = lowered(ask.values["--cell"]), lowered(ask.values["--phase"])
         if told and (told[0] == "skipped" or told[0].startswith("unsupported ")):

@@ -16,7 +16,7 @@ use Rattle.command_line.specs.declared.request.Asked.{Asked}
 use Rattle.command_line.specs.declared.request.Asked.TheVariants.{Help, Version, Run}
 use Rattle.command_line.specs.declared.request.FileWords.{FileWords}
 use Rattle.command_line.specs.declared.request.Request.{Request}
-use Rattle.command_line.specs.declared.request.Request.TheVariants.{Check, Replay, Classes, Generate, Arrive}
+use Rattle.command_line.specs.declared.request.Request.TheVariants.{Check, Replay, Classes, Generate, Arrive, Blif}
 
 -- ---- values
 
@@ -26,7 +26,8 @@ mode_named word =
     else (if bytes_eq word (codes "replay") then Some mode.Replay
     else (if bytes_eq word (codes "classes") then Some mode.Classes
     else (if bytes_eq word (codes "gen") then Some mode.Generate
-    else (if bytes_eq word (codes "arrive") then Some mode.Arrive else None))))
+    else (if bytes_eq word (codes "arrive") then Some mode.Arrive
+    else (if bytes_eq word (codes "blif") then Some mode.Blif else None)))))
 
 -- one decimal digit or more, at most `places`
 abbrev pub is_numeral : ℕ → Text → Bool
@@ -98,6 +99,8 @@ options_of (Generate size budget) =
     record { mode = mode.Generate; cell = None; phase = None; at = None; budget = budget; size = Some size; rise = None; files = [] }
 options_of (Arrive cell phase rise budget files) =
     record { mode = mode.Arrive; cell = Some cell.now; phase = Some phase.now; at = None; budget = budget; size = None; rise = Some rise.now; files = names_of files }
+options_of (Blif cell budget files) =
+    record { mode = mode.Blif; cell = Some cell.now; phase = None; at = None; budget = budget; size = None; rise = None; files = names_of files }
 
 -- the names of the files that a request reads
 abbrev pub file_names : Request → List Text
@@ -118,7 +121,7 @@ Asks words Version = refusals words ≡ DisplayVersion ∷ []
 Asks words (Run request) = AsksFor words request
 
 -- the words are not understood: the command refuses them for another cause than help and version, or it takes them, and
--- they are those of no request: a mode that is none of the five, a number out of its range, an option that the mode needs
+-- they are those of no request: a mode that is none of the six, a number out of its range, an option that the mode needs
 -- and that is missing, one that the mode does not take, or another number of files
 abbrev pub IsUsage : List Text → Type 0
 IsUsage words =

@@ -17,11 +17,11 @@ pub fn help() -> &'static [u8]
     b"verity [--do MODE] [--cell C] [--phase P] [--at LIST] [--budget N] [--size N] [--rise LIST] [SPICE BLIF RULES]\n\
       Checks the cells of a SPICE netlist against the models of a BLIF file, or of gate-level Verilog where its name ends in .v, by a rules file.\n\
 \n\
-      --do MODE      what to do: check (if not given), replay, classes, gen or arrive\n\
-      --cell C       check, classes: C and the cells below it alone; replay, arrive: the cell, needed\n\
+      --do MODE      what to do: check (if not given), replay, classes, gen, arrive or blif\n\
+      --cell C       check, classes: C and the cells below it alone; replay, arrive, blif: the cell, needed\n\
       --phase P      replay, arrive: the phase, needed\n\
       --at LIST      replay: bits of variables, as a=1,b=0; those not named are 0\n\
-      --budget N     check, gen, arrive: nodes of diagrams, from 65536 to 64000000\n\
+      --budget N     check, gen, arrive, blif: nodes of diagrams, from 65536 to 64000000\n\
       --size N       gen: the size, from 1 to 32, needed\n\
       --rise LIST    arrive: input ports that rise, as a,b, needed\n\
       -h, --help     this text\n\
@@ -32,12 +32,13 @@ pub fn help() -> &'static [u8]
       classes        the class of each channel-connected part\n\
       gen            makes a hierarchy of cells, and checks it; no files are named\n\
       arrive         whether the order matters in which inputs of a cell rise\n\
+      blif           a BLIF model of what the transistors of a cell do\n\
 \n\
       status 0       each cell is equal, or what was asked for is written\n\
       status 1       a cell has a fault, or the order of arrivals matters\n\
       status 2       the words are not understood\n\
       status 3       a file is too long or faulty, or a name is not there\n\
-      status 4       no cell has a fault, and one was not decided, or the order of arrivals\n\
+      status 4       no cell has a fault, and one was not decided, or the order of arrivals, or no model is written\n\
       status 5       a file could not be read\n\
       status 6       the output could not be written\n\
       status 7       memory was wanting\n\

@@ -23,6 +23,8 @@ pub enum Mode {
     Generate,
     /// `arrive`: whether the order matters in which inputs of a cell rise.
     Arrive,
+    /// `blif`: a cell is written as a BLIF model.
+    Blif,
 }
 
 /// The values of the options, where they are there, and the three files; no files where no file is named.
@@ -69,6 +71,8 @@ fn named(word: &str) -> Option<Mode>
         Some(Mode::Generate)
     } else if word == "arrive" {
         Some(Mode::Arrive)
+    } else if word == "blif" {
+        Some(Mode::Blif)
     } else {
         None
     }

@@ -51,6 +51,12 @@ pub enum Request<'a> {
         budget: Option<u32>,
         files: FileWords<'a>,
     },
+    /// To write a BLIF model of what the transistors of a cell do, with this budget of nodes.
+    Blif {
+        cell: &'a str,
+        budget: Option<u32>,
+        files: FileWords<'a>,
+    },
 }
 
 impl<'a> Request<'a> {
@@ -62,7 +68,8 @@ impl<'a> Request<'a> {
             Request::Check { files, .. }
             | Request::Replay { files, .. }
             | Request::Classes { files, .. }
-            | Request::Arrive { files, .. } => Some(*files),
+            | Request::Arrive { files, .. }
+            | Request::Blif { files, .. } => Some(*files),
             Request::Generate { .. } => None,
         }
     }
@@ -164,6 +171,24 @@ fn arrive<'a>(choices: &Choices<'a>) -> Option<Request<'a>>
     })
 }
 
+fn blif<'a>(choices: &Choices<'a>) -> Option<Request<'a>>
+    requires { choices.now.mode ≡ Mode.Blif }
+    ensures { MatchOption result (IsOfNone (shown choices.now)) (λ request. options_of request ≡ shown choices.now) }
+{
+    if choices.phase.is_some()
+        || choices.at.is_some()
+        || choices.size.is_some()
+        || choices.rise.is_some()
+    {
+        return None;
+    }
+    Some(Request::Blif {
+        cell: choices.cell?,
+        budget: choices.budget,
+        files: choices.files?,
+    })
+}
+
 /// The request with these options, where there is one.
 pub fn request_with<'a>(choices: &Choices<'a>) -> Option<Request<'a>>
     ensures { MatchOption result (IsOfNone (shown choices.now)) (λ request. options_of request ≡ shown choices.now) }
@@ -174,5 +199,6 @@ pub fn request_with<'a>(choices: &Choices<'a>) -> Option<Request<'a>>
         Mode::Classes => classes(choices),
         Mode::Generate => generate(choices),
         Mode::Arrive => arrive(choices),
+        Mode::Blif => blif(choices),
     }
 }

@@ -116,7 +116,7 @@ verdict_there design blif rules budget answers known a (one_verdict {answers = b
       | inr same ↦ (then, subst (λ (x : Answer). IsCheckedVerdict design blif rules then budget x.cell x.verdict) (sym same.1) is)
     ]
 
-equal_is : (v : Verdict) → true ≡ is_equal_verdict v → v ≡ Equal
+pub equal_is : (v : Verdict) → true ≡ is_equal_verdict v → v ≡ Equal
 equal_is Equal e = refl
 equal_is Skipped e = absurd (false≢true (sym e))
 equal_is (Fault fault) e = absurd (false≢true (sym e))
@@ -130,16 +130,21 @@ other_verdict v e same = false≢true (e ∙ ap is_equal_verdict same)
 
 -- ---- an equal cell
 
+-- it is supported, and equal in each phase
+pub equal_supported : (design : Design) (blif : Blif) (rules : Rules) (budget : ℕ) (cells : List ℕ) (cell : ℕ) (j : Judged) → IsFound design blif rules budget cells cell j → true ≡ is_equal_verdict j.verdict
+    → (m : ℕ) × IsSupported design blif rules cell m × ((phase : ℕ) → phase < length rules.phases → IsPhaseEqual (comparison_of design blif rules cell m) phase)
+equal_supported design blif rules budget cells cell j found equal =
+    let v = found.verdict in
+    let is = verdict_there design blif rules budget v.answers v.verdicts.0 (record { cell = cell; verdict = j.verdict }) v.verdicts.1 v.its in
+    subst (λ (w : Verdict). IsCheckedVerdict design blif rules is.0 budget cell w) (equal_is j.verdict equal) is.1
+
 module _ (design : Design) (blif : Blif) (rules : Rules) (budget : ℕ) (cells : List ℕ) (cell : ℕ) (j : Judged) (found : IsFound design blif rules budget cells cell j)
     (equal : true ≡ is_equal_verdict j.verdict) (f : Flattened) (flattened : j.flattened ≡ Some f) where
   pub is_equal : j.verdict ≡ Equal
   is_equal = equal_is j.verdict equal
 
   supported : (m : ℕ) × IsSupported design blif rules cell m × ((phase : ℕ) → phase < length rules.phases → IsPhaseEqual (comparison_of design blif rules cell m) phase)
-  supported =
-      let v = found.verdict in
-      let is = verdict_there design blif rules budget v.answers v.verdicts.0 (record { cell = cell; verdict = j.verdict }) v.verdicts.1 v.its in
-      subst (λ (w : Verdict). IsCheckedVerdict design blif rules is.0 budget cell w) is_equal is.1
+  supported = equal_supported design blif rules budget cells cell j found equal
 
   -- what was made of it
   pub made : (m : ℕ) × IsFlattened design blif rules cell m f

@@ -13,3 +13,4 @@ pub mod ReportLaws
 pub mod UnsettledShown
 pub mod WorkedFaults
 pub mod Written
+pub mod WriteLaws

@@ -11,7 +11,7 @@ use Rattle.command_line.specs.Manual.{help_text, version_line}
 use Rattle.command_line.specs.declared.request.Asked.TheVariants.{Help, Version}
 use Rattle.command_line.specs.declared.request.FileWords.{FileWords}
 use Rattle.command_line.specs.declared.request.Request.{Request}
-use Rattle.command_line.specs.declared.request.Request.TheVariants.{Check, Replay, Classes, Generate, Arrive}
+use Rattle.command_line.specs.declared.request.Request.TheVariants.{Check, Replay, Classes, Generate, Arrive, Blif as AsBlif}
 use Rattle.generator.specs.Texts.{IsSize}
 use Rattle.vrt_io.specs.Causes.{Rose}
 use Rattle.verity_run.specs.Arrivals.{IsArrivalAnswer, OfArrival}
@@ -25,6 +25,7 @@ use Rattle.verity_run.specs.Ready.{IsGiven, IsMade, IsReadyBy, IsReadyFor}
 use Rattle.verity_run.specs.Replays.{BeginsReplay}
 use Rattle.verity_run.specs.Reports.{Begins as BeginsReport, IsEnded, Reports, ReportsCells}
 use Rattle.verity_run.specs.Runs.{AnswersArrival, AnswersGenerated, AnswersInputs, AnswersReplay, AnswersTexts, Begins, BeginsGenerated, BeginsInputs, BeginsRequest, BeginsTexts, Ends, PutsLine, RefusalEnds, Refuses, Serves, TellsAnswer, Wants, names_by}
+use Rattle.verity_run.specs.Writes.{BeginsBlif, IsBlifAnswer}
 use Rattle.verity_run.specs.declared.ready.Ready.{Ready}
 use Rattle.verity_run.specs.declared.refusals.Refusal.{Refusal}
 use Rattle.verity_run.specs.declared.refusals.Refusal.TheVariants.{Unread, Told, NoMemory as OutOfMemory}
@@ -142,6 +143,16 @@ arrival_answered request cell phase rise budget files words design blif rules no
                 (subst (λ (n : ℕ). IsArrivalAnswer design blif rules n cell.now phase.now rise.now s lines) counted a),
           )
 
+-- a cell as a model
+pub blif_answered : (request : Request) (cell : Bor (List ℕ)) (budget : Option ℕ) (files : FileWords) (words : ByFile) (design : Design) (blif : Blif) (rules : Rules) (nodes : ℕ) (cells : List ℕ)
+    (status : Status) (old new : Option (List ℕ)) (before now : ℕ) → request ≡ AsBlif cell budget files → nodes ≡ nodes_of budget → AreReady request design rules cells
+    → Ends (IsBlifAnswer design blif rules nodes cell.now) (BeginsBlif design blif rules nodes cell.now) status old new before now
+    → Ends (AnswersInputs request words design blif rules) (BeginsInputs request design blif rules) status old new before now
+blif_answered request cell budget files words design blif rules nodes cells status old new before now is counted ready ends =
+    answered request words design blif rules status old new before now cells ready
+    (subst (λ (r : Request). Ends (IsAnswer r design blif rules cells) (IsBegun r design blif rules cells) status old new before now) (sym is)
+    (subst (λ (n : ℕ). Ends (IsBlifAnswer design blif rules n cell.now) (BeginsBlif design blif rules n cell.now) status old new before now) counted ends))
+
 -- those of a size that was generated
 pub generated_answered : (request : Request) (size : ℕ) (budget : Option ℕ) (words : ByFile) (design : Design) (blif : Blif) (rules : Rules) (nodes : ℕ) (cells : List ℕ)
     (status : Status) (old new : Option (List ℕ)) (before now : ℕ) → request ≡ Generate size budget → nodes ≡ nodes_of budget → AreReady request design rules cells
@@ -190,6 +201,7 @@ made_answered (Check cell budget files) g s lines made a = absurd made
 made_answered (Replay cell phase at files) g s lines made a = absurd made
 made_answered (Classes cell files) g s lines made a = absurd made
 made_answered (Arrive cell phase rise budget files) g s lines made a = absurd made
+made_answered (AsBlif cell budget files) g s lines made a = absurd made
 made_answered (Generate size budget) g s lines made a = subst (λ (x : Given). AnswersTexts (Generate size budget) x s lines) made a
 
 made_begun : (request : Request) (g : Given) (lines : List (List ℕ)) → IsMade request g → BeginsTexts request g lines → BeginsGenerated request lines
@@ -197,6 +209,7 @@ made_begun (Check cell budget files) g lines made b = absurd made
 made_begun (Replay cell phase at files) g lines made b = absurd made
 made_begun (Classes cell files) g lines made b = absurd made
 made_begun (Arrive cell phase rise budget files) g lines made b = absurd made
+made_begun (AsBlif cell budget files) g lines made b = absurd made
 made_begun (Generate size budget) g lines made b = subst (λ (x : Given). BeginsTexts (Generate size budget) x lines) made b
 
 module _ (request : Request) (source : Source) (words bytes : ByFile) where
@@ -278,6 +291,7 @@ module _ (status : Status) (lines : List (List ℕ)) where
   answer_calm (Replay cell phase at files) design blif rules cells a = ended_calm (subst IsEnded (sym a.ended) (counted_ends AllEqual a.count all_equal))
   answer_calm (Classes cell files) design blif rules cells a = ended_calm (reports_end (IsClassed design blif rules) cells status lines a)
   answer_calm (Arrive cell phase rise budget files) design blif rules cells a = ended_calm (subst IsEnded (sym a.ended) (counted_ends AllEqual a.count all_equal))
+  answer_calm (AsBlif cell budget files) design blif rules cells a = ended_calm (subst IsEnded (sym a.ended) (counted_ends AllEqual a.count all_equal))
   answer_calm (Generate size budget) design blif rules cells a = ended_calm (checked_ends design blif rules (nodes_of budget) cells status a.report a.reported)
 
   inputs_calm : (request : Request) (words : ByFile) (design : Design) (blif : Blif) (rules : Rules) → AnswersInputs request words design blif rules status lines → IsCalm status
@@ -293,6 +307,7 @@ module _ (status : Status) (lines : List (List ℕ)) where
   generated_calm (Replay cell phase at files) a = absurd a
   generated_calm (Classes cell files) a = absurd a
   generated_calm (Arrive cell phase rise budget files) a = absurd a
+  generated_calm (AsBlif cell budget files) a = absurd a
   generated_calm (Generate size budget) a = texts_calm (Generate size budget) (generated size) a
 
 -- a read fault comes only where the count of faults rose, and words that are understood are no cause of Usage
@@ -388,4 +403,5 @@ request_fits words (Check cell budget files) asks = budget_read _ budget asks.1.
 request_fits words (Replay cell phase at files) asks = tt
 request_fits words (Classes cell files) asks = tt
 request_fits words (Arrive cell phase rise budget files) asks = budget_read _ budget asks.1.budget
+request_fits words (AsBlif cell budget files) asks = budget_read _ budget asks.1.budget
 request_fits words (Generate size budget) asks = (budget_read _ budget asks.1.budget, size_asked _ size asks.1.size)

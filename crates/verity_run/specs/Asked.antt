@@ -4,7 +4,7 @@ use Rattle.std.specs.Str.{str_to_ascii_lowercase}
 use Rattle.cells_below.specs.Below.{AreBelow}
 use Rattle.command_line.specs.Requests.{value_of}
 use Rattle.command_line.specs.declared.request.Request.{Request}
-use Rattle.command_line.specs.declared.request.Request.TheVariants.{Check, Replay, Classes, Generate, Arrive}
+use Rattle.command_line.specs.declared.request.Request.TheVariants.{Check, Replay, Classes, Generate, Arrive, Blif as AsBlif}
 use Rattle.generator.specs.Texts.{IsSize}
 use Rattle.verity_run.specs.Arrivals.{IsArrivalAnswer, OfArrival}
 use Rattle.verity_run.specs.Classes.{IsBudget, IsClassed}
@@ -14,6 +14,7 @@ use Rattle.verity_run.specs.Named.{cell_asked}
 use Rattle.verity_run.specs.Refusals.{OfOrder}
 use Rattle.verity_run.specs.Replays.{BeginsReplay, IsReplay, OfReplay}
 use Rattle.verity_run.specs.Reports.{Begins, Reports, ReportsCells}
+use Rattle.verity_run.specs.Writes.{BeginsBlif, IsBlifAnswer}
 use Rattle.verity_run.specs.declared.status.Status.{Status}
 use Rattle.vrt_model.specs.Hierarchy.{IsOrdered, cell_order}
 use Rattle.vrt_model.specs.declared.blif.Blif.{Blif}
@@ -32,6 +33,7 @@ IsFitting (Check cell budget files) = IsBudget (nodes_of budget)
 IsFitting (Replay cell phase at files) = Unit {0}
 IsFitting (Classes cell files) = Unit {0}
 IsFitting (Arrive cell phase rise budget files) = IsBudget (nodes_of budget)
+IsFitting (AsBlif cell budget files) = IsBudget (nodes_of budget)
 IsFitting (Generate size budget) = IsBudget (nodes_of budget) × IsSize size
 
 -- ---- cells
@@ -43,6 +45,7 @@ cell_word (Replay cell phase at files) = Some cell.now
 cell_word (Classes cell files) = value_of cell
 cell_word (Generate size budget) = None
 cell_word (Arrive cell phase rise budget files) = Some cell.now
+cell_word (AsBlif cell budget files) = Some cell.now
 
 -- the cells that are asked for, in their order: all, or one and those below it
 abbrev pub AreAsked : Design → Option (List ℕ) → List ℕ → Type 0
@@ -63,6 +66,7 @@ OfMode (Replay cell phase at files) design blif rules line = OfReplay design bli
 OfMode (Classes cell files) design blif rules line = ⊥
 OfMode (Generate size budget) design blif rules line = ⊥
 OfMode (Arrive cell phase rise budget files) design blif rules line = OfArrival design blif rules (nodes_of budget) cell.now phase.now rise.now line
+OfMode (AsBlif cell budget files) design blif rules line = ⊥
 
 -- the cell that is asked for is there, where one is
 abbrev pub IsThere : Design → Option (List ℕ) → Type 0
@@ -95,6 +99,7 @@ IsAnswer (Replay cell phase at files) design blif rules cells status lines = IsR
 IsAnswer (Classes cell files) design blif rules cells status lines = Reports (IsClassed design blif rules) cells status lines
 IsAnswer (Generate size budget) design blif rules cells status lines = ReportsGenerated design blif rules (nodes_of budget) size cells status lines
 IsAnswer (Arrive cell phase rise budget files) design blif rules cells status lines = IsArrivalAnswer design blif rules (nodes_of budget) cell.now phase.now rise.now status lines
+IsAnswer (AsBlif cell budget files) design blif rules cells status lines = IsBlifAnswer design blif rules (nodes_of budget) cell.now status lines
 
 -- lines with which that begins
 abbrev pub IsBegun : Request → Design → Blif → Rules → List ℕ → List (List ℕ) → Type 0
@@ -103,3 +108,4 @@ IsBegun (Replay cell phase at files) design blif rules cells lines = BeginsRepla
 IsBegun (Classes cell files) design blif rules cells lines = Begins (Reports (IsClassed design blif rules)) cells lines
 IsBegun (Generate size budget) design blif rules cells lines = Begins (ReportsCells design blif rules (nodes_of budget)) cells lines
 IsBegun (Arrive cell phase rise budget files) design blif rules cells lines = ⊥
+IsBegun (AsBlif cell budget files) design blif rules cells lines = BeginsBlif design blif rules (nodes_of budget) cell.now lines

@@ -13,3 +13,4 @@ pub mod Replays
 pub mod Reports
 pub mod Runs
 pub mod VerdictLines
+pub mod Writes

@@ -2,7 +2,7 @@
 use Rattle.std.specs.Prelude.{◌≡◌, ◌⊎◌}
 use Rattle.command_line.specs.Requests.{file_names}
 use Rattle.command_line.specs.declared.request.Request.{Request}
-use Rattle.command_line.specs.declared.request.Request.TheVariants.{Check, Replay, Classes, Generate, Arrive}
+use Rattle.command_line.specs.declared.request.Request.TheVariants.{Check, Replay, Classes, Generate, Arrive, Blif as AsBlif}
 use Rattle.prepared_tables.specs.Prepared.{ArePrepared}
 use Rattle.verity_run.specs.Asked.{AreAsked, cell_word}
 use Rattle.verity_run.specs.Given.{AreFit, AreRead, ByFile, Given, generated, given}
@@ -33,6 +33,7 @@ IsMade (Check cell budget files) g = ⊥
 IsMade (Replay cell phase at files) g = ⊥
 IsMade (Classes cell files) g = ⊥
 IsMade (Arrive cell phase rise budget files) g = ⊥
+IsMade (AsBlif cell budget files) g = ⊥
 IsMade (Generate size budget) g = g ≡ generated size
 
 -- these are the texts of a request, each under its name: those of its files, or generated ones

@@ -7,7 +7,7 @@ use Rattle.command_line.specs.Manual.{help_text, version_line}
 use Rattle.command_line.specs.Requests.{Asks, AsksFor, IsUsage, file_names}
 use Rattle.command_line.specs.declared.request.Asked.TheVariants.{Help, Version}
 use Rattle.command_line.specs.declared.request.Request.{Request}
-use Rattle.command_line.specs.declared.request.Request.TheVariants.{Check, Replay, Classes, Generate, Arrive}
+use Rattle.command_line.specs.declared.request.Request.TheVariants.{Check, Replay, Classes, Generate, Arrive, Blif as AsBlif}
 use Rattle.vrt_io.specs.Causes.{Rose}
 use Rattle.verity_run.specs.Arrivals.{IsArrivalAnswer, OfArrival}
 use Rattle.verity_run.specs.Asked.{AreReady, IsAnswer, IsBarred, IsBegun}
@@ -136,6 +136,7 @@ AnswersGenerated (Check cell budget files) status lines = ⊥
 AnswersGenerated (Replay cell phase at files) status lines = ⊥
 AnswersGenerated (Classes cell files) status lines = ⊥
 AnswersGenerated (Arrive cell phase rise budget files) status lines = ⊥
+AnswersGenerated (AsBlif cell budget files) status lines = ⊥
 AnswersGenerated (Generate size budget) status lines = AnswersTexts (Generate size budget) (generated size) status lines
 
 abbrev pub BeginsGenerated : Request → List (List ℕ) → Type 0
@@ -143,6 +144,7 @@ BeginsGenerated (Check cell budget files) lines = ⊥
 BeginsGenerated (Replay cell phase at files) lines = ⊥
 BeginsGenerated (Classes cell files) lines = ⊥
 BeginsGenerated (Arrive cell phase rise budget files) lines = ⊥
+BeginsGenerated (AsBlif cell budget files) lines = ⊥
 BeginsGenerated (Generate size budget) lines = BeginsTexts (Generate size budget) (generated size) lines
 
 -- what is to be answered and written for a request

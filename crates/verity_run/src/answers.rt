@@ -10,6 +10,7 @@ ghost use Rattle.verity_run.specs.Ready.{IsReady};
 ghost use Rattle.verity_run.specs.Replays.{BeginsReplay};
 ghost use Rattle.verity_run.specs.Reports.{Begins, Reports, ReportsCells, with_count};
 ghost use Rattle.verity_run.specs.Runs.{AnswersArrival, AnswersInputs, AnswersReplay, BeginsInputs, Ends, PutsLine};
+ghost use Rattle.verity_run.specs.Writes.{BeginsBlif, IsBlifAnswer};
 
 use crate::arrivals::{OneLine, arrival_for};
 use crate::messages;
@@ -18,6 +19,7 @@ use crate::ready::Ready;
 use crate::replays::replayed;
 use crate::report::{Task, put_cell, report_cells};
 use crate::status::{Status, with_count};
+use crate::writes::blif_for;
 use command_line::Request;
 use std::alloc::Global;
 use vrt_io::Sink;
@@ -142,6 +144,23 @@ fn arrive_cell<O: Sink>(
     }
 }
 
+/// Writes a cell as a BLIF model.
+fn blif_cell<O: Sink>(alloc: Global, budget: u32, ready: &Ready, cell: &str, out: &mut O) -> Status
+    requires budget { IsBudget budget }
+    requires ready { IsReady ready.now }
+    requires asked { AreAsked ready.now.inputs.design (Some cell.now) ready.now.cells }
+    ensures { Ends (IsBlifAnswer ready.now.inputs.design ready.now.inputs.blif ready.now.inputs.rules budget cell.now) (BeginsBlif ready.now.inputs.design ready.now.inputs.blif ready.now.inputs.rules budget cell.now)
+        result (O.written out.old) (O.written out.new) (O.faults out.old) (O.faults out.new) }
+{
+    match blif_for(alloc, budget, ready, cell) {
+        Ok(found) => match put_cell(&found, Status::AllEqual, out) {
+            Ok(status) => status,
+            Err(end) => end,
+        },
+        Err(_) => Status::NoMemory,
+    }
+}
+
 /// Does what a request asks.
 pub fn answer<O: Sink>(alloc: Global, request: &Request<'_>, ready: &Ready, out: &mut O) -> Status
     requires fitting { IsFitting request.now }
@@ -169,5 +188,8 @@ pub fn answer<O: Sink>(alloc: Global, request: &Request<'_>, ready: &Ready, out:
             budget,
             ..
         } => arrive_cell(alloc, nodes_of(*budget), ready, *cell, *phase, *rise, out),
+        Request::Blif { cell, budget, .. } => {
+            blif_cell(alloc, nodes_of(*budget), ready, *cell, out)
+        }
     }
 }

@@ -46,6 +46,19 @@ impl Drop for OneLine {
     }
 }
 
+impl OneLine {
+    /// The line.
+    pub fn into_line(self) -> Text
+        ensures { result ≡ self.line }
+    {
+        let OneLine {
+            count: _count,
+            line,
+        } = self;
+        line
+    }
+}
+
 /// The names of a list, or the refusal of an empty one.
 fn names_of(alloc: Global, rise: &str) -> Result<Seq<Text>, Refusal>
     ensures ok { IfOk result (λ names. names_in rise.now ≡ Some names) }
@@ -92,7 +105,12 @@ fn judge_all(
 }
 
 /// What is judged of a cell, where the cells that are asked for are compared one behind the other; none where it is not among them.
-fn judged(alloc: Global, budget: u32, ready: &Ready, cell: u32) -> Result<Option<Judged>, NoMemory>
+pub fn judged(
+    alloc: Global,
+    budget: u32,
+    ready: &Ready,
+    cell: u32,
+) -> Result<Option<Judged>, NoMemory>
     requires budget { IsBudget budget }
     requires ready { IsReady ready.now }
     ensures { IfOk result (λ found. IfSome found (IsFound ready.now.inputs.design ready.now.inputs.blif ready.now.inputs.rules budget ready.now.cells cell)) }
@@ -162,7 +180,7 @@ fn told_order(
 }
 
 /// The line of a verdict.
-fn verdict_told(
+pub fn verdict_told(
     alloc: Global,
     ready: &Ready,
     number: u32,
@@ -187,7 +205,7 @@ fn verdict_told(
 }
 
 /// Whether a verdict is that the cell is equal.
-fn is_equal(verdict: &Verdict) -> bool
+pub fn is_equal(verdict: &Verdict) -> bool
     ensures { result ≡ is_equal_verdict verdict.now }
 {
     match verdict {

@@ -80,7 +80,8 @@ fn cell_word<'a>(request: &Request<'a>) -> Option<&'a str>
 {
     match request {
         Request::Check { cell, .. } | Request::Classes { cell, .. } => *cell,
-        Request::Replay { cell, .. } | Request::Arrive { cell, .. } => Some(*cell),
+        Request::Replay { cell, .. } | Request::Arrive { cell, .. } | Request::Blif { cell, .. } =>
+            Some(*cell),
         Request::Generate { .. } => None,
     }
 }

@@ -16,6 +16,7 @@ mod replays;
 mod report;
 mod status;
 mod top;
+mod writes;
 
 pub use status::Status;
 pub use top::run;

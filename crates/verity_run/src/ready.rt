@@ -133,6 +133,7 @@ pub fn ready_for<F: Files>(
         Request::Replay { files: words, .. } => of_files(alloc, request, words, files),
         Request::Classes { files: words, .. } => of_files(alloc, request, words, files),
         Request::Arrive { files: words, .. } => of_files(alloc, request, words, files),
+        Request::Blif { files: words, .. } => of_files(alloc, request, words, files),
         Request::Generate { size, .. } => of_size(alloc, request, *size),
     }
 }

@@ -96,6 +96,16 @@ fn tell_request(page: &mut Page, request: &Request<'_>) {
             page.word(", ");
             tell_files(page, files);
         }
+        Request::Blif {
+            cell,
+            budget,
+            files,
+        } => {
+            tell_cell(page, "blif, cell ", Some(*cell));
+            tell_budget(page, *budget);
+            page.word(", ");
+            tell_files(page, files);
+        }
     }
 }
 

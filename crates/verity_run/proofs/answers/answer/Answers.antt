@@ -1,4 +1,4 @@
-use Rattle.verity_run.proofs.Written.{arrival_answered, check_answered, classes_answered, generated_answered, replay_answered}
+use Rattle.verity_run.proofs.Written.{arrival_answered, blif_answered, check_answered, classes_answered, generated_answered, replay_answered}
 use Rattle.verity_run.proofs.answers.answer.Goals as goal
 
 pub returns-in-Check : goal.returns-in-Check
@@ -30,3 +30,9 @@ returns-in-Arrive g c =
     λ words.
     arrival_answered c.args.request.now c.in-Arrive.cell c.in-Arrive.phase c.in-Arrive.rise c.in-Arrive.budget _ words c.args.ready.now.inputs.design c.args.ready.now.inputs.blif c.args.ready.now.inputs.rules
     c.nodes_of-in-Arrive.result c.args.ready.now.cells _ _ _ _ _ c.in-Arrive.is c.nodes_of-in-Arrive.ensures (record { ordered = c.requires.ready.ordered; asked = c.requires.asked }) c.arrive_cell.ensures
+
+pub returns-in-Blif : goal.returns-in-Blif
+returns-in-Blif g c =
+    λ words.
+    blif_answered c.args.request.now c.in-Blif.cell c.in-Blif.budget _ words c.args.ready.now.inputs.design c.args.ready.now.inputs.blif c.args.ready.now.inputs.rules c.nodes_of-in-Blif.result c.args.ready.now.cells
+    _ _ _ _ _ c.in-Blif.is c.nodes_of-in-Blif.ensures (record { ordered = c.requires.ready.ordered; asked = c.requires.asked }) c.blif_cell.ensures

@@ -16,6 +16,9 @@ of_files-requires-in-Classes g c = ap file_names c.in-Classes.is
 pub of_files-requires-in-Arrive : goal.of_files-requires-in-Arrive
 of_files-requires-in-Arrive g c = ap file_names c.in-Arrive.is
 
+pub of_files-requires-in-Blif : goal.of_files-requires-in-Blif
+of_files-requires-in-Blif g c = ap file_names c.in-Blif.is
+
 pub returns-in-Generate-clause-says : goal.returns-in-Generate-clause-says
 returns-in-Generate-clause-says g c =
     let made = generated c.in-Generate.size in
