@@ -53,3 +53,9 @@ def names(texts):
 def named(text, card):
     """The words that stand behind a first word, in any letters."""
     return [line.split()[1] for line in text.split(b"\n") if line.lower().startswith(card) and len(line.split()) > 1]
+
+
+def ports(text, cell):
+    """The words behind the name of a cell where it begins."""
+    lines = [line.split() for line in text.split(b"\n")]
+    return next((words[2:] for words in lines if words[:1] and words[0].lower() == b".subckt" and words[1:2] == [cell]), [])

@@ -14,7 +14,7 @@ from pathlib import Path
 from typing import List, NamedTuple
 
 from corpus import FILES, LARGEST, TOP, Case, by_name, cases
-from lines import asked, judged
+from lines import MODES, asked, judged
 from mutate import Mutator
 from shapes import shape
 
@@ -37,9 +37,14 @@ class Run(NamedTuple):
 def bounded(words):
     """The words with a budget of at most 65536 nodes, where they are such as have one."""
     ask = asked(words)
-    if ask.mode not in ("check", "gen") or int(ask.values.get("--budget", 4000000)) <= 65536:
+    if "--budget" not in MODES.get(ask.mode, ()) or int(ask.values.get("--budget", 4000000)) <= 65536:
         return words
-    return ["--budget=65536", *words] if "--budget" not in ask.values else ["--budget", "65536", *FILES]
+    if "--budget" not in ask.values:
+        return ["--budget=65536", *words]
+    at = next(at for at, word in enumerate(words) if word.partition("=")[0] == "--budget")
+    if "=" in words[at]:
+        return [*words[:at], "--budget=65536", *words[at + 1 :]]
+    return [*words[: at + 1], "65536", *words[at + 2 :]]
 
 
 def made(seed, number, corpus):

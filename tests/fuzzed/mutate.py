@@ -2,7 +2,7 @@
 
 import re
 
-from corpus import FILES, LARGEST, Case, files_of, named, names
+from corpus import FILES, LARGEST, Case, files_of, named, names, ports
 from gentle import gentle
 
 # Words that each format knows, and some that stand at an edge of it.
@@ -33,7 +33,7 @@ CARDS = [
 NUMBERS = "0 1 2 3 4 7 8 15 16 17 32 33 63 64 65 99 255 256 999 1000 1001 4095 4096 4097 20000 20001 40000 40001 65535 65536 65537 100000 200001 \
 2147483647 2147483648 4294967295 4294967296 9223372036854775807 18446744073709551615 18446744073709551616 -1 00 01 1e9 0x10 99999999999999999999".split()
 LENGTHS = [1, 13, 14, 15, 16, 17, 31, 63, 64, 255, 256, 1000, 4095, 4096, 4097, 20000]
-OPTIONS = ["--do", "--cell", "--phase", "--at", "--budget", "--size", "--help", "-h", "--version", "-V", "--", "-", "--do=", "--budget=65536", "--x", "", "a"]
+OPTIONS = ["--do", "--cell", "--phase", "--at", "--budget", "--size", "--rise", "--help", "-h", "--version", "-V", "--", "-", "--do=", "--budget=65536", "--x", "", "a"]
 
 
 class Mutator:
@@ -179,16 +179,24 @@ class Mutator:
     def asked(self, texts):
         """The words of a run in some mode, over names that the files have; now and then words that do not fit."""
         cells = named(texts[0], b".subckt") or [b"a"]
+        phases = named(texts[2], b"phase") or [b"all"]
         kind = self.draw.random()
         text = lambda name: name.decode("latin-1").replace("\0", "")
-        if kind < 0.72:
+        if kind < 0.54:
             words = ["--budget", "65536"] + (["--cell", text(self.draw.choice(cells))] if self.draw.random() < 0.15 else [])
-        elif kind < 0.8:
+        elif kind < 0.62:
             words = ["--do", "classes"] + (["--cell", text(self.draw.choice(cells))] if self.draw.random() < 0.3 else [])
-        elif kind < 0.98:
-            phases = (named(texts[2], b"phase") or [b"all"]) + ([b"all"] if self.draw.random() < 0.1 else [])
+        elif kind < 0.8:
+            phases = phases + ([b"all"] if self.draw.random() < 0.1 else [])
             bits = ",".join(f"{text(self.draw.choice(self.names))}={self.draw.choice('01')}" for _ in range(self.draw.choice((0, 0, 1, 1, 2, 9))))
             words = ["--do=replay", "--cell", text(self.draw.choice(cells)), "--phase", text(self.draw.choice(phases)), "--at", bits]
+        elif kind < 0.89:
+            cell = self.draw.choice(cells)
+            known = ports(texts[0], cell) if self.draw.random() < 0.8 else self.names
+            rising = self.draw.sample(known, min(len(known), self.draw.choice((1, 1, 1, 2, 3, 9))))
+            words = ["--do=arrive", "--cell", text(cell), "--phase", text(self.draw.choice(phases)), f"--rise={text(b','.join(rising))}"]
+        elif kind < 0.98:
+            words = ["--do=blif", "--cell", text(self.draw.choice(cells))]
         else:
             return ["--do", "gen", "--budget=65536", "--size", self.draw.choice(NUMBERS)]
         return words + files_of(texts)

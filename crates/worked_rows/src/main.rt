@@ -3,6 +3,7 @@
 //! failures of the files and of the output. Behind them the files and sinks alone: in memory, and on the disk.
 #![tactic(auto)]
 
+mod fronts;
 mod host;
 mod memory;
 mod rooms;

@@ -7,13 +7,14 @@
 //! | `run NAME` | a run over files and an output that never fail |
 //! | `load N`, `put N BYTES`, `absent N` | in the next `try` the load of this number fails; the put of this number, after so many bytes; the file of this number is not there |
 //! | `try NAME` | a run in which calls fail as was said; then nothing fails again |
+//! | `fronts NAME` | a run with each front of the text that was begun last, from none of its bytes to all; an answer that is another than the one before is told, with the count of bytes from which on it comes |
 //! | `tell WORDS` | what the words ask for |
 //! | `whole NAME` | the checked circuit of the second cell, by what is known of the first |
 //! | `ask NAME CELL BUDGET BITS TIMES PHASES` | what the workspace of the first cell (0), or of the second (1) by what is known of the first, answers for these phases in this order, each asked for so often, with the bits of so many variables for a fault |
 
 use crate::row::{Failures, Row, SOUND, run_row, run_sure};
 use crate::told::tell;
-use crate::{rooms, wholes};
+use crate::{fronts, rooms, wholes};
 use row_script::{Page, Script, number, shown, word_and_rest};
 use std::alloc::Global;
 
@@ -87,6 +88,7 @@ impl Runs {
             "put" => self.give_put(rest),
             "run" => run_sure(page, rest, self.row()),
             "try" => self.run_failing(page, rest),
+            "fronts" => fronts::tell(page, rest, self.row(), self.texts.part),
             "tell" => tell(page, rest),
             "whole" => wholes::tell(page, rest, self.row()),
             "ask" => rooms::tell(page, rest, self.row()),
