@@ -1,19 +1,20 @@
 -- What is asked of a planned phase, and what is told then.
 use Rattle.std.proofs.Common.{◌≡◌, ℕ, suc, ◌+◌, ◌<◌, ◌≤◌, ◌++◌, List, [], ◌∷◌, Some, None, Result, Ok, Err, ap, arith, length, map, refl, subst, sym, ◌∙◌}
 use Rattle.std.specs.Prelude.{IfOk, cond, filter_map}
-use Rattle.std.specs.List.{enumerate_from}
+use Rattle.std.specs.List.{enumerate_from, range_with_len}
 use Rattle.std.proofs.lemmas.List.{length-append, length-map}
 use Rattle.circuit_faults.specs.Steps.{part_list}
 use Rattle.circuit_faults.specs.declared.steps.CircuitStep.{CircuitStep}
 use Rattle.domino_order.proofs.MonotoneLaws.{are_inputs, arrival_tells}
+use Rattle.domino_order.proofs.PortNets.{nets_once}
 use Rattle.domino_order.proofs.StepFrames.{flat_pins}
-use Rattle.domino_order.specs.Arrivals.{AreRising, ArrivalTells, arrival_variables, net_of_port, nets_of_ports}
+use Rattle.domino_order.specs.Arrivals.{AreRising, ArrivalTells, arrival_variables, nets_of_ports}
 use Rattle.domino_order.specs.Ports.{PortsGive}
-use Rattle.domino_order.specs.Runs.{IsAsked, asked_variables, of_asked}
+use Rattle.domino_order.specs.Runs.{AreOnce, IsAsked, of_asked, phase_variables}
 use Rattle.domino_order.specs.StepWords.{AreInputs}
 use Rattle.domino_order.specs.declared.arrival.Arrival.{Arrival}
-use Rattle.domino_order.specs.declared.runs.Asked.{Asked}
-use Rattle.phase_open.specs.Given.{AreFew}
+use Rattle.domino_order.specs.declared.prepared.Asked.{Asked}
+use Rattle.phase_open.specs.Given.{AreFew, variable_at}
 use Rattle.phase_terms.specs.Plans.{IsPhasePlan}
 use Rattle.phase_terms.specs.Ready.{IsReady, comparison_in}
 use Rattle.phase_terms.specs.Stores.{counts_of, most_model_words}
@@ -65,22 +66,29 @@ few_counts k phase variables counts ready flat some few is =
 
 -- ---- what is asked
 
-module _ (s : Asked) (compared : CellComparison) (phase : ℕ) (plan : PhasePlan) (steps : List CircuitStep) (rising : List ℕ) (vars : Vars) (count : ℕ) (as_compared : s.rising.compared ≡ compared)
+module _ (s : Asked) (compared : CellComparison) (phase : ℕ) (plan : PhasePlan) (steps : List CircuitStep) (rising : List ℕ) (vars : Vars) (first : ℕ) (as_compared : s.rising.compared ≡ compared)
     (as_phase : s.rising.phase ≡ phase) (as_plan : s.rising.plan.now ≡ plan) (as_steps : s.rising.steps.now ≡ steps) (as_nets : s.rising.nets.now ≡ nets_of_ports (comparison_in compared) rising)
-    (as_first : s.rising.first ≡ length vars.sources) (as_vars : s.vars.now ≡ vars) (as_counts : s.counts ≡ counts_of (comparison_in compared) count)
+    (as_order : s.order.now ≡ range_with_len 0 first) (as_arrivals : s.arrivals.now ≡ map (variable_at (comparison_in compared).circuit) s.rising.nets.now) (as_vars : s.vars.now ≡ vars)
+    (as_counts : s.counts ≡ counts_of (comparison_in compared) first)
     (ready : IsReady (comparison_in compared)) (are : AreRising (comparison_in compared) rising) (sources : vars.sources ≡ sources_of (comparison_in compared) phase)
-    (counted : count ≡ arrival_variables (comparison_in compared) phase rising) (few : count ≤ 1000) where
+    (counted : first ≡ length vars.sources) (few : arrival_variables (comparison_in compared) phase rising ≤ 1000) where
   abbrev k : Comparison
   k = comparison_in compared
 
   as_k : of_asked s ≡ k
   as_k = ap comparison_in as_compared
 
-  variables_are : asked_variables s ≡ count
+  variables_are : phase_variables s ≡ first
   variables_are =
-      let first : length (sources_of (of_asked s) s.rising.phase) ≡ length (sources_of k phase) =
+      let here : length (sources_of (of_asked s) s.rising.phase) ≡ length (sources_of k phase) =
       ap (λ (x : Comparison). length (sources_of x s.rising.phase)) as_k ∙ ap (λ (p : ℕ). length (sources_of k p)) as_phase in
-      let last : length s.rising.nets.now ≡ length rising = ap (λ (xs : List ℕ). length xs) as_nets ∙ length-map rising (net_of_port k) in omega (arith, first, last, counted)
+      let there : length vars.sources ≡ length (sources_of k phase) = ap (λ (xs : List Source). length xs) sources in omega (arith, here, there, counted)
+
+  variables_low : length (sources_of k phase) ≤ first
+  variables_low = (let there : length vars.sources ≡ length (sources_of k phase) = ap (λ (xs : List Source). length xs) sources in omega (arith, there, counted))
+
+  variables_few : first ≤ 1000
+  variables_few = (let there : length vars.sources ≡ length (sources_of k phase) = ap (λ (xs : List Source). length xs) sources in omega (arith, there, counted, few))
 
   pub asked_is : IsFlat k.circuit → phase < length k.rules.phases → IsPhasePlan k phase plan → steps ≡ part_list (length plan.parts.list) → IsAsked s
   asked_is flat range planned parts = record {
@@ -95,14 +103,14 @@ module _ (s : Asked) (compared : CellComparison) (phase : ℕ) (plan : PhasePlan
       steps = as_steps ∙ parts ∙ ap (λ (p : PhasePlan). part_list (length p.parts.list)) (sym as_plan);
       inputs =
           subst (λ (x : Comparison). AreInputs x.circuit s.rising.nets.now) (sym as_k) (subst (AreInputs k.circuit) (sym as_nets) (are_inputs k rising ready are));
-      first =
-          as_first ∙ ap (λ (xs : List Source). length xs) sources ∙ ap (λ (x : Comparison). length (sources_of x phase)) (sym as_k)
-          ∙ ap (λ (p : ℕ). length (sources_of (of_asked s) p)) (sym as_phase);
     };
     vars =
         ap (λ (v : Vars). v.sources) as_vars ∙ sources ∙ ap (λ (x : Comparison). sources_of x phase) (sym as_k) ∙ ap (λ (p : ℕ). sources_of (of_asked s) p) (sym as_phase);
-    counts = as_counts ∙ ap (counts_of k) (sym variables_are) ∙ ap (λ (x : Comparison). counts_of x (asked_variables s)) (sym as_k);
-    few = few_counts k phase count s.counts ready flat (omega (arith, counted)) few as_counts;
+    once = subst AreOnce (sym as_nets) (nets_once k rising ready are);
+    order = as_order ∙ ap (λ (m : ℕ). range_with_len 0 m) (sym variables_are);
+    arrivals = as_arrivals ∙ ap (λ (x : Comparison). map (variable_at x.circuit) s.rising.nets.now) (sym as_k);
+    counts = as_counts ∙ ap (counts_of k) (sym variables_are) ∙ ap (λ (x : Comparison). counts_of x (phase_variables s)) (sym as_k);
+    few = few_counts k phase first s.counts ready flat variables_low variables_few as_counts;
   }
 
   pub asked_tells : IsAsked s → IsPhaseEqual k phase → (budget : ℕ) (result : Result Arrival NoMemory) → IfOk result (PortsGive s rising budget)
@@ -114,6 +122,6 @@ module _ (s : Asked) (compared : CellComparison) (phase : ℕ) (plan : PhasePlan
       let here = subst (λ (x : Comparison). IsPhaseEqual x s.rising.phase) (sym as_k) (subst (IsPhaseEqual k) (sym as_phase) equal) in
       let low : arrival_variables (of_asked s) s.rising.phase rising ≤ most_variables =
       subst (λ (x : Comparison). arrival_variables x s.rising.phase rising ≤ most_variables) (sym as_k)
-      (subst (λ (p : ℕ). arrival_variables k p rising ≤ most_variables) (sym as_phase) (omega (arith, counted, few))) in
+      (subst (λ (p : ℕ). arrival_variables k p rising ≤ most_variables) (sym as_phase) few) in
       subst (λ (p : ℕ). ArrivalTells k blif budget p rising a) as_phase
       (subst (λ (x : Comparison). ArrivalTells x blif budget s.rising.phase rising a) as_k (arrival_tells s is rising there same here low blif budget a gives))

@@ -1,10 +1,15 @@
 pub mod AskedLaws
-pub mod CareLaws
+pub mod BeginLaws
+pub mod BegunLaws
+pub mod BitLists
+pub mod EndLaws
+pub mod FailLaws
+pub mod LookLaws
 pub mod Looks
 pub mod MadeLaws
 pub mod MonotoneLaws
 pub mod PortLaws
-pub mod RunFound
+pub mod PortNets
 pub mod RunLaws
 pub mod RunWork
 pub mod SearchLaws

@@ -9,12 +9,11 @@ use Rattle.bdd_core.specs.Store.{Diagrams, function_of}
 use Rattle.bdd_core.specs.Words.{shows}
 use Rattle.bdd_core.specs.declared.handle.H.{H}
 use Rattle.bdd_core.specs.declared.handle.Spent.{Spent}
-use Rattle.bdd_ops.specs.Ops.{bits_of}
 use Rattle.channel_parts.specs.OneSolution.{AreDetermined, AreObserved, HasOneSolution}
 use Rattle.channel_parts.specs.Orders.{IsSolvedOnce}
 use Rattle.circuit_faults.specs.Faults.{HasFixedBits, IsSettingAt, IsSolvedAt}
 use Rattle.circuit_faults.specs.Results.{root_at}
-use Rattle.domino_order.specs.StepSettings.{GivesSettings, SettlesAt}
+use Rattle.domino_order.specs.StepSettings.{GivesSettings, SettlesAt, begun_at}
 use Rattle.domino_order.specs.ThreeSettings.{SettlesTo}
 use Rattle.setting_faults.specs.Settling.{HasCircuitFault, IsSettled, IsUnsettled, SettleGives}
 use Rattle.vrt_model.specs.Assignment.{Assignment}
@@ -117,12 +116,12 @@ module _ (k : Comparison) (phase : ℕ) (once : IsSolvedOnce k.circuit (phase_at
 
   pub looks : (nets : List ℕ) (n : ℕ) (settings : List Bool → Setting) → GivesSettings k phase nets n settings roots old → (found : Option H)
       → SettleGives c at_phase (is_observed k phase) care roots gates old new found → SettlesAt k phase nets n settings care gates old new found
-  looks nets n settings gives None is = λ bits at met. settled_here (bits_of bits) (settings bits) (gives.given bits at) is met
+  looks nets n settings gives None is = λ bits at met. settled_here (begun_at k phase nets bits) (settings bits) (gives.given bits at) is met
   looks nets n settings gives (Some at) is = record {
     live = is.live;
     some = is.some;
     within = λ v e. (unsettled_here v (root_setting c (root_at old roots v)) (root_given c (root_at old roots v)) at is e).0;
-    so = λ bits step e. (unsettled_here (bits_of bits) (settings bits) (gives.given bits step) at is e).1;
+    so = λ bits step e. (unsettled_here (begun_at k phase nets bits) (settings bits) (gives.given bits step) at is e).1;
   }
 
   pub look_gives : (nets : List ℕ) (observed : ℕ → Bool) → observed ≡ is_observed k phase → ((v : Valuation) → HasFixedBits c at_phase (root_at old roots v)) → (result : Result (Option H) Spent)

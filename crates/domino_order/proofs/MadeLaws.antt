@@ -1,23 +1,30 @@
 -- What is made before the ports are searched is that of the definitions.
-use Rattle.std.proofs.Common.{◌≡◌, ℕ, ◌+◌, ◌<◌, ◌++◌, List, [], ◌∷◌, Option, ap, ap₂, arith, get_or, length, map, refl, sym, take, ◌∙◌}
+use Rattle.std.proofs.Common.{◌≡◌, ℕ, zero, suc, ◌+◌, ◌<◌, ◌++◌, Bool, true, false, cond, List, [], ◌∷◌, Option, ap, ap₂, arith, get_or, length, map, refl, sym, take, ◌∙◌}
 use Rattle.std.specs.Prelude.{flat_map, option_map, slice_get, unwrap_or}
+use Rattle.std.specs.Int.{from_bool}
+use Rattle.std.specs.List.{range_with_len}
 use Rattle.std.proofs.lemmas.List.{length-append, map-append, take_more}
 use Rattle.std.proofs.lemmas.Option.{slice_get-get_or}
 use Rattle.domino_order.proofs.MonotoneLaws.{port_net}
 use Rattle.domino_order.proofs.StepFrames.{flat_pins}
 use Rattle.domino_order.specs.Arrivals.{AreRising, net_of_port}
 use Rattle.domino_order.specs.Made.{latch_elements}
+use Rattle.phase_open.proofs.Sources.{variable_more}
+use Rattle.phase_open.specs.Given.{variable_at}
 use Rattle.phase_ports.proofs.PortLaws.{ports_shown}
 use Rattle.phase_ports.specs.Ports.{ports_by, unnamed}
 use Rattle.phase_ports.specs.declared.port_list.Port.{Port}
 use Rattle.phase_terms.specs.Ready.{IsReady}
 use Rattle.phase_terms.specs.Stores.{counts_of, most_model_words}
 use Rattle.phase_terms.specs.declared.words.WordCounts.{WordCounts}
-use Rattle.vrt_model.proofs.Lists.{map_at}
+use Rattle.vrt_model.proofs.Lists.{map_at, take_one}
 use Rattle.vrt_model.specs.Circuits.{IsFlat}
 use Rattle.vrt_model.specs.Comparison.{Comparison, cell_at, ports_of}
 use Rattle.vrt_model.specs.Elements.{element_count, names_by_kind, signal_name}
 use Rattle.vrt_model.specs.Lists.{At}
+use Rattle.vrt_model.specs.Variables.{is_input}
+use Rattle.vrt_model.specs.declared.circuit.Circuit.{Circuit}
+use Rattle.vrt_model.specs.declared.circuit.FlatNet.{FlatNet}
 use Rattle.vrt_model.specs.declared.blif.LatchKind.{LatchKind}
 use Rattle.vrt_model.specs.declared.blif.LatchKind.TheVariants.{Re, Fe, Ah, Al}
 use Rattle.vrt_model.specs.declared.flat_model.FlatLatch.{FlatLatch}
@@ -70,3 +77,29 @@ module _ (k : Comparison) (rising : List ℕ) (ready : IsReady k) (are : AreRisi
       let here : net ≡ net_of_port k place = is ∙ net_found i place (slice_get-get_or rising i 0 lt) in
       ap₂ (λ (xs : List ℕ) (n : ℕ). xs ++ n ∷ []) before here ∙ sym (map-append (net_of_port k) (take i rising) (place ∷ []))
       ∙ ap (map (net_of_port k)) (sym (take_more rising i 0 lt))
+
+-- ---- numbers and variables
+
+pub range_more : (a n : ℕ) → range_with_len a (n + 1) ≡ range_with_len a n ++ (a + n) ∷ []
+range_more a n = (let next : n + 1 ≡ suc n = omega arith in ap (range_with_len a) next ∙ one_more a n)
+  where
+    one_more : (a n : ℕ) → range_with_len a (suc n) ≡ range_with_len a n ++ (a + n) ∷ []
+    one_more a zero = (let same : a ≡ a + 0 = omega arith in ap (λ (x : ℕ). x ∷ []) same)
+    one_more a (suc n) =
+        let same : (a + 1) + n ≡ a + suc n = omega arith in
+        ap (λ (xs : List ℕ). a ∷ xs) (one_more (a + 1) n ∙ ap (λ (x : ℕ). range_with_len (a + 1) n ++ x ∷ []) same)
+
+pub variables_more : (f : ℕ → ℕ) (nets : List ℕ) (i net variable : ℕ) (made : List ℕ) → At nets i net → made ≡ map f (take i nets) → variable ≡ f net → made ++ variable ∷ [] ≡ map f (take (i + 1) nets)
+variables_more f nets i net variable made there sofar is =
+    ap₂ (λ (xs : List ℕ) (x : ℕ). xs ++ x ∷ []) sofar is ∙ sym (map-append f (take i nets) (net ∷ [])) ∙ sym (ap (map f) (take_one nets i net there))
+
+-- a bit as a number
+bit_number : (b : Bool) → from_bool b ≡ cond b 1 0
+bit_number true = refl
+bit_number false = refl
+
+-- one net more before a variable
+pub variable_next : (c : Circuit) (nets : List FlatNet) (n before from : ℕ) (d : FlatNet) (own : Bool) → nets ≡ c.nets → n < length c.nets → own ≡ is_input (get_or nets n d).kind → from ≡ from_bool own → before ≡ variable_at c n
+    → before + from ≡ variable_at c (n + 1)
+variable_next c nets n before from d own listed lt is one sofar =
+    ap₂ {C = ℕ} (λ (x y : ℕ). x + y) sofar (one ∙ bit_number own ∙ ap {B = ℕ} (λ (b : Bool). cond b 1 0) (is ∙ ap (λ (xs : List FlatNet). is_input (get_or xs n d).kind) listed)) ∙ sym (variable_more c n d lt)

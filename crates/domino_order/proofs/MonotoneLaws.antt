@@ -15,7 +15,7 @@ use Rattle.domino_order.specs.StepBits.{FailsAt}
 use Rattle.domino_order.specs.StepWords.{AreInputs}
 use Rattle.domino_order.specs.declared.arrival.Arrival.{Arrival}
 use Rattle.domino_order.specs.declared.arrival.Arrival.TheVariants.{Yes, No, TooMany, Budget}
-use Rattle.domino_order.specs.declared.runs.Asked.{Asked}
+use Rattle.domino_order.specs.declared.prepared.Asked.{Asked}
 use Rattle.phase_ports.proofs.PortLaws.{net_is}
 use Rattle.phase_terms.specs.Ready.{IsReady}
 use Rattle.vrt_model.proofs.Lists.{filter_map_among, map_at}

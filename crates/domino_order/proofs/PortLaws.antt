@@ -5,7 +5,7 @@ use Rattle.std.proofs.lemmas.Bool.{eqb-true}
 use Rattle.domino_order.specs.Ports.{HoldsFor, net_at}
 use Rattle.domino_order.specs.Runs.{of_asked}
 use Rattle.domino_order.specs.StepBits.{AllHoldAt}
-use Rattle.domino_order.specs.declared.runs.Asked.{Asked}
+use Rattle.domino_order.specs.declared.prepared.Asked.{Asked}
 use Rattle.vrt_model.proofs.Members.{any_among}
 
 -- all of them: what rises at a step is one of the nets

@@ -5,14 +5,16 @@ use Rattle.std.proofs.lemmas.Bool.{cases_Bool, false≢true}
 use Rattle.std.proofs.lemmas.List.{length-take-le}
 use Rattle.arrival_laws.specs.Steps.{StepHolds}
 use Rattle.bdd_core.specs.Store.{Diagrams}
-use Rattle.domino_order.proofs.StepGives.{arrivals_is, end_is}
+use Rattle.domino_order.proofs.StepGives.{arrivals_is, bits_len, end_is}
 use Rattle.domino_order.specs.Runs.{IsBound, IsRoomFor, RunGives, is_below, of_asked}
-use Rattle.domino_order.specs.Searches.{FoundIs, HasRoom, IsLeastFailing, NetGives}
-use Rattle.domino_order.specs.StepBits.{AllHoldAt, FailsAt, HoldsAt, arrived, rise_to}
-use Rattle.domino_order.specs.declared.runs.Asked.{Asked}
-use Rattle.domino_order.specs.declared.search.NetFound.{NetFound}
+use Rattle.domino_order.specs.Searches.{FoundIs, HasRoom, NetGives}
+use Rattle.domino_order.specs.StepBits.{FailsAt, HoldsAt, arrived, rise_to}
+use Rattle.domino_order.specs.declared.prepared.Asked.{Asked}
+use Rattle.domino_order.specs.declared.found.NetFound.{NetFound}
+use Rattle.domino_order.specs.declared.found.NetFound.TheVariants.{Holds}
 use Rattle.phase_check.specs.States.{KeepsRoom}
 use Rattle.vrt_model.specs.Comparison.{Comparison}
+use Rattle.vrt_model.specs.Held.{sources_of}
 use Rattle.vrt_model.specs.Variables.{is_less}
 use Rattle.vrt_model.specs.declared.groups.Valuation.{Valuation}
 
@@ -62,9 +64,14 @@ abbrev pub rank_of : ℕ → Option Valuation → ℕ
 rank_of variables None = 2 ^ variables
 rank_of variables (Some last) = number_of last.bits
 
-pub rank_falls : (variables : ℕ) (last : Option Valuation) (bits : List Bool) → IsBound variables last → length bits ≡ variables → is_below last bits ≡ true → number_of bits < rank_of variables last
-rank_falls variables None bits bound len e = (let rest = number_below bits in let same : 2 ^ length bits ≡ 2 ^ variables = ap (λ (n : ℕ). 2 ^ n) len in omega (arith, rest, same))
-rank_falls variables (Some last) bits bound len e = less_number bits last.bits (len ∙ sym bound) e
+-- each answer comes before the last one
+pub rank_falls : (k : Comparison) (phase : ℕ) (nets : List ℕ) (n : ℕ) (last : Option Valuation) (bits : List Bool) → IsBound k phase nets n last → FailsAt k phase nets n bits → is_below last bits ≡ true
+    → number_of bits < rank_of (length (sources_of k phase) + length nets) last
+rank_falls k phase nets n None bits bound fails e = (
+    let rest = number_below bits in
+    let same : 2 ^ length bits ≡ 2 ^ (length (sources_of k phase) + length nets) = ap (λ (n : ℕ). 2 ^ n) (bits_len k phase nets n bits fails.at) in omega (arith, rest, same)
+    )
+rank_falls k phase nets n (Some last) bits bound fails e = less_number bits last.bits (bits_len k phase nets n bits fails.at ∙ sym (bits_len k phase nets n last.bits bound.at)) e
 
 -- ---- the last answer
 
@@ -76,25 +83,17 @@ module _ (k : Comparison) (phase : ℕ) (nets : List ℕ) (n : ℕ) where
       (subst (λ (xs : List Bool). StepHolds (rise_to k phase nets fails.at.end) (arrived nets xs) n) (sym (arrivals_is k phase nets n bits holds.at) ∙ arrivals_is k phase nets n bits fails.at)
       (subst (λ (xs : List Bool). StepHolds (rise_to k phase nets xs) (arrived nets holds.at.arrivals) n) (sym (end_is k phase nets n bits holds.at) ∙ end_is k phase nets n bits fails.at) holds.holds))
 
-  -- at the last answer, if there is one, a step fails
-  abbrev pub LastFails : Option Valuation → Type 0
-  LastFails None = Unit {0}
-  LastFails (Some last) = FailsAt k phase nets n last.bits
-
-  pub least_of : (last : Valuation) (d : Diagrams) → LastFails (Some last) → RunGives k phase nets n (Some last) d None → IsLeastFailing k phase nets n last.bits
-  least_of last d fails none = record {
-    fails = fails;
-    least = λ more other. elim (cases_Bool (is_less more last.bits)) [ inl e ↦ absurd (holds_not_fails more (none more other.at e) other) | inr e ↦ e ];
-  }
-
-  pub all_hold : (d : Diagrams) → RunGives k phase nets n None d None → AllHoldAt k phase nets n
-  all_hold d none bits step = none bits step refl
-
 -- what is found at the end
-pub net_gives : (s : Asked) (n budget : ℕ) (last : Option Valuation) (found : NetFound) (d : Diagrams) → FoundIs last found → LastFails (of_asked s) s.rising.phase s.rising.nets.now n last
-    → RunGives (of_asked s) s.rising.phase s.rising.nets.now n last d None → NetGives s n budget found
-net_gives s n budget None found d is fails none = subst (NetGives s n budget) (sym is) (all_hold (of_asked s) s.rising.phase s.rising.nets.now n d none)
-net_gives s n budget (Some last) found d is fails none = subst (NetGives s n budget) (sym is) (least_of (of_asked s) s.rising.phase s.rising.nets.now n last d fails none)
+pub net_gives : (s : Asked) (n budget : ℕ) (last : Option Valuation) (found : NetFound) → FoundIs last found → IsBound (of_asked s) s.rising.phase s.rising.nets.now n last → RunGives s n last budget Holds
+    → NetGives s n budget found
+net_gives s n budget None found is fails none = subst (NetGives s n budget) (sym is) (λ bits step. none bits step refl)
+net_gives s n budget (Some last) found is fails none = subst (NetGives s n budget) (sym is) (record {
+  fails = fails;
+  least = λ more other. elim (cases_Bool (is_less more last.bits)) [
+    | inl e ↦ absurd (holds_not_fails (of_asked s) s.rising.phase s.rising.nets.now n more (none more other.at e) other)
+    | inr e ↦ e
+  ];
+})
 
 -- ---- the store
 

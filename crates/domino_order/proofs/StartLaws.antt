@@ -11,12 +11,12 @@ use Rattle.bdd_core.specs.declared.handle.H.{H}
 use Rattle.bdd_core.specs.declared.handle.Spent.{Spent}
 use Rattle.bdd_ops.specs.Counting.{Counts, IsCounted}
 use Rattle.bdd_ops.specs.Ops.{bits_of}
-use Rattle.domino_order.proofs.RunLaws.{opened_passes, used_passes, used_wider}
+use Rattle.domino_order.proofs.RunLaws.{opened_passes}
 use Rattle.domino_order.proofs.StepFound.{same_vars}
 use Rattle.domino_order.proofs.StepGives.{start_gives}
-use Rattle.domino_order.specs.Runs.{IsAsked, IsPrepared, IsRoomFor, MayPass, asked_variables, of_asked, prepared_operations}
+use Rattle.domino_order.specs.Runs.{IsAsked, IsPrepared, IsRoomFor, MayPass, asked_variables, of_asked, phase_variables, run_operations}
 use Rattle.domino_order.specs.StepWords.{AreInputs, HasStepHandles, HasStepWords, KeepsWords, StaysFilled}
-use Rattle.domino_order.specs.declared.runs.Asked.{Asked}
+use Rattle.domino_order.specs.declared.prepared.Asked.{Asked}
 use Rattle.domino_order.specs.declared.step.StepWords.{StepWords}
 use Rattle.phase_check.proofs.Spans.{least_span}
 use Rattle.phase_laws.proofs.Work.{may_spend, used_more, used_none}
@@ -24,7 +24,6 @@ use Rattle.phase_terms.specs.Opened.{AreRootsOpen, IsOpen, opened_operations}
 use Rattle.phase_terms.specs.Stores.{HasPhaseWords, IsUsed, counts_of}
 use Rattle.phase_terms.specs.declared.words.PhaseWords.{PhaseWords}
 use Rattle.phase_terms.specs.declared.words.WordCounts.{WordCounts}
-use Rattle.step_roots.specs.Roots.{bit_by_arrivals}
 use Rattle.vrt_model.proofs.Members.{all_by, among_any}
 use Rattle.vrt_model.specs.Comparison.{Comparison}
 use Rattle.vrt_model.specs.Held.{sources_of}
@@ -96,15 +95,6 @@ inputs_within c nets len inputs same =
     let lt = slice_get_within c.nets n net.0 net.1 in omega (arith, lt, same)
     ))
 
--- and a word in two such spans
-pub inputs_within_two : (c : Circuit) (nets : List ℕ) (a b : ℕ) → AreInputs c nets → a ≡ length c.nets → b ≡ length c.nets → All (λ (n : ℕ). (n < a) × (n < b)) nets
-inputs_within_two c nets a b inputs left right =
-    all_by (λ (n : ℕ). (n < a) × (n < b)) nets
-    (λ n m. (
-    let net = inputs n (among_any (λ (x : ℕ). eqb x n) nets n m (eq-eqb n n refl)) in
-    let lt = slice_get_within c.nets n net.0 net.1 in (omega (arith, lt, left), omega (arith, lt, right))
-    ))
-
 -- ---- an opened phase
 
 -- roots with the same beginning
@@ -120,6 +110,10 @@ given_open k phase roots given d start len opened = record {
   where
     same : (n : ℕ) (v : Valuation) → shows d given n v ≡ shows d roots n v
     same n v = ap (λ (x : ℕ). meaning d.nodes (slice_index d.words (x + n)) v) start
+
+-- other words are nothing of the nodes
+pub used_words : (budget v a : ℕ) (old new : Diagrams) → new ≡ record old { words = new.words } → IsUsed budget v a old → IsUsed budget v a new
+used_words budget v a old new same used = subst (IsUsed budget v a) (sym same) (record { budget_is = used.budget_is; few = used.few; within = used.within })
 
 module _ (s : Asked) (is : IsAsked s) (old d2 d3 d4 : Diagrams) (room : IsRoomFor s old) (rest : d2 ≡ record old { words = d2.words }) (w : PhaseWords) (steps : StepWords) (words : HasPhaseWords s.counts w d2)
     (start : steps.given.start ≡ w.roots.start) (there : HasStepWords (of_asked s).circuit steps d2) where
@@ -159,85 +153,70 @@ module _ (s : Asked) (is : IsAsked s) (old d2 d3 d4 : Diagrams) (room : IsRoomFo
   used_two = used_none old.budget variables d2 budget count
 
   -- a refusal while the phase is opened
-  pub open_passes : {A : Type 0} (e : Spent) → Counts {A = A} variables (opened_operations k phase) d2 d3 (Err e) → MayPass (asked_variables s) old.budget (prepared_operations s)
+  pub open_passes : {A : Type 0} (e : Spent) → Counts {A = A} variables (opened_operations k phase) d2 d3 (Err e) → MayPass (asked_variables s) old.budget (run_operations s)
   open_passes {A} e counts =
       let opened : ℕ = opened_operations k phase in
       let spends = may_spend {A = A} k phase old.budget variables 0 opened opened d2 d3 e used_two refl room.budget (omega arith) counts in
-      opened_passes k phase old.budget (asked_variables s) opened (prepared_operations s) (omega arith) (omega arith) spends.0
+      opened_passes k phase old.budget (asked_variables s) opened (run_operations s) (omega arith) (omega arith) spends.0
 
-  module _ (adds : Adds d2 d3 d3.words) (len : length d3.words ≡ length d2.words) (counted : IsCounted variables (opened_operations k phase) d2 d3) where
-    vars_three : d3.vars ≡ asked_variables s
+  module _ (adds : Adds d2 d3 d3.words) (len : length d3.words ≡ length d2.words) (counted : IsCounted variables (opened_operations k phase) d2 d3) (care : H) (opened : IsOpen k phase care w d3)
+      (handles : HasStepHandles k.circuit steps d4) (filled : d4 ≡ record d3 { words = d4.words }) (keeps : KeepsWords d3 d4) (stays : StaysFilled steps.given d3 d4)
+      (copied : (m : ℕ) (v : Valuation) → m < nets → shows d4 steps.setting m v ≡ shows d3 steps.given m v) where
+    roots : AreRootsOpen k phase steps.given d3
+    roots = given_there care opened
+
+    below : (m : ℕ) → m < nets → m < steps.given.len
+    below m lt = (let own = there.given_len in omega (arith, own, lt))
+
+    vars_three : d3.vars ≡ phase_variables s
     vars_three = same_vars d2 d3 d3.words adds ∙ vars ∙ room.vars
 
-    used_three : IsUsed old.budget d3.vars (opened_operations k phase) d3
+    vars_four : d4.vars ≡ d3.vars
+    vars_four = ap (λ (d : Diagrams). d.vars) filled
+
+    budget_four : d4.budget ≡ old.budget
+    budget_four = ap (λ (d : Diagrams). d.budget) filled ∙ ap (λ (d : Diagrams). d.budget) adds.rest ∙ budget
+
+    own_four : d4.own ≡ d2.own
+    own_four = ap (λ (d : Diagrams). d.own) filled ∙ ap (λ (d : Diagrams). d.own) adds.rest
+
+    used_three : IsUsed old.budget variables (opened_operations k phase) d3
     used_three =
         let opened : ℕ = opened_operations k phase in
         let used = used_more old.budget variables 0 opened d2 d3 used_two counted in
-        let same : 0 + opened ≡ opened = omega arith in
-        used_wider old.budget variables d3.vars opened d3 (let v = vars_three in omega (arith, v)) (subst (λ (x : ℕ). IsUsed old.budget variables x d3) same used)
+        let same : 0 + opened ≡ opened = omega arith in subst (λ (x : ℕ). IsUsed old.budget variables x d3) same used
 
-    -- a refusal while the roots are written
-    pub start_passes : {A : Type 0} (e : Spent) → Counts {A = A} d3.vars (length s.rising.nets.now) d3 d4 (Err e) → MayPass (asked_variables s) old.budget (prepared_operations s)
-    start_passes {A} e counts =
-        subst (λ (x : ℕ). MayPass x old.budget (prepared_operations s)) vars_three
-        (used_passes {A = A} old.budget d3.vars (opened_operations k phase) (length s.rising.nets.now) (prepared_operations s) d3 d4 e used_three room.budget (omega arith) counts)
+    used_four : IsUsed d4.budget d4.vars (opened_operations k phase) d4
+    used_four =
+        subst (λ (x : ℕ). IsUsed x d4.vars (opened_operations k phase) d4) (sym budget_four)
+        (subst (λ (x : ℕ). IsUsed old.budget x (opened_operations k phase) d4) (sym (vars_four ∙ vars_three)) (used_words old.budget variables (opened_operations k phase) d3 d4 filled used_three))
 
-    module _ (care : H) (opened : IsOpen k phase care w d3) (handles : HasStepHandles k.circuit steps d4) (keeps : KeepsWords d3 d4) (stays : StaysFilled steps.given d3 d4)
-        (arrive : (m : ℕ) (v : Valuation) → m < nets → shows d4 steps.setting m v ≡ bit_by_arrivals s.rising.nets.now s.rising.first v m (shows d3 steps.given m v))
-        (arrived : IsCounted d3.vars (length s.rising.nets.now) d3 d4) where
-      roots : AreRootsOpen k phase steps.given d3
-      roots = given_there care opened
-
-      below : (m : ℕ) → m < nets → m < steps.given.len
-      below m lt = (let own = there.given_len in omega (arith, own, lt))
-
-      arrive_at : (m : ℕ) (v : Valuation) → m < nets → shows d4 steps.setting m v ≡ bit_by_arrivals s.rising.nets.now variables v m (shows d3 steps.given m v)
-      arrive_at m v lt = arrive m v lt ∙ ap (λ (x : ℕ). bit_by_arrivals s.rising.nets.now x v m (shows d3 steps.given m v)) is.rising.first
-
-      vars_four : d4.vars ≡ d3.vars
-      vars_four = same_vars d3 d4 d4.words keeps.adds
-
-      budget_four : d4.budget ≡ old.budget
-      budget_four = ap (λ (d : Diagrams). d.budget) keeps.adds.rest ∙ ap (λ (d : Diagrams). d.budget) adds.rest ∙ budget
-
-      own_four : d4.own ≡ d2.own
-      own_four = ap (λ (d : Diagrams). d.own) keeps.adds.rest ∙ ap (λ (d : Diagrams). d.own) adds.rest
-
-      used_four : IsUsed old.budget d4.vars (prepared_operations s) d4
-      used_four =
-          subst (λ (x : ℕ). IsUsed old.budget x (prepared_operations s) d4) (sym vars_four)
-          (used_more old.budget d3.vars (opened_operations k phase) (length s.rising.nets.now) d3 d4 used_three arrived)
-
-      pub prepared : IsPrepared s (record { care = care; words = steps; least = w.least }) d4
-      prepared = record {
-        handles = handles;
-        start = λ n. start_gives k phase s.rising.nets.now n is.rising.inputs steps.given steps.setting d3 d4 roots arrive_at;
-        arrive = λ m v listed.
-            let net = is.rising.inputs m listed in
-            let lt = slice_get_within k.circuit.nets m net.0 net.1 in
-            arrive_at m v lt ∙ ap (bit_by_arrivals s.rising.nets.now variables v m) (sym (stays.shown m v (below m lt)));
-        ends = λ bits. record {
-          inputs = λ m net e kind.
-              (roots.setting bits).inputs m net e kind ∙ sym (stays.shown m (bits_of bits) (below m (slice_get_within k.circuit.nets m net e)));
-          held = λ at hold e plain.
-              (roots.setting bits).held at hold e plain ∙ sym (stays.shown hold.net.0 (bits_of bits) (below hold.net.0 (slice_get_within k.circuit.nets hold.net.0 plain.0 plain.1)));
-        };
-        live = (let live = opened.care_live in let longer = keeps.adds.longer in omega (arith, live, longer));
-        cared = λ bits. keeps.adds.kept care.0 opened.care_live (bits_of bits) ∙ opened.care_is bits;
-        least = (
-          (
-              let span = least_span s.counts w d2 words in
-              let own = own_four in
-              let more = keeps.len in (omega (arith, own, span.0), omega (arith, len, more, span.1))
-              ),
-          (
-              let size = words.least_len in
-              let same : s.counts.variables ≡ asked_variables s = ap (λ (c : WordCounts). c.variables) is.counts in
-              let a = vars_three in
-              let b = vars_four in omega (arith, size, same, a, b)
-              ),
-        );
-        used = subst (λ (x : ℕ). IsUsed x d4.vars (prepared_operations s) d4) (sym budget_four) used_four;
-        vars = vars_four ∙ vars_three;
-        budget = (let least = room.budget in let same = budget_four in omega (arith, least, same));
-      }
+    pub prepared : IsPrepared s (record { care = care; words = steps; least = w.least }) d4
+    prepared = record {
+      handles = handles;
+      start = λ n. start_gives k phase s.rising.nets.now n is.rising.inputs steps.given steps.setting d3 d4 roots copied;
+      given = λ bits. record {
+        inputs = λ m net e kind.
+            (roots.setting bits).inputs m net e kind ∙ sym (stays.shown m (bits_of bits) (below m (slice_get_within k.circuit.nets m net e)));
+        held = λ at hold e plain.
+            (roots.setting bits).held at hold e plain ∙ sym (stays.shown hold.net.0 (bits_of bits) (below hold.net.0 (slice_get_within k.circuit.nets hold.net.0 plain.0 plain.1)));
+      };
+      live = (let live = opened.care_live in let longer = keeps.adds.longer in omega (arith, live, longer));
+      cared = λ bits. keeps.adds.kept care.0 opened.care_live (bits_of bits) ∙ opened.care_is bits;
+      least = (
+        (
+            let span = least_span s.counts w d2 words in
+            let own = own_four in
+            let more = keeps.len in (omega (arith, own, span.0), omega (arith, len, more, span.1))
+            ),
+        (
+            let size = words.least_len in
+            let same : s.counts.variables ≡ phase_variables s = ap (λ (c : WordCounts). c.variables) is.counts in
+            let a = vars_three in
+            let b = vars_four in omega (arith, size, same, a, b)
+            ),
+      );
+      used = used_four;
+      vars = vars_four ∙ vars_three;
+      budget = (let least = room.budget in let same = budget_four in omega (arith, least, same));
+    }

@@ -24,7 +24,7 @@ hold_words c a b flat left right =
 pub after_roots : (k : Comparison) (phase : ℕ) (nets : List ℕ) (n : ℕ) → AreInputs k.circuit nets → (setting rose : Span) (old new : Diagrams) → Writes setting old new
     → ((m : ℕ) → IsPlainHold k.circuit m → word_at new setting m ≡ word_at old rose m) → ((m : ℕ) → ¬ IsPlainHold k.circuit m → word_at new setting m ≡ word_at old setting m)
     → IsFilled old setting → IsFilled old rose → setting.len ≡ length k.circuit.nets → rose.len ≡ length k.circuit.nets
-    → GivesSettings k phase nets n (together_at k phase nets n) setting old → GivesSettings k phase nets n (after_at k phase nets n (net_bits old rose)) setting new
+    → GivesSettings k phase nets n (together_at k phase nets n) setting old → GivesSettings k phase nets n (after_at k phase nets n (net_bits k phase nets old rose)) setting new
 after_roots k phase nets n inputs setting rose old new writes taken others filled rose_filled len rose_len together =
     after_gives k phase nets n inputs setting rose old new together
     (λ m v lt hold. ap (λ (h : ℕ). meaning new.nodes h v) (taken m hold) ∙ writes.adds.kept (word_at old rose m) (rose_filled m (omega (arith, lt, rose_len))) v)

@@ -13,10 +13,9 @@ use Rattle.bdd_core.specs.declared.handle.H.{H}
 use Rattle.bdd_core.specs.declared.handle.Spent.{Spent}
 use Rattle.bdd_ops.proofs.CountingLaws.{counted_same, counts_err, counts_more, counts_then, counts_value}
 use Rattle.bdd_ops.specs.Counting.{Counts}
-use Rattle.bdd_ops.specs.Ops.{bits_of}
 use Rattle.domino_order.proofs.StepGives.{fails_at, holds_at}
 use Rattle.domino_order.specs.StepBits.{FailsAt, IsStepAt}
-use Rattle.domino_order.specs.StepSettings.{GivesSettings, IsSettledTwice, IsSomewhere, SettlesAt, StepGives, TwiceGives, after_at, net_bits, start_at, together_at}
+use Rattle.domino_order.specs.StepSettings.{GivesSettings, IsSettledTwice, IsSomewhere, SettlesAt, StepGives, TwiceGives, after_at, begun_at, net_bits, start_at, together_at}
 use Rattle.domino_order.specs.StepWords.{KeepsWords, StaysFilled}
 use Rattle.domino_order.specs.ThreeSettings.{NotAfter, NotAlike, NotAtOnce, NotBefore, SettlesTo}
 use Rattle.bdd_core.proofs.Meaning.{meaning_one}
@@ -61,11 +60,11 @@ module _ (k : Comparison) (phase : ℕ) (nets : List ℕ) (n : ℕ) (care : H) (
 
   pub settles_from : (settings : List Bool → Setting) (gates : Span) (found : Option H) → SettlesAt k phase nets n settings care gates mid new found
       → SettlesAt k phase nets n settings care gates old new found
-  settles_from settings gates None is = λ bits at met. is bits at (same (bits_of bits) ∙ met)
+  settles_from settings gates None is = λ bits at met. is bits at (same (begun_at k phase nets bits) ∙ met)
   settles_from settings gates (Some at) is = somewhere_from (λ bits. ¬ Settles k phase (settings bits)) at is
 
   pub step_from : (found : Option H) → StepGives k phase nets n care mid new found → StepGives k phase nets n care old new found
-  step_from None is = λ bits at met. is bits at (same (bits_of bits) ∙ met)
+  step_from None is = λ bits at met. is bits at (same (begun_at k phase nets bits) ∙ met)
   step_from (Some at) is = somewhere_from (FailsAt k phase nets n) at is
 
   pub settles_all : (settings : List Bool → Setting) (setting gates : Span) → GivesSettings k phase nets n settings setting mid → (result : Result (Option H) Spent)
@@ -103,10 +102,10 @@ pub gives_stay : (k : Comparison) (phase : ℕ) (nets : List ℕ) (n : ℕ) (set
 gives_stay k phase nets n settings roots old new len stays gives = record {
   given = λ bits at. record {
     inputs = λ m net e kind.
-        (gives.given bits at).inputs m net e kind ∙ sym (stays.shown m (bits_of bits) (let lt = slice_get_within k.circuit.nets m net e in omega (arith, lt, len)));
+        (gives.given bits at).inputs m net e kind ∙ sym (stays.shown m (begun_at k phase nets bits) (let lt = slice_get_within k.circuit.nets m net e in omega (arith, lt, len)));
     held = λ place hold e plain.
         (gives.given bits at).held place hold e plain
-        ∙ sym (stays.shown hold.net.0 (bits_of bits) (let lt = slice_get_within k.circuit.nets hold.net.0 plain.0 plain.1 in omega (arith, lt, len)));
+        ∙ sym (stays.shown hold.net.0 (begun_at k phase nets bits) (let lt = slice_get_within k.circuit.nets hold.net.0 plain.0 plain.1 in omega (arith, lt, len)));
   };
   fixed = λ v m b f. stays.shown m v (let lt = slice_get_within k.circuit.nets m f.0 f.1 in omega (arith, lt, len)) ∙ gives.fixed v m b f;
 }
@@ -140,9 +139,9 @@ module _ (k : Comparison) (phase : ℕ) (nets : List ℕ) (n : ℕ) (care : H) (
     settled_twice setting rose together len before stays risen gives = record {
       gives = gives;
       before = λ bits step met.
-          settles_same k phase (start_at k phase nets bits) (net_bits mid rose bits) (net_bits new rose bits)
-          (λ m o. sym (stays.shown m (bits_of bits) (let lt = seen m o in omega (arith, lt, len)))) (before bits step (sym (care_new (bits_of bits)) ∙ met));
-      risen = λ bits step met. risen bits step (cared (bits_of bits) ∙ sym (care_new (bits_of bits)) ∙ met);
+          settles_same k phase (start_at k phase nets bits) (net_bits k phase nets mid rose bits) (net_bits k phase nets new rose bits)
+          (λ m o. sym (stays.shown m (begun_at k phase nets bits) (let lt = seen m o in omega (arith, lt, len)))) (before bits step (sym (care_new (begun_at k phase nets bits)) ∙ met));
+      risen = λ bits step met. risen bits step (cared (begun_at k phase nets bits) ∙ sym (care_new (begun_at k phase nets bits)) ∙ met);
     }
 
     pub twice_gives : (setting rose together : Span) → rose.len ≡ length k.circuit.nets → SettlesAt k phase nets n (start_at k phase nets) care rose old mid None → StaysFilled rose mid new
@@ -158,7 +157,7 @@ module _ (k : Comparison) (phase : ℕ) (nets : List ℕ) (n : ℕ) (care : H) (
   module _ (setting rose together : Span) (first old mid new : Diagrams) (twice : IsSettledTwice k phase nets n care setting rose together first)
       (care_old : (v : Valuation) → function_of old care v ≡ function_of first care v) (care_mid : (v : Valuation) → function_of mid care v ≡ function_of first care v) where
     abbrev after : List Bool → Setting
-    after = after_at k phase nets n (net_bits first rose)
+    after = after_at k phase nets n (net_bits k phase nets first rose)
 
     pub fails_after : (gates : Span) (at : H) → SettlesAt k phase nets n after care gates old mid (Some at) → IsSomewhere k phase nets n (FailsAt k phase nets n) care at first mid
     fails_after gates at is = record {
@@ -166,8 +165,8 @@ module _ (k : Comparison) (phase : ℕ) (nets : List ℕ) (n : ℕ) (care : H) (
       some = is.some;
       within = λ v e. sym (care_old v) ∙ is.within v e;
       so = λ bits step e.
-          let met = sym (care_old (bits_of bits)) ∙ is.within (bits_of bits) e in
-          fails_at k phase nets n bits step (NotAfter (net_bits first rose bits) (twice.before bits step met) (is.so bits step e));
+          let met = sym (care_old (begun_at k phase nets bits)) ∙ is.within (begun_at k phase nets bits) e in
+          fails_at k phase nets n bits step (NotAfter (net_bits k phase nets first rose bits) (twice.before bits step met) (is.so bits step e));
     }
 
     module _ (len : together.len ≡ length k.circuit.nets) (settled : SettlesAt k phase nets n after care rose old mid None) (stays : StaysFilled together old mid) (kept : StaysFilled together first old)
@@ -179,13 +178,13 @@ module _ (k : Comparison) (phase : ℕ) (nets : List ℕ) (n : ℕ) (care : H) (
 
       pub all_hold : AreAlike observed (function_of mid care) rose together mid → StepGives k phase nets n care first new None
       all_hold alike bits step met = holds_at k phase nets n bits step (record {
-        first = net_bits first rose bits;
-        after = net_bits mid rose bits;
-        once = net_bits first together bits;
+        first = net_bits k phase nets first rose bits;
+        after = net_bits k phase nets mid rose bits;
+        once = net_bits k phase nets first together bits;
         start = twice.before bits step met;
-        rose = settled bits step (care_old (bits_of bits) ∙ met);
+        rose = settled bits step (care_old (begun_at k phase nets bits) ∙ met);
         together = twice.risen bits step met;
-        alike = λ m o. alike m (bits_of bits) (ap (λ (f : ℕ → Bool). f m) same ∙ o) (care_mid (bits_of bits) ∙ met) ∙ together_stays m (bits_of bits) o;
+        alike = λ m o. alike m (begun_at k phase nets bits) (ap (λ (f : ℕ → Bool). f m) same ∙ o) (care_mid (begun_at k phase nets bits) ∙ met) ∙ together_stays m (begun_at k phase nets bits) o;
       })
 
       pub fails_alike : (at : H) → IsDifference observed (function_of mid care) rose together at mid new → IsSomewhere k phase nets n (FailsAt k phase nets n) care at first new
@@ -196,11 +195,11 @@ module _ (k : Comparison) (phase : ℕ) (nets : List ℕ) (n : ℕ) (care : H) (
             some = is.some;
             within = λ v e. sym (care_mid v) ∙ ((is.exact v).0 e).0;
             so = λ bits step e.
-                let there = (is.exact (bits_of bits)).0 e in
-                let met = sym (care_mid (bits_of bits)) ∙ there.0 in
+                let there = (is.exact (begun_at k phase nets bits)).0 e in
+                let met = sym (care_mid (begun_at k phase nets bits)) ∙ there.0 in
                 fails_at k phase nets n bits step
-                (NotAlike (net_bits first rose bits) (net_bits mid rose bits) (net_bits first together bits) is.net (twice.before bits step met) (settled bits step (care_old (bits_of bits) ∙ met))
-                (twice.risen bits step met) o (λ x. there.1 (x ∙ sym (together_stays is.net (bits_of bits) o))));
+                (NotAlike (net_bits k phase nets first rose bits) (net_bits k phase nets mid rose bits) (net_bits k phase nets first together bits) is.net (twice.before bits step met) (settled bits step (care_old (begun_at k phase nets bits) ∙ met))
+                (twice.risen bits step met) o (λ x. there.1 (x ∙ sym (together_stays is.net (begun_at k phase nets bits) o))));
           }
 
       pub step_gives : (result : Result (Option H) Spent) → IfOk result (DifferGives observed (function_of mid care) rose together mid new)

@@ -9,22 +9,20 @@ use Rattle.arrival_laws.specs.Steps.{StepHolds}
 use Rattle.bdd_core.specs.Diagram.{Valuation}
 use Rattle.bdd_core.specs.Store.{Diagrams}
 use Rattle.bdd_core.specs.Words.{shows}
-use Rattle.bdd_ops.specs.Ops.{bits_of}
-use Rattle.circuit_faults.specs.Faults.{IsSettingAt}
 use Rattle.circuit_faults.specs.Results.{root_at}
-use Rattle.domino_order.proofs.StepRoots.{arrival_bits, arrival_setting, first_setting, fixed_other, other_bits, risen_setting, taken_setting}
+use Rattle.domino_order.proofs.BegunLaws.{begun_setting}
+use Rattle.domino_order.proofs.StepRoots.{fixed_other, risen_setting, taken_setting}
 use Rattle.domino_order.proofs.ThreeSettings.{not_holds, thrice_holds}
 use Rattle.domino_order.specs.StepBits.{FailsAt, HoldsAt, IsStepAt, arrived, rise_to}
-use Rattle.domino_order.specs.StepSettings.{GivesSettings, after_at, net_bits, rise_at, risen_at, start_at, together_at}
+use Rattle.domino_order.specs.StepSettings.{GivesSettings, after_at, begun, begun_at, net_bits, rise_at, risen_at, start_at, together_at}
 use Rattle.domino_order.specs.StepWords.{AreInputs}
 use Rattle.domino_order.specs.ThreeSettings.{SettlesNot, SettlesThrice}
 use Rattle.phase_terms.specs.Opened.{AreRootsOpen}
-use Rattle.step_roots.specs.Roots.{IsPlainHold, bit_by_arrivals}
+use Rattle.step_roots.specs.Roots.{IsPlainHold}
 use Rattle.vrt_model.specs.Comparison.{Comparison, phase_at}
 use Rattle.vrt_model.specs.Held.{sources_of}
 use Rattle.vrt_model.specs.Known.{HasFixedBit, IsFixed, IsPlain}
 use Rattle.vrt_model.specs.Lists.{has_number}
-use Rattle.vrt_model.specs.State.{Setting}
 use Rattle.vrt_model.specs.declared.circuit.Circuit.{Circuit}
 use Rattle.vrt_model.specs.declared.circuit.FlatNet.{FlatNet}
 use Rattle.vrt_model.specs.declared.circuit.NetKind.{NetKind}
@@ -88,19 +86,18 @@ module _ (k : Comparison) (phase : ℕ) (nets : List ℕ) (n : ℕ) where
   -- ---- the roots
 
   module _ (inputs : AreInputs k.circuit nets) where
-    -- rising inputs have their arrival bits
-    pub start_gives : (given setting : Span) (old new : Diagrams) → AreRootsOpen k phase given old
-        → ((m : ℕ) (v : Valuation) → m < length c.nets → shows new setting m v ≡ bit_by_arrivals nets count v m (shows old given m v))
+    -- the roots of the phase are those where the step begins
+    pub start_gives : (given setting : Span) (old new : Diagrams) → AreRootsOpen k phase given old → ((m : ℕ) (v : Valuation) → m < length c.nets → shows new setting m v ≡ shows old given m v)
         → GivesSettings k phase nets n (start_at k phase nets) setting new
     start_gives given setting old new opened shown = record {
       given = λ bits at.
-          let len = arrivals_len bits at in
-          let end : IsSettingAt c (root_at old given (bits_of bits)) (rise_at k phase nets bits).end =
-          subst (λ (s : Setting). IsSettingAt c (root_at old given (bits_of bits)) s) (sym (first_setting k phase bits)) (opened.setting bits) in
-          arrival_setting (rise_at k phase nets bits) inputs (root_at old given (bits_of bits)) (root_at new setting (bits_of bits)) (risen_at k phase nets bits) end
-          (λ m net e. shown m (bits_of bits) (slice_get_within c.nets m net e) ∙ arrival_bits nets count bits m (shows old given m (bits_of bits)) len);
-      fixed = λ v m b f.
-          shown m v (slice_get_within c.nets m f.0 f.1) ∙ other_bits nets count v m (shows old given m v) (fixed_other c nets inputs (phase_at k.rules phase) m b f) ∙ opened.fixed v m b f;
+          let u = begun_at k phase nets bits in
+          let here = begun_setting k phase nets inputs bits (ap (λ (xs : List Bool). length xs) (end_is bits at) ∙ at.meets.valuation) (root_at old given u) (opened.setting (begun k phase nets bits)) in
+          record {
+            inputs = λ m net e kind. here.inputs m net e kind ∙ sym (shown m u (slice_get_within c.nets m net e));
+            held = λ place hold e plain. here.held place hold e plain ∙ sym (shown hold.net.0 u (slice_get_within c.nets hold.net.0 plain.0 plain.1));
+          };
+      fixed = λ v m b f. shown m v (slice_get_within c.nets m f.0 f.1) ∙ opened.fixed v m b f;
     }
 
     -- the net rises too
@@ -109,8 +106,8 @@ module _ (k : Comparison) (phase : ℕ) (nets : List ℕ) (n : ℕ) where
         → GivesSettings k phase nets n (together_at k phase nets n) setting new
     together_gives there setting old new start shown = record {
       given = λ bits at.
-          risen_setting (rise_at k phase nets bits) inputs (root_at old setting (bits_of bits)) (root_at new setting (bits_of bits)) (risen_at k phase nets bits) (rise_at k phase nets bits).end.held n there
-          (start.given bits at) (λ m net e. shown m (bits_of bits) (slice_get_within c.nets m net e));
+          risen_setting (rise_at k phase nets bits) inputs (root_at old setting (begun_at k phase nets bits)) (root_at new setting (begun_at k phase nets bits)) (risen_at k phase nets bits) (rise_at k phase nets bits).end.held n there
+          (start.given bits at) (λ m net e. shown m (begun_at k phase nets bits) (slice_get_within c.nets m net e));
       fixed = λ v m b f. shown m v (slice_get_within c.nets m f.0 f.1) ∙ elim (cases_Bool (eqb n m)) [
         | inl e ↦ absurd (
             false≢true (sym (fixed_other c nets inputs (phase_at k.rules phase) m b f) ∙ subst (λ (x : ℕ). has_number nets x ≡ true) (eqb-true n m e) there)
@@ -123,13 +120,13 @@ module _ (k : Comparison) (phase : ℕ) (nets : List ℕ) (n : ℕ) where
     pub after_gives : (setting rose : Span) (old new : Diagrams) → GivesSettings k phase nets n (together_at k phase nets n) setting old
         → ((m : ℕ) (v : Valuation) → m < length c.nets → IsPlainHold c m → shows new setting m v ≡ shows old rose m v)
         → ((m : ℕ) (v : Valuation) → m < length c.nets → ¬ IsPlainHold c m → shows new setting m v ≡ shows old setting m v)
-        → GivesSettings k phase nets n (after_at k phase nets n (net_bits old rose)) setting new
+        → GivesSettings k phase nets n (after_at k phase nets n (net_bits k phase nets old rose)) setting new
     after_gives setting rose old new together taken others = record {
       given = λ bits at.
-          taken_setting (rise_at k phase nets bits) inputs (root_at old setting (bits_of bits)) (root_at new setting (bits_of bits)) (and_now (risen_at k phase nets bits) n) (rise_at k phase nets bits).end.held
-          (net_bits old rose bits) (together.given bits at)
-          (λ m hold. (let plain : IsPlain c m = hold.4 in taken m (bits_of bits) (slice_get_within c.nets m plain.0 plain.1) hold))
-          (λ m net e never. others m (bits_of bits) (slice_get_within c.nets m net e) never);
+          taken_setting (rise_at k phase nets bits) inputs (root_at old setting (begun_at k phase nets bits)) (root_at new setting (begun_at k phase nets bits)) (and_now (risen_at k phase nets bits) n) (rise_at k phase nets bits).end.held
+          (net_bits k phase nets old rose bits) (together.given bits at)
+          (λ m hold. (let plain : IsPlain c m = hold.4 in taken m (begun_at k phase nets bits) (slice_get_within c.nets m plain.0 plain.1) hold))
+          (λ m net e never. others m (begun_at k phase nets bits) (slice_get_within c.nets m net e) never);
       fixed = λ v m b f.
           others m v (slice_get_within c.nets m f.0 f.1) (fixed_no_hold c (phase_at k.rules phase) m b f) ∙ together.fixed v m b f;
     }

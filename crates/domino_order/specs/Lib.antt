@@ -1,4 +1,5 @@
 pub mod Arrivals
+pub mod Beginnings
 pub mod Made
 pub mod Ports
 pub mod Runs

@@ -5,7 +5,7 @@ use Rattle.domino_order.specs.Searches.{IsLeastFailing}
 use Rattle.domino_order.specs.StepBits.{AllHoldAt}
 use Rattle.domino_order.specs.declared.arrival.Arrival.{Arrival}
 use Rattle.domino_order.specs.declared.arrival.Arrival.TheVariants.{Yes, No, TooMany, Budget}
-use Rattle.domino_order.specs.declared.runs.Asked.{Asked}
+use Rattle.domino_order.specs.declared.prepared.Asked.{Asked}
 use Rattle.vrt_model.specs.Lists.{At}
 
 -- the net that rises at a place of the list

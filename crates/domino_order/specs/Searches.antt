@@ -1,19 +1,19 @@
 -- What a search of a net finds.
 use Rattle.std.specs.Prelude.{◌≡◌, ℕ, ◌+◌, ◌*◌, ◌≤◌, Bool, false, List, length, Option, Some, None}
 use Rattle.bdd_core.specs.Store.{Diagrams}
-use Rattle.domino_order.specs.Runs.{MayPass, asked_variables, of_asked, run_operations}
+use Rattle.domino_order.specs.Runs.{MayPass, asked_variables, of_asked, phase_variables, run_operations}
 use Rattle.domino_order.specs.StepBits.{AllHoldAt, FailsAt}
-use Rattle.domino_order.specs.declared.runs.Asked.{Asked}
-use Rattle.domino_order.specs.declared.search.NetFound.{NetFound}
-use Rattle.domino_order.specs.declared.search.NetFound.TheVariants.{Holds, Fails, Spent}
+use Rattle.domino_order.specs.declared.prepared.Asked.{Asked}
+use Rattle.domino_order.specs.declared.found.NetFound.{NetFound}
+use Rattle.domino_order.specs.declared.found.NetFound.TheVariants.{Holds, Fails, Spent}
 use Rattle.phase_terms.specs.Stores.{word_count}
 use Rattle.vrt_model.specs.Comparison.{Comparison}
 use Rattle.vrt_model.specs.Variables.{is_less}
 use Rattle.vrt_model.specs.declared.groups.Valuation.{Valuation}
 
--- a store with the variables of the phase and of the arrivals, and room for the words of a run, whatever stands in it
+-- a store with the variables of the phase, and room for the words of a run, whatever stands in it
 pub record HasRoom (s : Asked) (d : Diagrams) : Type 0 where
-  pub vars : d.vars ≡ asked_variables s
+  pub vars : d.vars ≡ phase_variables s
   pub nodes : 2 ≤ length d.nodes
   pub budget : 65536 ≤ d.budget
   pub own : d.own ≤ length d.words

@@ -14,7 +14,6 @@ use Rattle.phase_terms.specs.Ready.{IsReady, comparison_in}
 use Rattle.setting_faults.specs.Settling.{settling_operations}
 use Rattle.vrt_model.specs.Circuits.{IsFlat}
 use Rattle.vrt_model.specs.Comparison.{Comparison}
-use Rattle.vrt_model.specs.Held.{sources_of}
 use Rattle.vrt_model.specs.Lists.{At, has_number}
 use Rattle.vrt_model.specs.declared.circuit.Circuit.{Circuit}
 use Rattle.vrt_model.specs.declared.circuit.FlatNet.{FlatNet}
@@ -31,7 +30,7 @@ AreInputs c nets = (n : ℕ) → has_number nets n ≡ true → (net : FlatNet) 
 abbrev pub of_rising : Rising → Comparison
 of_rising s = comparison_in s.compared
 
--- inputs of a comparison without whole instances rise in a phase that is planned; the arrivals have the variables behind those of the phase
+-- inputs of a comparison without whole instances rise in a phase that is planned
 pub record IsRising (s : Rising) : Type 0 where
   pub ready : IsReady (of_rising s)
   pub there : s.phase < length (of_rising s).rules.phases
@@ -39,7 +38,6 @@ pub record IsRising (s : Rising) : Type 0 where
   pub planned : IsPhasePlan (of_rising s) s.phase s.plan.now
   pub steps : s.steps.now ≡ part_list (length s.plan.now.parts.list)
   pub inputs : AreInputs (of_rising s).circuit s.nets.now
-  pub first : s.first ≡ length (sources_of (of_rising s) s.phase)
 
 -- ---- words
 

@@ -1,19 +1,22 @@
 //! What is made before the ports are searched: the nets that rise, and how many words a run has.
 
-ghost use Rattle.std.specs.Prelude.{◌≡◌, ℕ, ◌+◌, length, option_map, slice_get, sum_by, unwrap_or, IfOk};
+ghost use Rattle.std.specs.Prelude.{◌≡◌, ℕ, ◌+◌, ◌<◌, All, length, map, option_map, slice_get, sum_by, unwrap_or, IfOk};
+ghost use Rattle.std.specs.List.{range_with_len};
 ghost use Rattle.domino_order.specs.Arrivals.{AreRising, nets_of_ports};
 ghost use Rattle.domino_order.specs.Made.{latch_elements};
+ghost use Rattle.phase_open.specs.Given.{variable_at};
 ghost use Rattle.phase_ports.specs.declared.port_list.Port.{Port as PortValue};
 ghost use Rattle.phase_terms.specs.Ready.{IsReady, comparison_in};
 ghost use Rattle.phase_terms.specs.Stores.{counts_of};
 ghost use Rattle.vrt_model.specs.Circuits.{IsFlat};
 ghost use Rattle.vrt_model.specs.Elements.{element_count};
+ghost use Rattle.vrt_model.specs.Variables.{is_input};
 
 use path_fixpoint::source_level;
 use phase_ports::{Port, ports_by};
 use phase_terms::{Comparison, WordCounts};
 use std::alloc::Global;
-use vrt_model::{FlatLatch, LatchKind, NoMemory, Seq};
+use vrt_model::{Circuit, FlatLatch, LatchKind, NetKind, NoMemory, Seq};
 
 /// The net of the port at a place; 0 where there is no port.
 fn net_of(ports: &[Port], place: u32) -> u32
@@ -104,4 +107,56 @@ pub(crate) fn run_counts(compared: Comparison<'_>, variables: u32) -> Result<Wor
         elements,
         variables,
     })
+}
+
+/// The numbers below one, in their order.
+pub(crate) fn numbers(alloc: Global, count: u32) -> Result<Seq<u32>, NoMemory>
+    ensures { IfOk result (λ all. all ≡ range_with_len 0 count) }
+{
+    let mut all = Seq::new(alloc);
+    for x in 0..count {
+        all.append(x)?;
+    }
+    Ok(all)
+}
+
+/// Whether a net is an input.
+fn is_input(kind: NetKind) -> bool
+    ensures { result ≡ is_input kind }
+{
+    match kind {
+        NetKind::Input => true,
+        NetKind::Supply(_) => false,
+        NetKind::Clock(_) => false,
+        NetKind::Plain => false,
+    }
+}
+
+/// The variable of an input net: how many input nets stand before it.
+fn variable_of(circuit: &Circuit, net: u32) -> Result<u32, NoMemory>
+    requires { net < length circuit.now.nets }
+    ensures { IfOk result (λ variable. variable ≡ variable_at circuit.now net) }
+{
+    let nets = circuit.nets.as_slice();
+    let mut before = 0;
+    for n in 0..net as usize {
+        before = sum(before, u32::from(is_input(nets[n].kind)))?;
+    }
+    Ok(before)
+}
+
+/// The variables of some input nets.
+pub(crate) fn variables_of(
+    alloc: Global,
+    circuit: &Circuit,
+    nets: &[u32],
+) -> Result<Seq<u32>, NoMemory>
+    requires { All (λ (n : ℕ). n < length circuit.now.nets) nets.now }
+    ensures { IfOk result (λ variables. variables ≡ map (variable_at circuit.now) nets.now) }
+{
+    let mut variables = Seq::new(alloc);
+    for net in nets {
+        variables.append(variable_of(circuit, *net)?)?;
+    }
+    Ok(variables)
 }

@@ -12,9 +12,9 @@ ghost use Rattle.vrt_model.specs.Held.{sources_of};
 ghost use Rattle.vrt_model.specs.declared.blif.Blif.{Blif};
 
 use crate::arrival::Arrival;
-use crate::made::{rising_nets, run_counts, small, sum};
+use crate::made::{numbers, rising_nets, run_counts, small, sum, variables_of};
 use crate::ports::search_ports;
-use crate::runs::Asked;
+use crate::prepared::Asked;
 use crate::step::Rising;
 use bdd_core::Store;
 use circuit_faults::{CircuitStep, part_steps};
@@ -52,16 +52,18 @@ fn asked_of<'a>(
     steps: &'a [CircuitStep],
     nets: &'a [u32],
     vars: &'a Vars,
+    order: &'a [u32],
+    arrivals: &'a [u32],
     counts: WordCounts,
 ) -> Asked<'a>
-    requires first { length vars.now.sources ≤ 1000 }
     ensures compared { result.rising.compared ≡ compared.entry }
     ensures phase { result.rising.phase ≡ phase }
     ensures plan { result.rising.plan.now ≡ plan.entry.now }
     ensures steps { result.rising.steps.now ≡ steps.entry.now }
     ensures nets { result.rising.nets.now ≡ nets.entry.now }
-    ensures first { result.rising.first ≡ length vars.entry.now.sources }
     ensures vars { result.vars.now ≡ vars.entry.now }
+    ensures order { result.order.now ≡ order.entry.now }
+    ensures arrivals { result.arrivals.now ≡ arrivals.entry.now }
     ensures counts { result.counts ≡ counts }
 {
     let rising = Rising {
@@ -70,11 +72,12 @@ fn asked_of<'a>(
         plan,
         steps,
         nets,
-        first: vars.sources.len() as u32,
     };
     Asked {
         rising,
         vars,
+        order,
+        arrivals,
         counts,
     }
 }
@@ -87,7 +90,7 @@ fn monotone_few(
     compared: Comparison<'_>,
     phase: u32,
     vars: &Vars,
-    count: u32,
+    first: u32,
     rising: &[u32],
 ) -> Result<Arrival, NoMemory>
     requires budget { (65536 ≤ budget) × (budget ≤ 64000000) }
@@ -98,12 +101,14 @@ fn monotone_few(
     requires equal { IsPhaseEqual (comparison_in compared) phase }
     requires rising { AreRising (comparison_in compared) rising.now }
     requires vars { vars.now.sources ≡ sources_of (comparison_in compared) phase }
-    requires count { count ≡ arrival_variables (comparison_in compared) phase rising.now }
-    requires few { count ≤ 1000 }
+    requires first { first ≡ length vars.now.sources }
+    requires few { arrival_variables (comparison_in compared) phase rising.now ≤ 1000 }
     ensures tells { IfOk result (λ a. (blif : Blif) → ArrivalTells (comparison_in compared.entry) blif budget phase rising.now a) }
 {
-    let counts = run_counts(compared, count)?;
+    let counts = run_counts(compared, first)?;
     let nets = rising_nets(alloc, compared, rising)?;
+    let order = numbers(alloc, first)?;
+    let arrivals = variables_of(alloc, compared.circuit, nets.as_slice())?;
     let Ok(plan) = plan_phase(alloc, index, compared, phase) else {
         return Err(NoMemory);
     };
@@ -116,6 +121,8 @@ fn monotone_few(
         steps.as_slice(),
         nets.as_slice(),
         vars,
+        order.as_slice(),
+        arrivals.as_slice(),
         counts,
     );
     search_opened(alloc, budget, asked, rising)
@@ -171,7 +178,7 @@ pub fn monotone_with(
         compared,
         phase,
         &vars,
-        count,
+        first,
         rising.as_slice(),
     )
 }

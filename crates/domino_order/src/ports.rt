@@ -6,8 +6,9 @@ ghost use Rattle.domino_order.specs.Runs.{IsAsked};
 ghost use Rattle.domino_order.specs.Searches.{HasRoom};
 
 use crate::arrival::Arrival;
-use crate::runs::Asked;
-use crate::search::{NetFound, search_net};
+use crate::found::NetFound;
+use crate::prepared::Asked;
+use crate::search::search_net;
 use bdd_core::Store;
 use std::alloc::Global;
 use vrt_model::NoMemory;

@@ -1,27 +1,17 @@
 //! The search of a net for the least step that fails.
 
 ghost use Rattle.std.specs.Prelude.{◌≡◌, ℕ, ◌+◌, ◌*◌, ◌≤◌, length, take, true, IfOk};
-ghost use Rattle.bdd_core.specs.Store.{IsSpan};
-ghost use Rattle.domino_order.specs.Runs.{IsAsked, bits_there};
+ghost use Rattle.domino_order.specs.Runs.{IsAsked};
 ghost use Rattle.domino_order.specs.Searches.{FoundIs, HasRoom, NetGives};
 ghost use Rattle.vrt_model.specs.Lists.{has_number};
 
-use crate::runs::{Asked, run};
+use crate::found::NetFound;
+use crate::prepared::Asked;
+use crate::runs::run;
 use bdd_core::Store;
-use node_pool::{Mark, Span};
+use node_pool::Mark;
 use std::alloc::Global;
-use vrt_model::{NoMemory, Seq, Valuation};
-
-/// What is found of the steps at which a net rises.
-#[derive(Drop)]
-pub enum NetFound {
-    /// Each holds.
-    Holds,
-    /// The least bits at which one fails.
-    Fails(Valuation),
-    /// The budget of nodes is used up.
-    Spent,
-}
+use vrt_model::{NoMemory, Valuation};
 
 /// Leaves all nodes and words of a store.
 fn leave_all(store: &mut Store)
@@ -32,19 +22,6 @@ fn leave_all(store: &mut Store)
     store.sound();
     let words = store.own_words();
     store.leave(Mark { nodes: 2, words });
-}
-
-/// The valuation that stands in the words of a span: 1 where the word is 1.
-fn read_bits(store: &Store, words: Span, alloc: Global) -> Result<Valuation, NoMemory>
-    requires words { IsSpan store.now words }
-    ensures { IfOk result (λ v. v.bits ≡ bits_there store.now words) }
-{
-    let mut bits = Seq::new(alloc);
-    for x in 0..words.len {
-        let word = store.read(words, x);
-        bits.append(word == 1)?;
-    }
-    Ok(Valuation { bits })
 }
 
 /// What the last answer says, where nothing is below it.
@@ -78,11 +55,10 @@ pub fn search_net(
     let mut last: Option<Valuation> = None;
     'runs: loop {
         leave_all(store);
-        let words = match run(store, asked, net, &last) {
-            Ok(Some(words)) => words,
-            Ok(None) => return Ok(found_of(last)),
-            Err(_spent) => return Ok(NetFound::Spent),
-        };
-        last = Some(read_bits(store, words, alloc)?);
+        match run(store, alloc, asked, net, &last)? {
+            NetFound::Holds => return Ok(found_of(last)),
+            NetFound::Fails(bits) => last = Some(bits),
+            NetFound::Spent => return Ok(NetFound::Spent),
+        }
     }
 }

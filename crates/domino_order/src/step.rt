@@ -35,8 +35,6 @@ pub struct Rising<'a> {
     pub steps: &'a [CircuitStep],
     /// The nets that rise.
     pub nets: &'a [u32],
-    /// The variable of the first arrival; those of the phase come before.
-    pub first: u32,
 }
 
 /// The words of a step, one word for each net in each span but the last.

@@ -1,5 +1,4 @@
-pub mod ArrivalRoots
-pub mod BelowLaws
 pub mod CareCounts
-pub mod CareLaws
+pub mod ComparedLaws
 pub mod HoldRoots
+pub mod MovedLaws

@@ -1,2 +1,3 @@
-pub mod Care
+pub mod Bits
+pub mod Moved
 pub mod Roots

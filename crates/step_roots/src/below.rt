@@ -1,18 +1,31 @@
-//! The valuations before one.
+//! The valuations at which some variables have given bits, and those at which they come before them.
 
-ghost use Rattle.std.specs.Prelude.{◌≡◌, ℕ, ◌+◌, ◌*◌, ◌<◌, ◌≤◌, Bool, cond, false, length, true};
+ghost use Rattle.std.specs.Prelude.{◌≡◌, ℕ, ◌*◌, ◌<◌, All, Bool, cond, false, length, not, true};
 ghost use Rattle.bdd_core.specs.Store.{Gives, IsLive, function_of};
 ghost use Rattle.bdd_ops.specs.Counting.{Counts};
-ghost use Rattle.step_roots.specs.Care.{comes_before};
+ghost use Rattle.step_roots.specs.Bits.{compares};
 
 use bdd_core::{H, ONE, Spent, Store, ZERO};
 use vrt_model::Var;
 
-/// Of the valuations that have a bit of a valuation at a variable, where the rest comes before; and those with a lesser bit.
-fn before_bit(store: &mut Store, variable: u32, bit: bool, rest: H) -> Result<H, Spent>
+/// A bit as a constant.
+fn constant(bit: bool) -> H
+    ensures { result ≡ record { 0 = cond bit 1 0 } }
+{
+    if bit { ONE } else { ZERO }
+}
+
+/// Where a variable has a bit, those of the rest; and, where lesser ones are asked for, those with a lesser bit.
+fn compared_bit(
+    store: &mut Store,
+    lesser: bool,
+    variable: u32,
+    bit: bool,
+    rest: H,
+) -> Result<H, Spent>
     requires variable { variable < store.old.vars }
     requires rest { IsLive store.old rest }
-    ensures gives { Gives store.old store.new (λ v. cond (v variable) (cond bit (function_of store.old rest v) false) (cond bit true (function_of store.old rest v))) result }
+    ensures gives { Gives store.old store.new (λ v. cond (v variable) (cond bit (function_of store.old rest v) false) (cond bit lesser (function_of store.old rest v))) result }
     ensures counts { Counts store.old.vars 2 store.old store.new result }
 {
     store.sound();
@@ -21,29 +34,48 @@ fn before_bit(store: &mut Store, variable: u32, bit: bool, rest: H) -> Result<H,
         Err(spent) => return Err(spent),
     };
     if bit {
-        store.ite(test, rest, ONE)
+        store.ite(test, rest, constant(lesser))
     } else {
         store.ite(test, ZERO, rest)
     }
 }
 
-/// The valuations that come before one with these bits, of the first variables: of two valuations the lesser has 0 at the first variable where they
-/// differ.
-pub fn before(store: &mut Store, bits: &[bool]) -> Result<H, Spent>
-    requires bits { length bits.now ≤ store.old.vars }
-    ensures gives { Gives store.old store.new (comes_before 0 bits.now) result }
-    ensures counts { Counts store.old.vars (2 * length bits.now) store.old store.new result }
+/// The valuations at which these variables have these bits; or, where lesser ones are asked for, come before them.
+fn compared(store: &mut Store, lesser: bool, variables: &[u32], bits: &[bool]) -> Result<H, Spent>
+    requires variables { All (λ (x : ℕ). x < store.old.vars) variables.now }
+    requires bits { length bits.now ≡ length variables.now }
+    ensures gives { Gives store.old store.new (compares lesser variables.now bits.now) result }
+    ensures counts { Counts store.old.vars (2 * length variables.now) store.old store.new result }
 {
     store.sound();
-    let _vars = store.vars();
-    let mut rest = ZERO;
-    let mut left = bits.len();
+    let mut rest = constant(!lesser);
+    let mut left = variables.len();
     'left: while left > 0 {
         left -= 1;
-        rest = match before_bit(store, left as u32, bits[left], rest) {
+        rest = match compared_bit(store, lesser, variables[left], bits[left], rest) {
             Ok(next) => next,
             Err(spent) => return Err(spent),
         };
     }
     Ok(rest)
+}
+
+/// The valuations at which the bits of these variables come before these: of two lists the lesser has 0 where they first differ.
+pub fn before(store: &mut Store, variables: &[u32], bits: &[bool]) -> Result<H, Spent>
+    requires variables { All (λ (x : ℕ). x < store.old.vars) variables.now }
+    requires bits { length bits.now ≡ length variables.now }
+    ensures gives { Gives store.old store.new (compares true variables.now bits.now) result }
+    ensures counts { Counts store.old.vars (2 * length variables.now) store.old store.new result }
+{
+    compared(store, true, variables, bits)
+}
+
+/// The valuations at which these variables have these bits.
+pub fn same_bits(store: &mut Store, variables: &[u32], bits: &[bool]) -> Result<H, Spent>
+    requires variables { All (λ (x : ℕ). x < store.old.vars) variables.now }
+    requires bits { length bits.now ≡ length variables.now }
+    ensures gives { Gives store.old store.new (compares false variables.now bits.now) result }
+    ensures counts { Counts store.old.vars (2 * length variables.now) store.old store.new result }
+{
+    compared(store, false, variables, bits)
 }

@@ -1,11 +1,11 @@
-//! The roots of the settings of a step, as functions: rising inputs that have their arrival bits, and holds that take the bits of their nets; at which
-//! valuations a net rises at a step; and the valuations before one.
+//! What the settings of a step need besides settling: holds that take the bits of their nets, and sets of valuations, by the bits of some variables, and
+//! from which others are reached where variables are moved.
 #![tactic(auto)]
 
 mod below;
-mod care;
+mod moves;
 mod roots;
 
-pub use below::before;
-pub use care::step_care;
-pub use roots::{copy_handles, take_bits, write_arrivals};
+pub use below::{before, same_bits};
+pub use moves::moved;
+pub use roots::{copy_handles, take_bits};

@@ -1,18 +1,16 @@
 //! The bits of nets at the settings of a step, as functions.
 
-ghost use Rattle.std.specs.Prelude.{◌≡◌, ◌≢◌, ℕ, ◌+◌, ◌<◌, ◌≤◌, All, length, true, IfOk};
-ghost use Rattle.bdd_core.specs.Diagram.{Valuation};
+ghost use Rattle.std.specs.Prelude.{◌≡◌, ℕ, ◌<◌, ◌≤◌, All, true};
 ghost use Rattle.bdd_core.specs.Store.{IsSpan};
-ghost use Rattle.bdd_core.specs.Words.{IsApart, IsFilled, Writes, shows, word_at};
-ghost use Rattle.bdd_ops.specs.Counting.{Counts};
+ghost use Rattle.bdd_core.specs.Words.{IsApart, IsFilled, Writes, word_at};
 ghost use Rattle.known_nets.specs.Conduction.{is_plain_at};
-ghost use Rattle.step_roots.specs.Roots.{IsPlainHold, bit_by_arrivals};
+ghost use Rattle.step_roots.specs.Roots.{IsPlainHold};
 ghost use Rattle.vrt_model.specs.declared.circuit.Hold.{Hold as HoldValue};
 
-use bdd_core::{Spent, Store};
+use bdd_core::Store;
 use known_nets::is_plain;
 use node_pool::Span;
-use vrt_model::{Circuit, Net, Var};
+use vrt_model::{Circuit, Net};
 
 /// Copies the first handles of a span into another, which is filled.
 pub fn copy_handles(store: &mut Store, from: Span, to: Span)
@@ -28,47 +26,6 @@ pub fn copy_handles(store: &mut Store, from: Span, to: Span)
         let word = store.read(from, k);
         store.write(to, k, word);
     }
-}
-
-/// Writes a variable as the bit of a net.
-fn write_arrival(store: &mut Store, variable: u32, roots: Span, net: u32) -> Result<(), Spent>
-    requires variable { variable < store.old.vars }
-    requires roots { IsSpan store.old roots × IsFilled store.old roots }
-    requires net { net < roots.len }
-    ensures writes { Writes roots store.old store.new }
-    ensures here { IfOk result (λ _. (v : Valuation) → shows store.new roots net v ≡ v variable) }
-    ensures apart { (k : ℕ) → k ≢ net → word_at store.new roots k ≡ word_at store.old roots k }
-    ensures counts { (u : ℕ) → variable < u → Counts u 1 store.old store.new result }
-{
-    store.sound();
-    let bit = match store.bit(Var(variable)) {
-        Ok(bit) => bit,
-        Err(spent) => return Err(spent),
-    };
-    store.write(roots, net, bit.0);
-    Ok(())
-}
-
-/// Writes the arrival bits of rising nets, of which the first is the variable of this number.
-pub fn write_arrivals(store: &mut Store, nets: &[u32], first: u32, roots: Span) -> Result<(), Spent>
-    requires vars { first + length nets.now ≤ store.old.vars }
-    requires roots { IsSpan store.old roots × IsFilled store.old roots }
-    requires nets { All (λ (n : ℕ). n < roots.len) nets.now }
-    ensures writes { Writes roots store.old store.new }
-    ensures arrived { IfOk result (λ _. (n : ℕ) (v : Valuation) → n < roots.len → shows store.new roots n v ≡ bit_by_arrivals nets.now first v n (shows store.old roots n v)) }
-    ensures counts { (u : ℕ) → first + length nets.now ≤ u → Counts u (length nets.now) store.old store.new result }
-{
-    store.sound();
-    let _vars = store.vars();
-    let mut left = nets.len();
-    'left: while left > 0 {
-        left -= 1;
-        match write_arrival(store, first + left as u32, roots, nets[left]) {
-            Ok(()) => {}
-            Err(spent) => return Err(spent),
-        }
-    }
-    Ok(())
 }
 
 /// Gives the hold at a net the bit of the net, if the net is plain.

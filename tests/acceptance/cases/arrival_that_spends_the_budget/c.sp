@@ -1,24 +1,28 @@
-* a gate of 20 inputs in which each pulls down
-.subckt nor20 i1 i2 i3 i4 i5 i6 i7 i8 i9 i10 i11 i12 i13 i14 i15 i16 i17 i18 i19 i20 y
+* a gate of 12 pairs of inputs, each of which pulls down, with ports in an order that makes its diagrams large
+.subckt sum a1 a2 a3 a4 a5 a6 a7 a8 a9 a10 a11 a12 b1 b2 b3 b4 b5 b6 b7 b8 b9 b10 b11 b12 y
 m0 y gnd vdd vdd p
-m1 y i1 gnd gnd n
-m2 y i2 gnd gnd n
-m3 y i3 gnd gnd n
-m4 y i4 gnd gnd n
-m5 y i5 gnd gnd n
-m6 y i6 gnd gnd n
-m7 y i7 gnd gnd n
-m8 y i8 gnd gnd n
-m9 y i9 gnd gnd n
-m10 y i10 gnd gnd n
-m11 y i11 gnd gnd n
-m12 y i12 gnd gnd n
-m13 y i13 gnd gnd n
-m14 y i14 gnd gnd n
-m15 y i15 gnd gnd n
-m16 y i16 gnd gnd n
-m17 y i17 gnd gnd n
-m18 y i18 gnd gnd n
-m19 y i19 gnd gnd n
-m20 y i20 gnd gnd n
+ma1 y a1 x1 gnd n
+mb1 x1 b1 gnd gnd n
+ma2 y a2 x2 gnd n
+mb2 x2 b2 gnd gnd n
+ma3 y a3 x3 gnd n
+mb3 x3 b3 gnd gnd n
+ma4 y a4 x4 gnd n
+mb4 x4 b4 gnd gnd n
+ma5 y a5 x5 gnd n
+mb5 x5 b5 gnd gnd n
+ma6 y a6 x6 gnd n
+mb6 x6 b6 gnd gnd n
+ma7 y a7 x7 gnd n
+mb7 x7 b7 gnd gnd n
+ma8 y a8 x8 gnd n
+mb8 x8 b8 gnd gnd n
+ma9 y a9 x9 gnd n
+mb9 x9 b9 gnd gnd n
+ma10 y a10 x10 gnd n
+mb10 x10 b10 gnd gnd n
+ma11 y a11 x11 gnd n
+mb11 x11 b11 gnd gnd n
+ma12 y a12 x12 gnd n
+mb12 x12 b12 gnd gnd n
 .ends

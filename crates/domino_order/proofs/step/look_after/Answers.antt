@@ -55,7 +55,7 @@ returns-in-Ok-Some-clause-gives c =
     let care = c.args.care in
     let h = c.requires.words in
     let took = c.take_bits.ensures in
-    let settings = after_at k s.phase s.nets.now c.args.net (net_bits old words.rose) in
+    let settings = after_at k s.phase s.nets.now c.args.net (net_bits k s.phase s.nets.now old words.rose) in
     let gives = after_roots k s.phase s.nets.now c.args.net c.requires.rising.inputs words.setting words.rose old mid took.writes took.taken took.others h.setting h.rose h.words.setting_len h.words.rose_len
     c.requires.twice.gives in
     let found = subst (λ (o : Option H). SettlesAt k s.phase s.nets.now c.args.net settings care words.rose mid new o) c.in-Ok-Some.field-0-is (c.in-Ok-Some.ensures.gives c.args.net settings gives) in
@@ -136,7 +136,7 @@ returns-clause-gives c =
     let nets : ℕ = length k.circuit.nets in
     let h = c.requires.words in
     let took = c.take_bits.ensures in
-    let settings = after_at k s.phase s.nets.now c.args.net (net_bits old words.rose) in
+    let settings = after_at k s.phase s.nets.now c.args.net (net_bits k s.phase s.nets.now old words.rose) in
     let gives = after_roots k s.phase s.nets.now c.args.net c.requires.rising.inputs words.setting words.rose old mid took.writes took.taken took.others h.setting h.rose h.words.setting_len h.words.rose_len
     c.requires.twice.gives in
     let settled = subst (λ (o : Option H). SettlesAt k s.phase s.nets.now c.args.net settings care words.rose mid later o) c.in-Ok-None.field-0-is (c.in-Ok-None.ensures.gives c.args.net settings gives) in

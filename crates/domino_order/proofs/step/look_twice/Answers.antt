@@ -1,4 +1,4 @@
-use Rattle.std.proofs.Common.{◌*◌, Some, Option, length, arith, subst, ◌∙◌}
+use Rattle.std.proofs.Common.{◌*◌, Some, Option, arith, subst, ◌∙◌}
 use Rattle.bdd_core.specs.Diagram.{Valuation}
 use Rattle.bdd_core.specs.Store.{IsLive}
 use Rattle.bdd_core.specs.declared.handle.H.{H}
