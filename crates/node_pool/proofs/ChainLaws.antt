@@ -1,11 +1,23 @@
 -- A walk along a chain, and the chains after a push, an unlinking and a cut.
-use Rattle.std.proofs.Common.{◌≡◌, ℕ, ◌+◌, ◌<◌, ◌≤◌, ◌≢◌, Bool, false, ◌&&◌, eqb, List, [], ◌∷◌, ◌++◌, length, get_or, take, set, refl, sym, ap, ◌∙◌, inl, inr, arith, add-one, length-take-le, get_or-set_same, get_or-set_other}
+use Rattle.std.proofs.Common.{◌≡◌, ℕ, ◌+◌, ◌<◌, ◌≤◌, ◌≢◌, Bool, true, false, ◌&&◌, eqb, List, [], ◌∷◌, ◌++◌, length, get_or, take, set, refl, sym, ap, ◌∙◌, inl, inr, arith, add-one, length-take-le, get_or-set_same, get_or-set_other}
 use Rattle.std.proofs.lemmas.List.{get_or_append_left, get_or-take, get_or_push, length_push}
 use Rattle.std.proofs.lemmas.Bool.{cases_lt, cases_eq}
+use Rattle.std.proofs.lemmas.List.{get_or-map}
 use Rattle.node_pool.specs.declared.region.Node.{Node}
+use Rattle.node_pool.specs.declared.chains.Linked.{Linked}
 use Rattle.node_pool.specs.Region.{newest, chain_of, no_node}
-use Rattle.node_pool.specs.Chains.{HeadsBelow, LinksRight}
+use Rattle.node_pool.specs.Chains.{HeadsBelow, LinksRight, nodes_of, links_of}
 use Rattle.node_pool.proofs.Newest.{newest_le, newest_skips, newest_again, newest-append, newest-take, newest_same, newest_other}
+
+unfoldable pub no_link : Linked
+no_link = record { node = no_node; older = 0 }
+
+-- a node that was read with its link
+pub node_read : (ls : List Linked) (i : ℕ) (l : Linked) → i < length ls → l ≡ get_or ls i no_link → l.node ≡ get_or (nodes_of ls) i no_node
+node_read ls i l below is = ap (λ (x : Linked). x.node) is ∙ sym (get_or-map (λ (x : Linked). x.node) ls i no_link no_node below)
+
+pub link_read : (ls : List Linked) (i : ℕ) (l : Linked) → i < length ls → l ≡ get_or ls i no_link → l.older ≡ get_or (links_of ls) i 0
+link_read ls i l below is = ap (λ (x : Linked). x.older) is ∙ sym (get_or-map (λ (x : Linked). x.older) ls i no_link 0 below)
 
 -- a walk has passed the nodes from `after` on, and none is the one that is sought
 pub record Walked (mask : ℕ) (nodes : List Node) (node : Node) (after : ℕ) : Type 0 where
@@ -76,6 +88,10 @@ links_cut mask nodes older n before within i here =
 -- a comparison that says no
 pub differs : (m n : Node) (b : Bool) → b ≡ (eqb m.var n.var && (eqb m.lo n.lo && eqb m.hi n.hi)) → b ≡ false → m ≢ n
 differs m n b e f same = grind (arith, Rattle.std.proofs.lemmas.Grind.common_steps)
+
+-- a comparison that says yes
+pub is_same : (m n : Node) (b : Bool) → b ≡ (eqb m.var n.var && (eqb m.lo n.lo && eqb m.hi n.hi)) → b ≡ true → m ≡ n
+is_same m n b e t = grind (arith, Rattle.std.proofs.lemmas.Grind.common_steps)
 
 -- one node more on its chain, in a list that holds it already
 pub heads_link : (mask : ℕ) (nodes : List Node) (heads : List ℕ) (n : ℕ) → HeadsBelow mask nodes heads n → length heads ≡ mask + 1 → chain_of mask (get_or nodes n no_node) ≤ mask → HeadsBelow mask nodes (set heads (chain_of mask (get_or nodes n no_node)) (n + 1)) (n + 1)

@@ -2,10 +2,19 @@
 
 ghost use Rattle.std.specs.Prelude.{◌≡◌, ℕ, ◌+◌, ◌*◌, ◌<◌, ◌≤◌, ◌^◌, ◌++◌, length, replicate, slice_index, IfOk, vec_capacity};
 ghost use Rattle.node_pool.specs.Region.{chain_of};
-ghost use Rattle.node_pool.specs.Chains.{HeadsBelow, LinksRight};
+ghost use Rattle.node_pool.specs.Chains.{HeadsBelow, LinksRight, nodes_of, links_of};
 
 use crate::Node;
 use std::alloc::{AllocError, Global};
+
+/// A node with its link. Both are asked for at once, so they stand together, in 16 bytes.
+#[derive(Clone, Copy)]
+pub struct Linked {
+    /// The node.
+    pub node: Node,
+    /// The link to the newest of the older nodes on its chain.
+    pub older: u32,
+}
 
 /// How many heads a pool begins with. Their number is this times a power of 4.
 pub const FEWEST: u32 = 1024;
@@ -25,21 +34,21 @@ pub fn chain_at(mask: u32, node: Node) -> u32
 }
 
 /// Has each chain lead to its newest node below `to`, by undoing the links of the nodes above, newest first.
-pub fn unlink(heads: &mut Vec<u32>, nodes: &Vec<Node>, older: &Vec<u32>, mask: u32, to: usize)
+pub fn unlink(heads: &mut Vec<u32>, nodes: &Vec<Linked>, mask: u32, to: usize)
     requires within { to ≤ length nodes.now.items }
-    requires heads { HeadsBelow mask nodes.now.items heads.old.items (length nodes.now.items) }
+    requires heads { HeadsBelow mask (nodes_of nodes.now.items) heads.old.items (length nodes.now.items) }
     requires heads_len { length heads.old.items ≡ mask + 1 }
-    requires links { LinksRight mask nodes.now.items older.now.items }
-    requires links_len { length older.now.items ≡ length nodes.now.items }
-    ensures heads { HeadsBelow mask nodes.now.items heads.new.items to }
+    requires links { LinksRight mask (nodes_of nodes.now.items) (links_of nodes.now.items) }
+    ensures heads { HeadsBelow mask (nodes_of nodes.now.items) heads.new.items to }
     ensures len { length heads.new.items ≡ length heads.old.items }
     ensures capacity { vec_capacity heads.new ≡ vec_capacity heads.old }
 {
     let mut count = nodes.len();
     while count > to {
         count -= 1;
-        let chain = chain_at(mask, nodes[count]) as usize;
-        heads[chain] = older[count];
+        let last = nodes[count];
+        let chain = chain_at(mask, last.node) as usize;
+        heads[chain] = last.older;
     }
 }
 
@@ -77,21 +86,20 @@ pub fn push_zeros(words: &mut Vec<u32>, len: u32)
 }
 
 /// Has the chains lead through all nodes, where no head leads anywhere yet.
-pub fn relink(heads: &mut Vec<u32>, older: &mut Vec<u32>, nodes: &Vec<Node>, mask: u32)
+pub fn relink(heads: &mut Vec<u32>, nodes: &mut Vec<Linked>, mask: u32)
     requires none { (b : ℕ) → b ≤ mask → slice_index heads.old.items b ≡ 0 }
     requires heads_len { length heads.old.items ≡ mask + 1 }
-    requires links_len { length older.old.items ≡ length nodes.now.items }
-    requires few { length nodes.now.items < 2 ^ 32 }
-    ensures heads { HeadsBelow mask nodes.now.items heads.new.items (length nodes.now.items) }
-    ensures links { LinksRight mask nodes.now.items older.new.items }
+    requires few { length nodes.old.items < 2 ^ 32 }
+    ensures nodes { nodes_of nodes.new.items ≡ nodes_of nodes.old.items }
+    ensures heads { HeadsBelow mask (nodes_of nodes.old.items) heads.new.items (length nodes.old.items) }
+    ensures links { LinksRight mask (nodes_of nodes.old.items) (links_of nodes.new.items) }
     ensures heads_len { length heads.new.items ≡ mask + 1 }
-    ensures links_len { length older.new.items ≡ length nodes.now.items }
     ensures heads_capacity { vec_capacity heads.new ≡ vec_capacity heads.old }
-    ensures links_capacity { vec_capacity older.new ≡ vec_capacity older.old }
+    ensures links_capacity { vec_capacity nodes.new ≡ vec_capacity nodes.old }
 {
     for at in 0..nodes.len() {
-        let chain = chain_at(mask, nodes[at]) as usize;
-        older[at] = heads[chain];
+        let chain = chain_at(mask, nodes[at].node) as usize;
+        nodes[at].older = heads[chain];
         heads[chain] = at as u32 + 1;
     }
 }

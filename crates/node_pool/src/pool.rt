@@ -3,15 +3,14 @@
 ghost use Rattle.std.specs.Prelude.{◌≡◌, ℕ, ◌+◌, ◌-◌, ◌*◌, ◌<◌, ◌≤◌, ◌^◌, ◌↔◌, ◌⊎◌, List, [], ◌∷◌, ◌++◌, length, take, replicate, slice_index, slice_index_or, slice_set, IfOk, IfSome, IsNone, IsSome};
 ghost use Rattle.std.specs.List.{Contains};
 
-use crate::chains::{FEWEST, chain_at, clear, few_heads, push_zeros, relink, unlink};
+use crate::chains::{FEWEST, Linked, chain_at, clear, few_heads, push_zeros, relink, unlink};
 use crate::{Mark, NoMemory, Node, Span};
 use std::alloc::{AllocError, Global};
 use std::marker::Model;
 
 /// A list of nodes, none of them twice, and a list of words, each with its room.
 pub struct Pool {
-    nodes: Vec<Node>,
-    older: Vec<u32>,
+    nodes: Vec<Linked>,
     heads: Vec<u32>,
     words: Vec<u32>,
     node_room: u32,
@@ -25,7 +24,6 @@ impl Drop for Pool {
     fn drop(self) {
         let Pool {
             nodes: _nodes,
-            older: _older,
             heads: _heads,
             words: _words,
             node_room: _node_room,
@@ -70,7 +68,6 @@ impl Pool {
     {
         Ok(Pool {
             nodes: Vec::with_capacity(alloc, nodes as usize)?,
-            older: Vec::with_capacity(alloc, nodes as usize)?,
             heads: few_heads(alloc, most_heads as usize)?,
             words: Vec::with_capacity(alloc, words as usize)?,
             node_room: nodes,
@@ -89,10 +86,11 @@ impl Pool {
         let mut after = self.heads[chain_at(self.mask, node) as usize];
         while after != 0 {
             let at = after - 1;
-            if self.nodes[at as usize] == node {
+            let linked = self.nodes[at as usize];
+            if linked.node == node {
                 return Some(at);
             }
-            after = self.older[at as usize];
+            after = linked.older;
         }
         None
     }
@@ -123,8 +121,8 @@ impl Pool {
     {
         let count = self.nodes.len() as u32;
         let chain = chain_at(self.mask, node) as usize;
-        self.nodes.push_reserved(node);
-        self.older.push_reserved(self.heads[chain]);
+        let older = self.heads[chain];
+        self.nodes.push_reserved(Linked { node, older });
         self.heads[chain] = count + 1;
         count
     }
@@ -140,7 +138,7 @@ impl Pool {
         push_zeros(&mut self.heads, few as u32 * 3);
         clear(&mut self.heads);
         self.mask = few as u32 * 4 - 1;
-        relink(&mut self.heads, &mut self.older, &self.nodes, self.mask);
+        relink(&mut self.heads, &mut self.nodes, self.mask);
     }
 
     /// Cuts nodes and words back to a mark that is not above them. What is below the mark is as it was, the rest is
@@ -149,15 +147,8 @@ impl Pool {
         requires { IsBelow mark self.old }
         ensures { self.new ≡ record self.old { nodes = take mark.nodes self.old.nodes; words = take mark.words self.old.words } }
     {
-        unlink(
-            &mut self.heads,
-            &self.nodes,
-            &self.older,
-            self.mask,
-            mark.nodes as usize,
-        );
+        unlink(&mut self.heads, &self.nodes, self.mask, mark.nodes as usize);
         self.nodes.truncate(mark.nodes as usize);
-        self.older.truncate(mark.nodes as usize);
         self.words.truncate(mark.words as usize);
     }
 
@@ -207,7 +198,7 @@ impl Pool {
         requires { at < length self.now.nodes }
         ensures { result ≡ slice_index_or self.now.nodes at result }
     {
-        self.nodes[at as usize]
+        self.nodes[at as usize].node
     }
 
     /// The word at a place below the length of a live span.
